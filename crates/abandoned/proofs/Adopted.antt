@@ -45,26 +45,31 @@ IsLowestPaged-first pool ascend index group first = record { here = first.here; 
       ]
     ]
 
-pub lowest-first : (pool : PoolState) → Ascend pool.groups → (found : Option SpanId) → MatchOption found (HasNoPage pool.groups) (IsHeadOfFirstPaged pool.groups) → MatchOption found (HasNothingToAdopt pool) (IsHeadOfLowest pool)
+pub lowest-first : (pool : PoolState) → Ascend pool.groups → (found : Option SpanId)
+    → MatchOption found (HasNoPage pool.groups) (IsHeadOfFirstPaged pool.groups) → MatchOption found (HasNothingToAdopt pool) (IsHeadOfLowest pool)
 lowest-first pool ascend None none = none
 lowest-first pool ascend (Some head) first = (first.0, first.1, IsLowestPaged-first pool ascend first.0 first.1 first.2, first.3)
 
-pub IsDoubled-lowest : (pool : PoolState) → Ascend pool.groups → (shard : ShardState) (index : ℕ) (group : PooledState) → IsLowestPaged pool index group → IsDoubled pool shard → HasDoubled shard (spans_of group)
-IsDoubled-lowest pool ascend shard index group lowest (other, g, its, doubled) = subst (λ (x : PooledState). HasDoubled shard (spans_of x)) (one_lowest pool ascend other index g group its lowest) doubled
+pub IsDoubled-lowest : (pool : PoolState) → Ascend pool.groups → (shard : ShardState) (index : ℕ) (group : PooledState) → IsLowestPaged pool index group
+    → IsDoubled pool shard → HasDoubled shard (spans_of group)
+IsDoubled-lowest pool ascend shard index group lowest (other, g, its, doubled) = subst (λ (x : PooledState). HasDoubled shard (spans_of x))
+    (one_lowest pool ascend other index g group its lowest) doubled
 
 -- one group has the head
 pub one_head : (pool : PoolState) → IsSound pool → (i j : ℕ) (a b : PooledState) → slice_get pool.groups i ≡ Some a → slice_get pool.groups j ≡ Some b → a.head.id ≡ b.head.id → a ≡ b
 one_head pool sound i j a b at_i at_j same = one_of_head head_id pool.groups sound.ascending i j a b at_i at_j same
 
 -- one group has the head, whose spans are asked
-pub WouldDouble-here : (pool : PoolState) → IsSound pool → (shard : ShardState) (head : SpanId) (index : ℕ) (group : PooledState) → IsHeadOf pool.groups head index group → WouldDouble pool shard head → HasDoubled shard (spans_of group)
+pub WouldDouble-here : (pool : PoolState) → IsSound pool → (shard : ShardState) (head : SpanId) (index : ℕ) (group : PooledState)
+    → IsHeadOf pool.groups head index group → WouldDouble pool shard head → HasDoubled shard (spans_of group)
 WouldDouble-here pool sound shard head index group from (other, g, its, doubled) =
     subst (λ (x : PooledState). HasDoubled shard (spans_of x)) (one_head pool sound other index g group its.here from.here (its.head_is ∙ sym from.head_is)) doubled
 
 pub WouldDouble-none : (pool : PoolState) (shard : ShardState) (head : SpanId) → HasNoHead pool.groups head → WouldDouble pool shard head → ⊥
 WouldDouble-none pool shard head none (index, group, its, doubled) = none index group its
 
-module _ (old new : PoolState) (sound : IsSound old) (shard : ShardState) (sound_shard : IsSoundShard shard) (index : ℕ) (group : PooledState) (lowest : IsLowestPaged old index group) (whole : WholeState) (lifts : Lifts old group.head.id (Some whole) new) where
+module _ (old new : PoolState) (sound : IsSound old) (shard : ShardState) (sound_shard : IsSoundShard shard) (index : ℕ) (group : PooledState)
+    (lowest : IsLowestPaged old index group) (whole : WholeState) (lifts : Lifts old group.head.id (Some whole) new) where
   whole_is : whole ≡ whole_of group
   whole_is = lifts.3 ∙ ap whole_of (one_head old sound lifts.0 index lifts.1 group lifts.2.here lowest.here lifts.2.head_is)
 

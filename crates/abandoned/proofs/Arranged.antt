@@ -80,7 +80,8 @@ module _ {X : Type 0} (key : X → ℕ) where
   lower-before number [] at x below there = absurd cc
   lower-before number (y ∷ ys) at x below there = by_test (nat_lt (key y) number) refl at below there (λ at. lower-before number ys at x)
     where
-      by_test : (b : Bool) → nat_lt (key y) number ≡ b → (at : ℕ) → at < cond b (suc (lower key number ys)) 0 → slice_get (y ∷ ys) at ≡ Some x → ((at : ℕ) → at < lower key number ys → slice_get ys at ≡ Some x → key x < number) → key x < number
+      by_test : (b : Bool) → nat_lt (key y) number ≡ b → (at : ℕ) → at < cond b (suc (lower key number ys)) 0 → slice_get (y ∷ ys) at ≡ Some x
+          → ((at : ℕ) → at < lower key number ys → slice_get ys at ≡ Some x → key x < number) → key x < number
       by_test true is zero below there rest = let e = ap key (same_some there) in let less : key y < number = grind (arith, nat_tests) in omega arith
       by_test true is (suc at) below there rest = rest at (omega arith) there
       by_test false is at below there rest = absurd (omega arith)
@@ -89,7 +90,8 @@ module _ {X : Type 0} (key : X → ℕ) where
   lower-after number [] up at x above there = absurd cc
   lower-after number (y ∷ ys) up at x above there = by_test (nat_lt (key y) number) refl at above there (λ at. lower-after number ys (tail-up y ys up) at x)
     where
-      by_test : (b : Bool) → nat_lt (key y) number ≡ b → (at : ℕ) → cond b (suc (lower key number ys)) 0 ≤ at → slice_get (y ∷ ys) at ≡ Some x → ((at : ℕ) → lower key number ys ≤ at → slice_get ys at ≡ Some x → number ≤ key x) → number ≤ key x
+      by_test : (b : Bool) → nat_lt (key y) number ≡ b → (at : ℕ) → cond b (suc (lower key number ys)) 0 ≤ at → slice_get (y ∷ ys) at ≡ Some x
+          → ((at : ℕ) → lower key number ys ≤ at → slice_get ys at ≡ Some x → number ≤ key x) → number ≤ key x
       by_test true is zero above there rest = absurd (omega arith)
       by_test true is (suc at) above there rest = rest at (omega arith) there
       by_test false is zero above there rest = let e = ap key (same_some there) in let more : number ≤ key y = grind (arith, nat_tests) in omega arith
@@ -112,7 +114,8 @@ module _ {X : Type 0} (key : X → ℕ) where
 
   pub IsPermutation-arranged : (xs : List X) → IsPermutation xs (arranged key xs)
   IsPermutation-arranged [] = IsPermutation-refl []
-  IsPermutation-arranged (x ∷ xs) = IsPermutation-trans (x ∷ xs) (x ∷ arranged key xs) (arranged key (x ∷ xs)) (IsPermutation-cons x xs (arranged key xs) (IsPermutation-arranged xs)) (IsPermutation-insert (arranged key xs) (lower key (key x) (arranged key xs)) x)
+  IsPermutation-arranged (x ∷ xs) = IsPermutation-trans (x ∷ xs) (x ∷ arranged key xs) (arranged key (x ∷ xs))
+      (IsPermutation-cons x xs (arranged key xs) (IsPermutation-arranged xs)) (IsPermutation-insert (arranged key xs) (lower key (key x) (arranged key xs)) x)
 
   up-more : (x : X) (xs : List X) → AreApart (x ∷ xs) → AreUp (arranged key xs) → AreUp (arranged key (x ∷ xs))
   up-more x xs apart rest = pairs-insert (λ a b. key a < key b) (arranged key xs) (lower key (key x) (arranged key xs)) x (lower-within (key x) (arranged key xs)) rest
@@ -130,7 +133,8 @@ module _ {X : Type 0} (key : X → ℕ) where
   AreUp-arranged (x ∷ xs) apart = up-more x xs apart (AreUp-arranged xs (λ i j a b at_i at_j same. let e = apart (suc i) (suc j) a b at_i at_j same in omega arith))
 
   -- where one would stand whose number is new, the others are higher
-  pub place-after : (ys : List X) (x : X) → AreApart ys → ((z : X) → IsIn ys z → key z ≡ key x → ⊥) → (at : ℕ) (y : X) → lower key (key x) (arranged key ys) ≤ at → slice_get (arranged key ys) at ≡ Some y → key x < key y
+  pub place-after : (ys : List X) (x : X) → AreApart ys → ((z : X) → IsIn ys z → key z ≡ key x → ⊥) → (at : ℕ) (y : X)
+      → lower key (key x) (arranged key ys) ≤ at → slice_get (arranged key ys) at ≡ Some y → key x < key y
   place-after ys x apart new at y above there =
       let least = lower-after (key x) (arranged key ys) (AreUp-arranged ys apart) at y above there in
       elim (cases_eq (key y) (key x)) [
@@ -146,7 +150,8 @@ module _ {X : Type 0} (key : X → ℕ) where
 
     pub arranged-more : arranged key xs ≡ insert (arranged key ys) its_place x
     arranged-more = same_up (arranged key xs) (insert (arranged key ys) its_place x) (AreUp-arranged xs apart)
-        (pairs-insert (λ a b. key a < key b) (arranged key ys) its_place x (lower-within (key x) (arranged key ys)) (AreUp-arranged ys apart') (lower-before (key x) (arranged key ys)) (place-after ys x apart' new))
+        (pairs-insert (λ a b. key a < key b) (arranged key ys) its_place x (lower-within (key x) (arranged key ys)) (AreUp-arranged ys apart')
+        (lower-before (key x) (arranged key ys)) (place-after ys x apart' new))
         (λ z there. elim (of z (arranged-in xs z there)) [
           | inl same ↦ (its_place, get-insert (arranged key ys) its_place x (lower-within (key x) (arranged key ys)) ∙ ap Some same)
           | inr other ↦ let found = in-arranged ys z other in after-insert (arranged key ys) its_place x found.0 z found.1
@@ -177,7 +182,8 @@ module _ {X : Type 0} (key : X → ℕ) where
         up_set : AreUp (set (arranged key xs) index y)
         up_set low high a b less at_low at_high = both (cases-set (arranged key xs) index y low a at_low) (cases-set (arranged key xs) index y high b at_high)
           where
-            both : ((low ≡ index) × (y ≡ a)) ⊎ ((low ≡ index → ⊥) × (slice_get (arranged key xs) low ≡ Some a)) → ((high ≡ index) × (y ≡ b)) ⊎ ((high ≡ index → ⊥) × (slice_get (arranged key xs) high ≡ Some b)) → key a < key b
+            both : ((low ≡ index) × (y ≡ a)) ⊎ ((low ≡ index → ⊥) × (slice_get (arranged key xs) low ≡ Some a))
+                → ((high ≡ index) × (y ≡ b)) ⊎ ((high ≡ index → ⊥) × (slice_get (arranged key xs) high ≡ Some b)) → key a < key b
             both (inl p) (inl q) = absurd (let e = p.0 in let f = q.0 in omega arith)
             both (inl p) (inr q) = let e = ap key p.1 in let l = up index high x b (subst (λ n. n < high) p.0 less) there q.1 in omega arith
             both (inr p) (inl q) = let e = ap key q.1 in let l = up low index a x (subst (λ n. low < n) q.0 less) p.1 there in omega arith
@@ -188,14 +194,20 @@ module _ {X : Type 0} (key : X → ℕ) where
             elim (cases-set xs place y at.0 z at.1) [
               | inl now ↦ (index, get-set (arranged key xs) index x y there ∙ ap Some now.1)
               | inr old ↦
-                  let was = in-arranged xs z (at.0, old.1) in
-                  (was.0, get-set_other (arranged key xs) index was.0 y (λ e. let is = same_some (sym was.1 ∙ ap (slice_get (arranged key xs)) e ∙ there) in old.0 (apart at.0 place z x old.1 here (ap key is))) ∙ was.1)
+                  let was = in-arranged xs z (at.0, old.1) in (
+                    was.0,
+                    get-set_other (arranged key xs) index was.0 y (λ e. let is = same_some (sym was.1 ∙ ap (slice_get (arranged key xs)) e ∙ there) in
+                        old.0 (apart at.0 place z x old.1 here (ap key is))) ∙ was.1,
+                  )
             ]
 
         from : (z : X) → IsIn (set (arranged key xs) index y) z → IsIn (arranged key (set xs place y)) z
         from z found = in-arranged (set xs place y) z (elim (cases-set (arranged key xs) index y found.0 z found.1) [
           | inl now ↦ (place, get-set xs place x y here ∙ ap Some now.1)
           | inr old ↦
-              let was = arranged-in xs z (found.0, old.1) in
-              (was.0, get-set_other xs place was.0 y (λ e. let is = same_some (sym was.1 ∙ ap (slice_get xs) e ∙ here) in old.0 (one_place (arranged key xs) up found.0 index z x old.1 there (ap key is))) ∙ was.1)
+              let was = arranged-in xs z (found.0, old.1) in (
+                was.0,
+                get-set_other xs place was.0 y (λ e. let is = same_some (sym was.1 ∙ ap (slice_get xs) e ∙ here) in
+                    old.0 (one_place (arranged key xs) up found.0 index z x old.1 there (ap key is))) ∙ was.1,
+              )
         ])

@@ -91,7 +91,8 @@ IsPooled-here pool sound index group there = record {
   unpaged = unpaged-sound pool sound index group there;
 }
 
-pub HasReceived-TakesAll : (old new : PoolState) (shard : ShardState) (groups spans : ℕ) → IsSound (with_rooms old groups spans) → TakesAll (with_rooms old groups spans) (map whole_of shard.groups) new → HasReceived old shard new
+pub HasReceived-TakesAll : (old new : PoolState) (shard : ShardState) (groups spans : ℕ) → IsSound (with_rooms old groups spans)
+    → TakesAll (with_rooms old groups spans) (map whole_of shard.groups) new → HasReceived old shard new
 HasReceived-TakesAll old new shard groups spans sound all =
     let come = HaveCome-TakesAll (map whole_of shard.groups) (with_rooms old groups spans) new all in
     record {

@@ -173,11 +173,14 @@ pub paged_in-without_dead : (groups : List PooledState) → paged_in (map withou
 paged_in-without_dead [] = refl
 paged_in-without_dead (group ∷ groups) = by_test (is_some group.page) (paged_in-without_dead groups)
   where
-    by_test : (b : Bool) → paged_in (map without_dead groups) ≡ left_in groups → cond b (without_dead group ∷ paged_in (map without_dead groups)) (paged_in (map without_dead groups)) ≡ map without_dead (cond b (group ∷ paged_in groups) (paged_in groups))
+    by_test : (b : Bool) → paged_in (map without_dead groups) ≡ left_in groups
+        → cond b (without_dead group ∷ paged_in (map without_dead groups)) (paged_in (map without_dead groups))
+        ≡ map without_dead (cond b (group ∷ paged_in groups) (paged_in groups))
     by_test true rest = ap (λ gs. without_dead group ∷ gs) rest
     by_test false rest = rest
 
-pub groups-left : (old mid new : GroupsState) → mid ≡ record old { groups = map without_dead old.groups } → new ≡ record mid { groups = paged_in mid.groups } → new ≡ record old { groups = left_in old.groups }
+pub groups-left : (old mid new : GroupsState) → mid ≡ record old { groups = map without_dead old.groups } → new ≡ record mid { groups = paged_in mid.groups }
+    → new ≡ record old { groups = left_in old.groups }
 groups-left old mid new forgot kept =
     kept ∙ ap (λ (s : GroupsState). record s { groups = paged_in s.groups }) forgot
     ∙ ap (λ (gs : List PooledState). record old { groups = gs }) (paged_in-without_dead old.groups)
@@ -221,7 +224,8 @@ KnowsGuests-left groups entries sound known =
     (λ index group here. let was = before-filter paged (map without_dead groups) index group here in (was.0, was.1))
     (λ index place group guest here there. by_test index place group guest here there (is_some group.page) refl))
   where
-    by_test : (index place : ℕ) (group : PooledState) (guest : SpanState) → slice_get (map without_dead groups) index ≡ Some group → slice_get group.guests place ≡ Some guest → (b : Bool) → is_some group.page ≡ b
+    by_test : (index place : ℕ) (group : PooledState) (guest : SpanState) → slice_get (map without_dead groups) index ≡ Some group
+        → slice_get group.guests place ≡ Some guest → (b : Bool) → is_some group.page ≡ b
         → (now : ℕ) × (slice_get (filter paged (map without_dead groups)) now ≡ Some group)
     by_test index place group guest here there true has = after-filter paged (map without_dead groups) index group here has
     by_test index place group guest here there false none =

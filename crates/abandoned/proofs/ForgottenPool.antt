@@ -35,7 +35,8 @@ module _ (w : SpanState → ℕ) where
   sum-paged (group ∷ groups) = by_test (is_some group.page) (sum-paged groups)
     where
       by_test : (b : Bool) → sum_by w (spans_in (paged_in groups)) + sum_by w (spans_in (unpaged_in groups)) ≡ sum_by w (spans_in groups)
-          → sum_by w (spans_in (cond b (group ∷ paged_in groups) (paged_in groups))) + sum_by w (spans_in (cond (not b) (group ∷ unpaged_in groups) (unpaged_in groups))) ≡ sum_by w (spans_in (group ∷ groups))
+          → sum_by w (spans_in (cond b (group ∷ paged_in groups) (paged_in groups)))
+          + sum_by w (spans_in (cond (not b) (group ∷ unpaged_in groups) (unpaged_in groups))) ≡ sum_by w (spans_in (group ∷ groups))
       by_test true rest = omega (arith, rest, sum_by-append w (spans_of group) (spans_in (paged_in groups)), sum_by-append w (spans_of group) (spans_in groups))
       by_test false rest = omega (arith, rest, sum_by-append w (spans_of group) (spans_in (unpaged_in groups)), sum_by-append w (spans_of group) (spans_in groups))
 

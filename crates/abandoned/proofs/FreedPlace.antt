@@ -23,7 +23,8 @@ page-with_span group zero changed = refl
 page-with_span group (suc place) changed = refl
 
 -- it has a page only where it had one
-pub paged-free : (b : Bool) (group now : PooledState) (place : ℕ) (changed : SpanState) → OnTrue b (GivesUp (with_span group place changed) now) → OnFalse b (now ≡ group) → IsSome now.page → IsSome group.page
+pub paged-free : (b : Bool) (group now : PooledState) (place : ℕ) (changed : SpanState) → OnTrue b (GivesUp (with_span group place changed) now)
+    → OnFalse b (now ≡ group) → IsSome now.page → IsSome group.page
 paged-free false group now place changed gives stays paged = subst (λ (g : PooledState). IsSome g.page) stays paged
 paged-free true group now place changed gives stays paged = elim (empty_or_not (union_of (spans_of (with_span group place changed)))) [
   | inl none ↦ absurd (false≢true (sym (ap (λ (g : PooledState). is_some g.page) (gives.emptied none)) ∙ paged))

@@ -23,7 +23,9 @@ module _ (p : PooledState → Bool) where
   Ascend-filter (first ∷ groups) ascend low high a b less at_low at_high =
       by_test (Ascend-filter groups (λ low high a b less at_low at_high. ascend (suc low) (suc high) a b (omega arith) at_low at_high)) (p first) low high less at_low at_high
     where
-      by_test : Ascend (filter p groups) → (b' : Bool) (low high : ℕ) → low < high → slice_get (cond b' (first ∷ filter p groups) (filter p groups)) low ≡ Some a → slice_get (cond b' (first ∷ filter p groups) (filter p groups)) high ≡ Some b → rank a.head.id < rank b.head.id
+      by_test : Ascend (filter p groups) → (b' : Bool) (low high : ℕ) → low < high
+          → slice_get (cond b' (first ∷ filter p groups) (filter p groups)) low ≡ Some a
+          → slice_get (cond b' (first ∷ filter p groups) (filter p groups)) high ≡ Some b → rank a.head.id < rank b.head.id
       by_test rest false low high less at_low at_high = rest low high a b less at_low at_high
       by_test rest true low zero less at_low at_high = absurd (omega arith)
       by_test rest true zero (suc high) less at_low at_high = let found = was_kept groups high b at_high in ascend 0 (suc found.0) a b (omega arith) at_low found.1

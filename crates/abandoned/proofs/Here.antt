@@ -34,7 +34,8 @@ abbrev pub HasSpanAt : List PooledState → SpanId → ℕ → PooledState → T
 HasSpanAt groups id place group = (index : ℕ) × (span : SpanState) × IsHere groups id index place group span
 
 -- what a look-up in the directory finds, in the group of the head that it names
-pub HasSpanAt-guest : (groups : List PooledState) (entries : Entries) → KnowsGuests groups entries → (id : SpanId) (entry : Option Place) → entry ≡ map.get entries (rank id) → (at : Place) → at ≡ place_or_head entry id
+pub HasSpanAt-guest : (groups : List PooledState) (entries : Entries) → KnowsGuests groups entries → (id : SpanId) (entry : Option Place)
+    → entry ≡ map.get entries (rank id) → (at : Place) → at ≡ place_or_head entry id
     → Ascend groups → (group : PooledState) → HasHeadAt groups at.head group → HasSpanAt groups id at.place group
 HasSpanAt-guest groups entries knows id entry is at at_is ascend group (index, here) =
     let (other, span, found) = Somewhere-guest groups entries knows id entry is at at_is ascend index group here in

@@ -17,7 +17,8 @@ module _ (old : PoolState) (sound : IsSound old) (group : PooledState) (index : 
     (here : IsSoundGroup group) (in_use : IsSome group.page → union_of (spans_of group) ≢ set.empty) (once_here : (id : SpanId) → times id (spans_of group) ≤ 1)
     (elsewhere : (at : ℕ) (span : SpanState) → slice_get (spans_of group) at ≡ Some span → IsElsewhere old.groups span.id) where
   -- what holds of each group, and of the one that came, holds of each afterwards
-  each_now : (P : PooledState → Type 0) → ((at : ℕ) (g : PooledState) → slice_get old.groups at ≡ Some g → P g) → P group → (at : ℕ) (g : PooledState) → slice_get (insert old.groups index group) at ≡ Some g → P g
+  each_now : (P : PooledState → Type 0) → ((at : ℕ) (g : PooledState) → slice_get old.groups at ≡ Some g → P g) → P group → (at : ℕ) (g : PooledState)
+      → slice_get (insert old.groups index group) at ≡ Some g → P g
   each_now P each came at g there = elim (cases-insert old.groups index group place.within at g there) [
     | inl low ↦ each at g low.1
     | inr (inl now) ↦ subst P now.1 came

@@ -28,6 +28,7 @@ pub live_count-paged : (groups : List PooledState) → AreSoundGroups groups →
 live_count-paged [] sound = refl
 live_count-paged (group ∷ groups) sound = by_test (paged group) refl (live_count-paged groups (λ index g there. sound (suc index) g there))
   where
-    by_test : (b : Bool) → paged group ≡ b → live_count (spans_in (filter paged groups)) ≡ live_count (spans_in groups) → live_count (spans_in (cond b (group ∷ filter paged groups) (filter paged groups))) ≡ live_count (spans_of group ++ spans_in groups)
+    by_test : (b : Bool) → paged group ≡ b → live_count (spans_in (filter paged groups)) ≡ live_count (spans_in groups)
+        → live_count (spans_in (cond b (group ∷ filter paged groups) (filter paged groups))) ≡ live_count (spans_of group ++ spans_in groups)
     by_test true on rest = count-append (spans_of group) (spans_in (filter paged groups)) ∙ ap (λ n. live_count (spans_of group) + n) rest ∙ sym (count-append (spans_of group) (spans_in groups))
     by_test false off rest = omega (arith, rest, count-append (spans_of group) (spans_in groups), none-live group (sound 0 group refl) off)

@@ -77,7 +77,8 @@ Contains-put numbers more x moved = Contains-permutation (x ∷ numbers) more x 
 pub AreNoted-of_old : (ranks : List ℕ) (old new : GroupsState) → AreOfOld old new → AreNoted old.groups ranks → AreNoted new.groups ranks
 AreNoted-of_old ranks old new of noted index group there paged = let was = of.paged index group there paged in subst (Contains ranks) was.4 (noted was.1 was.0 was.2 was.3)
 
-pub AreNoted-insert : (groups : List PooledState) (at : ℕ) (group : PooledState) → at ≤ length groups → (ranks more : List ℕ) → ((n : ℕ) → Contains ranks n → Contains more n) → (IsSome group.page → Contains more (head_rank group))
+pub AreNoted-insert : (groups : List PooledState) (at : ℕ) (group : PooledState) → at ≤ length groups → (ranks more : List ℕ)
+    → ((n : ℕ) → Contains ranks n → Contains more n) → (IsSome group.page → Contains more (head_rank group))
     → AreNoted groups ranks → AreNoted (insert groups at group) more
 AreNoted-insert groups at group within ranks more grown its noted index other there paged = elim (cases-insert groups at group within index other there) [
   | inl low ↦ grown (head_rank other) (noted index other low.1 paged)
@@ -93,7 +94,8 @@ AreNoted-in_order row groups order ranks noted index group there paged =
     let stands = arranged-in head_rank row group (index, ap (λ gs. slice_get gs index) order ∙ there) in
     noted stands.0 group stands.1 paged
 
-pub AreNoted-more : (groups : List PooledState) (at : ℕ) (group : PooledState) → slice_get groups at ≡ Some group → (ranks more : List ℕ) → ((n : ℕ) → Contains ranks n → Contains more n) → (IsSome group.page → Contains more (head_rank group))
+pub AreNoted-more : (groups : List PooledState) (at : ℕ) (group : PooledState) → slice_get groups at ≡ Some group → (ranks more : List ℕ)
+    → ((n : ℕ) → Contains ranks n → Contains more n) → (IsSome group.page → Contains more (head_rank group))
     → AreNoted (take at groups) ranks → AreNoted (take (at + 1) groups) more
 AreNoted-more groups at group here ranks more grown its noted index other there paged =
     elim (get-push (take at groups) group index other (ap (λ gs. slice_get gs index) (sym (before-more groups at group here)) ∙ there)) [
@@ -109,13 +111,15 @@ page_none (Some words) none = absurd (none refl)
 module _ (groups : List PooledState) (ranks : List ℕ) (noted : AreNoted groups ranks) where
   -- a rank of no group with a page is of no account
   pub AreNoted-dropped : (n : ℕ) → HasNoPageAt groups n → (left : List ℕ) → IsPermutation ranks (n ∷ left) → AreNoted groups left
-  AreNoted-dropped n none left moved index group there paged = elim (Contains-cons left n (head_rank group) (Contains-permutation ranks (n ∷ left) (head_rank group) moved (noted index group there paged))) [
-    | inl same ↦ absurd (false≢true (sym (ap is_some (none group (index, there, same))) ∙ paged))
-    | inr rest ↦ rest
-  ]
+  AreNoted-dropped n none left moved index group there paged = elim
+      (Contains-cons left n (head_rank group) (Contains-permutation ranks (n ∷ left) (head_rank group) moved (noted index group there paged))) [
+        | inl same ↦ absurd (false≢true (sym (ap is_some (none group (index, there, same))) ∙ paged))
+        | inr rest ↦ rest
+      ]
 
   pub HasNoPage-none : ranks ≡ [] → HasNoPage groups
-  HasNoPage-none none index group there = page_none group.page (λ paged. let among = subst (λ ns. Contains ns (head_rank group)) none (noted index group there paged) in let low = among.1 in omega arith)
+  HasNoPage-none none index group there = page_none group.page
+      (λ paged. let among = subst (λ ns. Contains ns (head_rank group)) none (noted index group there paged) in let low = among.1 in omega arith)
 
   -- the least rank of a group with a page is that of the first
   pub IsHeadOfFirstPaged-least : AreUp head_rank groups → (n : ℕ) → IsLeastOf ranks n → (head : SpanId) → IsPagedHead groups n head → IsHeadOfFirstPaged groups head
@@ -147,13 +151,15 @@ pub AreNoted-all : (groups : List PooledState) (at : ℕ) → length groups ≤ 
 AreNoted-all groups at most ranks noted = subst (λ gs. AreNoted gs ranks) (take_all groups at most) noted
 
 -- what is found by the rank of a head is the group of the head
-pub MatchOption-head : (groups : List PooledState) (head : SpanId) (n : ℕ) → n ≡ rank head → (found : Option (Bor PooledState)) → MatchOption found (HasNoRank groups n) (λ group. HasRankAt groups n group.now)
+pub MatchOption-head : (groups : List PooledState) (head : SpanId) (n : ℕ) → n ≡ rank head → (found : Option (Bor PooledState))
+    → MatchOption found (HasNoRank groups n) (λ group. HasRankAt groups n group.now)
     → MatchOption found (HasNoHead groups head) (λ group. HasHeadAt groups head group.now)
 MatchOption-head groups head n is None none = λ index group its. none index group its.here (ap rank its.head_is ∙ sym is)
 MatchOption-head groups head n is (Some group) its = (its.0, record { here = its.1; head_is = id_from_rank group.now.head.id head (its.2 ∙ is) })
 
 -- what a call that makes room leaves of groups and room, done or not
-pub kept-reserve : {A E : Type 0} (r : Result A E) (old new : GroupsState) (more : ℕ) → OnOk r (new ≡ record old { room = max old.room more }) → OnErr r (new ≡ old) → (new.groups ≡ old.groups) × (new.room ≤ max old.room more)
+pub kept-reserve : {A E : Type 0} (r : Result A E) (old new : GroupsState) (more : ℕ) → OnOk r (new ≡ record old { room = max old.room more })
+    → OnErr r (new ≡ old) → (new.groups ≡ old.groups) × (new.room ≤ max old.room more)
 kept-reserve (Ok a) old new more ok err = (ap (λ (s : GroupsState). s.groups) ok, (let e = ap (λ (s : GroupsState). s.room) ok in omega arith))
 kept-reserve (Err e) old new more ok err = (ap (λ (s : GroupsState). s.groups) err, (let e = ap (λ (s : GroupsState). s.room) err in omega arith))
 

@@ -119,7 +119,8 @@ module _ (groups : List PooledState) (place_of : ℕ → Option ℕ) (found : Ar
       (stands.0, stands.1, ap head_rank (same_some (sym there ∙ at.1)) ∙ at.2)
 
   -- where the group of a head stands
-  pub place-IsHeadOf : (head : SpanId) (index : ℕ) (group : PooledState) → IsHeadOf (in_order groups) head index group → (place : ℕ) × (place_of (rank head) ≡ Some place) × (slice_get groups place ≡ Some group)
+  pub place-IsHeadOf : (head : SpanId) (index : ℕ) (group : PooledState) → IsHeadOf (in_order groups) head index group
+      → (place : ℕ) × (place_of (rank head) ≡ Some place) × (slice_get groups place ≡ Some group)
   place-IsHeadOf head index group is =
       let stands = arranged-in head_rank groups group (index, is.here) in
       (stands.0, ap place_of (sym (ap rank is.head_is)) ∙ found.known stands.0 group stands.1, stands.1)
@@ -192,9 +193,11 @@ module _ (groups : List PooledState) (place_of : ℕ → Option ℕ) (found : Ar
     pub in_order-set : (head : SpanId) (index : ℕ) → IsHeadOf (in_order groups) head index group → in_order (set groups place now) ≡ set (in_order groups) index now
     in_order-set head index is = arranged-set head_rank groups apart_here place group now here (ap rank same_head) index is.here
 
-    pub AreOfOld-set : (IsSome now.page → IsSome group.page) → (room : ℕ) → AreOfOld (record { groups = in_order groups; room = room }) (record { groups = in_order (set groups place now); room = room })
+    pub AreOfOld-set : (IsSome now.page → IsSome group.page) → (room : ℕ)
+        → AreOfOld (record { groups = in_order groups; room = room }) (record { groups = in_order (set groups place now); room = room })
     AreOfOld-set pages room = record {
-      count = length_permutation (set groups place now) (in_order (set groups place now)) (IsPermutation-arranged head_rank (set groups place now)) ∙ length-set groups place now ∙ sym (length_permutation groups (in_order groups) (IsPermutation-arranged head_rank groups));
+      count = length_permutation (set groups place now) (in_order (set groups place now)) (IsPermutation-arranged head_rank (set groups place now))
+          ∙ length-set groups place now ∙ sym (length_permutation groups (in_order groups) (IsPermutation-arranged head_rank groups));
       room = refl;
       paged = λ index z there paged.
           let stands = arranged-in head_rank (set groups place now) z (index, there) in
@@ -220,7 +223,9 @@ module _ (groups : List PooledState) (place_of : ℕ → Option ℕ) (found : Ar
     last_is = slice_get-get_or groups (length groups - 1) gone (let low = within in omega arith)
 
     pub shorter : suc (length left) ≡ length groups
-    shorter = ap (λ (gs : List PooledState). suc (length gs)) left_is ∙ (let e = length-take (length groups - 1) (set groups place last) (let s = length-set groups place last in omega (arith, s)) in let low = within in omega arith)
+    shorter = ap (λ (gs : List PooledState). suc (length gs)) left_is
+        ∙ (let e = length-take (length groups - 1) (set groups place last)
+        (let s = length-set groups place last in omega (arith, s)) in let low = within in omega arith)
       where
         length-take : {X : Type 0} (n : ℕ) (xs : List X) → n ≤ length xs → length (take n xs) ≡ n
         length-take zero [] most = refl

@@ -38,7 +38,8 @@ module _ (group now : PooledState) (gives : GivesUp group now) where
       false≢true (sym (ap (λ (g : PooledState). is_some g.page) (gives.emptied none_before)) ∙ paged)
 
 -- where one of its spans gave way to one of its id before
-pub AreAlike-GivesUp : (group now : PooledState) (place : ℕ) (span changed : SpanState) → slice_get (spans_of group) place ≡ Some span → changed.id ≡ span.id → GivesUp (with_span group place changed) now → AreAlike group now
+pub AreAlike-GivesUp : (group now : PooledState) (place : ℕ) (span changed : SpanState) → slice_get (spans_of group) place ≡ Some span → changed.id ≡ span.id
+    → GivesUp (with_span group place changed) now → AreAlike group now
 AreAlike-GivesUp group now place span changed here same gives =
     subst (HaveSameIds (spans_of group)) (sym (spans-GivesUp (with_span group place changed) now gives)) (AreAlike-with_span group place span changed here same)
 

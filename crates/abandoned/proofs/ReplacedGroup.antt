@@ -17,7 +17,8 @@ use Rattle.abandoned.specs.Sound.{IsSound}
 use Rattle.abandoned.specs.State.{PoolState, PooledState}
 
 module _ (old : PoolState) (sound : IsSound old) (index : ℕ) (group : PooledState) (here : slice_get old.groups index ≡ Some group) where
-  pub IsSound-replaced : (after : PooledState) → AreAlike group after → IsSoundGroup after → (IsSome after.page → union_of (spans_of after) ≢ empty) → IsSound (record old { groups = set old.groups index after })
+  pub IsSound-replaced : (after : PooledState) → AreAlike group after → IsSoundGroup after → (IsSome after.page → union_of (spans_of after) ≢ empty)
+      → IsSound (record old { groups = set old.groups index after })
   IsSound-replaced after ids after_sound after_in_use = record {
     ascending = Ascend-replaced old.groups index group after here ids sound.ascending;
     groups = AreSoundGroups-replaced old.groups index after sound.groups after_sound;
@@ -38,4 +39,5 @@ module _ (old : PoolState) (sound : IsSound old) (index : ℕ) (group : PooledSt
         (AreAlike-with_span group place span (with_set_at span slot generation value) there refl)
         (IsSoundGroup-set group its place span there slot generation value settable)
         (λ paged none. sound.in_use index group here (paged_if_held group its place span slot generation there settable.0)
-        (sym (ap union_of (spans_of-set_group group its place span there slot generation value settable) ∙ (keep_held (spans_of group) place span slot generation value there settable.0 its.apart).0) ∙ none))
+        (sym (ap union_of (spans_of-set_group group its place span there slot generation value settable)
+        ∙ (keep_held (spans_of group) place span slot generation value there settable.0 its.apart).0) ∙ none))

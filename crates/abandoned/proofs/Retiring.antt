@@ -41,7 +41,8 @@ span_count-told : (told : List LiveGroup) (groups : List GroupState) → Ascend 
 span_count-told [] groups ascend are = omega arith
 span_count-told (one ∷ told) groups ascend are =
     let (index, group, sparsest, is) = IsSparsest-first groups ascend one told are in
-    let rest = span_count-told told (remove groups index) (pairs-remove (λ (a b : GroupState). suc (rank a.head.id) ≤ rank b.head.id) groups index ascend) (AreSparsestFirst-remove groups ascend one told are index group sparsest.here is) in
+    let rest = span_count-told told (remove groups index) (pairs-remove (λ (a b : GroupState). suc (rank a.head.id) ≤ rank b.head.id) groups index ascend)
+    (AreSparsestFirst-remove groups ascend one told are index group sparsest.here is) in
     let out = taken_out spans_of groups index group sparsest.here in
     omega (
       arith,
@@ -56,14 +57,16 @@ span_count-told (one ∷ told) groups ascend are =
     )
 
 -- the first of those that are to go is the sparsest
-pub IsSparsest-ready : (pool : PoolState) (shard : ShardState) (one : LiveGroup) (more rest : List LiveGroup) → AreReady pool shard (one ∷ more) rest → (index : ℕ) × (group : GroupState) × IsSparsest shard.groups index group × (group.head.id ≡ one.head)
+pub IsSparsest-ready : (pool : PoolState) (shard : ShardState) (one : LiveGroup) (more rest : List LiveGroup) → AreReady pool shard (one ∷ more) rest
+    → (index : ℕ) × (group : GroupState) × IsSparsest shard.groups index group × (group.head.id ≡ one.head)
 IsSparsest-ready pool shard one more rest ready =
     let (index, group, sparsest, is) = IsSparsest-first shard.groups ready.sound_shard.ascending one (more ++ rest) ready.order in
     (index, group, sparsest, ap (λ (x : LiveGroup). x.head) is)
 
 -- one group leaves the shard for the pool
 
-module _ (pool next : PoolState) (shard left : ShardState) (one : LiveGroup) (more rest : List LiveGroup) (whole : WholeState) (ready : AreReady pool shard (one ∷ more) rest) (lifts : Lifts shard one.head (Some whole) left) where
+module _ (pool next : PoolState) (shard left : ShardState) (one : LiveGroup) (more rest : List LiveGroup) (whole : WholeState)
+    (ready : AreReady pool shard (one ∷ more) rest) (lifts : Lifts shard one.head (Some whole) left) where
   first : (index : ℕ) × (group : GroupState) × IsSparsest shard.groups index group × (told_of group ≡ one)
   first = IsSparsest-first shard.groups ready.sound_shard.ascending one (more ++ rest) ready.order
 
@@ -129,7 +132,8 @@ module _ (pool next : PoolState) (shard left : ShardState) (one : LiveGroup) (mo
       apart = λ id. omega (arith, ready.apart id, times-TakesIn pool next whole takes id, count_lifted id);
       groups = omega (arith, ready.groups, ap (λ (p : PoolState). p.group_room) takes.after);
       spans = omega (arith, ready.spans, sum_by-cons (λ (x : LiveGroup). x.spans) one more, spans_are, ap (λ (p : PoolState). p.span_room) takes.after);
-      order = subst (λ (gs : List GroupState). AreSparsestFirst gs (more ++ rest)) (sym groups_are) (AreSparsestFirst-remove shard.groups ready.sound_shard.ascending one (more ++ rest) ready.order lifts.0 lifts.1 lifts.2.here told_is);
+      order = subst (λ (gs : List GroupState). AreSparsestFirst gs (more ++ rest)) (sym groups_are)
+          (AreSparsestFirst-remove shard.groups ready.sound_shard.ascending one (more ++ rest) ready.order lifts.0 lifts.1 lifts.2.here told_is);
     }
 
     pub together-taken : together (shown next) (shown_by_shard left) ≡ together (shown pool) (shown_by_shard shard)
@@ -138,12 +142,16 @@ module _ (pool next : PoolState) (shard left : ShardState) (one : LiveGroup) (mo
         let next_is : spans_in next.groups ≡ into.left ++ (spans_moved whole ++ into.right) = ap spans_in (groups-TakesIn pool next whole takes) ∙ into.after in
         let there : (id : SpanId) → times id (into.left ++ (spans_moved whole ++ into.right)) ≤ 1 = λ id. subst (λ xs. times id xs ≤ 1) next_is (sound_next.once id) in
         let here : (id : SpanId) → times id (between.left ++ (spans_moved whole ++ between.right)) ≤ 1 = λ id. subst (λ xs. times id xs ≤ 1) between.with_is (ready.sound_shard.once id) in
-        (λ i. together (shown_by-spans next.groups sound_next.groups sound_next.once (into.left ++ (spans_moved whole ++ into.right)) next_is i) (shown_by-spans left.groups sound_left.groups sound_left.once (between.left ++ between.right) between.without_is i))
+        (λ i. together (shown_by-spans next.groups sound_next.groups sound_next.once (into.left ++ (spans_moved whole ++ into.right)) next_is i)
+        (shown_by-spans left.groups sound_left.groups sound_left.once (between.left ++ between.right) between.without_is i))
         ∙ sym (together-moved into.left (spans_moved whole) into.right between.left between.right there here)
-        ∙ sym (λ i. together (shown_by-spans pool.groups ready.sound.groups ready.sound.once (into.left ++ into.right) into.whole i) (shown_by-spans shard.groups ready.sound_shard.groups ready.sound_shard.once (between.left ++ (spans_moved whole ++ between.right)) between.with_is i))
+        ∙ sym (λ i. together (shown_by-spans pool.groups ready.sound.groups ready.sound.once (into.left ++ into.right) into.whole i)
+        (shown_by-spans shard.groups ready.sound_shard.groups ready.sound_shard.once
+        (between.left ++ (spans_moved whole ++ between.right)) between.with_is i))
 
 -- room is made for the groups that are to go
-AreReady-reserved : (pool : PoolState) (shard : ShardState) (groups spans : ℕ) (going rest : List LiveGroup) → IsSound pool → IsSoundShard shard → (IsInPool pool shard → ⊥) → AreSparsestFirst shard.groups (going ++ rest) → groups ≡ length going → spans ≡ span_count going
+AreReady-reserved : (pool : PoolState) (shard : ShardState) (groups spans : ℕ) (going rest : List LiveGroup) → IsSound pool → IsSoundShard shard
+    → (IsInPool pool shard → ⊥) → AreSparsestFirst shard.groups (going ++ rest) → groups ≡ length going → spans ≡ span_count going
     → AreReady (with_rooms pool groups spans) shard going rest
 AreReady-reserved pool shard groups spans going rest sound sound_shard apart order groups_are spans_are = record {
   sound = IsSound-with_rooms pool groups spans sound;
@@ -155,10 +163,12 @@ AreReady-reserved pool shard groups spans going rest sound sound_shard apart ord
 }
 
 -- the first ones, as many as are asked for, may come with room for them
-pub AreReady-going : (pool : PoolState) (shard : ShardState) (told going : List LiveGroup) (most groups spans : ℕ) → IsSound pool → IsSoundShard shard → (IsInPool pool shard → ⊥) → AreSparsestFirst shard.groups told → going ≡ take most told → groups ≡ length going → spans ≡ span_count going
+pub AreReady-going : (pool : PoolState) (shard : ShardState) (told going : List LiveGroup) (most groups spans : ℕ) → IsSound pool → IsSoundShard shard
+    → (IsInPool pool shard → ⊥) → AreSparsestFirst shard.groups told → going ≡ take most told → groups ≡ length going → spans ≡ span_count going
     → AreReady (with_rooms pool groups spans) shard going (drop most told)
 AreReady-going pool shard told going most groups spans sound sound_shard apart are is groups_are spans_are =
-    AreReady-reserved pool shard groups spans going (drop most told) sound sound_shard apart (subst (AreSparsestFirst shard.groups) (sym (ap (λ xs. xs ++ drop most told) is ∙ take-append-drop most told)) are) groups_are spans_are
+    AreReady-reserved pool shard groups spans going (drop most told) sound sound_shard apart
+    (subst (AreSparsestFirst shard.groups) (sym (ap (λ xs. xs ++ drop most told) is ∙ take-append-drop most told)) are) groups_are spans_are
 
 pub span_count-going : (shard : ShardState) (told going : List LiveGroup) (most : ℕ) → IsSoundShard shard → AreSparsestFirst shard.groups told → going ≡ take most told → span_count going ≤ ALL_IDS
 span_count-going shard told going most sound are is = omega (
@@ -174,7 +184,8 @@ length-going told going most is = omega (arith, ap length is, length-take most t
 
 -- where fewer go than are asked for, all have gone
 pub HasNoLive-fewer : (groups : List GroupState) (told going : List LiveGroup) (most : ℕ) → going ≡ take most told → AreSparsestFirst groups (drop most told) → length going < most → HasNoLive groups
-HasNoLive-fewer groups told going most is are fewer = HasNoLive-none groups (subst (AreSparsestFirst groups) (none (drop most told) (omega (arith, ap length is, length-take most told, length-drop most told))) are)
+HasNoLive-fewer groups told going most is are fewer = HasNoLive-none groups
+    (subst (AreSparsestFirst groups) (none (drop most told) (omega (arith, ap length is, length-take most told, length-drop most told))) are)
   where
     none : (xs : List LiveGroup) → length xs ≡ 0 → xs ≡ []
     none [] e = refl
@@ -183,10 +194,13 @@ HasNoLive-fewer groups told going most is are fewer = HasNoLive-none groups (sub
 -- what a reader sees of the moves
 
 -- what holds of each two, and of each and the new last one, holds of each two then
-pairs-last : {X : Type 0} (R : X → X → Type 0) (xs : List X) (x : X) → ((low high : ℕ) (a b : X) → suc low ≤ high → slice_get xs low ≡ Some a → slice_get xs high ≡ Some b → R a b) → ((at : ℕ) (a : X) → slice_get xs at ≡ Some a → R a x)
+pairs-last : {X : Type 0} (R : X → X → Type 0) (xs : List X) (x : X)
+    → ((low high : ℕ) (a b : X) → suc low ≤ high → slice_get xs low ≡ Some a → slice_get xs high ≡ Some b → R a b)
+    → ((at : ℕ) (a : X) → slice_get xs at ≡ Some a → R a x)
     → (low high : ℕ) (a b : X) → suc low ≤ high → slice_get (xs ++ x ∷ []) low ≡ Some a → slice_get (xs ++ x ∷ []) high ≡ Some b → R a b
 pairs-last R xs x pairs last low high a b less at_low at_high =
-    pairs-insert R xs (length xs) x (omega arith) pairs (λ other y below there. last other y there) (λ other y past there. absurd (omega (arith, past, slice_get_within xs other y there))) low high a b less
+    pairs-insert R xs (length xs) x (omega arith) pairs (λ other y below there. last other y there)
+    (λ other y past there. absurd (omega (arith, past, slice_get_within xs other y there))) low high a b less
     (ap (λ zs. slice_get zs low) (insert_end xs x) ∙ at_low)
     (ap (λ zs. slice_get zs high) (insert_end xs x) ∙ at_high)
 
@@ -206,7 +220,8 @@ HasRetired-none pool shard sound = record {
 }
 
 -- the sparsest group is sparser than each other with a live key
-IsSparser-sparsest : (groups : List GroupState) → Ascend groups → (index : ℕ) (group : GroupState) → IsSparsest groups index group → (at : ℕ) (other : GroupState) → (at ≡ index → ⊥) → slice_get groups at ≡ Some other → 1 ≤ live_of other → IsSparser group other
+IsSparser-sparsest : (groups : List GroupState) → Ascend groups → (index : ℕ) (group : GroupState) → IsSparsest groups index group
+    → (at : ℕ) (other : GroupState) → (at ≡ index → ⊥) → slice_get groups at ≡ Some other → 1 ≤ live_of other → IsSparser group other
 IsSparser-sparsest groups ascend index group sparsest at other apart there some = elim (cases_lt (live_of group) (live_of other)) [
   | inl fewer ↦ inl fewer
   | inr no_fewer ↦
@@ -220,7 +235,8 @@ IsSparser-sparsest groups ascend index group sparsest at other apart there some 
     above : (at index : ℕ) → index ≤ at → (at ≡ index → ⊥) → suc index ≤ at
     above at index le apart = elim (cases_lt index at) [ inl less ↦ less | inr not_less ↦ absurd (apart (omega arith)) ]
 
-module _ (pool₀ : PoolState) (shard₀ : ShardState) (count : ℕ) (pool : PoolState) (shard : ShardState) (next : PoolState) (left : ShardState) (was : HasRetired pool₀ shard₀ count pool shard) (moves : MovesSparsest pool shard next left) (sound_shard : IsSoundShard shard) where
+module _ (pool₀ : PoolState) (shard₀ : ShardState) (count : ℕ) (pool : PoolState) (shard : ShardState) (next : PoolState) (left : ShardState)
+    (was : HasRetired pool₀ shard₀ count pool shard) (moves : MovesSparsest pool shard next left) (sound_shard : IsSoundShard shard) where
   -- what is left stood before, at another index
   left_was : (index : ℕ) (group : GroupState) → slice_get left.groups index ≡ Some group → (at : ℕ) × (at ≡ moves.index → ⊥) × (slice_get shard.groups at ≡ Some group)
   left_was index group there = before-remove shard.groups moves.index index group (ap (λ (s : ShardState). slice_get s.groups index) (sym moves.after) ∙ there)
@@ -253,7 +269,8 @@ module _ (pool₀ : PoolState) (shard₀ : ShardState) (count : ℕ) (pool : Poo
     sparser_first = pairs-last IsSparser was.gone moves.group was.sparser_first (λ place group there. was.sparser place moves.index group moves.group there moves.sparsest.here moves.sparsest.some);
     sparser = λ place index group other there left_there some.
         let (at, apart, here) = left_was index other left_there in
-        gone_or_last {P = λ g. IsSparser g other} (λ place group there. was.sparser place at group other there here some) (IsSparser-sparsest shard.groups sound_shard.ascending moves.index moves.group moves.sparsest at other apart here some) place group there;
+        gone_or_last {P = λ g. IsSparser g other} (λ place group there. was.sparser place at group other there here some)
+        (IsSparser-sparsest shard.groups sound_shard.ascending moves.index moves.group moves.sparsest at other apart here some) place group there;
     fewer =
         let within = slice_get_within shard.groups moves.index moves.group moves.sparsest.here in
         omega (arith, was.fewer, length-remove shard.groups moves.index within, ap (λ (s : ShardState). length s.groups) moves.after);
@@ -274,11 +291,15 @@ pub IsRetiring-first : (pool : PoolState) (shard : ShardState) (going rest : Lis
 IsRetiring-first pool shard going rest ready = record { moved = (refl, refl); whole = HasRetired-none pool shard ready.sound; ready = λ rest ready. ready; kept = refl }
 
 -- the next one is the first that is left
-pub AreReady-at : (pool : PoolState) (shard : ShardState) (going rest : List LiveGroup) (count : ℕ) (one : LiveGroup) → slice_get going count ≡ Some one → AreReady pool shard (drop count going) rest → AreReady pool shard (one ∷ drop (count + 1) going) rest
+pub AreReady-at : (pool : PoolState) (shard : ShardState) (going rest : List LiveGroup) (count : ℕ) (one : LiveGroup) → slice_get going count ≡ Some one
+    → AreReady pool shard (drop count going) rest → AreReady pool shard (one ∷ drop (count + 1) going) rest
 AreReady-at pool shard going rest count one there ready =
-    subst (λ xs. AreReady pool shard xs rest) (drop_more going count one (slice_get_within going count one there) ∙ ap (λ x. x ∷ drop (count + 1) going) (get_or_from_slice_get going count one one there)) ready
+    subst (λ xs. AreReady pool shard xs rest)
+    (drop_more going count one (slice_get_within going count one there)
+    ∙ ap (λ x. x ∷ drop (count + 1) going) (get_or_from_slice_get going count one one there)) ready
 
-pub IsRetiring-next : (pool₀ : PoolState) (shard₀ : ShardState) (going rest : List LiveGroup) (count : ℕ) (pool : PoolState) (shard : ShardState) (next : PoolState) (left : ShardState) (one : LiveGroup) → slice_get going count ≡ Some one → AreReady pool₀ shard₀ going rest
+pub IsRetiring-next : (pool₀ : PoolState) (shard₀ : ShardState) (going rest : List LiveGroup) (count : ℕ) (pool : PoolState) (shard : ShardState)
+    (next : PoolState) (left : ShardState) (one : LiveGroup) → slice_get going count ≡ Some one → AreReady pool₀ shard₀ going rest
     → IsRetiring pool₀ shard₀ going count pool shard → MovesSparsest pool shard next left → ((more rest : List LiveGroup) → AreReady pool shard (one ∷ more) rest → AreReady next left more rest)
     → together (shown next) (shown_by_shard left) ≡ together (shown pool) (shown_by_shard shard) → IsRetiring pool₀ shard₀ going (count + 1) next left
 IsRetiring-next pool₀ shard₀ going rest count pool shard next left one there first was moves ready kept =
@@ -292,7 +313,8 @@ IsRetiring-next pool₀ shard₀ going rest count pool shard next left one there
     }
 
 -- what room the pool had makes no difference
-pub HasRetired-with_rooms : (old : PoolState) (groups spans : ℕ) (shard : ShardState) (count : ℕ) (new : PoolState) (left : ShardState) → HasRetired (with_rooms old groups spans) shard count new left → HasRetired old shard count new left
+pub HasRetired-with_rooms : (old : PoolState) (groups spans : ℕ) (shard : ShardState) (count : ℕ) (new : PoolState) (left : ShardState)
+    → HasRetired (with_rooms old groups spans) shard count new left → HasRetired old shard count new left
 HasRetired-with_rooms old groups spans shard count new left is = record {
   gone = is.gone;
   many = is.many;

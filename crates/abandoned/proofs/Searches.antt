@@ -12,5 +12,6 @@ module _ {X : Type 0} (P : X → Type 0) where
     | inr apart ↦ before other y (omega arith) there p
   ]
 
-  pub not_there : (xs : List X) (at : ℕ) → length xs ≤ at → ((other : ℕ) (y : X) → other < at → slice_get xs other ≡ Some y → P y → ⊥) → ((place : ℕ) × (x : X) × (slice_get xs place ≡ Some x) × P x) → ⊥
+  pub not_there : (xs : List X) (at : ℕ) → length xs ≤ at → ((other : ℕ) (y : X) → other < at → slice_get xs other ≡ Some y → P y → ⊥)
+      → ((place : ℕ) × (x : X) × (slice_get xs place ≡ Some x) × P x) → ⊥
   not_there xs at past before (place, x, there, p) = before place x (let low = slice_get_within xs place x there in omega arith) there p

@@ -19,7 +19,8 @@ use Rattle.abandoned.specs.State.{PooledState, group_of}
 use Rattle.abandoned.proofs.Cases.{where_true}
 
 -- where a set is done, the group has a page, and the object fits it
-module _ (spans : SpansState) (page : Option Words) (sound : IsSoundGroup (group_of spans page)) (place : ℕ) (within : place < length (all_spans spans)) (slot generation : ℕ) (value : Value) (done : Bool) (is_done : done ≡ true) (new : SpansState)
+module _ (spans : SpansState) (page : Option Words) (sound : IsSoundGroup (group_of spans page)) (place : ℕ) (within : place < length (all_spans spans))
+    (slot generation : ℕ) (value : Value) (done : Bool) (is_done : done ≡ true) (new : SpansState)
     (found : (span : SpanState) → slice_get (all_spans spans) place ≡ Some span → IsTrue done ↔ IsSettable span slot generation value)
     (sets : (span : SpanState) → slice_get (all_spans spans) place ≡ Some span → OnTrue done (new ≡ with_span_at spans place (with_set_at span slot generation value))) where
   span_there : (span : SpanState) × (slice_get (all_spans spans) place ≡ Some span)
@@ -50,14 +51,16 @@ module _ (group : PooledState) (place : ℕ) (span : SpanState) (here : slice_ge
   head-set_group = head-alike group (set_group group place span slot generation value) (AreAlike-with_span group place span (with_set_at span slot generation value) here refl)
 
   -- the head's id after a set, done or not
-  pub head-set : {E : Type 0} (r : Result Bool E) (now : PooledState) → IfOk r (λ done. OnTrue done (now ≡ set_group group place span slot generation value)) → IfOk r (λ done. OnFalse done (now ≡ group)) → OnErr r (now ≡ group)
+  pub head-set : {E : Type 0} (r : Result Bool E) (now : PooledState) → IfOk r (λ done. OnTrue done (now ≡ set_group group place span slot generation value))
+      → IfOk r (λ done. OnFalse done (now ≡ group)) → OnErr r (now ≡ group)
       → now.head.id ≡ group.head.id
   head-set (Ok true) now is stays err = ap (λ (g : PooledState). g.head.id) is ∙ head-set_group
   head-set (Ok false) now is stays err = ap (λ (g : PooledState). g.head.id) stays
   head-set (Err e) now is stays err = ap (λ (g : PooledState). g.head.id) err
 
 -- it has a page only where it had one
-pub paged-set : {E : Type 0} (group : PooledState) → IsSoundGroup group → (place : ℕ) (span : SpanState) → slice_get (spans_of group) place ≡ Some span → (slot generation : ℕ) (value : Value) (r : Result Bool E) (now : PooledState)
+pub paged-set : {E : Type 0} (group : PooledState) → IsSoundGroup group → (place : ℕ) (span : SpanState) → slice_get (spans_of group) place ≡ Some span
+    → (slot generation : ℕ) (value : Value) (r : Result Bool E) (now : PooledState)
     → IfOk r (λ done. IsTrue done ↔ IsSettable span slot generation value) → IfOk r (λ done. OnFalse done (now ≡ group)) → OnErr r (now ≡ group) → IsSome now.page → IsSome group.page
 paged-set group sound place span here slot generation value (Ok true) now found stays err paged = paged_if_held group sound place span slot generation here (found.0 refl).0
 paged-set group sound place span here slot generation value (Ok false) now found stays err paged = subst (λ (g : PooledState). IsSome g.page) stays paged

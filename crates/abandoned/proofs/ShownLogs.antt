@@ -38,7 +38,8 @@ module _ (pool : PoolState) (sound : IsSound pool) where
   pub shown-logged : shown pool ≡ logged (spans_in pool.groups) nothing_pending
   shown-logged = shown_by-logged pool.groups sound.groups sound.once
 
-  pub value-here : (key : Key) (index place : ℕ) (group : PooledState) (span : SpanState) → IsHere pool.groups key.span index place group span → (shown pool).value_of key ≡ value_in span.log key.slot key.generation
+  pub value-here : (key : Key) (index place : ℕ) (group : PooledState) (span : SpanState) → IsHere pool.groups key.span index place group span
+      → (shown pool).value_of key ≡ value_in span.log key.slot key.generation
   value-here = value_of-here pool.groups sound.groups sound.once
 
   pub value-elsewhere : (key : Key) → IsElsewhere pool.groups key.span → (shown pool).value_of key ≡ None
@@ -68,7 +69,8 @@ shown-Frees old new key (freed.Yes at) sound (index, place, group, span, here, h
     let after : IsSound new = IsSound-Frees old new key (freed.Yes at) sound (index, place, group, span, here, holds, before, leaves) in
     let now = groups-Leaves old new index place group (with_free span key) leaves in
     ap shown_by now.1
-    ∙ shown_by-free old.groups sound.groups sound.once key index place group span here now.0 (after.groups index now.0 (ap (λ gs. slice_get gs index) now.1 ∙ get-set old.groups index group now.0 here.group_is)) now.2 holds
+    ∙ shown_by-free old.groups sound.groups sound.once key index place group span here now.0
+    (after.groups index now.0 (ap (λ gs. slice_get gs index) now.1 ∙ get-set old.groups index group now.0 here.group_is)) now.2 holds
 shown-Frees old new key (freed.No at) sound (index, place, group, span, here, gone, before, new_is) = ap shown new_is
 shown-Frees old new key freed.NotHere sound (elsewhere, new_is) = ap shown new_is
 
@@ -82,12 +84,15 @@ IsSound-Sets old new key value replaced.NotHere sound (elsewhere, new_is) = subs
 
 -- a set is done exactly where the plain map may be set
 pub was_replaced-Sets : (old new : PoolState) (key : Key) (value : Value) (answer : Replaced) → IsSound old → Sets old key value answer new → was_replaced answer ≡ may_set (shown old) key value
-was_replaced-Sets old new key value (replaced.Yes at) sound (index, place, group, span, here, settable, before, new_is) = sym (may_set-settable old.groups sound.groups sound.once key index place group span here value settable)
-was_replaced-Sets old new key value (replaced.No at) sound (index, place, group, span, here, not, before, new_is) = sym (may_set-not old.groups sound.groups sound.once key index place group span here value not)
+was_replaced-Sets old new key value (replaced.Yes at) sound (index, place, group, span, here, settable, before, new_is) = sym
+    (may_set-settable old.groups sound.groups sound.once key index place group span here value settable)
+was_replaced-Sets old new key value (replaced.No at) sound (index, place, group, span, here, not, before, new_is) = sym
+    (may_set-not old.groups sound.groups sound.once key index place group span here value not)
 was_replaced-Sets old new key value replaced.NotHere sound (elsewhere, new_is) = sym (ap (has_as_many value) (value-elsewhere old sound key elsewhere))
 
 -- a set of the key is a set of the plain map
-pub shown-Sets : (old new : PoolState) (key : Key) (value : Value) (answer : Replaced) → IsSound old → Sets old key value answer new → shown new ≡ cond (was_replaced answer) (with_value (shown old) key value) (shown old)
+pub shown-Sets : (old new : PoolState) (key : Key) (value : Value) (answer : Replaced) → IsSound old → Sets old key value answer new
+    → shown new ≡ cond (was_replaced answer) (with_value (shown old) key value) (shown old)
 shown-Sets old new key value (replaced.Yes at) sound (index, place, group, span, here, settable, before, new_is) =
     ap shown new_is
     ∙ shown_by-set old.groups sound.groups sound.once key index place group span here (set_group group place span key.slot key.generation value)

@@ -65,7 +65,8 @@ pub IsSound-with_rooms : (pool : PoolState) (groups spans : ℕ) → IsSound poo
 IsSound-with_rooms pool groups spans sound = record { ascending = sound.ascending; groups = sound.groups; in_use = sound.in_use; once = sound.once }
 
 -- several groups come, one after another: each id stands as often as in the pool before and in the groups
-pub times-TakesAll : (wholes : List WholeState) (old new : PoolState) → TakesAll old wholes new → (id : SpanId) → times id (spans_in new.groups) ≡ times id (flat_map spans_moved wholes) + times id (spans_in old.groups)
+pub times-TakesAll : (wholes : List WholeState) (old new : PoolState) → TakesAll old wholes new → (id : SpanId)
+    → times id (spans_in new.groups) ≡ times id (flat_map spans_moved wholes) + times id (spans_in old.groups)
 times-TakesAll [] old new same id = ap (λ (p : PoolState). times id (spans_in p.groups)) same ∙ omega arith
 times-TakesAll (whole ∷ wholes) old new (mid, rest, takes) id = omega (
   arith,

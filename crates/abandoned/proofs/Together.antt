@@ -42,7 +42,8 @@ named-append : (xs ys : List SpanState) (id : SpanId) → span_named (xs ++ ys) 
 named-append [] ys id = refl
 named-append (x ∷ xs) ys id = by_test (same_span x.id id) (named-append xs ys id)
   where
-    by_test : (b : Bool) → span_named (xs ++ ys) id ≡ first_span (span_named xs id) (span_named ys id) → cond b (Some x) (span_named (xs ++ ys) id) ≡ first_span (cond b (Some x) (span_named xs id)) (span_named ys id)
+    by_test : (b : Bool) → span_named (xs ++ ys) id ≡ first_span (span_named xs id) (span_named ys id)
+        → cond b (Some x) (span_named (xs ++ ys) id) ≡ first_span (cond b (Some x) (span_named xs id)) (span_named ys id)
     by_test true rest = refl
     by_test false rest = rest
 
@@ -84,7 +85,8 @@ Alike-after zs xs ys same id = named-append zs xs id ∙ ap (first_span (span_na
 -- spans that stand once may be moved to the front
 Alike-front : (left middle right : List SpanState) → ((id : SpanId) → times id (left ++ (middle ++ right)) ≤ 1) → Alike (left ++ (middle ++ right)) (middle ++ (left ++ right))
 Alike-front left middle right once id = elim (cases_eq (times id middle) 0) [
-  | inl none ↦ named-without_middle left middle right id (once id) none ∙ sym (named-append middle (left ++ right) id ∙ ap (λ o. first_span o (span_named (left ++ right) id)) (none_named middle id none))
+  | inl none ↦ named-without_middle left middle right id (once id) none
+      ∙ sym (named-append middle (left ++ right) id ∙ ap (λ o. first_span o (span_named (left ++ right) id)) (none_named middle id none))
   | inr some ↦
       let found = named-middle left middle right id (once id) some in
       found.0 ∙ sym (named-append middle (left ++ right) id ∙ ap (first_span (span_named middle id)) found.1 ∙ first_span-none (span_named middle id))
@@ -109,7 +111,8 @@ logged-together xs ys once = same_plain_map _ _ (λ key. issued key) (λ key. va
 
     issued : (key : Key) → (issued_by key (span_named xs key.span) || issued_by key (span_named ys key.span)) ≡ issued_by key (span_named (xs ++ ys) key.span)
     issued key = elim (either key.span) [
-      | inl none ↦ ap (λ o. issued_by key o || issued_by key (span_named ys key.span)) none ∙ ap (issued_by key) (sym (named-append xs ys key.span ∙ ap (λ o. first_span o (span_named ys key.span)) none))
+      | inl none ↦ ap (λ o. issued_by key o || issued_by key (span_named ys key.span)) none
+          ∙ ap (issued_by key) (sym (named-append xs ys key.span ∙ ap (λ o. first_span o (span_named ys key.span)) none))
       | inr none ↦
           ap (λ o. issued_by key (span_named xs key.span) || issued_by key o) none ∙ or-false _
           ∙ ap (issued_by key) (sym (named-append xs ys key.span ∙ ap (first_span (span_named xs key.span)) none ∙ first_span-none (span_named xs key.span)))
@@ -117,14 +120,16 @@ logged-together xs ys once = same_plain_map _ _ (λ key. issued key) (λ key. va
 
     value : (key : Key) → first_of (logged_by key (span_named xs key.span)) (logged_by key (span_named ys key.span)) ≡ logged_by key (span_named (xs ++ ys) key.span)
     value key = elim (either key.span) [
-      | inl none ↦ ap (λ o. first_of (logged_by key o) (logged_by key (span_named ys key.span))) none ∙ ap (logged_by key) (sym (named-append xs ys key.span ∙ ap (λ o. first_span o (span_named ys key.span)) none))
+      | inl none ↦ ap (λ o. first_of (logged_by key o) (logged_by key (span_named ys key.span))) none
+          ∙ ap (logged_by key) (sym (named-append xs ys key.span ∙ ap (λ o. first_span o (span_named ys key.span)) none))
       | inr none ↦
           ap (λ o. first_of (logged_by key (span_named xs key.span)) (logged_by key o)) none ∙ first_of-none _
           ∙ ap (logged_by key) (sym (named-append xs ys key.span ∙ ap (first_span (span_named xs key.span)) none ∙ first_span-none (span_named xs key.span)))
     ]
 
 -- groups show what the logs of their spans leave
-pub shown_by-spans : {Closed : Type 0} (groups : List (Group Closed)) → AreSoundGroups groups → ((id : SpanId) → times id (spans_in groups) ≤ 1) → (spans : List SpanState) → spans_in groups ≡ spans → shown_by groups ≡ logged spans nothing_pending
+pub shown_by-spans : {Closed : Type 0} (groups : List (Group Closed)) → AreSoundGroups groups → ((id : SpanId) → times id (spans_in groups) ≤ 1)
+    → (spans : List SpanState) → spans_in groups ≡ spans → shown_by groups ≡ logged spans nothing_pending
 shown_by-spans groups sound once spans is = shown_by-logged groups sound once ∙ ap (λ xs. logged xs nothing_pending) is
 
 -- an adoption
@@ -137,10 +142,12 @@ module _ (left moved right fore aft : List SpanState) (once_here : (id : SpanId)
   abbrev is_there : List SpanState
   is_there = fore ++ (moved ++ aft)
 
-  pub together-moved : together (logged (left ++ right) nothing_pending) (logged (fore ++ (moved ++ aft)) nothing_pending) ≡ together (logged (left ++ (moved ++ right)) nothing_pending) (logged (fore ++ aft) nothing_pending)
+  pub together-moved : together (logged (left ++ right) nothing_pending) (logged (fore ++ (moved ++ aft)) nothing_pending)
+      ≡ together (logged (left ++ (moved ++ right)) nothing_pending) (logged (fore ++ aft) nothing_pending)
   together-moved = same_plain_map _ _ (λ key. issued key) (λ key. value key) (λ worker owner. refl)
     where
-      issued : (key : Key) → (issued_by key (span_named (left ++ right) key.span) || issued_by key (span_named is_there key.span)) ≡ (issued_by key (span_named was_here key.span) || issued_by key (span_named (fore ++ aft) key.span))
+      issued : (key : Key) → (issued_by key (span_named (left ++ right) key.span) || issued_by key (span_named is_there key.span))
+          ≡ (issued_by key (span_named was_here key.span) || issued_by key (span_named (fore ++ aft) key.span))
       issued key = elim (cases_eq (times key.span moved) 0) [
         | inl none ↦
             ap (λ o. issued_by key o || issued_by key (span_named is_there key.span)) (sym (named-without_middle left moved right key.span (once_here key.span) none))
@@ -153,7 +160,8 @@ module _ (left moved right fore aft : List SpanState) (once_here : (id : SpanId)
             ∙ sym (ap (λ o. issued_by key (span_named was_here key.span) || issued_by key o) there.1 ∙ or-false _)
       ]
 
-      value : (key : Key) → first_of (logged_by key (span_named (left ++ right) key.span)) (logged_by key (span_named is_there key.span)) ≡ first_of (logged_by key (span_named was_here key.span)) (logged_by key (span_named (fore ++ aft) key.span))
+      value : (key : Key) → first_of (logged_by key (span_named (left ++ right) key.span)) (logged_by key (span_named is_there key.span))
+          ≡ first_of (logged_by key (span_named was_here key.span)) (logged_by key (span_named (fore ++ aft) key.span))
       value key = elim (cases_eq (times key.span moved) 0) [
         | inl none ↦
             ap (λ o. first_of (logged_by key o) (logged_by key (span_named is_there key.span))) (sym (named-without_middle left moved right key.span (once_here key.span) none))
@@ -185,9 +193,11 @@ together-Adopts old new shard adopter head whole spans sound sound_new sound_sha
     let into = spans_in-TakesIn (with_room_in shard None spans) adopter whole takes in
     let here : (id : SpanId) → times id (out.0 ++ (spans_moved whole ++ out.1)) ≤ 1 = λ id. subst (λ xs. times id xs ≤ 1) out.2 (sound.once id) in
     let there : (id : SpanId) → times id (into.left ++ (spans_moved whole ++ into.right)) ≤ 1 = λ id. subst (λ xs. times id xs ≤ 1) into.with_is (sound_adopter.once id) in
-    (λ i. together (shown_by-spans new.groups sound_new.groups sound_new.once (out.0 ++ out.1) out.3 i) (shown_by-spans adopter.groups sound_adopter.groups sound_adopter.once (into.left ++ (spans_moved whole ++ into.right)) into.with_is i))
+    (λ i. together (shown_by-spans new.groups sound_new.groups sound_new.once (out.0 ++ out.1) out.3 i)
+    (shown_by-spans adopter.groups sound_adopter.groups sound_adopter.once (into.left ++ (spans_moved whole ++ into.right)) into.with_is i))
     ∙ together-moved out.0 (spans_moved whole) out.1 into.left into.right here there
-    ∙ sym (λ i. together (shown_by-spans old.groups sound.groups sound.once (out.0 ++ (spans_moved whole ++ out.1)) out.2 i) (shown_by-spans shard.groups sound_shard.groups sound_shard.once (into.left ++ into.right) into.without_is i))
+    ∙ sym (λ i. together (shown_by-spans old.groups sound.groups sound.once (out.0 ++ (spans_moved whole ++ out.1)) out.2 i)
+    (shown_by-spans shard.groups sound_shard.groups sound_shard.once (into.left ++ into.right) into.without_is i))
 
 -- the end of a shard
 
@@ -195,7 +205,8 @@ together-Adopts old new shard adopter head whole spans sound sound_new sound_sha
 abbrev AreOnce : PoolState → List WholeState → Type 0
 AreOnce pool wholes = (id : SpanId) → times id (flat_map spans_moved wholes) + times id (spans_in pool.groups) ≤ 1
 
-Alike-TakesIn : (old new : PoolState) (whole : WholeState) → ((id : SpanId) → times id (spans_in new.groups) ≤ 1) → TakesIn old whole new → Alike (spans_in new.groups) (spans_moved whole ++ spans_in old.groups)
+Alike-TakesIn : (old new : PoolState) (whole : WholeState) → ((id : SpanId) → times id (spans_in new.groups) ≤ 1) → TakesIn old whole new
+    → Alike (spans_in new.groups) (spans_moved whole ++ spans_in old.groups)
 Alike-TakesIn old new whole once takes id =
     let part = put_in spans_of old.groups takes.index (pooled whole takes.page) in
     let is : spans_in new.groups ≡ part.left ++ (spans_moved whole ++ part.right) = ap spans_in (groups-TakesIn old new whole takes) ∙ part.after in
@@ -229,7 +240,8 @@ flat_map-whole_of : (groups : List GroupState) → flat_map spans_moved (map who
 flat_map-whole_of [] = refl
 flat_map-whole_of (group ∷ groups) = ap (λ xs. spans_of group ++ xs) (flat_map-whole_of groups)
 
-pub together-Receives : (old new : PoolState) (shard : ShardState) (groups spans : ℕ) → IsSound old → IsSound new → IsSoundShard shard → AreApart old shard → TakesAll (with_rooms old groups spans) (map whole_of shard.groups) new
+pub together-Receives : (old new : PoolState) (shard : ShardState) (groups spans : ℕ) → IsSound old → IsSound new → IsSoundShard shard → AreApart old shard
+    → TakesAll (with_rooms old groups spans) (map whole_of shard.groups) new
     → shown new ≡ together (shown old) (shown_by_shard shard)
 together-Receives old new shard groups spans sound sound_new sound_shard once all =
     let same = flat_map-whole_of shard.groups in

@@ -56,10 +56,12 @@ module _ (groups : List PooledState) (at : ℕ) (group : PooledState) (here : sl
   paged-more on = ap (filter paged) before-more ∙ filter-append paged (take at groups) (group ∷ []) ∙ ap (λ b. filter paged (take at groups) ++ cond b (group ∷ []) []) on
 
   pub paged-as_before : paged group ≡ false → filter paged (take (at + 1) groups) ≡ filter paged (take at groups)
-  paged-as_before off = ap (filter paged) before-more ∙ filter-append paged (take at groups) (group ∷ []) ∙ ap (λ b. filter paged (take at groups) ++ cond b (group ∷ []) []) off ∙ append-nil (filter paged (take at groups))
+  paged-as_before off = ap (filter paged) before-more ∙ filter-append paged (take at groups) (group ∷ [])
+      ∙ ap (λ b. filter paged (take at groups) ++ cond b (group ∷ []) []) off ∙ append-nil (filter paged (take at groups))
 
   pub spans-more : length (spans_in (take (at + 1) groups)) ≡ length (spans_in (take at groups)) + length (spans_of group)
-  spans-more = ap (λ gs. length (spans_in gs)) before-more ∙ ap length (flat_map-append spans_of (take at groups) (group ∷ [])) ∙ ap (λ spans. length (spans_in (take at groups) ++ spans)) (append-nil (spans_of group)) ∙ length-append (spans_in (take at groups)) (spans_of group)
+  spans-more = ap (λ gs. length (spans_in gs)) before-more ∙ ap length (flat_map-append spans_of (take at groups) (group ∷ []))
+      ∙ ap (λ spans. length (spans_in (take at groups) ++ spans)) (append-nil (spans_of group)) ∙ length-append (spans_in (take at groups)) (spans_of group)
 
 pub live_count-push : (groups : List PooledState) (group : PooledState) → live_count (spans_in (groups ++ group ∷ [])) ≡ live_count (spans_in groups) + live_count (spans_of group)
 live_count-push groups group =
@@ -78,7 +80,8 @@ paged_sum : (groups : List PooledState) → length (filter paged groups) ≡ sum
 paged_sum [] = refl
 paged_sum (group ∷ groups) = by_test (paged group) refl (paged_sum groups)
   where
-    by_test : (b : Bool) → paged group ≡ b → length (filter paged groups) ≡ sum_by (λ g. cond (paged g) 1 0) groups → length (cond b (group ∷ filter paged groups) (filter paged groups)) ≡ sum_by (λ g. cond (paged g) 1 0) (group ∷ groups)
+    by_test : (b : Bool) → paged group ≡ b → length (filter paged groups) ≡ sum_by (λ g. cond (paged g) 1 0) groups
+        → length (cond b (group ∷ filter paged groups) (filter paged groups)) ≡ sum_by (λ g. cond (paged g) 1 0) (group ∷ groups)
     by_test true on rest = omega (arith, rest, sum_by-cons (λ g. cond (paged g) 1 0) group groups, ap (λ (b : Bool). cond {A = ℕ} b 1 0) on)
     by_test false off rest = omega (arith, rest, sum_by-cons (λ g. cond (paged g) 1 0) group groups, ap (λ (b : Bool). cond {A = ℕ} b 1 0) off)
 
@@ -88,7 +91,13 @@ live_sum (group ∷ groups) = by_test (paged group) refl (live_sum groups)
   where
     by_test : (b : Bool) → paged group ≡ b → live_count (spans_in (filter paged groups)) ≡ sum_by (λ g. cond (paged g) (live_of g) 0) groups
         → live_count (spans_in (cond b (group ∷ filter paged groups) (filter paged groups))) ≡ sum_by (λ g. cond (paged g) (live_of g) 0) (group ∷ groups)
-    by_test true on rest = omega (arith, rest, count-append (spans_of group) (spans_in (filter paged groups)), sum_by-cons (λ g. cond (paged g) (live_of g) 0) group groups, ap (λ (b : Bool). cond {A = ℕ} b (live_of group) 0) on)
+    by_test true on rest = omega (
+      arith,
+      rest,
+      count-append (spans_of group) (spans_in (filter paged groups)),
+      sum_by-cons (λ g. cond (paged g) (live_of g) 0) group groups,
+      ap (λ (b : Bool). cond {A = ℕ} b (live_of group) 0) on,
+    )
     by_test false off rest = omega (arith, rest, sum_by-cons (λ g. cond (paged g) (live_of g) 0) group groups, ap (λ (b : Bool). cond {A = ℕ} b (live_of group) 0) off)
 
 span_sum : (groups : List PooledState) → length (spans_in groups) ≡ sum_by (λ g. length (spans_of g)) groups
@@ -117,15 +126,19 @@ module _ {X : Type 0} (p : X → Bool) where
     where
       by_tests : (b c : Bool) → IsPermutation (cond b (x ∷ filter p xs) (filter p xs)) (filter p (insert xs at x))
           → IsPermutation (cond b (x ∷ cond c (y ∷ filter p xs) (filter p xs)) (cond c (y ∷ filter p xs) (filter p xs))) (cond c (y ∷ filter p (insert xs at x)) (filter p (insert xs at x)))
-      by_tests true true rest = IsPermutation-trans (x ∷ y ∷ filter p xs) (y ∷ x ∷ filter p xs) (y ∷ filter p (insert xs at x)) (IsPermutation-sym (y ∷ x ∷ filter p xs) (x ∷ y ∷ filter p xs) (IsPermutation-middle (y ∷ []) x (filter p xs))) (IsPermutation-cons y (x ∷ filter p xs) (filter p (insert xs at x)) rest)
+      by_tests true true rest = IsPermutation-trans (x ∷ y ∷ filter p xs) (y ∷ x ∷ filter p xs) (y ∷ filter p (insert xs at x))
+          (IsPermutation-sym (y ∷ x ∷ filter p xs) (x ∷ y ∷ filter p xs) (IsPermutation-middle (y ∷ []) x (filter p xs)))
+          (IsPermutation-cons y (x ∷ filter p xs) (filter p (insert xs at x)) rest)
       by_tests true false rest = rest
       by_tests false true rest = IsPermutation-cons y (filter p xs) (filter p (insert xs at x)) rest
       by_tests false false rest = rest
 
   pub filter-arranged : (key : X → ℕ) (xs : List X) → IsPermutation (filter p xs) (filter p (arranged key xs))
   filter-arranged key [] = IsPermutation-refl []
-  filter-arranged key (x ∷ xs) = IsPermutation-trans (filter p (x ∷ xs)) (filter p (x ∷ arranged key xs)) (filter p (arranged key (x ∷ xs))) (one_more (p x) (filter-arranged key xs)) (filter-insert (arranged key xs) (lower key (key x) (arranged key xs)) x)
+  filter-arranged key (x ∷ xs) = IsPermutation-trans (filter p (x ∷ xs)) (filter p (x ∷ arranged key xs)) (filter p (arranged key (x ∷ xs)))
+      (one_more (p x) (filter-arranged key xs)) (filter-insert (arranged key xs) (lower key (key x) (arranged key xs)) x)
     where
-      one_more : (b : Bool) → IsPermutation (filter p xs) (filter p (arranged key xs)) → IsPermutation (cond b (x ∷ filter p xs) (filter p xs)) (cond b (x ∷ filter p (arranged key xs)) (filter p (arranged key xs)))
+      one_more : (b : Bool) → IsPermutation (filter p xs) (filter p (arranged key xs))
+          → IsPermutation (cond b (x ∷ filter p xs) (filter p xs)) (cond b (x ∷ filter p (arranged key xs)) (filter p (arranged key xs)))
       one_more true rest = IsPermutation-cons x (filter p xs) (filter p (arranged key xs)) rest
       one_more false rest = rest

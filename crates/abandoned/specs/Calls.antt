@@ -60,7 +60,8 @@ Frees old key (freed.No at) new =
     × (Holds span.log key.slot key.generation → ⊥) × (at ≡ length span.log) × (new ≡ old)
 Frees old key freed.NotHere new = IsElsewhere old.groups key.span × (new ≡ old)
 
--- what a set of the key to the value does and answers: it writes the value at the key's slot of its group's page, and adds its own change to its span's log; or it does nothing, where the key is not live or its object has another class
+-- what a set of the key to the value does and answers: it writes the value at the key's slot of its group's page, and adds its own change to its span's log; or
+-- it does nothing, where the key is not live or its object has another class
 abbrev pub Sets : PoolState → Key → Value → Replaced → PoolState → Type 0
 Sets old key value (replaced.Yes at) new =
     (index place : ℕ) × (group : PooledState) × (span : SpanState) × IsHere old.groups key.span index place group span
@@ -99,7 +100,11 @@ pub record TakesIn (old : PoolState) (whole : WholeState) (new : PoolState) : Ty
   pub page : Option Words
   pub emptied : union_of (spans_moved whole) ≡ set.empty → page ≡ None
   pub live : union_of (spans_moved whole) ≢ set.empty → page ≡ whole.words
-  pub after : new ≡ record old { groups = insert old.groups index (record { head = whole.head; guests = whole.guests; page = page; closed = tt }); group_room = old.group_room - 1; span_room = old.span_room - length (spans_moved whole) }
+  pub after : new ≡ record old {
+    groups = insert old.groups index (record { head = whole.head; guests = whole.guests; page = page; closed = tt });
+    group_room = old.group_room - 1;
+    span_room = old.span_room - length (spans_moved whole);
+  }
 
 -- the groups come into the pool, one after another, the last of them first
 abbrev pub TakesAll : PoolState → List WholeState → PoolState → Type 0

@@ -35,7 +35,8 @@ pub record Retires (old : PoolState) (shard : ShardState) (most count : ℕ) (ne
 abbrev pub StandsIn : ShardState → GroupState → Type 0
 StandsIn shard group = (index : ℕ) × (slice_get shard.groups index ≡ Some group)
 
--- that many groups of the shard are gone, sparser ones first, and stand in the pool whole: each had a live key, and is sparser than each that is left with one; all others are left as they were, with their pages; every earlier group of the pool stays there, and there is no other
+-- that many groups of the shard are gone, sparser ones first, and stand in the pool whole: each had a live key, and is sparser than each that is left with one;
+-- all others are left as they were, with their pages; every earlier group of the pool stays there, and there is no other
 pub record HasRetired (old : PoolState) (shard : ShardState) (count : ℕ) (new : PoolState) (left : ShardState) : Type 0 where
   pub gone : List GroupState
   pub many : length gone ≡ count

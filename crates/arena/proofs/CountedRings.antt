@@ -20,7 +20,8 @@ pub same_sent : (a b : List SeatState) → map sending_side b ≡ map sending_si
 same_sent a b same = sym (map-map (λ (s : SendingSide). s.sent) sending_side b) ∙ ap (map (λ (s : SendingSide). s.sent)) same ∙ map-map (λ (s : SendingSide). s.sent) sending_side a
 
 -- the two ends at hand are of one ring
-pub ring_here : (seats seats0 : List SeatState) (inboxes inboxes0 : List Taking) (w shard : ℕ) (x d : SeatState) (i : Taking) → w < length seats → w < length inboxes → x ≡ get_or seats w d → i ≡ get_or inboxes w i
+pub ring_here : (seats seats0 : List SeatState) (inboxes inboxes0 : List Taking) (w shard : ℕ) (x d : SeatState) (i : Taking) → w < length seats
+    → w < length inboxes → x ≡ get_or seats w d → i ≡ get_or inboxes w i
     → map sending_side seats ≡ map sending_side seats0 → taking_side inboxes ≡ taking_side inboxes0
     → ((w : ℕ) → cell (map out_rings seats0) w shard ≡ slice_get (map (λ i. i.ring) inboxes0) w) → slice_get (out_rings x) shard ≡ Some i.ring
 ring_here seats seats0 inboxes inboxes0 w shard x d i below inside is here sending taking linked =
@@ -34,7 +35,8 @@ ring_here seats seats0 inboxes inboxes0 w shard x d i below inside is here sendi
     ∙ ap Some (get_or-map (λ (i : Taking). i.ring) inboxes w i i.ring inside ∙ ap (λ (i : Taking). i.ring) (sym here))
 
 -- an end changes, and its ring and what was taken stay
-pub same_taking : (inboxes : List Taking) (w : ℕ) (after before : Taking) → before ≡ get_or inboxes w before → after.ring ≡ before.ring → after.taken ≡ before.taken → taking_side (slice_set inboxes w after) ≡ taking_side inboxes
+pub same_taking : (inboxes : List Taking) (w : ℕ) (after before : Taking) → before ≡ get_or inboxes w before → after.ring ≡ before.ring
+    → after.taken ≡ before.taken → taking_side (slice_set inboxes w after) ≡ taking_side inboxes
 same_taking inboxes w after before is ring taken =
     let rings = map-set_same (λ (i : Taking). i.ring) inboxes w after before (ring ∙ ap (λ (i : Taking). i.ring) is) in
     let lists = map-set_same (λ (i : Taking). i.taken) inboxes w after before (taken ∙ ap (λ (i : Taking). i.taken) is) in
@@ -68,14 +70,16 @@ module _ (inboxes : List Taking) (w : ℕ) (after : Taking) (inside : w < length
       below_more _ _ (λ k h. were k h ∙ ap (λ l. taken k ++ l) (sym (known_other k h))) (here ∙ ap (λ l. taken w ++ l) (sym known_here))
 
 -- the counts, as far as there are rings
-pub all_counted : (counts : List ℕ) (inboxes : List Taking) → length counts ≡ length inboxes → ((k : ℕ) → k < length inboxes → get_or counts k 0 ≡ length (get_or (known_lists inboxes) k [])) → counts ≡ map length (known_lists inboxes)
+pub all_counted : (counts : List ℕ) (inboxes : List Taking) → length counts ≡ length inboxes
+    → ((k : ℕ) → k < length inboxes → get_or counts k 0 ≡ length (get_or (known_lists inboxes) k [])) → counts ≡ map length (known_lists inboxes)
 all_counted counts inboxes long each =
     let wide : length (known_lists inboxes) ≡ length inboxes = length-map inboxes (λ (i : Taking). i.known) in
     same_number_lists counts (map length (known_lists inboxes)) (long ∙ sym (length-map (known_lists inboxes) length ∙ wide))
     (λ k h. each k (omega arith) ∙ sym (get_or-map length (known_lists inboxes) k [] 0 (omega (arith, wide))))
 
 -- what was sent on the ring at hand
-pub whole_here : (seats seats0 : List SeatState) (inboxes inboxes0 : List Taking) (w shard : ℕ) (x d : SeatState) (before after : Taking) → w < length seats → w < length inboxes → x ≡ get_or seats w d → before ≡ get_or inboxes w before
+pub whole_here : (seats seats0 : List SeatState) (inboxes inboxes0 : List Taking) (w shard : ℕ) (x d : SeatState) (before after : Taking) → w < length seats
+    → w < length inboxes → x ≡ get_or seats w d → before ≡ get_or inboxes w before
     → map sending_side seats ≡ map sending_side seats0 → taking_side inboxes ≡ taking_side inboxes0 → after.taken ≡ before.taken → slice_index_or (sent_lists x) shard [] ≡ after.taken ++ after.known
     → slice_index_or (slice_index_or (map sent_lists seats0) w []) shard [] ≡ slice_index_or (taken_lists inboxes0) w [] ++ after.known
 whole_here seats seats0 inboxes inboxes0 w shard x d before after below inside is here sending taking kept sent =

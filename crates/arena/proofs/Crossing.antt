@@ -30,5 +30,11 @@ pub Arena-send : (G L : RattleType) (g : Ghosts L.Denot) → IsSend G → IsSend
 Arena-send G L g gate log =
     let locked : IsSend (Latch.the_row (Shard.the_row L g)) = latch.the_send (Shard.the_row L g) (shard.the_send L g log) in
     let locks = vec.the_send (Latch.the_row (Shard.the_row L g)) Global.the_row TheImpl.ghosts locked heap.the_send heap_memory.the_frees in
-    let all : AllSend (fields (Arena.the_type G L g)) = (heap.the_field_send, (limits.the_send, (table.the_send, (latch.the_send (Pool.the_row L g) (pool.the_send L g log), (locks, (hints_send, (gate, tt))))))) in
+    let all : AllSend (fields (Arena.the_type G L g)) = (
+      heap.the_field_send,
+      (
+        limits.the_send,
+        (table.the_send, (latch.the_send (Pool.the_row L g) (pool.the_send L g log), (locks, (hints_send, (gate, tt))))),
+      ),
+    ) in
     recorded_send (Arena.the_field G L g).row _ _ (Arena.the_type G L g).to_one (struct_send (shape (Arena.the_type G L g)) all)

@@ -23,7 +23,8 @@ greatest_from most (x ∷ xs) = greatest_from (max most x.section) xs
 -- seats that send alike are in the same sections
 pub same_greatest : (a b : List SeatState) → map sending_side b ≡ map sending_side a → greatest_section b ≡ greatest_section a
 same_greatest a b same =
-    let sections : map (λ (s : SeatState). s.section) b ≡ map (λ (s : SeatState). s.section) a = sym (map-map (λ (s : SendingSide). s.section) sending_side b) ∙ ap (map (λ (s : SendingSide). s.section)) same ∙ map-map (λ (s : SendingSide). s.section) sending_side a in
+    let sections : map (λ (s : SeatState). s.section) b ≡ map (λ (s : SeatState). s.section) a = sym (map-map (λ (s : SendingSide). s.section) sending_side b)
+    ∙ ap (map (λ (s : SendingSide). s.section)) same ∙ map-map (λ (s : SendingSide). s.section) sending_side a in
     greatest_from 0 b ∙ ap (fold max 0) sections ∙ sym (greatest_from 0 a)
 
 same_item : {V : Type 0} (items : V → List Receipt) (a b : List V) (s : ℕ) (d : V) → map items b ≡ map items a → s < length a → items (get_or b s d) ≡ items (get_or a s d)

@@ -22,7 +22,8 @@ use Rattle.abandoned.proofs.Freed.{groups-Leaves}
 use Rattle.arena.specs.SpanCounts.{pooled_spans, shard_spans, spans_of_all}
 
 -- another group with as many spans in the place of one
-length-flat_map-set : {G S : Type 0} (f : G → List S) (gs : List G) (i : ℕ) (g after : G) → slice_get gs i ≡ Some g → length (f after) ≡ length (f g) → length (flat_map f (set gs i after)) ≡ length (flat_map f gs)
+length-flat_map-set : {G S : Type 0} (f : G → List S) (gs : List G) (i : ℕ) (g after : G) → slice_get gs i ≡ Some g → length (f after) ≡ length (f g)
+    → length (flat_map f (set gs i after)) ≡ length (flat_map f gs)
 length-flat_map-set f [] i g after here same = refl
 length-flat_map-set f (x ∷ xs) zero g after here same =
     let this : length (f x) ≡ length (f g) = ap (λ g. length (f g)) (same_some here) in
@@ -34,7 +35,8 @@ length-flat_map-set f (x ∷ xs) (suc i) g after here same =
 pub shard_spans-Frees : (old new : ShardState) (key : Key) (answer : Freed) → Frees old key answer new → shard_spans new ≡ shard_spans old
 shard_spans-Frees old new key (freed.Yes at) (index, place, group, span, here, holds, at_is, new_is) =
     ap shard_spans new_is
-    ∙ length-flat_map-set spans_of old.groups index group (with_span group place (with_free span key)) here.group_is (ap length (spans_of-with_span group place (with_free span key)) ∙ length-set (spans_of group) place (with_free span key))
+    ∙ length-flat_map-set spans_of old.groups index group (with_span group place (with_free span key)) here.group_is
+    (ap length (spans_of-with_span group place (with_free span key)) ∙ length-set (spans_of group) place (with_free span key))
 shard_spans-Frees old new key (freed.No at) (index, place, group, span, here, gone, at_is, new_is) = ap shard_spans new_is
 shard_spans-Frees old new key freed.NotHere (elsewhere, new_is) = ap shard_spans new_is
 
@@ -47,11 +49,13 @@ pooled_spans-Frees old new key (freed.No at) sound (index, place, group, span, h
 pooled_spans-Frees old new key freed.NotHere sound (elsewhere, new_is) = ap pooled_spans new_is
 
 -- one of the shards frees a key
-pub spans_of_all-Frees : (shards : List ShardState) (i : ℕ) (d new : ShardState) (key : Key) (answer : Freed) → i < length shards → Frees (get_or shards i d) key answer new → spans_of_all (set shards i new) ≡ spans_of_all shards
+pub spans_of_all-Frees : (shards : List ShardState) (i : ℕ) (d new : ShardState) (key : Key) (answer : Freed) → i < length shards
+    → Frees (get_or shards i d) key answer new → spans_of_all (set shards i new) ≡ spans_of_all shards
 spans_of_all-Frees shards i d new key answer below frees = omega (arith, sum_by-set shard_spans shards i new d below, shard_spans-Frees (get_or shards i d) new key answer frees)
 
 -- the logs of one shard more
-pub logs_more : (logs after whole : List SpanState) (f : ShardState → List SpanState) (shard : ShardState) (more items : List ShardState) → after ≡ logs ++ f shard → items ≡ shard ∷ more → logs ++ flat_map f items ≡ whole
+pub logs_more : (logs after whole : List SpanState) (f : ShardState → List SpanState) (shard : ShardState) (more items : List ShardState)
+    → after ≡ logs ++ f shard → items ≡ shard ∷ more → logs ++ flat_map f items ≡ whole
     → after ++ flat_map f more ≡ whole
 logs_more logs after whole f shard more items goes is was =
     ap (λ l. l ++ flat_map f more) goes ∙ append_assoc logs (f shard) (flat_map f more) ∙ ap (λ l. logs ++ l) (sym (flat_map-cons f shard more) ∙ ap (flat_map f) (sym is)) ∙ was

@@ -25,30 +25,39 @@ same_length f a b same = sym (length-map b f) ∙ ap length same ∙ length-map 
 
 -- seats that take alike have the same rings, and have taken the same
 pub same_in_rings : (a b : List SeatState) → map (λ seat. taking_side seat.inboxes) b ≡ map (λ seat. taking_side seat.inboxes) a → map in_rings b ≡ map in_rings a
-same_in_rings a b same = sym (map-map (λ (s : TakingSide). s.rings) (λ seat. taking_side seat.inboxes) b) ∙ ap (map (λ (s : TakingSide). s.rings)) same ∙ map-map (λ (s : TakingSide). s.rings) (λ seat. taking_side seat.inboxes) a
+same_in_rings a b same = sym (map-map (λ (s : TakingSide). s.rings) (λ seat. taking_side seat.inboxes) b) ∙ ap (map (λ (s : TakingSide). s.rings)) same
+    ∙ map-map (λ (s : TakingSide). s.rings) (λ seat. taking_side seat.inboxes) a
 
-pub same_taken : (a b : List SeatState) → map (λ seat. taking_side seat.inboxes) b ≡ map (λ seat. taking_side seat.inboxes) a → map (λ seat. taken_lists seat.inboxes) b ≡ map (λ seat. taken_lists seat.inboxes) a
+pub same_taken : (a b : List SeatState) → map (λ seat. taking_side seat.inboxes) b ≡ map (λ seat. taking_side seat.inboxes) a
+    → map (λ seat. taken_lists seat.inboxes) b ≡ map (λ seat. taken_lists seat.inboxes) a
 same_taken a b same =
-    sym (map-map (λ (s : TakingSide). s.taken) (λ seat. taking_side seat.inboxes) b) ∙ ap (map (λ (s : TakingSide). s.taken)) same ∙ map-map (λ (s : TakingSide). s.taken) (λ seat. taking_side seat.inboxes) a
+    sym (map-map (λ (s : TakingSide). s.taken) (λ seat. taking_side seat.inboxes) b) ∙ ap (map (λ (s : TakingSide). s.taken)) same
+    ∙ map-map (λ (s : TakingSide). s.taken) (λ seat. taking_side seat.inboxes) a
 
 pub same_workers : (a b : List SeatState) → map sending_side b ≡ map sending_side a → map (λ (s : SeatState). s.worker) b ≡ map (λ (s : SeatState). s.worker) a
 same_workers a b same = sym (map-map (λ (s : SendingSide). s.worker) sending_side b) ∙ ap (map (λ (s : SendingSide). s.worker)) same ∙ map-map (λ (s : SendingSide). s.worker) sending_side a
 
 -- seats with the same workers and rings are linked as before
-pub AreLinked-from : (a b : List SeatState) → map (λ (s : SeatState). s.worker) b ≡ map (λ (s : SeatState). s.worker) a → map out_rings b ≡ map out_rings a → map in_rings b ≡ map in_rings a → AreLinked a → AreLinked b
+pub AreLinked-from : (a b : List SeatState) → map (λ (s : SeatState). s.worker) b ≡ map (λ (s : SeatState). s.worker) a → map out_rings b ≡ map out_rings a
+    → map in_rings b ≡ map in_rings a → AreLinked a → AreLinked b
 AreLinked-from a b workers outboxes inboxes linked =
     let long : length b ≡ length a = same_length out_rings a b outboxes in
     record {
       in_order = λ w d below.
-          sym (get_or-map (λ (s : SeatState). s.worker) b w d 0 below) ∙ ap (λ l. get_or l w 0) workers ∙ get_or-map (λ (s : SeatState). s.worker) a w d 0 (omega arith) ∙ linked.in_order w d (omega arith);
+          sym (get_or-map (λ (s : SeatState). s.worker) b w d 0 below) ∙ ap (λ l. get_or l w 0) workers
+          ∙ get_or-map (λ (s : SeatState). s.worker) a w d 0 (omega arith) ∙ linked.in_order w d (omega arith);
       wide = λ k d below.
           let inside : k < length a = omega arith in
           let was = linked.wide k d inside in
           let out : length (get_or b k d).outboxes ≡ length (get_or a k d).outboxes =
-          sym (length-map (get_or b k d).outboxes (λ o. o.ring)) ∙ ap length (sym (get_or-map out_rings b k d [] below) ∙ ap (λ l. get_or l k []) outboxes ∙ get_or-map out_rings a k d [] inside) ∙ length-map (get_or a k d).outboxes (λ o. o.ring)
+          sym (length-map (get_or b k d).outboxes (λ o. o.ring))
+          ∙ ap length (sym (get_or-map out_rings b k d [] below) ∙ ap (λ l. get_or l k []) outboxes ∙ get_or-map out_rings a k d [] inside)
+          ∙ length-map (get_or a k d).outboxes (λ o. o.ring)
           in
           let inward : length (get_or b k d).inboxes ≡ length (get_or a k d).inboxes =
-          sym (length-map (get_or b k d).inboxes (λ i. i.ring)) ∙ ap length (sym (get_or-map in_rings b k d [] below) ∙ ap (λ l. get_or l k []) inboxes ∙ get_or-map in_rings a k d [] inside) ∙ length-map (get_or a k d).inboxes (λ i. i.ring)
+          sym (length-map (get_or b k d).inboxes (λ i. i.ring))
+          ∙ ap length (sym (get_or-map in_rings b k d [] below) ∙ ap (λ l. get_or l k []) inboxes ∙ get_or-map in_rings a k d [] inside)
+          ∙ length-map (get_or a k d).inboxes (λ i. i.ring)
           in
           (out ∙ was.0 ∙ sym long, inward ∙ was.1 ∙ sym long);
       linked = λ w s. ap (λ t. cell t w s) outboxes ∙ linked.linked w s ∙ sym (ap (λ t. cell t s w) inboxes);
@@ -66,7 +75,8 @@ AreSameSeats-more a b c one two = record {
 }
 
 -- the ends that a seat gave are of the rings that the workers send by
-pub ends_of : (seats : List SeatState) (shard : ℕ) (y d : SeatState) (inboxes : List Taking) → AreLinked seats → shard < length seats → sending_side y ≡ sending_side (get_or seats shard d) → inboxes ≡ (get_or seats shard d).inboxes
+pub ends_of : (seats : List SeatState) (shard : ℕ) (y d : SeatState) (inboxes : List Taking) → AreLinked seats → shard < length seats
+    → sending_side y ≡ sending_side (get_or seats shard d) → inboxes ≡ (get_or seats shard d).inboxes
     → (w : ℕ) → cell (map out_rings (slice_set seats shard y)) w shard ≡ slice_get (map (λ i. i.ring) inboxes) w
 ends_of seats shard y d inboxes linked below sending given w =
     ap (λ t. cell t w shard) (same_out_rings seats (slice_set seats shard y) (map-set_same sending_side seats shard y d sending))
@@ -81,8 +91,10 @@ kept_of f s0 s2 shard y1 e below same =
     ∙ ap f (get_or-set_at s0 shard shard y1 e refl below)
 
 -- the seat has its own columns back
-pub home_again : (s0 s2 : List SeatState) (shard : ℕ) (y1 y3 d e : SeatState) (lent : List (List Ring)) → shard < length s0 → map (λ (s : SeatState). s.table) s2 ≡ map (λ (s : SeatState). s.table) (slice_set s0 shard y1)
-    → y1.table.rows ≡ (get_or s0 shard d).table.rows → lent ≡ (get_or s0 shard d).table.columns → y3.table ≡ record { rows = (get_or s2 shard e).table.rows; columns = lent } → y3.table ≡ (get_or s0 shard d).table
+pub home_again : (s0 s2 : List SeatState) (shard : ℕ) (y1 y3 d e : SeatState) (lent : List (List Ring)) → shard < length s0
+    → map (λ (s : SeatState). s.table) s2 ≡ map (λ (s : SeatState). s.table) (slice_set s0 shard y1)
+    → y1.table.rows ≡ (get_or s0 shard d).table.rows → lent ≡ (get_or s0 shard d).table.columns
+    → y3.table ≡ record { rows = (get_or s2 shard e).table.rows; columns = lent } → y3.table ≡ (get_or s0 shard d).table
 home_again s0 s2 shard y1 y3 d e lent below tabled rows columns back =
     let same : (get_or s2 shard e).table.rows ≡ (get_or s0 shard d).table.rows = ap (λ t. t.rows) (kept_of (λ (s : SeatState). s.table) s0 s2 shard y1 e below tabled) ∙ rows in
     rw (same, columns) at back
@@ -94,10 +106,12 @@ module _ (s0 s2 : List SeatState) (shard : ℕ) (y1 y3 d e : SeatState) (inboxes
     (took : sending_side y3 ≡ sending_side (get_or s2 shard e)) (back : y3.inboxes ≡ inboxes2) (taking : taking_side inboxes2 ≡ taking_side inboxes1) where
   inboxes_after : map (λ (s : SeatState). s.inboxes) (slice_set s2 shard y3) ≡ slice_set (map (λ (s : SeatState). s.inboxes) s0) shard inboxes2
   inboxes_after =
-      map-set (λ (s : SeatState). s.inboxes) s2 shard y3 ∙ ap (λ l. slice_set l shard y3.inboxes) (idle ∙ map-set (λ (s : SeatState). s.inboxes) s0 shard y1) ∙ set_twice (map (λ (s : SeatState). s.inboxes) s0) shard y1.inboxes y3.inboxes
+      map-set (λ (s : SeatState). s.inboxes) s2 shard y3 ∙ ap (λ l. slice_set l shard y3.inboxes) (idle ∙ map-set (λ (s : SeatState). s.inboxes) s0 shard y1)
+      ∙ set_twice (map (λ (s : SeatState). s.inboxes) s0) shard y1.inboxes y3.inboxes
       ∙ ap (slice_set (map (λ (s : SeatState). s.inboxes) s0) shard) back
 
-  pub seats_same : map (λ (s : SeatState). s.table) s2 ≡ map (λ (s : SeatState). s.table) (slice_set s0 shard y1) → y3.table ≡ (get_or s0 shard d).table → y1.outboxes ≡ (get_or s0 shard d).outboxes → KeepPlaces (slice_set s0 shard y1) s2
+  pub seats_same : map (λ (s : SeatState). s.table) s2 ≡ map (λ (s : SeatState). s.table) (slice_set s0 shard y1) → y3.table ≡ (get_or s0 shard d).table
+      → y1.outboxes ≡ (get_or s0 shard d).outboxes → KeepPlaces (slice_set s0 shard y1) s2
       → y3.outboxes ≡ (get_or s2 shard e).outboxes → AreSameSeats s0 (slice_set s2 shard y3)
   seats_same tabled home lent kept again = record {
     places =
@@ -105,7 +119,8 @@ module _ (s0 s2 : List SeatState) (shard : ℕ) (y1 y3 d e : SeatState) (inboxes
         (KeepPlaces-more (slice_set s0 shard y1) s2 (slice_set s2 shard y3) kept (KeepPlaces-same s2 (slice_set s2 shard y3) (map-set_same (λ (s : SeatState). s.outboxes) s2 shard y3 e again)));
     tables =
         map-set (λ (s : SeatState). s.table) s2 shard y3 ∙ ap (λ l. slice_set l shard y3.table) (tabled ∙ map-set (λ (s : SeatState). s.table) s0 shard y1)
-        ∙ set_twice (map (λ (s : SeatState). s.table) s0) shard y1.table y3.table ∙ sym (map-set (λ (s : SeatState). s.table) s0 shard y3) ∙ map-set_same (λ (s : SeatState). s.table) s0 shard y3 d home;
+        ∙ set_twice (map (λ (s : SeatState). s.table) s0) shard y1.table y3.table ∙ sym (map-set (λ (s : SeatState). s.table) s0 shard y3)
+        ∙ map-set_same (λ (s : SeatState). s.table) s0 shard y3 d home;
     sending = map-set_same sending_side s2 shard y3 e took ∙ sending ∙ map-set_same sending_side s0 shard y1 d gave;
     taking =
         sym (map-map taking_side (λ (s : SeatState). s.inboxes) (slice_set s2 shard y3)) ∙ ap (map taking_side) inboxes_after
@@ -122,14 +137,17 @@ module _ (s0 s2 : List SeatState) (shard : ℕ) (y1 y3 d e : SeatState) (inboxes
   known_others k other = rw known_after (get_or-set_other (map (λ (s : SeatState). known_lists s.inboxes) s0) shard k (known_lists inboxes2) [] other)
 
   known_there : known_by (slice_set s2 shard y3) shard ≡ known_lists inboxes2
-  known_there = rw known_after (get_or-set_at (map (λ (s : SeatState). known_lists s.inboxes) s0) shard shard (known_lists inboxes2) [] refl (omega (arith, below, length-map s0 (λ (s : SeatState). known_lists s.inboxes))))
+  known_there = rw known_after (get_or-set_at (map (λ (s : SeatState). known_lists s.inboxes) s0) shard shard (known_lists inboxes2) [] refl
+      (omega (arith, below, length-map s0 (λ (s : SeatState). known_lists s.inboxes))))
 
   pub shard_counted : (counts : List ℕ) → length inboxes2 ≡ length s0 → counts ≡ map length (known_lists inboxes2) → All (λ n. n ≤ MOST_RING_KEYS) counts
-      → ((w : ℕ) → w < length s0 → slice_index_or (slice_index_or (map sent_lists (slice_set s0 shard y1)) w []) shard [] ≡ slice_index_or (taken_lists inboxes1) w [] ++ slice_index_or (known_lists inboxes2) w [])
+      → ((w : ℕ) → w < length s0 → slice_index_or (slice_index_or (map sent_lists (slice_set s0 shard y1)) w []) shard []
+      ≡ slice_index_or (taken_lists inboxes1) w [] ++ slice_index_or (known_lists inboxes2) w [])
       → AreCounted s0 (slice_set s2 shard y3) shard counts
   shard_counted counts wide are few whole =
       let sent : map sent_lists (slice_set s0 shard y1) ≡ map sent_lists s0 = same_sent s0 (slice_set s0 shard y1) (map-set_same sending_side s0 shard y1 d gave) in
-      let taken : slice_index_or (map (λ (s : SeatState). taken_lists s.inboxes) s0) shard [] ≡ taken_lists inboxes1 = get_or-map (λ (s : SeatState). taken_lists s.inboxes) s0 shard d [] below ∙ ap taken_lists (sym given) in
+      let taken : slice_index_or (map (λ (s : SeatState). taken_lists s.inboxes) s0) shard []
+      ≡ taken_lists inboxes1 = get_or-map (λ (s : SeatState). taken_lists s.inboxes) s0 shard d [] below ∙ ap taken_lists (sym given) in
       record {
         wide = ap length are ∙ length-map (known_lists inboxes2) length ∙ length-map inboxes2 (λ (i : Taking). i.known) ∙ wide;
         counts_are = are ∙ ap (map length) (sym known_there);
@@ -150,7 +168,8 @@ AreCounted-same a b c d shard counts same known was =
       counts_are = was.counts_are ∙ ap (map length) (sym known);
       few = was.few;
       whole = λ w h.
-          ap (λ t. slice_index_or (slice_index_or t w []) shard []) (sym sent) ∙ was.whole w (omega arith) ∙ ap (λ t. slice_index_or (slice_index_or t shard []) w [] ++ slice_index_or (known_by c shard) w []) taken
+          ap (λ t. slice_index_or (slice_index_or t w []) shard []) (sym sent) ∙ was.whole w (omega arith)
+          ∙ ap (λ t. slice_index_or (slice_index_or t shard []) w [] ++ slice_index_or (known_by c shard) w []) taken
           ∙ ap (λ t. taken_on a shard w ++ slice_index_or t w []) (sym known);
     }
 
@@ -171,7 +190,8 @@ room_more room sum_of vs cs s v c below counted fits were k d e h =
     ]
 
 -- one more shard's rings are settled
-pub frees_more : {V : Type 0} (items : V → List Receipt) (section : ℕ) (seats : List SeatState) (before lists : List V) (s : ℕ) (x0 : SeatState) (d0 v : V) → s < length seats → s < length before → s < length lists
+pub frees_more : {V : Type 0} (items : V → List Receipt) (section : ℕ) (seats : List SeatState) (before lists : List V) (s : ℕ) (x0 : SeatState) (d0 v : V)
+    → s < length seats → s < length before → s < length lists
     → AddsFrees s section (joined (known_lists (get_or seats s x0).inboxes)) (items (get_or before s d0)) (items v)
     → ((k : ℕ) (x : SeatState) (d e : V) → k < s → AddsFrees k section (joined (known_lists (get_or seats k x).inboxes)) (items (get_or before k d)) (items (get_or lists k e)))
     → (k : ℕ) (x : SeatState) (d e : V) → k < s + 1 → AddsFrees k section (joined (known_lists (get_or seats k x).inboxes)) (items (get_or before k d)) (items (get_or (slice_set lists s v) k e))
@@ -182,10 +202,12 @@ frees_more items section seats before lists s x0 d0 v seated listed below one we
           let at = get_or-set_at lists s k v e here below in
           let seat : get_or seats k x ≡ get_or seats s x0 = ap (λ k. get_or seats k x) here ∙ get_or_default seats s x x0 seated in
           let old : get_or before k d ≡ get_or before s d0 = ap (λ k. get_or before k d) here ∙ get_or_default before s d d0 listed in
-          let first : P (get_or seats s x0) (get_or before s d0) v = subst (λ w. AddsFrees w section (joined (known_lists (get_or seats s x0).inboxes)) (items (get_or before s d0)) (items v)) (sym here) one in
+          let first : P (get_or seats s x0) (get_or before s d0) v = subst
+          (λ w. AddsFrees w section (joined (known_lists (get_or seats s x0).inboxes)) (items (get_or before s d0)) (items v)) (sym here) one in
           subst (λ y. P (get_or seats k x) (get_or before k d) y) (sym at) (subst (λ y. P (get_or seats k x) y v) (sym old) (subst (λ y. P y (get_or before s d0) v) (sym seat) first))
       | inr other ↦
-          subst (λ y. AddsFrees k section (joined (known_lists (get_or seats k x).inboxes)) (items (get_or before k d)) (items y)) (sym (get_or-set_other lists s k v e other)) (were k x d e (omega arith))
+          subst (λ y. AddsFrees k section (joined (known_lists (get_or seats k x).inboxes)) (items (get_or before k d)) (items y))
+          (sym (get_or-set_other lists s k v e other)) (were k x d e (omega arith))
     ]
 
 -- the seats are in order, also after they were looked at
@@ -225,7 +247,8 @@ same_by f (x ∷ xs) [] long each = absurd (omega arith)
 same_by f (x ∷ xs) (y ∷ ys) long each = rw (each 0 x y (omega arith)) (ap (λ l. f x ∷ l) (same_by f xs ys (omega arith) (λ i d e h. each (suc i) d e (omega arith))))
 
 -- seats that keep their ends stay linked
-pub linked_after : {J : Type 0} (seat : J → SeatState) (a b : List J) → length b ≡ length a → ((i : ℕ) (d e : J) → i < length a → KeepsEnds (seat (get_or a i d)) (seat (get_or b i e))) → AreLinked (map seat a) → AreLinked (map seat b)
+pub linked_after : {J : Type 0} (seat : J → SeatState) (a b : List J) → length b ≡ length a
+    → ((i : ℕ) (d e : J) → i < length a → KeepsEnds (seat (get_or a i d)) (seat (get_or b i e))) → AreLinked (map seat a) → AreLinked (map seat b)
 linked_after seat a b long each linked =
     AreLinked-from (map seat a) (map seat b)
     (map-map (λ (s : SeatState). s.worker) seat b ∙ same_by (λ j. (seat j).worker) a b long (λ i d e h. (each i d e h).worker_is) ∙ sym (map-map (λ (s : SeatState). s.worker) seat a))
@@ -235,8 +258,15 @@ linked_after seat a b long each linked =
 -- one seat that keeps its ends leaves all linked
 pub AreLinked-set : (seats : List SeatState) (i : ℕ) (x d : SeatState) → KeepsEnds (get_or seats i d) x → AreLinked seats → AreLinked (slice_set seats i x)
 AreLinked-set seats i x d keeps linked =
-    AreLinked-from seats (slice_set seats i x) (map-set_same (λ (s : SeatState). s.worker) seats i x d keeps.worker_is) (map-set_same out_rings seats i x d keeps.outboxes_are) (map-set_same in_rings seats i x d keeps.inboxes_are) linked
+    AreLinked-from seats (slice_set seats i x) (map-set_same (λ (s : SeatState). s.worker) seats i x d keeps.worker_is)
+    (map-set_same out_rings seats i x d keeps.outboxes_are) (map-set_same in_rings seats i x d keeps.inboxes_are) linked
 
 -- the same seat has the same ends
 pub KeepsEnds-same : (a b : SeatState) → b ≡ a → KeepsEnds a b
-KeepsEnds-same a b same = record { worker_is = ap (λ (s : SeatState). s.worker) same; limits_are = ap (λ (s : SeatState). s.limits) same; table_is = ap (λ (s : SeatState). s.table) same; outboxes_are = ap out_rings same; inboxes_are = ap in_rings same }
+KeepsEnds-same a b same = record {
+  worker_is = ap (λ (s : SeatState). s.worker) same;
+  limits_are = ap (λ (s : SeatState). s.limits) same;
+  table_is = ap (λ (s : SeatState). s.table) same;
+  outboxes_are = ap out_rings same;
+  inboxes_are = ap in_rings same;
+}

@@ -37,7 +37,8 @@ module _ (limits : Limits) (table : Table) (seats : List SeatState) (all : AreSe
     in_order = all.in_order;
     wide = λ k d below.
         let row : length (out_rings (get_or seats k d)) ≡ limits.shards =
-        ap length (sym (get_or-map out_rings seats k d [] below) ∙ ap (λ t. get_or t k []) rows_are) ∙ All-get_or (λ (l : List Ring). length l ≡ limits.shards) table.rows k [] (omega (arith, all.each, rings.0)) rings.2
+        ap length (sym (get_or-map out_rings seats k d [] below) ∙ ap (λ t. get_or t k []) rows_are)
+        ∙ All-get_or (λ (l : List Ring). length l ≡ limits.shards) table.rows k [] (omega (arith, all.each, rings.0)) rings.2
         in
         let column : length (in_rings (get_or seats k d)) ≡ limits.shards =
         ap length (sym (get_or-map in_rings seats k d [] below) ∙ ap (λ t. get_or t k []) columns_are)
@@ -57,9 +58,11 @@ AreSeatsOf-from limits table a b workers tables all =
     record {
       each = long ∙ all.each;
       in_order = λ w d below.
-          sym (get_or-map (λ (s : SeatState). s.worker) b w d 0 below) ∙ ap (λ l. get_or l w 0) workers ∙ get_or-map (λ (s : SeatState). s.worker) a w d 0 (omega arith) ∙ all.in_order w d (omega arith);
+          sym (get_or-map (λ (s : SeatState). s.worker) b w d 0 below) ∙ ap (λ l. get_or l w 0) workers
+          ∙ get_or-map (λ (s : SeatState). s.worker) a w d 0 (omega arith) ∙ all.in_order w d (omega arith);
       of_table = λ k d below.
-          sym (get_or-map (λ (s : SeatState). s.table) b k d table below) ∙ ap (λ l. get_or l k table) tables ∙ get_or-map (λ (s : SeatState). s.table) a k d table (omega arith) ∙ all.of_table k d (omega arith);
+          sym (get_or-map (λ (s : SeatState). s.table) b k d table below) ∙ ap (λ l. get_or l k table) tables
+          ∙ get_or-map (λ (s : SeatState). s.table) a k d table (omega arith) ∙ all.of_table k d (omega arith);
     }
 
 pub AreSeatsOf-same : (limits : Limits) (table : Table) (a b : List SeatState) → map sending_side b ≡ map sending_side a → map (λ (s : SeatState). s.table) b ≡ map (λ (s : SeatState). s.table) a
@@ -67,9 +70,11 @@ pub AreSeatsOf-same : (limits : Limits) (table : Table) (a b : List SeatState) �
 AreSeatsOf-same limits table a b sending tables all = AreSeatsOf-from limits table a b (same_workers a b sending) tables all
 
 -- one seat that keeps its ends leaves all the arena's
-pub AreSeatsOf-set : (limits : Limits) (table : Table) (seats : List SeatState) (i : ℕ) (x d : SeatState) → KeepsEnds (get_or seats i d) x → AreSeatsOf limits table seats → AreSeatsOf limits table (slice_set seats i x)
+pub AreSeatsOf-set : (limits : Limits) (table : Table) (seats : List SeatState) (i : ℕ) (x d : SeatState) → KeepsEnds (get_or seats i d) x
+    → AreSeatsOf limits table seats → AreSeatsOf limits table (slice_set seats i x)
 AreSeatsOf-set limits table seats i x d keeps all =
-    AreSeatsOf-from limits table seats (slice_set seats i x) (map-set_same (λ (s : SeatState). s.worker) seats i x d keeps.worker_is) (map-set_same (λ (s : SeatState). s.table) seats i x d keeps.table_is) all
+    AreSeatsOf-from limits table seats (slice_set seats i x) (map-set_same (λ (s : SeatState). s.worker) seats i x d keeps.worker_is)
+    (map-set_same (λ (s : SeatState). s.table) seats i x d keeps.table_is) all
 
 -- what is the same of each element stays so where another list has the same, as a list of workers that threads give back
 pub All-same : {A B C : Type 0} (f : A → C) (g : B → C) (before : List A) (after : List B) (x : C) → map g after ≡ map f before → All (λ a. f a ≡ x) before → All (λ b. g b ≡ x) after
@@ -79,12 +84,15 @@ All-same f g before after x same all = λ k d below.
     (λ e. sym (get_or-map g after k d x below) ∙ ap (λ l. get_or l k x) same ∙ get_or-map f before k e x (omega arith) ∙ all k e (omega arith))
 
 -- the rings of rows and columns of ends
-pub made_table : (rows : List (Vec Sending Global)) (columns : List (Vec Taking Global)) (n : ℕ) → length rows ≡ n → length columns ≡ n → All (λ v. vec_len v ≡ n) rows → All (λ v. vec_len v ≡ n) columns
+pub made_table : (rows : List (Vec Sending Global)) (columns : List (Vec Taking Global)) (n : ℕ) → length rows ≡ n → length columns ≡ n
+    → All (λ v. vec_len v ≡ n) rows → All (λ v. vec_len v ≡ n) columns
     → AreTransposed (outbox_rings rows) (inbox_rings columns) → IsTableOf n (record { rows = outbox_rings rows; columns = inbox_rings columns })
 made_table rows columns n rows_long columns_long rows_wide columns_wide transposed = (
   length-map rows (λ v. map (λ (o : Sending). o.ring) v.items) ∙ rows_long,
   length-map columns (λ v. map (λ (i : Taking). i.ring) v.items) ∙ columns_long,
-  All-map (λ (l : List Ring). length l ≡ n) (λ v. map (λ (o : Sending). o.ring) v.items) rows (λ k d h. length-map (get_or rows k d).items (λ o. o.ring) ∙ sym (get_or rows k d).ok.0 ∙ rows_wide k d h),
-  All-map (λ (l : List Ring). length l ≡ n) (λ v. map (λ (i : Taking). i.ring) v.items) columns (λ k d h. length-map (get_or columns k d).items (λ i. i.ring) ∙ sym (get_or columns k d).ok.0 ∙ columns_wide k d h),
+  All-map (λ (l : List Ring). length l ≡ n) (λ v. map (λ (o : Sending). o.ring) v.items) rows
+      (λ k d h. length-map (get_or rows k d).items (λ o. o.ring) ∙ sym (get_or rows k d).ok.0 ∙ rows_wide k d h),
+  All-map (λ (l : List Ring). length l ≡ n) (λ v. map (λ (i : Taking). i.ring) v.items) columns
+      (λ k d h. length-map (get_or columns k d).items (λ i. i.ring) ∙ sym (get_or columns k d).ok.0 ∙ columns_wide k d h),
   transposed,
 )

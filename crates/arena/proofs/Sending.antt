@@ -26,13 +26,16 @@ pub sent_step_at : {A : Type 0} (outboxes : List Sending) (i j : ℕ) (before af
     → MatchResult r (λ _. map (λ o. o.sent) (slice_set outboxes i after) ≡ slice_set (map (λ o. o.sent) outboxes) j (slice_index_or (map (λ o. o.sent) outboxes) j [] ++ key ∷ []))
     (λ back. (back ≡ key) × (map (λ o. o.sent) (slice_set outboxes i after) ≡ map (λ o. o.sent) outboxes))
 sent_step_at outboxes i j before after key r same below is sent =
-    let P : ℕ → Type 0 = λ k. MatchResult r (λ _. map (λ (o : Sending). o.sent) (slice_set outboxes i after) ≡ slice_set (map (λ (o : Sending). o.sent) outboxes) k (slice_index_or (map (λ (o : Sending). o.sent) outboxes) k [] ++ key ∷ []))
+    let P : ℕ → Type 0 = λ k. MatchResult r
+    (λ _. map (λ (o : Sending). o.sent) (slice_set outboxes i after)
+    ≡ slice_set (map (λ (o : Sending). o.sent) outboxes) k (slice_index_or (map (λ (o : Sending). o.sent) outboxes) k [] ++ key ∷ []))
     (λ back. (back ≡ key) × (map (λ (o : Sending). o.sent) (slice_set outboxes i after) ≡ map (λ (o : Sending). o.sent) outboxes))
     in
     subst P same (sent_step outboxes i before after key r below is sent)
 
 -- one entry of a list of numbers grows by what another list has less
-pub no_fewer_set : {A : Type 0} (f : A → ℕ) (xs : List A) (i : ℕ) (after d : A) → f (get_or xs i d) ≤ f after → (k : ℕ) → slice_index_or (map f xs) k 0 ≤ slice_index_or (map f (slice_set xs i after)) k 0
+pub no_fewer_set : {A : Type 0} (f : A → ℕ) (xs : List A) (i : ℕ) (after d : A) → f (get_or xs i d) ≤ f after → (k : ℕ)
+    → slice_index_or (map f xs) k 0 ≤ slice_index_or (map f (slice_set xs i after)) k 0
 no_fewer_set f [] i after d more k = omega arith
 no_fewer_set f (x ∷ xs) zero after d more zero = more
 no_fewer_set f (x ∷ xs) zero after d more (suc k) = omega arith
@@ -56,24 +59,28 @@ KeepPlaces-same a b same w s =
     let alike : map (λ (s : SeatState). free_places s.outboxes) b ≡ map (λ (s : SeatState). free_places s.outboxes) a =
     sym (map-map free_places (λ (s : SeatState). s.outboxes) b) ∙ ap (map free_places) same ∙ map-map free_places (λ (s : SeatState). s.outboxes) a
     in
-    let here : slice_index_or (slice_index_or (map (λ (s : SeatState). free_places s.outboxes) b) w []) s 0 ≡ slice_index_or (slice_index_or (map (λ (s : SeatState). free_places s.outboxes) a) w []) s 0 =
+    let here : slice_index_or (slice_index_or (map (λ (s : SeatState). free_places s.outboxes) b) w []) s 0
+    ≡ slice_index_or (slice_index_or (map (λ (s : SeatState). free_places s.outboxes) a) w []) s 0 =
     ap (λ t. slice_index_or (slice_index_or t w []) s 0) alike
     in
     omega (arith, here)
 
 -- the places known at the end that sent
-pub place_step : {A B : Type 0} (outboxes : List Sending) (i : ℕ) (before after : Sending) (r : Result A B) → i < length outboxes → before ≡ get_or outboxes i before → OnOk r (before.free ≤ after.free + 1)
+pub place_step : {A B : Type 0} (outboxes : List Sending) (i : ℕ) (before after : Sending) (r : Result A B) → i < length outboxes
+    → before ≡ get_or outboxes i before → OnOk r (before.free ≤ after.free + 1)
     → OnOk r (slice_index_or (map (λ o. o.free) outboxes) i 0 ≤ slice_index_or (map (λ o. o.free) (slice_set outboxes i after)) i 0 + 1)
 place_step outboxes i before after (Err e) below is place = tt
 place_step outboxes i before after (Ok x) below is place =
     let old : slice_index_or (map (λ (o : Sending). o.free) outboxes) i 0 ≡ before.free = get_or-map (λ (o : Sending). o.free) outboxes i before 0 below ∙ ap (λ (o : Sending). o.free) (sym is) in
     let new : slice_index_or (map (λ (o : Sending). o.free) (slice_set outboxes i after)) i 0 ≡ after.free =
-    ap (λ l. slice_index_or l i 0) (map-set (λ (o : Sending). o.free) outboxes i after) ∙ get_or-set_at (map (λ (o : Sending). o.free) outboxes) i i after.free 0 refl (omega (arith, length-map outboxes (λ (o : Sending). o.free)))
+    ap (λ l. slice_index_or l i 0) (map-set (λ (o : Sending). o.free) outboxes i after)
+    ∙ get_or-set_at (map (λ (o : Sending). o.free) outboxes) i i after.free 0 refl (omega (arith, length-map outboxes (λ (o : Sending). o.free)))
     in
     omega (arith, place, old, new)
 
 -- the places known at the others
-pub other_places : (outboxes : List Sending) (i : ℕ) (after : Sending) (k : ℕ) → (k ≡ i → ⊥) → slice_index_or (map (λ o. o.free) outboxes) k 0 ≤ slice_index_or (map (λ o. o.free) (slice_set outboxes i after)) k 0
+pub other_places : (outboxes : List Sending) (i : ℕ) (after : Sending) (k : ℕ) → (k ≡ i → ⊥)
+    → slice_index_or (map (λ o. o.free) outboxes) k 0 ≤ slice_index_or (map (λ o. o.free) (slice_set outboxes i after)) k 0
 other_places outboxes i after k other =
     let same : slice_index_or (map (λ (o : Sending). o.free) (slice_set outboxes i after)) k 0 ≡ slice_index_or (map (λ (o : Sending). o.free) outboxes) k 0 =
     ap (λ l. slice_index_or l k 0) (map-set (λ (o : Sending). o.free) outboxes i after) ∙ get_or-set_other (map (λ (o : Sending). o.free) outboxes) i k after.free 0 other

@@ -25,7 +25,8 @@ settled_more {worker = worker} {section = section} before n i d r0 r r' below is
     rw more (subst (λ k. AddsFrees worker section k r0 r') (sym (joined-push (take n known) i.known)) (AddsFrees-more (joined (take n known)) i.known r0 r r' was one))
 
 -- the count of a ring of which nothing was taken yet
-pub counted_here : (before : List Taking) (counts : List ℕ) (n : ℕ) (i : Taking) → counts ≡ map length (known_lists before) → n < length counts → i ≡ get_or before n i → (n < length before) × (get_or counts n 0 ≡ length i.known)
+pub counted_here : (before : List Taking) (counts : List ℕ) (n : ℕ) (i : Taking) → counts ≡ map length (known_lists before) → n < length counts
+    → i ≡ get_or before n i → (n < length before) × (get_or counts n 0 ≡ length i.known)
 counted_here before counts n i are below is =
     let long : n < length before = omega (arith, ap length are, length-map (known_lists before) length, length-map before (λ (i : Taking). i.known)) in
     let inside : n < length (known_lists before) = omega (arith, length-map before (λ (i : Taking). i.known)) in
@@ -54,8 +55,11 @@ known_taken_on (x ∷ xs) zero w = known_taken x.inboxes w
 known_taken_on (x ∷ xs) (suc s) w = known_taken_on xs s w
 
 -- where all that was counted is taken, all that was sent is taken
-pub emptied_from : {C : Type 0} (row : C → List ℕ) (a b c : List SeatState) (counts : List C) → length counts ≡ length a → AreSameSeats a b → ((s : ℕ) (d : C) → s < length a → AreCounted a b s (row (get_or counts s d)))
-    → map sending_side c ≡ map sending_side b → map (λ (s : SeatState). s.table) c ≡ map (λ (s : SeatState). s.table) b → map (λ (s : SeatState). s.outboxes) c ≡ map (λ (s : SeatState). s.outboxes) b → map in_rings c ≡ map in_rings b → map (λ seat. taken_lists seat.inboxes) c ≡ map (λ seat. taken_with_known seat.inboxes) b → AreEmptied a c
+pub emptied_from : {C : Type 0} (row : C → List ℕ) (a b c : List SeatState) (counts : List C) → length counts ≡ length a → AreSameSeats a b
+    → ((s : ℕ) (d : C) → s < length a → AreCounted a b s (row (get_or counts s d)))
+    → map sending_side c ≡ map sending_side b → map (λ (s : SeatState). s.table) c ≡ map (λ (s : SeatState). s.table) b
+    → map (λ (s : SeatState). s.outboxes) c ≡ map (λ (s : SeatState). s.outboxes) b → map in_rings c ≡ map in_rings b
+    → map (λ seat. taken_lists seat.inboxes) c ≡ map (λ seat. taken_with_known seat.inboxes) b → AreEmptied a c
 emptied_from row a b c counts long same counted sending tables outboxes rings took = record {
   places = KeepPlaces-more a b c same.places (KeepPlaces-same b c outboxes);
   tables = tables ∙ same.tables;

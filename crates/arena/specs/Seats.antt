@@ -12,7 +12,8 @@ pub record Table : Type 0 where
 -- a table of as many workers and shards, in which the ring of a worker to a shard is that of the shard from the worker
 abbrev pub IsTableOf : ℕ → Table → Type 0
 IsTableOf shards table =
-    (length table.rows ≡ shards) × (length table.columns ≡ shards) × All (λ row. length row ≡ shards) table.rows × All (λ column. length column ≡ shards) table.columns × AreTransposed table.rows table.columns
+    (length table.rows ≡ shards) × (length table.columns ≡ shards) × All (λ row. length row ≡ shards) table.rows
+    × All (λ column. length column ≡ shards) table.columns × AreTransposed table.rows table.columns
 
 -- the worker's number, the section of the run that it is in, the numbers and the rings of its arena, and its ends of rings: to each shard, and from each worker into its own shard;
 -- and, where keys may wait for their block to be full, how many calls it made since the first of these was left

@@ -63,7 +63,14 @@ module _ (old : CoreState) (sound : HasSoundGroups old) (number : ℕ) (before a
       let opened_old : opened_by old.shards id.shard ≡ before.opened = ap (opened_by old.shards) same ∙ ap opened_of here in
       let opened_new : opened_by new.shards id.shard ≡ after.opened = ap (opened_by new.shards) same ∙ ap opened_of (slice_get-set_same old.shards number before after here) in
       let once_old : times id old ≡ indicator id.serial before.opened = sound.once id ∙ ap (indicator id.serial) opened_old in
-      let total : times id new ≡ indicator id.serial after.opened = omega (arith, once_old, sum_all-with_shard (named id) old number before after here, call.spans id, (own-here id same).0, (own-here id same).1) in
+      let total : times id new ≡ indicator id.serial after.opened = omega (
+        arith,
+        once_old,
+        sum_all-with_shard (named id) old number before after here,
+        call.spans id,
+        (own-here id same).0,
+        (own-here id same).1,
+      ) in
       total ∙ ap (indicator id.serial) (sym opened_new)
   once_new id (inr differ) =
       let opened_same : opened_by new.shards id.shard ≡ opened_by old.shards id.shard = ap opened_of (slice_get-set_other old.shards number id.shard after differ) in
@@ -112,7 +119,8 @@ HasSoundGroups-with_pool old sound pool call sound_pool = record {
 
 -- spans move between a shard and the pool
 
-module _ (old : CoreState) (sound : HasSoundGroups old) (number : ℕ) (before after : ShardState) (pool : PoolState) (here : slice_get old.shards number ≡ Some before) (move : IsMove before after old.pool pool) where
+module _ (old : CoreState) (sound : HasSoundGroups old) (number : ℕ) (before after : ShardState) (pool : PoolState)
+    (here : slice_get old.shards number ≡ Some before) (move : IsMove before after old.pool pool) where
   abbrev moved : CoreState
   moved = with_pool (with_shard old number after) pool
 

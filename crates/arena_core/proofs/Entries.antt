@@ -31,7 +31,8 @@ module _ {S : Type 0} where
     ]
 
     pub entries_of-insert : (key number : ℕ) → hash.Updates nat_eq m n key (Some number) → entries_of n ≡ map.insert (entries_of m) key number
-    entries_of-insert key number updates = same_nat_map _ _ (λ q. get-entries_of n q ∙ set_at key (Some number) (Sets-number m n key (Some number) updates) q ∙ sym (get-insert (entries_of m) key number q))
+    entries_of-insert key number updates = same_nat_map _ _
+        (λ q. get-entries_of n q ∙ set_at key (Some number) (Sets-number m n key (Some number) updates) q ∙ sym (get-insert (entries_of m) key number q))
 
     pub entries_of-remove : (key : ℕ) → hash.Updates nat_eq m n key None → entries_of n ≡ map.remove (entries_of m) key
     entries_of-remove key updates = same_nat_map _ _ (λ q. get-entries_of n q ∙ set_at key None (Sets-number m n key None updates) q ∙ sym (get-remove (entries_of m) key q))
@@ -47,18 +48,25 @@ with_taken-home entries id number home = rw (eq-eqb id.shard number home) refl
 pub with_taken-abroad : (entries : Entries) (id : SpanId) (number : ℕ) → id.shard ≢ number → with_taken entries id number ≡ map.insert entries (rank id) number
 with_taken-abroad entries id number abroad = rw (ne_eqb id.shard number abroad) refl
 
-get-taken : (entries : Entries) (key number : ℕ) (home : Bool) (q : ℕ) → map.get (cond home (map.remove entries key) (map.insert entries key number)) q ≡ cond (eqb q key) (cond home None (Some number)) (map.get entries q)
+get-taken : (entries : Entries) (key number : ℕ) (home : Bool) (q : ℕ)
+    → map.get (cond home (map.remove entries key) (map.insert entries key number)) q ≡ cond (eqb q key) (cond home None (Some number)) (map.get entries q)
 get-taken entries key number true q = get-remove entries key q
 get-taken entries key number false q = get-insert entries key number q
 
-pub named-with_taken : (entries : Entries) (id other : SpanId) (number : ℕ) → (named (with_taken entries id number) other ≡ named entries other) ⊎ ((named (with_taken entries id number) other ≡ taken_by number other) × (other ≡ id))
+pub named-with_taken : (entries : Entries) (id other : SpanId) (number : ℕ)
+    → (named (with_taken entries id number) other ≡ named entries other) ⊎ ((named (with_taken entries id number) other ≡ taken_by number other) × (other ≡ id))
 named-with_taken entries id other number = elim (cases_eq (rank other) (rank id)) [
   | inl here ↦
       let same : other ≡ id = id_from_rank other id here in
-      inr (get-taken entries (rank id) number (eqb id.shard number) (rank other) ∙ ap (λ b. cond b (taken_by number id) (named entries other)) (eq-eqb (rank other) (rank id) here) ∙ ap (taken_by number) (sym same), same)
+      inr (
+        get-taken entries (rank id) number (eqb id.shard number) (rank other)
+            ∙ ap (λ b. cond b (taken_by number id) (named entries other)) (eq-eqb (rank other) (rank id) here) ∙ ap (taken_by number) (sym same),
+        same,
+      )
   | inr apart ↦
       inl (get-taken entries (rank id) number (eqb id.shard number) (rank other) ∙ ap (λ b. cond b (taken_by number id) (named entries other)) (ne_eqb (rank other) (rank id) apart))
 ]
 
 pub named-with_taken_here : (entries : Entries) (id : SpanId) (number : ℕ) → named (with_taken entries id number) id ≡ taken_by number id
-named-with_taken_here entries id number = get-taken entries (rank id) number (eqb id.shard number) (rank id) ∙ ap (λ b. cond b (taken_by number id) (named entries id)) (eq-eqb (rank id) (rank id) refl)
+named-with_taken_here entries id number = get-taken entries (rank id) number (eqb id.shard number) (rank id)
+    ∙ ap (λ b. cond b (taken_by number id) (named entries id)) (eq-eqb (rank id) (rank id) refl)

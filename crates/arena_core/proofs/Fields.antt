@@ -34,7 +34,8 @@ state_of-with_shard_at c number after = λ i. record {
   forgotten = c.forgotten.spans;
 }
 
-pub state_of-with_both_at : {L : Type 0} (c : Inside L) (number : ℕ) (after : ShardState) (pool : PoolState) (whereabouts : WhereaboutsState) → state_of (with_both_at c number after pool whereabouts) ≡ with_pool (with_shard (state_of c) number after) pool
+pub state_of-with_both_at : {L : Type 0} (c : Inside L) (number : ℕ) (after : ShardState) (pool : PoolState) (whereabouts : WhereaboutsState)
+    → state_of (with_both_at c number after pool whereabouts) ≡ with_pool (with_shard (state_of c) number after) pool
 state_of-with_both_at c number after pool whereabouts = λ i. record {
   limits = record { shards = length-set c.shards.items number after i; page_limit = c.page_limit; span_limit = c.span_limit; ring_capacity = c.ring_capacity; gens = c.gens };
   shards = set c.shards.items number after;
@@ -69,7 +70,8 @@ pub record IsFew (index : ℕ) (shard : ShardState) : Type 0 where
   pub shards : index < MOST_SHARDS
   pub pages : length shard.groups ≤ MOST_PAGES
 
-pub IsFew-fields : {L : Type 0} (c : Inside L) (shards : List ShardState) (index : ℕ) (shard : ShardState) → HasSoundGroups (state_of c) → shards ≡ c.shards.items → index < length shards → shard ≡ get_or shards index shard → IsFew index shard
+pub IsFew-fields : {L : Type 0} (c : Inside L) (shards : List ShardState) (index : ℕ) (shard : ShardState) → HasSoundGroups (state_of c)
+    → shards ≡ c.shards.items → index < length shards → shard ≡ get_or shards index shard → IsFew index shard
 IsFew-fields c shards index shard kept are within read =
     let here : slice_get c.shards.items index ≡ Some shard = ap (λ xs. slice_get xs index) (sym are) ∙ slice_get_read shards (length shards) index shard refl within read in
     let sound : IsSoundAt (state_of c).limits index shard = kept.shards index shard here in

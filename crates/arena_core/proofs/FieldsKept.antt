@@ -72,14 +72,16 @@ module _ {L : Type 0} (c : Inside L) (kept : IsKept c) (number : ℕ) (before : 
   GetsNone-Receives pool_before pool_after after receives id foreign has = kept-emptied before after (ap (λ (s : ShardState). s.groups) receives.after) id has
 
   -- the groups that are left were there
-  pub GetsNone-Retires : (pool_before pool_after : PoolState) (most count : ℕ) (after : ShardState) → IsSoundShard before → IsSoundShard after → Retires pool_before before most count pool_after after → GetsNone number before after
+  pub GetsNone-Retires : (pool_before pool_after : PoolState) (most count : ℕ) (after : ShardState) → IsSoundShard before → IsSoundShard after
+      → Retires pool_before before most count pool_after after → GetsNone number before after
   GetsNone-Retires pool_before pool_after most count after sound sound_after retires id foreign has =
       kept-part before after sound sound_after (HasGone-Retires pool_before before most count pool_after after retires).part id has
 
   pub GetsNone-Trims : (count : ℕ) (after : ShardState) → Trims before count after → GetsNone number before after
   GetsNone-Trims count after trims = kept-IsCall before after number number_is (IsCall-Trims before after count trims)
 
-  pub IsKept-with_both_at : (after : ShardState) (pool : PoolState) → GetsNone number before after → IsSound (state_of (with_both_at c number after pool c.whereabouts)) → IsKept (with_both_at c number after pool c.whereabouts)
+  pub IsKept-with_both_at : (after : ShardState) (pool : PoolState) → GetsNone number before after
+      → IsSound (state_of (with_both_at c number after pool c.whereabouts)) → IsKept (with_both_at c number after pool c.whereabouts)
   IsKept-with_both_at after pool none sound = record {
     sound = sound;
     moved = KnowsMoved-set c.shards.items c.whereabouts.entries kept.moved number before after (shard-read c number before read) none;
@@ -93,10 +95,12 @@ module _ {L : Type 0} (c : Inside L) (kept : IsKept c) (number : ℕ) (before : 
 
   -- a shard and a pool that are as they were
   pub IsKept-both_same : (after : ShardState) (pool : PoolState) → after ≡ before → pool ≡ c.pool → IsKept (with_both_at c number after pool c.whereabouts)
-  IsKept-both_same after pool same pool_is = IsKept-with_both_at after pool (GetsNone-same after same) (subst IsSound (sym (state_of-both_same c number before after pool c.whereabouts read same pool_is)) kept.sound)
+  IsKept-both_same after pool same pool_is = IsKept-with_both_at after pool (GetsNone-same after same)
+      (subst IsSound (sym (state_of-both_same c number before after pool c.whereabouts read same pool_is)) kept.sound)
 
   -- the same, where only the room of the whereabouts is another
-  pub IsKept-room_made : (after : ShardState) (pool : PoolState) (roomy : WhereaboutsState) → after ≡ before → pool ≡ c.pool → roomy.entries ≡ c.whereabouts.entries → IsKept (with_both_at c number after pool roomy)
+  pub IsKept-room_made : (after : ShardState) (pool : PoolState) (roomy : WhereaboutsState) → after ≡ before → pool ≡ c.pool
+      → roomy.entries ≡ c.whereabouts.entries → IsKept (with_both_at c number after pool roomy)
   IsKept-room_made after pool roomy same pool_is entries = record {
     sound = subst IsSound (sym (state_of-both_same c number before after pool roomy read same pool_is)) kept.sound;
     moved = subst (KnowsMoved (set c.shards.items number after)) (sym entries) (IsKept-both_same after pool same pool_is).moved;
@@ -106,29 +110,39 @@ module _ {L : Type 0} (c : Inside L) (kept : IsKept c) (number : ℕ) (before : 
   IsKept-same after same = IsKept-with_shard_at after (GetsNone-same after same) (subst IsSound (sym (state_of-same c number before after read same)) kept.sound)
 
   -- a free, whatever it answers
-  pub IsKept-free : (key : Key) (answer : Freed) (after : ShardState) → Frees before key answer after → was_freed answer ≡ is_some ((shown_by before).value_of key) → shown_by after ≡ cond (was_freed answer) (without (shown_by before) key) (shown_by before) → IsSoundShard after
+  pub IsKept-free : (key : Key) (answer : Freed) (after : ShardState) → Frees before key answer after
+      → was_freed answer ≡ is_some ((shown_by before).value_of key) → shown_by after ≡ cond (was_freed answer) (without (shown_by before) key) (shown_by before)
+      → IsSoundShard after
       → IsKept (with_shard_at c number after)
   IsKept-free key (freed.Yes at) after frees found plain sound =
-      IsKept-with_shard_at after (GetsNone-Frees key (freed.Yes at) after frees) (IsStep-free_home c (state_of c) number key before after (freed.Yes at) refl kept.sound read (λ e. absurd cc) frees found plain sound).kept
+      IsKept-with_shard_at after (GetsNone-Frees key (freed.Yes at) after frees)
+      (IsStep-free_home c (state_of c) number key before after (freed.Yes at) refl kept.sound read (λ e. absurd cc) frees found plain sound).kept
   IsKept-free key (freed.No at) after frees found plain sound =
-      IsKept-with_shard_at after (GetsNone-Frees key (freed.No at) after frees) (IsStep-free_home c (state_of c) number key before after (freed.No at) refl kept.sound read (λ e. absurd cc) frees found plain sound).kept
+      IsKept-with_shard_at after (GetsNone-Frees key (freed.No at) after frees)
+      (IsStep-free_home c (state_of c) number key before after (freed.No at) refl kept.sound read (λ e. absurd cc) frees found plain sound).kept
   IsKept-free key freed.NotHere after frees found plain sound = IsKept-same after frees.1
 
   -- a set, whatever it answers
-  pub IsKept-set : (key : Key) (value : Value) (answer : Replaced) (after : ShardState) → Sets before key value answer after → was_replaced answer ≡ may_set (shown_by before) key value → shown_by after ≡ cond (was_replaced answer) (with_value (shown_by before) key value) (shown_by before) → IsSoundShard after
+  pub IsKept-set : (key : Key) (value : Value) (answer : Replaced) (after : ShardState) → Sets before key value answer after
+      → was_replaced answer ≡ may_set (shown_by before) key value
+      → shown_by after ≡ cond (was_replaced answer) (with_value (shown_by before) key value) (shown_by before) → IsSoundShard after
       → IsKept (with_shard_at c number after)
   IsKept-set key value (replaced.Yes at) after sets found plain sound =
-      IsKept-with_shard_at after (GetsNone-Sets key value (replaced.Yes at) after sets) (IsStep-set_home c (state_of c) number key value before after (replaced.Yes at) refl kept.sound read (λ e. absurd cc) sets found plain sound).kept
+      IsKept-with_shard_at after (GetsNone-Sets key value (replaced.Yes at) after sets)
+      (IsStep-set_home c (state_of c) number key value before after (replaced.Yes at) refl kept.sound read (λ e. absurd cc) sets found plain sound).kept
   IsKept-set key value (replaced.No at) after sets found plain sound =
-      IsKept-with_shard_at after (GetsNone-Sets key value (replaced.No at) after sets) (IsStep-set_home c (state_of c) number key value before after (replaced.No at) refl kept.sound read (λ e. absurd cc) sets found plain sound).kept
+      IsKept-with_shard_at after (GetsNone-Sets key value (replaced.No at) after sets)
+      (IsStep-set_home c (state_of c) number key value before after (replaced.No at) refl kept.sound read (λ e. absurd cc) sets found plain sound).kept
   IsKept-set key value replaced.NotHere after sets found plain sound = IsKept-same after sets.1
 
   -- spans come in, and are noted
-  pub IsKept-noted : (after : ShardState) (pool : PoolState) (plan : Option OpenPlan) (noted : WhereaboutsState) (head : SpanId) (first : ℕ) → Comes before after head first → Notes c.whereabouts.entries noted.entries after.groups head first number
+  pub IsKept-noted : (after : ShardState) (pool : PoolState) (plan : Option OpenPlan) (noted : WhereaboutsState) (head : SpanId) (first : ℕ)
+      → Comes before after head first → Notes c.whereabouts.entries noted.entries after.groups head first number
       → IsSound (state_of (with_step_at c number after pool plan noted)) → IsKept (with_step_at c number after pool plan noted)
   IsKept-noted after pool plan noted head first comes notes sound = record {
     sound = sound;
-    moved = KnowsMoved-noted (state_of c) (state_of (with_step_at c number after pool plan noted)) sound.groups number before after (shard-read c number before read) refl c.whereabouts.entries noted.entries head first kept.moved comes notes;
+    moved = KnowsMoved-noted (state_of c) (state_of (with_step_at c number after pool plan noted)) sound.groups number before after
+        (shard-read c number before read) refl c.whereabouts.entries noted.entries head first kept.moved comes notes;
   }
 
 -- only the room of the whereabouts is another
@@ -136,7 +150,8 @@ pub IsKept-roomy : {L : Type 0} (c : Inside L) (roomy : WhereaboutsState) → Is
 IsKept-roomy c roomy kept entries = record { sound = kept.sound; moved = subst (KnowsMoved c.shards.items) (sym entries) kept.moved }
 
 -- each shard has the spans that it had
-pub IsKept-mapped : {L : Type 0} (c now : Inside L) → IsKept c → now.whereabouts ≡ c.whereabouts → (closed : GroupState → Bool) → now.shards.items ≡ map (with_flags closed) c.shards.items → IsSound (state_of now) → IsKept now
+pub IsKept-mapped : {L : Type 0} (c now : Inside L) → IsKept c → now.whereabouts ≡ c.whereabouts → (closed : GroupState → Bool)
+    → now.shards.items ≡ map (with_flags closed) c.shards.items → IsSound (state_of now) → IsKept now
 IsKept-mapped c now kept whereabouts closed items sound = record {
   sound = sound;
   moved =
@@ -145,7 +160,9 @@ IsKept-mapped c now kept whereabouts closed items sound = record {
 }
 
 -- fields that are as they were
-pub IsKept-unchanged : {L : Type 0} (c now : Inside L) → IsKept c → now.page_limit ≡ c.page_limit → now.span_limit ≡ c.span_limit → now.ring_capacity ≡ c.ring_capacity → now.gens ≡ c.gens → now.plan ≡ c.plan → now.whereabouts ≡ c.whereabouts → now.rings ≡ c.rings → now.forgotten.spans ≡ c.forgotten.spans → now.shards.items ≡ c.shards.items → now.pool ≡ c.pool → IsKept now
+pub IsKept-unchanged : {L : Type 0} (c now : Inside L) → IsKept c → now.page_limit ≡ c.page_limit → now.span_limit ≡ c.span_limit
+    → now.ring_capacity ≡ c.ring_capacity → now.gens ≡ c.gens → now.plan ≡ c.plan → now.whereabouts ≡ c.whereabouts → now.rings ≡ c.rings
+    → now.forgotten.spans ≡ c.forgotten.spans → now.shards.items ≡ c.shards.items → now.pool ≡ c.pool → IsKept now
 IsKept-unchanged c now kept pages spans ring gens plan whereabouts rings gone items pool =
     let same : state_of now ≡ state_of c = λ i. record {
       limits = record { shards = length (items i); page_limit = pages i; span_limit = spans i; ring_capacity = ring i; gens = gens i };

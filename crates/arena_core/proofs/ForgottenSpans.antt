@@ -104,21 +104,25 @@ forgotten-guests (group ∷ groups) sound place span here = elim (in_either (dea
     not_true true e = absurd cc
     not_true false e = refl
 
-forgotten-owned : (shards : List ShardState) → ((number : ℕ) (shard : ShardState) → slice_get shards number ≡ Some shard → AreSoundGroups shard.groups) → (place : ℕ) (span : SpanState) → slice_get (dead_owned shards) place ≡ Some span → IsForgotten span
+forgotten-owned : (shards : List ShardState) → ((number : ℕ) (shard : ShardState) → slice_get shards number ≡ Some shard → AreSoundGroups shard.groups)
+    → (place : ℕ) (span : SpanState) → slice_get (dead_owned shards) place ≡ Some span → IsForgotten span
 forgotten-owned [] sound place span here = absurd cc
 forgotten-owned (shard ∷ shards) sound place span here = elim (in_either (dead_guests shard.groups) (dead_owned shards) place span here) [
   | inl first ↦ forgotten-guests shard.groups (sound 0 shard refl) place span first
   | inr later ↦ forgotten-owned shards (λ number s at. sound (suc number) s at) later.0 span later.1
 ]
 
-forgotten-unpaged : (groups : List PooledState) → AreSoundGroups groups → ((index : ℕ) (group : PooledState) → slice_get groups index ≡ Some group → is_some group.page ≡ false) → (place : ℕ) (span : SpanState) → slice_get (spans_in groups) place ≡ Some span → IsForgotten span
+forgotten-unpaged : (groups : List PooledState) → AreSoundGroups groups
+    → ((index : ℕ) (group : PooledState) → slice_get groups index ≡ Some group → is_some group.page ≡ false) → (place : ℕ) (span : SpanState)
+    → slice_get (spans_in groups) place ≡ Some span → IsForgotten span
 forgotten-unpaged [] sound none place span here = absurd cc
 forgotten-unpaged (group ∷ groups) sound none place span here = elim (in_either (spans_of group) (spans_in groups) place span here) [
   | inl first ↦ record { legal = (sound 0 group refl).legal place span first; none_live = by_page group.page (none 0 group refl) (sound 0 group refl).page first }
   | inr later ↦ forgotten-unpaged groups (λ index g at. sound (suc index) g at) (λ index g at. none (suc index) g at) later.0 span later.1
 ]
   where
-    by_page : (page : Option Words) → is_some page ≡ false → MatchOption page (union_of (spans_of group) ≡ empty) (AreStored (spans_of group)) → slice_get (spans_of group) place ≡ Some span → live_slots span.log ≡ empty
+    by_page : (page : Option Words) → is_some page ≡ false → MatchOption page (union_of (spans_of group) ≡ empty) (AreStored (spans_of group))
+        → slice_get (spans_of group) place ≡ Some span → live_slots span.log ≡ empty
     by_page None e empty first = live_slots-none (spans_of group) empty place span first
     by_page (Some words) e stored first = absurd cc
 
@@ -187,7 +191,9 @@ KnowsMoved-forgotten shards entries knows id number foreign (shard, at, has) =
     knows id number foreign (was, there, has_span-forgotten was id (ap (has_span id) is ∙ has))
 
 -- the fields
-module _ {L : Type 0} (c now : Inside L) (kept : IsKept c) (pages : now.page_limit ≡ c.page_limit) (spans : now.span_limit ≡ c.span_limit) (ring : now.ring_capacity ≡ c.ring_capacity) (gens : now.gens ≡ c.gens) (pool : now.pool ≡ without_dead_groups c.pool) (plan : now.plan ≡ c.plan) (keeps : KeepsStanding now.shards.items c.whereabouts.entries now.whereabouts.entries) (rings : now.rings ≡ c.rings)
+module _ {L : Type 0} (c now : Inside L) (kept : IsKept c) (pages : now.page_limit ≡ c.page_limit) (spans : now.span_limit ≡ c.span_limit)
+    (ring : now.ring_capacity ≡ c.ring_capacity) (gens : now.gens ≡ c.gens) (pool : now.pool ≡ without_dead_groups c.pool) (plan : now.plan ≡ c.plan)
+    (keeps : KeepsStanding now.shards.items c.whereabouts.entries now.whereabouts.entries) (rings : now.rings ≡ c.rings)
     (items : now.shards.items ≡ map without_dead_guests c.shards.items) (gone : now.forgotten.spans ≡ c.forgotten.spans ++ dead_spans c.shards.items c.pool) where
   count_is : length now.shards.items ≡ length c.shards.items
   count_is = ap length items ∙ length-map c.shards.items without_dead_guests

@@ -70,16 +70,24 @@ pub record IsPoolCall (before after : PoolState) : Type 0 where
 
 module _ (w : SpanState → ℕ) where
   -- the head of a group gives way to a span of the same weight
-  sum_in-with_head : (before after : ShardState) (index : ℕ) (group : GroupState) (head : SpanState) → (page : Option Words) → slice_get before.groups index ≡ Some group → w head ≡ w group.head → after.groups ≡ set before.groups index (record group { head = head; page = page })
+  sum_in-with_head : (before after : ShardState) (index : ℕ) (group : GroupState) (head : SpanState) → (page : Option Words)
+      → slice_get before.groups index ≡ Some group → w head ≡ w group.head → after.groups ≡ set before.groups index (record group { head = head; page = page })
       → sum_in w after ≡ sum_in w before
   sum_in-with_head before after index group head page here same is =
-      omega (arith, ap (λ gs. sum_by w (flat_spans gs)) is, flat-set w spans_of before.groups index group (record group { head = head; page = page }) here, sum_by-cons w head group.guests, sum_by-cons w group.head group.guests)
+      omega (
+        arith,
+        ap (λ gs. sum_by w (flat_spans gs)) is,
+        flat-set w spans_of before.groups index group (record group { head = head; page = page }) here,
+        sum_by-cons w head group.guests,
+        sum_by-cons w group.head group.guests,
+      )
     where
       flat_spans : List GroupState → List SpanState
       flat_spans groups = flat_map spans_of groups
 
   -- a span of a group gives way to one of the same weight
-  sum_in-with_span : (before after : ShardState) (index place : ℕ) (group : GroupState) (span changed : SpanState) (page : Option Words) → slice_get before.groups index ≡ Some group → slice_get (spans_of group) place ≡ Some span → w changed ≡ w span
+  sum_in-with_span : (before after : ShardState) (index place : ℕ) (group : GroupState) (span changed : SpanState) (page : Option Words)
+      → slice_get before.groups index ≡ Some group → slice_get (spans_of group) place ≡ Some span → w changed ≡ w span
       → after.groups ≡ set before.groups index (record (with_span group place changed) { page = page }) → sum_in w after ≡ sum_in w before
   sum_in-with_span before after index place group span changed page here there same is =
       omega (
@@ -90,7 +98,8 @@ module _ (w : SpanState → ℕ) where
         sum_by-set_at w (spans_of group) place span changed there,
       )
 
-  sum_pooled-with_span : (before after : PoolState) (index place : ℕ) (group : PooledState) (span changed : SpanState) (other : PooledState) → slice_get before.groups index ≡ Some group → slice_get (spans_of group) place ≡ Some span → w changed ≡ w span
+  sum_pooled-with_span : (before after : PoolState) (index place : ℕ) (group : PooledState) (span changed : SpanState) (other : PooledState)
+      → slice_get before.groups index ≡ Some group → slice_get (spans_of group) place ≡ Some span → w changed ≡ w span
       → spans_of other ≡ set (spans_of group) place changed → after.groups ≡ set before.groups index other → sum_pooled w after ≡ sum_pooled w before
   sum_pooled-with_span before after index place group span changed other here there same spans is =
       omega (
@@ -112,10 +121,16 @@ IsCall-Puts before after value key at (running, inl (index, group, room, span_is
   gens_is = ap (λ (s : ShardState). s.gens) after_is;
   opened_more = omega (arith, ap (λ (s : ShardState). s.opened) after_is);
   spans = λ id.
-      let same = sum_in-with_head (named id) before after index group (with_put group.head key.slot value) (with_object group.page (class_of value) key.slot value) room.here refl (ap (λ (s : ShardState). s.groups) after_is) in
+      let same = sum_in-with_head (named id) before after index group (with_put group.head key.slot value)
+      (with_object group.page (class_of value) key.slot value) room.here refl (ap (λ (s : ShardState). s.groups) after_is) in
       omega (arith, ap (own id) after_is, same);
-  strays_are = sum_in-with_head (strays before.gens) before after index group (with_put group.head key.slot value) (with_object group.page (class_of value) key.slot value) room.here refl (ap (λ (s : ShardState). s.groups) after_is);
-  none_lost = λ id. omega (arith, sum_in-with_head (named id) before after index group (with_put group.head key.slot value) (with_object group.page (class_of value) key.slot value) room.here refl (ap (λ (s : ShardState). s.groups) after_is));
+  strays_are = sum_in-with_head (strays before.gens) before after index group (with_put group.head key.slot value)
+      (with_object group.page (class_of value) key.slot value) room.here refl (ap (λ (s : ShardState). s.groups) after_is);
+  none_lost = λ id. omega (
+    arith,
+    sum_in-with_head (named id) before after index group (with_put group.head key.slot value)
+        (with_object group.page (class_of value) key.slot value) room.here refl (ap (λ (s : ShardState). s.groups) after_is),
+  );
 }
 IsCall-Puts before after value key at (running, inr (full, pages, spans, (shard_is, serial_is, slot_is, generation_is, at_is, (index, place, after_is)))) = record {
   number_is = ap (λ (s : ShardState). s.number) after_is;
@@ -126,7 +141,14 @@ IsCall-Puts before after value key at (running, inr (full, pages, spans, (shard_
   spans = λ id.
       let one : sum_by (named id) (spans_of opened) ≡ cond {A = ℕ} (eqb before.number id.shard && eqb before.opened id.serial) 1 0 =
       sum_by-cons (named id) opened.head [] ∙ rw (shard_is, serial_is) (omega arith) in
-      omega (arith, ap (λ (s : ShardState). sum_in (named id) s) after_is, ap (own id) after_is, flat-insert (named id) spans_of before.groups index opened, one, own-more id.shard id.serial before.number before.opened);
+      omega (
+        arith,
+        ap (λ (s : ShardState). sum_in (named id) s) after_is,
+        ap (own id) after_is,
+        flat-insert (named id) spans_of before.groups index opened,
+        one,
+        own-more id.shard id.serial before.number before.opened,
+      );
   strays_are =
       let none : sum_by (strays before.gens) (spans_of opened) ≡ 0 = strays-none before.gens (spans_of opened) alone in
       omega (arith, ap (λ (s : ShardState). sum_in (strays before.gens) s) after_is, flat-insert (strays before.gens) spans_of before.groups index opened, none);
@@ -154,7 +176,8 @@ IsCall-ChangesSpan before after changes = record {
 }
   where
     kept : (w : SpanState → ℕ) → w changes.now ≡ w changes.span → sum_in w after ≡ sum_in w before
-    kept w same = sum_in-with_span w before after changes.index changes.place changes.group changes.span changes.now changes.page changes.group_is changes.span_is same (ap (λ (s : ShardState). s.groups) changes.after_is)
+    kept w same = sum_in-with_span w before after changes.index changes.place changes.group changes.span changes.now changes.page changes.group_is
+        changes.span_is same (ap (λ (s : ShardState). s.groups) changes.after_is)
 
     named_still : (id : SpanId) → times_in id after ≡ times_in id before
     named_still id = kept (named id) (ap (λ i. cond {A = ℕ} (same_span i id) 1 0) changes.same.id_is)
@@ -166,7 +189,8 @@ IsPoolCall-ChangesPooled before after changes = record {
 }
   where
     kept : (w : SpanState → ℕ) → w changes.now ≡ w changes.span → sum_pooled w after ≡ sum_pooled w before
-    kept w same = sum_pooled-with_span w before after changes.index changes.place changes.group changes.span changes.now changes.group_now changes.group_is changes.span_is same changes.spans_are changes.groups_are
+    kept w same = sum_pooled-with_span w before after changes.index changes.place changes.group changes.span changes.now changes.group_now changes.group_is
+        changes.span_is same changes.spans_are changes.groups_are
 
 -- groups that move
 
@@ -216,7 +240,8 @@ IsMove-Receives before after pool_before pool_after receives = record {
       omega (arith, all, sum_by-whole_of w before.groups, ap (λ (s : ShardState). sum_in w s) receives.after);
 }
 
-pub IsMove-Adopts : (before after : ShardState) (pool_before pool_after : PoolState) (head : SpanId) → before.ended ≡ false → Adopts pool_before before head pool_after after → IsMove before after pool_before pool_after
+pub IsMove-Adopts : (before after : ShardState) (pool_before pool_after : PoolState) (head : SpanId) → before.ended ≡ false
+    → Adopts pool_before before head pool_after after → IsMove before after pool_before pool_after
 IsMove-Adopts before after pool_before pool_after head running adopts = record {
   number_is = ap (λ (s : ShardState). s.number) adopts.takes_in.after;
   page_limit_is = ap (λ (s : ShardState). s.page_limit) adopts.takes_in.after;

@@ -100,7 +100,8 @@ sum_by-passing p f (x ∷ xs) once = sum_by-cons (λ y. cond (p y) (f y) 0) x xs
 
 -- sums over lists of lists, after one list is changed, put in or taken out
 
-pub flat-set : {X Y : Type 0} (w : Y → ℕ) (f : X → List Y) (xs : List X) (i : ℕ) (x y : X) → slice_get xs i ≡ Some x → sum_by w (flat_map f (set xs i y)) + sum_by w (f x) ≡ sum_by w (flat_map f xs) + sum_by w (f y)
+pub flat-set : {X Y : Type 0} (w : Y → ℕ) (f : X → List Y) (xs : List X) (i : ℕ) (x y : X) → slice_get xs i ≡ Some x
+    → sum_by w (flat_map f (set xs i y)) + sum_by w (f x) ≡ sum_by w (flat_map f xs) + sum_by w (f y)
 flat-set w f xs i x y here = omega (arith, sum_by-flat_map w f xs, sum_by-flat_map w f (set xs i y), sum_by-set_at (λ z. sum_by w (f z)) xs i x y here)
 
 pub flat-insert : {X Y : Type 0} (w : Y → ℕ) (f : X → List Y) (xs : List X) (i : ℕ) (y : X) → sum_by w (flat_map f (insert xs i y)) ≡ sum_by w (flat_map f xs) + sum_by w (f y)

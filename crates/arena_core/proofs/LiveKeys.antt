@@ -71,7 +71,9 @@ count_by-slot slot p (e ∷ es) sorted =
     ∙ by_slot (cases_eq slot e.0)
     ∙ ap (λ b. count_of p (cond b (Some e.1) (entry.find nat_cmp slot es))) (sym (unsigned_tied slot e.0))
   where
-    by_slot : (slot ≡ e.0) ⊎ (slot ≢ e.0) → cond {A = ℕ} (eqb slot e.0 && p e.1) 1 0 + count_of p (entry.find nat_cmp slot es) ≡ count_of p (cond (eqb slot e.0) (Some e.1) (entry.find nat_cmp slot es))
+    by_slot : (slot ≡ e.0) ⊎ (slot ≢ e.0)
+        → cond {A = ℕ} (eqb slot e.0 && p e.1) 1 0 + count_of p (entry.find nat_cmp slot es)
+        ≡ count_of p (cond (eqb slot e.0) (Some e.1) (entry.find nat_cmp slot es))
     by_slot (inl same) =
         let none : entry.find nat_cmp slot es ≡ None = ap (λ n. entry.find nat_cmp n es) same ∙ find-below_all e.0 es (T_first _ _ sorted) in
         rw (none, eq-eqb slot e.0 same) (omega arith)
@@ -118,7 +120,8 @@ count-keys_of : (key : Key) (gens : ℕ) (span : SpanState) → IsLegal gens spa
 unfolding keys_of key_at
 count-keys_of key gens span legal named =
     count_by-map (same_key key) (λ e. key_at span.id e.0 e.1.generation) (finmap.entries (replay span.log))
-    ∙ count_by-same (λ (e : ℕ × Held). same_key key (key_at span.id e.0 e.1.generation)) (λ (e : ℕ × Held). eqb key.slot e.0 && eqb key.generation (suc (e.1.generation - 1))) (finmap.entries (replay span.log))
+    ∙ count_by-same (λ (e : ℕ × Held). same_key key (key_at span.id e.0 e.1.generation))
+    (λ (e : ℕ × Held). eqb key.slot e.0 && eqb key.generation (suc (e.1.generation - 1))) (finmap.entries (replay span.log))
     (λ e. ap (λ b. b && (eqb key.slot e.0 && eqb key.generation (suc (e.1.generation - 1)))) named)
     ∙ count_by-slot key.slot (λ held. eqb key.generation (suc (held.generation - 1))) (finmap.entries (replay span.log)) (finmap.entries_sorted (replay span.log))
     ∙ ap (count_of (λ held. eqb key.generation (suc (held.generation - 1)))) (sym (finmap.get-entries (replay span.log) key.slot))
@@ -152,7 +155,8 @@ abbrev pub live_where : Key → Option SpanState → ℕ
 live_where key None = 0
 live_where key (Some span) = cond {A = ℕ} (is_live key span) 1 0
 
-pub count-keys_in : (key : Key) (spans : List SpanState) → AllByRecursion IsLegalSpan spans → count_by (is_named key.span) spans ≤ 1 → count_by (same_key key) (keys_in spans) ≡ live_where key (find (is_named key.span) spans)
+pub count-keys_in : (key : Key) (spans : List SpanState) → AllByRecursion IsLegalSpan spans → count_by (is_named key.span) spans ≤ 1
+    → count_by (same_key key) (keys_in spans) ≡ live_where key (find (is_named key.span) spans)
 unfolding keys_in
 count-keys_in key [] legal once = refl
 count-keys_in key (span ∷ spans) legal once =

@@ -23,7 +23,9 @@ legal-spans : (core : CoreState) → HasSoundGroups core → AllByRecursion IsLe
 legal-spans core sound =
     each-append IsLegalSpan (shard_spans core.shards) (spans_in core.pool.groups ++ core.forgotten)
     (each-flat_map IsLegalSpan (λ (shard : ShardState). spans_in shard.groups) core.shards
-    (λ number shard at. each-flat_map IsLegalSpan spans_of shard.groups (λ index group here. each-from IsLegalSpan (spans_of group) (λ place span there. ((sound.shards number shard at).sound.groups index group here).legal place span there))))
+    (λ number shard at. each-flat_map IsLegalSpan spans_of shard.groups
+    (λ index group here. each-from IsLegalSpan (spans_of group)
+    (λ place span there. ((sound.shards number shard at).sound.groups index group here).legal place span there))))
     (each-append IsLegalSpan (spans_in core.pool.groups) core.forgotten
     (each-flat_map IsLegalSpan spans_of core.pool.groups (λ index group here. each-from IsLegalSpan (spans_of group) (λ place span there. (sound.pool.groups index group here).legal place span there)))
     (each-from IsLegalSpan core.forgotten (λ place span there. (sound.forgotten place span there).legal)))
@@ -40,7 +42,8 @@ HasKeys-live_keys core sound = (keys_in (all_spans core), λ key. counted key, s
         omega (
           arith,
           sum_all-parts (λ (span : SpanState). finset.len (live_slots span.log)) core,
-          sum_by-none (λ (span : SpanState). finset.len (live_slots span.log)) core.forgotten (λ place span here. ap (λ s. finset.len s) (sound.forgotten place span here).none_live ∙ finset.len-empty nat_cmp),
+          sum_by-none (λ (span : SpanState). finset.len (live_slots span.log)) core.forgotten
+              (λ place span here. ap (λ s. finset.len s) (sound.forgotten place span here).none_live ∙ finset.len-empty nat_cmp),
         )
 
     counted : (key : Key) → count_by (same_key key) (keys_in (all_spans core)) ≡ cond {A = ℕ} (is_some ((shown core).value_of key)) 1 0

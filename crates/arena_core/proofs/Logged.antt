@@ -59,7 +59,8 @@ module _ (core : CoreState) (sound : HasSoundGroups core) (key : Key) where
 
   -- a forgotten span has no value
   value-forgotten : sum_by (value_weight key) core.forgotten ≡ 0
-  value-forgotten = sum_by-none (value_weight key) core.forgotten (λ place span here. by_name span (value_in-none_live span key.slot key.generation (sound.forgotten place span here).none_live) (is_named key.span span))
+  value-forgotten = sum_by-none (value_weight key) core.forgotten
+      (λ place span here. by_name span (value_in-none_live span key.slot key.generation (sound.forgotten place span here).none_live) (is_named key.span span))
     where
       by_name : (span : SpanState) → value_in span.log key.slot key.generation ≡ None → (b : Bool) → cond {A = ℕ} b (code (value_in span.log key.slot key.generation)) 0 ≡ 0
       by_name span none true = ap code none

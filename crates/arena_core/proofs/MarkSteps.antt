@@ -86,7 +86,8 @@ module _ (old : CoreState) (sound : IsSound old) (found : Certificate) (largest 
   marked_groups : HasSoundGroups marked
   marked_groups = HasSoundGroups-retold (with_all_flags flag old) true (Some (record { pairs = found.plan; done = 0 })) (HasSoundGroups-flagged flag old sound.groups)
 
-  owned_still : (head : SpanId) (group : GroupState) → IsOwned old head group → (now : GroupState) × IsOwned marked head now × (now.head.class ≡ group.head.class) × (occupied now ≡ occupied group) × (now.page ≡ group.page)
+  owned_still : (head : SpanId) (group : GroupState) → IsOwned old head group
+      → (now : GroupState) × IsOwned marked head now × (now.head.class ≡ group.head.class) × (occupied now ≡ occupied group) × (now.page ≡ group.page)
   owned_still head group is = (
     closed_as_planned found.plan group,
     record {
@@ -107,7 +108,8 @@ module _ (old : CoreState) (sound : IsSound old) (found : Certificate) (largest 
       (λ head group is. record { index = is.index; head_of = is.head_of }) owned_still
 
   -- a group with no page is not planned, since the group of that head has one
-  paged_if_planned : (number : ℕ) (shard : ShardState) → slice_get marked.shards number ≡ Some shard → (index : ℕ) (before group : GroupState) → slice_get shard.groups index ≡ Some group → closed_as_planned found.plan before ≡ group
+  paged_if_planned : (number : ℕ) (shard : ShardState) → slice_get marked.shards number ≡ Some shard → (index : ℕ) (before group : GroupState)
+      → slice_get shard.groups index ≡ Some group → closed_as_planned found.plan before ≡ group
       → (is_some before.page && plans_onto found.plan before.head.id) ≡ plans_onto found.plan before.head.id
   paged_if_planned number shard here index before group at same = by_page (is_some before.page) refl
     where
@@ -115,7 +117,13 @@ module _ (old : CoreState) (sound : IsSound old) (found : Certificate) (largest 
       by_page true some = refl
       by_page false none = sym (plans_onto-none found.plan before.head.id (λ k pair at_k named.
           let waits = under_way.waiting k pair (omega arith) at_k in
-          let mine : IsOwned marked pair.1 group = record { number = number; shard = shard; index = index; shard_is = here; head_of = record { here = at; head_is = ap (λ (g : GroupState). g.head.id) (sym same) ∙ sym named } } in
+          let mine : IsOwned marked pair.1 group = record {
+            number = number;
+            shard = shard;
+            index = index;
+            shard_is = here;
+            head_of = record { here = at; head_is = ap (λ (g : GroupState). g.head.id) (sym same) ∙ sym named };
+          } in
           let one : waits.owned ≡ group = one_owned marked marked_groups pair.1 waits.owned group waits.is_owned mine in
           true≢false (sym waits.paged ∙ ap (λ (g : GroupState). is_some g.page) (one ∙ sym same) ∙ none)))
 
@@ -154,7 +162,9 @@ module _ (old : CoreState) (sound : IsSound old) where
 
 -- the fields
 
-pub state_of-mapped : {L : Type 0} (c now : Inside L) (change : ShardState → ShardState) → now.page_limit ≡ c.page_limit → now.span_limit ≡ c.span_limit → now.ring_capacity ≡ c.ring_capacity → now.gens ≡ c.gens → now.rings ≡ c.rings → now.forgotten.spans ≡ c.forgotten.spans → now.shards.items ≡ map change c.shards.items
+pub state_of-mapped : {L : Type 0} (c now : Inside L) (change : ShardState → ShardState) → now.page_limit ≡ c.page_limit → now.span_limit ≡ c.span_limit
+    → now.ring_capacity ≡ c.ring_capacity → now.gens ≡ c.gens → now.rings ≡ c.rings → now.forgotten.spans ≡ c.forgotten.spans
+    → now.shards.items ≡ map change c.shards.items
     → state_of now ≡ record (state_of c) { shards = map change c.shards.items; pool = now.pool; plan = now.plan }
 state_of-mapped c now change pages spans ring gens rings gone items = λ i. record {
   limits = record { shards = (ap length items ∙ length-map c.shards.items change) i; page_limit = pages i; span_limit = spans i; ring_capacity = ring i; gens = gens i };
@@ -176,7 +186,8 @@ next-IsNext core pair e = by_plan core.plan refl e
 -- the group of the next pair's owned head
 
 -- the shard of this number has the span
-pub shard-named : (core : CoreState) (id : SpanId) (number : ℕ) (shard : ShardState) → StandsIn core.shards id number → shard ≡ get_or core.shards number shard → (slice_get core.shards number ≡ Some shard) × (has_span id shard ≡ true)
+pub shard-named : (core : CoreState) (id : SpanId) (number : ℕ) (shard : ShardState) → StandsIn core.shards id number → shard ≡ get_or core.shards number shard
+    → (slice_get core.shards number ≡ Some shard) × (has_span id shard ≡ true)
 shard-named core id number shard (other, here, has) read =
     let same : other ≡ shard = sym (get_or_from_slice_get core.shards number other shard here) ∙ sym read in
     subst (λ s. (slice_get core.shards number ≡ Some s) × (has_span id s ≡ true)) same (here, has)
@@ -189,14 +200,23 @@ number-named core id number sound (other, here, has) = let within = slice_get_wi
 pub owned-stands : (core : CoreState) (sound : IsSound core) (plan : OpenPlan) (pair : SpanId × SpanId) → IsNext core plan pair → (number : ℕ) × StandsIn core.shards pair.1 number
 owned-stands core sound plan pair next =
     let there = (waits core sound plan pair next).is_owned in
-    let fine = sound.groups.shards there.number there.shard there.shard_is in
-    (there.number, (there.shard, there.shard_is, has_span-here there.shard pair.1 there.index 0 (waits core sound plan pair next).owned (waits core sound plan pair next).owned.head fine.sound (record { group_is = there.head_of.here; span_is = refl; id_is = there.head_of.head_is })))
+    let fine = sound.groups.shards there.number there.shard there.shard_is in (
+      there.number,
+      (
+        there.shard,
+        there.shard_is,
+        has_span-here there.shard pair.1 there.index 0 (waits core sound plan pair next).owned (waits core sound plan pair next).owned.head fine.sound
+            (record { group_is = there.head_of.here; span_is = refl; id_is = there.head_of.head_is }),
+      ),
+    )
 
 -- the fields after a step
 abbrev pub with_step_at : {L : Type 0} → Inside L → ℕ → ShardState → PoolState → Option OpenPlan → WhereaboutsState → Inside L
 with_step_at c number after pool plan whereabouts = record c { shards = with_item c.shards number after; pool = pool; plan = plan; whereabouts = whereabouts }
 
-state_of-with_step_at : {L : Type 0} (c : Inside L) (number : ℕ) (after : ShardState) (pool : PoolState) (plan : Option OpenPlan) (whereabouts : WhereaboutsState) → state_of (with_step_at c number after pool plan whereabouts) ≡ with_plan (with_pool (with_shard (state_of c) number after) pool) plan
+state_of-with_step_at : {L : Type 0} (c : Inside L) (number : ℕ) (after : ShardState) (pool : PoolState) (plan : Option OpenPlan)
+    (whereabouts : WhereaboutsState)
+    → state_of (with_step_at c number after pool plan whereabouts) ≡ with_plan (with_pool (with_shard (state_of c) number after) pool) plan
 state_of-with_step_at c number after pool plan whereabouts = λ i. record {
   limits = record { shards = length-set c.shards.items number after i; page_limit = c.page_limit; span_limit = c.span_limit; ring_capacity = c.ring_capacity; gens = c.gens };
   shards = set c.shards.items number after;
@@ -206,19 +226,36 @@ state_of-with_step_at c number after pool plan whereabouts = λ i. record {
   forgotten = c.forgotten.spans;
 }
 
-pub IsSoundStep-fold_fields : {L : Type 0} (c : Inside L) (plan : OpenPlan) (pair : SpanId × SpanId) (number : ℕ) (before after : ShardState) (pool : PoolState) (current : Option OpenPlan) (whereabouts : WhereaboutsState) (step : Outcome) → IsSound (state_of c) → IsNext (state_of c) plan pair
-    → StandsIn c.shards.items pair.1 number → before ≡ get_or c.shards.items number before → Steps c.pool before pair.0 pair.1 step pool after → IsSoundShard after → IsSoundPool pool → current ≡ option_map with_next_done c.plan
+pub IsSoundStep-fold_fields : {L : Type 0} (c : Inside L) (plan : OpenPlan) (pair : SpanId × SpanId) (number : ℕ) (before after : ShardState) (pool : PoolState)
+    (current : Option OpenPlan) (whereabouts : WhereaboutsState) (step : Outcome) → IsSound (state_of c) → IsNext (state_of c) plan pair
+    → StandsIn c.shards.items pair.1 number → before ≡ get_or c.shards.items number before → Steps c.pool before pair.0 pair.1 step pool after
+    → IsSoundShard after → IsSoundPool pool → current ≡ option_map with_next_done c.plan
     → IsSoundStep (state_of c) Step (Stepped pair.0 pair.1 step) (state_of (with_step_at c number after pool current whereabouts))
 IsSoundStep-fold_fields c plan pair number before after pool current whereabouts step sound next there read steps sound_after sound_pool current_is =
     let named = shard-named (state_of c) pair.1 number before there read in
     subst (IsSoundStep (state_of c) Step (Stepped pair.0 pair.1 step)) (sym (state_of-with_step_at c number after pool current whereabouts))
-    (subst (λ p. IsSoundStep (state_of c) Step (Stepped pair.0 pair.1 step) (with_plan (with_pool (with_shard (state_of c) number after) pool) p)) (sym (current_is ∙ ap (option_map with_next_done) next.plan_is))
+    (subst (λ p. IsSoundStep (state_of c) Step (Stepped pair.0 pair.1 step) (with_plan (with_pool (with_shard (state_of c) number after) pool) p))
+    (sym (current_is ∙ ap (option_map with_next_done) next.plan_is))
     (IsSoundStep-Steps (state_of c) sound plan pair next number before named.0 named.1 step after pool steps sound_after sound_pool))
 
 -- a step that wants memory leaves the fields as they were
-pub state_of-refused : {L : Type 0} (c : Inside L) (id : SpanId) (number : ℕ) (before after : ShardState) (pool : PoolState) (whereabouts : WhereaboutsState) → StandsIn c.shards.items id number → before ≡ get_or c.shards.items number before → after ≡ before → pool ≡ c.pool
+pub state_of-refused : {L : Type 0} (c : Inside L) (id : SpanId) (number : ℕ) (before after : ShardState) (pool : PoolState) (whereabouts : WhereaboutsState)
+    → StandsIn c.shards.items id number → before ≡ get_or c.shards.items number before → after ≡ before → pool ≡ c.pool
     → state_of (with_step_at c number after pool c.plan whereabouts) ≡ state_of c
 state_of-refused c id number before after pool whereabouts there read same pool_is =
     let named = shard-named (state_of c) id number before there read in
     let shards : set c.shards.items number after ≡ c.shards.items = ap (set c.shards.items number) same ∙ set-same c.shards.items number before named.0 in
-    λ i. record { limits = record { shards = length (shards i); page_limit = c.page_limit; span_limit = c.span_limit; ring_capacity = c.ring_capacity; gens = c.gens }; shards = shards i; pool = pool_is i; plan = c.plan; rings = c.rings; forgotten = c.forgotten.spans }
+    λ i. record {
+      limits = record {
+        shards = length (shards i);
+        page_limit = c.page_limit;
+        span_limit = c.span_limit;
+        ring_capacity = c.ring_capacity;
+        gens = c.gens;
+      };
+      shards = shards i;
+      pool = pool_is i;
+      plan = c.plan;
+      rings = c.rings;
+      forgotten = c.forgotten.spans;
+    }

@@ -11,7 +11,8 @@ use Rattle.arena_core.specs.declared.reply.Refusal.TheVariants.{OutOfMemory, Pag
 use Rattle.arena_core.specs.declared.reply.Reply.TheVariants.{Marked, Refused}
 
 -- where no side has too many groups
-pub Mark-from_some : (old new : CoreState) (result : Result Certificate Refusal) → (HasTooMany old → ⊥) → MatchResult result (λ certificate. CoreStep old MarkSome (Marked certificate) new) (λ refusal. CoreStep old MarkSome (Refused refusal) new)
+pub Mark-from_some : (old new : CoreState) (result : Result Certificate Refusal) → (HasTooMany old → ⊥)
+    → MatchResult result (λ certificate. CoreStep old MarkSome (Marked certificate) new) (λ refusal. CoreStep old MarkSome (Refused refusal) new)
     → MatchResult result (λ certificate. CoreStep old Mark (Marked certificate) new) (λ refusal. CoreStep old Mark (Refused refusal) new)
 Mark-from_some old new (Ok certificate) few step = record { no_plan = step.no_plan; largest = IsLargest-few old.pool old.shards certificate few step.largest; after = step.after }
 Mark-from_some old new (Err PlanOpen) few step = step

@@ -30,7 +30,8 @@ has_span-Gets shard key (found.Value value at) sound here (index, place, group, 
 has_span-Gets shard key (found.Gone at) sound here (index, place, group, span, its, gone, at_is) = has_span-here shard key.span index place group span sound its
 has_span-Gets shard key found.NotHere sound here away = absurd (here refl)
 
-pub has_span-Sets : (before after : ShardState) (key : Key) (value : Value) (answer : Replaced) → IsSoundShard before → (answer ≡ replaced.NotHere → ⊥) → Sets before key value answer after → has_span key.span before ≡ true
+pub has_span-Sets : (before after : ShardState) (key : Key) (value : Value) (answer : Replaced) → IsSoundShard before → (answer ≡ replaced.NotHere → ⊥)
+    → Sets before key value answer after → has_span key.span before ≡ true
 has_span-Sets before after key value (replaced.Yes at) sound here (index, place, group, span, its, settable, at_is, rest) = has_span-here before key.span index place group span sound its
 has_span-Sets before after key value (replaced.No at) sound here (index, place, group, span, its, unfit, at_is, same) = has_span-here before key.span index place group span sound its
 has_span-Sets before after key value replaced.NotHere sound here away = absurd (here refl)
@@ -41,19 +42,22 @@ has_span-Frees before after key (freed.No at) sound here (index, place, group, s
 has_span-Frees before after key freed.NotHere sound here away = absurd (here refl)
 
 -- where the shard has the key's span, its answer is that of the core
-pub value-Gets : (core : CoreState) (key : Key) (number : ℕ) (shard : ShardState) (answer : Found) → HasSoundGroups core → slice_get core.shards number ≡ Some shard → (answer ≡ found.NotHere → ⊥) → Gets shard key answer
+pub value-Gets : (core : CoreState) (key : Key) (number : ℕ) (shard : ShardState) (answer : Found) → HasSoundGroups core
+    → slice_get core.shards number ≡ Some shard → (answer ≡ found.NotHere → ⊥) → Gets shard key answer
     → value_found answer ≡ (shown_by shard).value_of key → value_found answer ≡ (shown core).value_of key
 value-Gets core key number shard answer sound here found_here gets plain =
     plain ∙ sym (value-shard core sound key number shard here (has_span-Gets shard key answer (sound.shards number shard here).sound found_here gets))
 
 -- the shard was asked, and does not have the span
-pub not-standing : (core : CoreState) → HasSoundGroups core → (id : SpanId) (number : ℕ) (shard : ShardState) → slice_get core.shards number ≡ Some shard → IsElsewhere shard.groups id → StandsIn core.shards id number → ⊥
+pub not-standing : (core : CoreState) → HasSoundGroups core → (id : SpanId) (number : ℕ) (shard : ShardState) → slice_get core.shards number ≡ Some shard
+    → IsElsewhere shard.groups id → StandsIn core.shards id number → ⊥
 not-standing core sound id number shard here away (other, there, has) =
     let same : other ≡ shard = same_some (sym there ∙ here) in
     let never : true ≡ false = sym has ∙ ap (has_span id) same ∙ has_span-not shard id (sound.shards number shard here).sound away in
     cc
 
-pub standing : (core : CoreState) → HasSoundGroups core → (id : SpanId) (number : ℕ) (shard : ShardState) → slice_get core.shards number ≡ Some shard → (IsElsewhere shard.groups id → ⊥) → StandsIn core.shards id number
+pub standing : (core : CoreState) → HasSoundGroups core → (id : SpanId) (number : ℕ) (shard : ShardState) → slice_get core.shards number ≡ Some shard
+    → (IsElsewhere shard.groups id → ⊥) → StandsIn core.shards id number
 standing core sound id number shard here some = (shard, here, has_span-elsewhere shard id (sound.shards number shard here).sound some)
 
 -- a span that is in no shard

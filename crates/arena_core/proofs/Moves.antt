@@ -34,7 +34,8 @@ use Rattle.arena_core.proofs.Logged.{shown-same}
 use Rattle.arena_core.proofs.Retired.{IsMove-Retires}
 use Rattle.arena_core.proofs.Steps.{IsStep}
 
-pub IsStep-Receives : (old : CoreState) (number : ℕ) (before after : ShardState) (pool : PoolState) → HasSoundGroups old → slice_get old.shards number ≡ Some before → (HasClosed before.groups → ⊥) → Receives old.pool before pool after → IsSoundShard after → IsSoundPool pool
+pub IsStep-Receives : (old : CoreState) (number : ℕ) (before after : ShardState) (pool : PoolState) → HasSoundGroups old
+    → slice_get old.shards number ≡ Some before → (HasClosed before.groups → ⊥) → Receives old.pool before pool after → IsSoundShard after → IsSoundPool pool
     → IsStep old (End number) reply.ShardEnded (with_pool (with_shard old number after) pool)
 IsStep-Receives old number before after pool sound here unclosed receives sound_after sound_pool =
     let move = IsMove-Receives before after old.pool pool receives in
@@ -45,7 +46,9 @@ IsStep-Receives old number before after pool sound here unclosed receives sound_
       plain = shown-same old (with_pool (with_shard old number after) pool) sound sound_new refl (sum_all-moved old sound number before after pool here move);
     }
 
-pub IsStep-Retires : (old : CoreState) (number most count : ℕ) (before after : ShardState) (pool : PoolState) → HasSoundGroups old → slice_get old.shards number ≡ Some before → (HasClosed before.groups → ⊥) → Retires old.pool before most count pool after → HasRetired old.pool before count pool after → IsSoundShard after → IsSoundPool pool
+pub IsStep-Retires : (old : CoreState) (number most count : ℕ) (before after : ShardState) (pool : PoolState) → HasSoundGroups old
+    → slice_get old.shards number ≡ Some before → (HasClosed before.groups → ⊥) → Retires old.pool before most count pool after
+    → HasRetired old.pool before count pool after → IsSoundShard after → IsSoundPool pool
     → IsStep old (Retire number most) (reply.Retired count) (with_pool (with_shard old number after) pool)
 IsStep-Retires old number most count before after pool sound here unclosed retires whole sound_after sound_pool =
     let move = IsMove-Retires before after old.pool pool most count retires in
@@ -56,7 +59,8 @@ IsStep-Retires old number most count before after pool sound here unclosed retir
       plain = shown-same old (with_pool (with_shard old number after) pool) sound sound_new refl (sum_all-moved old sound number before after pool here move);
     }
 
-pub IsStep-Adopts : (old : CoreState) (number : ℕ) (head : SpanId) (before after : ShardState) (pool : PoolState) → HasSoundGroups old → old.plan ≡ None → slice_get old.shards number ≡ Some before → before.ended ≡ false → Adopts old.pool before head pool after → IsSoundShard after → IsSoundPool pool
+pub IsStep-Adopts : (old : CoreState) (number : ℕ) (head : SpanId) (before after : ShardState) (pool : PoolState) → HasSoundGroups old → old.plan ≡ None
+    → slice_get old.shards number ≡ Some before → before.ended ≡ false → Adopts old.pool before head pool after → IsSoundShard after → IsSoundPool pool
     → IsStep old (Adopt number) (reply.Adopted head) (with_pool (with_shard old number after) pool)
 IsStep-Adopts old number head before after pool sound no_plan here running adopts sound_after sound_pool =
     let move = IsMove-Adopts before after old.pool pool head running adopts in
@@ -80,7 +84,9 @@ planned_if_closed (Some plan) groups each some = refl
 
 -- an end that the pool refuses
 pub CoreStep-end_refused : (old : CoreState) (number : ℕ) (shard : ShardState) (error : ReceiveError) (cause : Refusal) → slice_get old.shards number ≡ Some shard → refusal_of_end error ≡ Some cause
-    → (IsInPool old.pool shard → ⊥) → AreClosedAsPlanned old.plan shard.groups → ((error ≡ receive_error.Ended) ↔ (shard.ended ≡ true)) → ((error ≡ receive_error.PlanOpen) ↔ ((shard.ended ≡ false) × (IsInPool old.pool shard → ⊥) × HasClosed shard.groups)) → CoreStep old (End number) (reply.Refused cause) old
+    → (IsInPool old.pool shard → ⊥) → AreClosedAsPlanned old.plan shard.groups → ((error ≡ receive_error.Ended) ↔ (shard.ended ≡ true))
+    → ((error ≡ receive_error.PlanOpen) ↔ ((shard.ended ≡ false) × (IsInPool old.pool shard → ⊥) × HasClosed shard.groups))
+    → CoreStep old (End number) (reply.Refused cause) old
 CoreStep-end_refused old number shard receive_error.OutOfMemory cause here gives single closed ended plan_open =
     let is : refusal.OutOfMemory ≡ cause = cc in
     let running = false_from_ne_true shard.ended (λ e. let no = ended.1 e in cc) in
@@ -95,8 +101,11 @@ CoreStep-end_refused old number shard receive_error.Ended cause here gives singl
 CoreStep-end_refused old number shard receive_error.Doubled cause here gives single closed ended plan_open = absurd cc
 
 -- a retirement that the pool refuses
-pub CoreStep-retire_refused : (old : CoreState) (number most : ℕ) (shard : ShardState) (error : ReceiveError) (cause : Refusal) → slice_get old.shards number ≡ Some shard → refusal_of_end error ≡ Some cause
-    → (IsInPool old.pool shard → ⊥) → AreClosedAsPlanned old.plan shard.groups → ((error ≡ receive_error.Ended) ↔ (shard.ended ≡ true)) → ((error ≡ receive_error.PlanOpen) ↔ ((shard.ended ≡ false) × (IsInPool old.pool shard → ⊥) × HasClosed shard.groups)) → CoreStep old (Retire number most) (reply.Refused cause) old
+pub CoreStep-retire_refused : (old : CoreState) (number most : ℕ) (shard : ShardState) (error : ReceiveError) (cause : Refusal)
+    → slice_get old.shards number ≡ Some shard → refusal_of_end error ≡ Some cause
+    → (IsInPool old.pool shard → ⊥) → AreClosedAsPlanned old.plan shard.groups → ((error ≡ receive_error.Ended) ↔ (shard.ended ≡ true))
+    → ((error ≡ receive_error.PlanOpen) ↔ ((shard.ended ≡ false) × (IsInPool old.pool shard → ⊥) × HasClosed shard.groups))
+    → CoreStep old (Retire number most) (reply.Refused cause) old
 CoreStep-retire_refused old number most shard receive_error.OutOfMemory cause here gives single closed ended plan_open =
     let is : refusal.OutOfMemory ≡ cause = cc in
     let running = false_from_ne_true shard.ended (λ e. let no = ended.1 e in cc) in
@@ -125,21 +134,33 @@ below_limit shard sound room = by_case (cases_eq shard.page_limit (length shard.
     by_case (inr differ) = omega (arith, sound.limit)
 
 -- the shard of this number, which has not ended, may have another page
-may_take-here : (old : CoreState) (number : ℕ) (shard : ShardState) → IsSoundShard shard → slice_get old.shards number ≡ Some shard → (shard.page_limit ≢ length shard.groups) → shard.ended ≡ false → MayTake old number
+may_take-here : (old : CoreState) (number : ℕ) (shard : ShardState) → IsSoundShard shard → slice_get old.shards number ≡ Some shard
+    → (shard.page_limit ≢ length shard.groups) → shard.ended ≡ false → MayTake old number
 may_take-here old number shard sound here room running other there =
     let same : shard ≡ other = (let both : Some shard ≡ Some other = sym here ∙ there in cc) in
     subst (λ (s : ShardState). (s.ended ≡ false) × (length s.groups < s.page_limit)) same (running, below_limit shard sound room)
 
 -- an adoption that the pool refuses
-pub CoreStep-adopt_refused : (old : CoreState) (number : ℕ) (shard : ShardState) (error : AdoptError) (cause : Refusal) → old.pool.has_plan ≡ is_some old.plan → (shard.ended ≡ false → IsDoubled old.pool shard → ⊥) → IsSoundShard shard → slice_get old.shards number ≡ Some shard → refusal_of_adoption error ≡ Some cause
+pub CoreStep-adopt_refused : (old : CoreState) (number : ℕ) (shard : ShardState) (error : AdoptError) (cause : Refusal) → old.pool.has_plan ≡ is_some old.plan
+    → (shard.ended ≡ false → IsDoubled old.pool shard → ⊥) → IsSoundShard shard → slice_get old.shards number ≡ Some shard
+    → refusal_of_adoption error ≡ Some cause
     → IsRefused old.pool shard error → CoreStep old (Adopt number) (reply.Refused cause) old
 CoreStep-adopt_refused old number shard adopt_error.OutOfMemory cause told single sound here gives why =
     let is : refusal.OutOfMemory ≡ cause = cc in
     let room : (shard.page_limit ≢ length shard.groups) = λ full. let no = why.spent.1 full in cc in
     let running : shard.ended ≡ false = false_from_ne_true shard.ended (λ e. let no = why.ended.1 (room, e) in cc) in
     let no_plan : old.pool.has_plan ≡ false = false_from_ne_true old.pool.has_plan (λ e. let no = why.plan_open.1 (room, running, single running, e) in cc) in
-    subst (λ c. CoreStep old (Adopt number) (reply.Refused c) old) is
-    ((shard, record { here = here; running = running }, below_limit shard sound room, None-if_not_some old.plan (sym told ∙ no_plan), λ nothing. let no = why.nothing.1 (room, running, no_plan, nothing) in cc), refl)
+    subst (λ c. CoreStep old (Adopt number) (reply.Refused c) old) is (
+      (
+        shard,
+        record { here = here; running = running },
+        below_limit shard sound room,
+        None-if_not_some old.plan (sym told ∙ no_plan),
+        λ nothing.
+            let no = why.nothing.1 (room, running, no_plan, nothing) in cc,
+      ),
+      refl,
+    )
 CoreStep-adopt_refused old number shard adopt_error.PagesSpent cause told single sound here gives why =
     let is : refusal.PagesSpent ≡ cause = cc in
     subst (λ c. CoreStep old (Adopt number) (reply.Refused c) old) is ((shard, here, why.spent.0 refl), refl)
@@ -175,23 +196,29 @@ past_last core number sound past = omega (arith, sound.groups.count)
 
 -- no group has a page, where that many have one
 
-nothing-unpaged : (groups : List PooledState) → length (filter (λ (group : PooledState). is_some group.page) groups) ≡ 0 → (index : ℕ) (group : PooledState) → slice_get groups index ≡ Some group → group.page ≡ None
+nothing-unpaged : (groups : List PooledState) → length (filter (λ (group : PooledState). is_some group.page) groups) ≡ 0 → (index : ℕ) (group : PooledState)
+    → slice_get groups index ≡ Some group → group.page ≡ None
 nothing-unpaged [] none index group here = absurd cc
 nothing-unpaged (first ∷ groups) none zero group here = let same : first ≡ group = cc in ap (λ (g : PooledState). g.page) (sym same) ∙ by_page first.page refl
   where
     by_page : (o : Option Words) → first.page ≡ o → o ≡ None
     by_page None e = refl
-    by_page (Some page) e = absurd (let more : suc (length (filter (λ (group : PooledState). is_some group.page) groups)) ≡ 0 = sym (ap (λ o. length (cond (is_some o) (first ∷ filter (λ (group : PooledState). is_some group.page) groups) (filter (λ (group : PooledState). is_some group.page) groups))) e) ∙ none in omega arith)
+    by_page (Some page) e = absurd (let more : suc (length (filter (λ (group : PooledState). is_some group.page) groups))
+        ≡ 0 = sym (ap (λ o. length (cond (is_some o) (first ∷ filter (λ (group : PooledState). is_some group.page) groups)
+        (filter (λ (group : PooledState). is_some group.page) groups))) e) ∙ none in omega arith)
 nothing-unpaged (first ∷ groups) none (suc index) group here = nothing-unpaged groups (rest first.page refl) index group here
   where
     rest : (o : Option Words) → first.page ≡ o → length (filter (λ (group : PooledState). is_some group.page) groups) ≡ 0
     rest None e = sym (ap (λ o. length (cond (is_some o) (first ∷ filter (λ (group : PooledState). is_some group.page) groups) (filter (λ (group : PooledState). is_some group.page) groups))) e) ∙ none
-    rest (Some page) e = absurd (let more : suc (length (filter (λ (group : PooledState). is_some group.page) groups)) ≡ 0 = sym (ap (λ o. length (cond (is_some o) (first ∷ filter (λ (group : PooledState). is_some group.page) groups) (filter (λ (group : PooledState). is_some group.page) groups))) e) ∙ none in omega arith)
+    rest (Some page) e = absurd (let more : suc (length (filter (λ (group : PooledState). is_some group.page) groups))
+        ≡ 0 = sym (ap (λ o. length (cond (is_some o) (first ∷ filter (λ (group : PooledState). is_some group.page) groups)
+        (filter (λ (group : PooledState). is_some group.page) groups))) e) ∙ none in omega arith)
 
 pub HasNothingToAdopt-unpaged : (pool : PoolState) → length (paged_groups pool) ≡ 0 → HasNothingToAdopt pool
 HasNothingToAdopt-unpaged pool none = nothing-unpaged pool.groups none
 
-unpaged-nothing : (groups : List PooledState) → ((index : ℕ) (group : PooledState) → slice_get groups index ≡ Some group → group.page ≡ None) → length (filter (λ (group : PooledState). is_some group.page) groups) ≡ 0
+unpaged-nothing : (groups : List PooledState) → ((index : ℕ) (group : PooledState) → slice_get groups index ≡ Some group → group.page ≡ None)
+    → length (filter (λ (group : PooledState). is_some group.page) groups) ≡ 0
 unpaged-nothing [] none = refl
 unpaged-nothing (first ∷ groups) none =
     ap (λ o. length (cond (is_some o) (first ∷ filter (λ (group : PooledState). is_some group.page) groups) (filter (λ (group : PooledState). is_some group.page) groups))) (none 0 first refl)

@@ -110,7 +110,8 @@ module _ (map : PlainMap) where
           by_place other (inl later) some = first.first other (omega (arith, later)) some
           by_place other (inr (same, above)) some = absurd (has-none map other some (none other same (omega (arith, above))))
 
-      pub next-later : (o : Option Key) → MatchOption o (HasNoneBetween map (rank after.span + 1) ALL_IDS) (IsFirstLive map (rank after.span + 1)) → MatchOption o (HasNoneBeyond map (Some after)) (IsNextLive map (Some after))
+      pub next-later : (o : Option Key) → MatchOption o (HasNoneBetween map (rank after.span + 1) ALL_IDS) (IsFirstLive map (rank after.span + 1))
+          → MatchOption o (HasNoneBeyond map (Some after)) (IsNextLive map (Some after))
       next-later None rest = λ key beyond. by_place key beyond
         where
           by_place : (key : Key) → IsAfter after key → map.value_of key ≡ None
@@ -119,7 +120,8 @@ module _ (map : PlainMap) where
       next-later (Some key) first = IsNextLive-later key first
 
 -- maps that show the same of a span have the same key there
-pub IsFirstFrom-same : (a b : PlainMap) (id : SpanId) (slot : ℕ) (key : Key) → ((other : Key) → other.span ≡ id → b.value_of other ≡ a.value_of other) → IsFirstFrom a id slot key → IsFirstFrom b id slot key
+pub IsFirstFrom-same : (a b : PlainMap) (id : SpanId) (slot : ℕ) (key : Key) → ((other : Key) → other.span ≡ id → b.value_of other ≡ a.value_of other)
+    → IsFirstFrom a id slot key → IsFirstFrom b id slot key
 IsFirstFrom-same a b id slot key same its = record {
   live = ap is_some (same key its.span_is) ∙ its.live;
   span_is = its.span_is;
@@ -175,7 +177,8 @@ module _ (core : CoreState) (sound : HasSoundGroups core) where
       by_shard (Some shard) e = let at = found_at (has_span key.span) core.shards shard e in owned at.0.0 shard at.0.1 key of above
 
   pub first-pool : (id : SpanId) (slot : ℕ) (o : Option Key) → ((number : ℕ) → HasNoneIn core.shards number id slot)
-      → MatchOption o (HasNoneFrom (shown_by_pool core.pool) id slot) (IsFirstFrom (shown_by_pool core.pool) id slot) → MatchOption o (HasNoneFrom (shown core) id slot) (IsFirstFrom (shown core) id slot)
+      → MatchOption o (HasNoneFrom (shown_by_pool core.pool) id slot) (IsFirstFrom (shown_by_pool core.pool) id slot)
+      → MatchOption o (HasNoneFrom (shown core) id slot) (IsFirstFrom (shown core) id slot)
   first-pool id slot None owned pooled = HasNoneFrom-pool id slot owned pooled
   first-pool id slot (Some key) owned its = IsFirstFrom-pool id slot key its
 

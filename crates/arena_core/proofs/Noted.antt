@@ -65,7 +65,8 @@ module _ (groups : List GroupState) (ascend : Ascend groups) (head : SpanId) whe
     room = omega arith;
   }
 
-  NotesBelow-taken : (old now new : Entries) (first past number : ℕ) (id : SpanId) → IsMemberAt groups head past id → new ≡ with_taken now id number → NotesBelow old now groups head first past number → NotesBelow old new groups head first (past + 1) number
+  NotesBelow-taken : (old now new : Entries) (first past number : ℕ) (id : SpanId) → IsMemberAt groups head past id → new ≡ with_taken now id number
+      → NotesBelow old now groups head first past number → NotesBelow old new groups head first (past + 1) number
   NotesBelow-taken old now new first past number id member is before = record {
     noted = λ place other from below its. by_order place other from below its (cases_lt place past);
     others = λ other. elim (named-with_taken now id other number) [
@@ -87,7 +88,8 @@ module _ (groups : List GroupState) (ascend : Ascend groups) (head : SpanId) whe
           let one : other ≡ id = same_member past other id (subst (λ k. IsMemberAt groups head k other) at its) member in
           ap (λ xs. named xs other) is ∙ subst (λ (i : SpanId). named (with_taken now id number) i ≡ taken_by number i) (sym one) (named-with_taken_here now id number)
 
-  NotesBelow-past : (old now : Entries) (first past number : ℕ) → HasNoMember groups head past → NotesBelow old now groups head first past number → NotesBelow old now groups head first (past + 1) number
+  NotesBelow-past : (old now : Entries) (first past number : ℕ) → HasNoMember groups head past → NotesBelow old now groups head first past number
+      → NotesBelow old now groups head first (past + 1) number
   NotesBelow-past old now first past number none before = record {
     noted = λ place other from below its. by_order place other from below its (cases_lt place past);
     others = before.others;
@@ -99,24 +101,28 @@ module _ (groups : List GroupState) (ascend : Ascend groups) (head : SpanId) whe
           let at : place ≡ past = omega arith in
           absurd (no_member past other none (subst (λ k. IsMemberAt groups head k other) at its))
 
-  pub IsNoting-taken : (old now new : WhereaboutsState) (first past number : ℕ) (id : SpanId) → IsMemberAt groups head past id → new.entries ≡ with_taken now.entries id number → now.room ≤ new.room + 1
+  pub IsNoting-taken : (old now new : WhereaboutsState) (first past number : ℕ) (id : SpanId) → IsMemberAt groups head past id
+      → new.entries ≡ with_taken now.entries id number → now.room ≤ new.room + 1
       → IsNoting old now groups head first past number → IsNoting old new groups head first (past + 1) number
   IsNoting-taken old now new first past number id member is room before = record {
     notes = NotesBelow-taken old.entries now.entries new.entries first past number id member is before.notes;
     room = omega (arith, room, before.room);
   }
 
-  pub IsNoting-past : (old now : WhereaboutsState) (first past number : ℕ) → HasNoMember groups head past → IsNoting old now groups head first past number → IsNoting old now groups head first (past + 1) number
+  pub IsNoting-past : (old now : WhereaboutsState) (first past number : ℕ) → HasNoMember groups head past → IsNoting old now groups head first past number
+      → IsNoting old now groups head first (past + 1) number
   IsNoting-past old now first past number none before = record {
     notes = NotesBelow-past old.entries now.entries first past number none before.notes;
     room = omega (arith, before.room);
   }
 
   -- while a span is left to note, there is room for it
-  pub IsNoting-room : (old now : WhereaboutsState) (first past number : ℕ) (brief : Brief) → IsBriefHere groups head brief → HasAtMost groups head first old.room → past < brief.spans → IsNoting old now groups head first past number → 1 ≤ now.room
+  pub IsNoting-room : (old now : WhereaboutsState) (first past number : ℕ) (brief : Brief) → IsBriefHere groups head brief
+      → HasAtMost groups head first old.room → past < brief.spans → IsNoting old now groups head first past number → 1 ≤ now.room
   IsNoting-room old now first past number brief (index, group, here, told) most below noting = omega (arith, below, most index group here, told.spans_is, noting.room)
 
-  pub Notes-all : (old new : Entries) (first past number : ℕ) (brief : Brief) → IsBriefHere groups head brief → brief.spans ≤ past → NotesBelow old new groups head first past number → Notes old new groups head first number
+  pub Notes-all : (old new : Entries) (first past number : ℕ) (brief : Brief) → IsBriefHere groups head brief → brief.spans ≤ past
+      → NotesBelow old new groups head first past number → Notes old new groups head first number
   Notes-all old new first past number brief (index, group, here, told) all below = record {
     noted = λ place id from member. below.noted place id from (last place id member) member;
     others = below.others;
@@ -141,7 +147,8 @@ Notes-nowhere entries groups head first number none = record {
 
 module _ (shards : List ShardState) (entries : Entries) (knows : KnowsMoved shards entries) where
   -- it gets no span that it did not open
-  pub KnowsMoved-set : (number : ℕ) (before after : ShardState) → slice_get shards number ≡ Some before → ((id : SpanId) → number ≢ id.shard → has_span id after ≡ true → has_span id before ≡ true) → KnowsMoved (set shards number after) entries
+  pub KnowsMoved-set : (number : ℕ) (before after : ShardState) → slice_get shards number ≡ Some before
+      → ((id : SpanId) → number ≢ id.shard → has_span id after ≡ true → has_span id before ≡ true) → KnowsMoved (set shards number after) entries
   KnowsMoved-set number before after here kept id k foreign (shard, at, has) = elim (cases-set shards number after k shard at) [
     | inl same ↦
         let was = kept id (λ e. foreign (same.0 ∙ e)) (ap (has_span id) same.1 ∙ has) in
@@ -209,7 +216,8 @@ came_or_was id before after spans came has = by_count (times_in id before) refl
 abbrev pub adopted : WholeState → GroupState
 adopted whole = record { head = whole.head; guests = whole.guests; page = whole.words; closed = false }
 
-pub adopted-here : (before after : ShardState) (pool_before pool_after : PoolState) (head : SpanId) (adopts : Adopts pool_before before head pool_after after) → IsHeadOf after.groups head adopts.takes_in.index (adopted adopts.whole)
+pub adopted-here : (before after : ShardState) (pool_before pool_after : PoolState) (head : SpanId) (adopts : Adopts pool_before before head pool_after after)
+    → IsHeadOf after.groups head adopts.takes_in.index (adopted adopts.whole)
 adopted-here before after pool_before pool_after head adopts = record {
   here = ap (λ (s : ShardState). slice_get s.groups adopts.takes_in.index) adopts.takes_in.after ∙ get-insert before.groups adopts.takes_in.index (adopted adopts.whole) adopts.takes_in.place.within;
   head_is = let (index, group, head_of, whole_is, after_is) = adopts.lifts in ap (λ (m : WholeState). m.head.id) whole_is ∙ head_of.head_is;
@@ -233,19 +241,35 @@ in_second (x ∷ xs) ys at y here = let (there, past, is) = in_second xs ys at y
 pub grafted-here : (pool : PoolState) (before : ShardState) (a b : SpanId) (pool_after : PoolState) (after : ShardState) (folds : Folds pool before a b pool_after after)
     → IsHeadOf after.groups b folds.grafts.index (with_guests folds.grafts.group (spans_moved folds.whole) folds.grafts.words)
 grafted-here pool before a b pool_after after folds = record {
-  here = ap (λ (s : ShardState). slice_get s.groups folds.grafts.index) folds.grafts.after ∙ get-set before.groups folds.grafts.index folds.grafts.group (with_guests folds.grafts.group (spans_moved folds.whole) folds.grafts.words) folds.grafts.here.here;
+  here = ap (λ (s : ShardState). slice_get s.groups folds.grafts.index) folds.grafts.after
+      ∙ get-set before.groups folds.grafts.index folds.grafts.group
+      (with_guests folds.grafts.group (spans_moved folds.whole) folds.grafts.words) folds.grafts.here.here;
   head_is = folds.grafts.here.head_is;
 }
 
 pub Comes-Folds : (pool : PoolState) (before : ShardState) (a b : SpanId) (pool_after : PoolState) (after : ShardState) (first : ℕ) → Folds pool before a b pool_after after
     → ((index : ℕ) (group : GroupState) → IsHeadOf before.groups b index group → first ≡ length (spans_of group)) → Comes before after b first
-Comes-Folds pool before a b pool_after after first folds count id has = elim (came_or_was id before after (spans_moved folds.whole) (sum_by-Folds_shard pool before a b pool_after after folds (count_named id)) has) [
-  | inl was ↦ inl was
-  | inr new ↦
-      let (place, (span, at, is)) = new in
-      let (there, past, stands) = in_second folds.grafts.group.guests (spans_moved folds.whole) place span at in
-      inr (suc there, omega (arith, count folds.grafts.index folds.grafts.group (record { here = folds.grafts.here.here; head_is = folds.grafts.here.head_is })), (folds.grafts.index, with_guests folds.grafts.group (spans_moved folds.whole) folds.grafts.words, grafted-here pool before a b pool_after after folds, (span, stands, is)))
-]
+Comes-Folds pool before a b pool_after after first folds count id has = elim
+    (came_or_was id before after (spans_moved folds.whole) (sum_by-Folds_shard pool before a b pool_after after folds (count_named id)) has) [
+      | inl was ↦ inl was
+      | inr new ↦
+          let (place, (span, at, is)) = new in
+          let (there, past, stands) = in_second folds.grafts.group.guests (spans_moved folds.whole) place span at in
+          inr (
+            suc there,
+            omega (
+              arith,
+              count folds.grafts.index folds.grafts.group
+                  (record { here = folds.grafts.here.here; head_is = folds.grafts.here.head_is }),
+            ),
+            (
+              folds.grafts.index,
+              with_guests folds.grafts.group (spans_moved folds.whole) folds.grafts.words,
+              grafted-here pool before a b pool_after after folds,
+              (span, stands, is),
+            ),
+          )
+    ]
 
 pub Comes-Steps : (pool : PoolState) (before : ShardState) (a b : SpanId) (pool_after : PoolState) (after : ShardState) (first : ℕ) (step : Outcome) → Steps pool before a b step pool_after after
     → ((index : ℕ) (group : GroupState) → IsHeadOf before.groups b index group → first ≡ length (spans_of group)) → Comes before after b first
@@ -280,7 +304,8 @@ module _ (core : CoreState) (sound : HasSoundGroups core) where
       (shard, at, has_span-here shard id index place group span (sound.shards number shard at).sound (record { group_is = here.here; span_is = there; id_is = is }))
 
 pub KnowsMoved-noted : (old core : CoreState) → HasSoundGroups core → (number : ℕ) (before after : ShardState) → slice_get old.shards number ≡ Some before → core.shards ≡ set old.shards number after
-    → (entries noted : Entries) (head : SpanId) (first : ℕ) → KnowsMoved old.shards entries → Comes before after head first → Notes entries noted after.groups head first number → KnowsMoved core.shards noted
+    → (entries noted : Entries) (head : SpanId) (first : ℕ) → KnowsMoved old.shards entries → Comes before after head first
+    → Notes entries noted after.groups head first number → KnowsMoved core.shards noted
 KnowsMoved-noted old core sound number before after here shards_are entries noted head first knows comes notes id k foreign stands = by_number (cases_eq k number)
   where
     there : slice_get core.shards number ≡ Some after

@@ -41,7 +41,9 @@ IsSame-free span key = record {
   id_is = refl;
   class_is = refl;
   gens_is = refl;
-  slots = λ slot live. (and_parts _ _ (sym (contains-remove nat_cmp_total (live_slots span.log) key.slot slot) ∙ ap (λ s. contains s slot) (sym (live_slots-free span.log key.slot key.generation)) ∙ live)).1;
+  slots = λ slot live. (and_parts _ _
+      (sym (contains-remove nat_cmp_total (live_slots span.log) key.slot slot)
+      ∙ ap (λ s. contains s slot) (sym (live_slots-free span.log key.slot key.generation)) ∙ live)).1;
 }
 
 IsSame-set : (span : SpanState) (key : Key) (value : Value) → Holds span.log key.slot key.generation → IsSame span (with_set span key value)

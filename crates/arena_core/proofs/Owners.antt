@@ -44,7 +44,13 @@ module _ (id : SpanId) (read : PlainMap → ℕ)
   none-owned : (shards : List ShardState) → times_owned id shards ≡ 0 → sum_by (λ shard. read (shown_by shard)) shards ≡ 0
   none-owned [] none = refl
   none-owned (shard ∷ shards) none =
-      omega (arith, times_owned-cons id shard shards, sum_by-cons (λ s. read (shown_by s)) shard shards, missed shard (omega (arith, times_owned-cons id shard shards)), none-owned shards (omega (arith, times_owned-cons id shard shards)))
+      omega (
+        arith,
+        times_owned-cons id shard shards,
+        sum_by-cons (λ s. read (shown_by s)) shard shards,
+        missed shard (omega (arith, times_owned-cons id shard shards)),
+        none-owned shards (omega (arith, times_owned-cons id shard shards)),
+      )
 
   pub read-shown_at : (pool : PoolState) (shards : List ShardState) → times_owned id shards + times_pooled id pool ≤ 1
       → read (shown_at pool (shard_with shards id)) ≡ sum_by (λ shard. read (shown_by shard)) shards + read (shown_by_pool pool)
@@ -96,23 +102,27 @@ pub issued-sum : (core : CoreState) (key : Key) → times key.span core ≤ 1
     → bit ((shown core).is_issued key) ≡ sum_by (λ shard. bit ((shown_by shard).is_issued key)) core.shards + bit ((shown_by_pool core.pool).is_issued key) + bit (issued_forgotten core key)
 issued-sum core key once = by_test (issued_forgotten core key) refl
   where
-    shown_there : bit ((shown_at core.pool (shard_with core.shards key.span)).is_issued key) ≡ sum_by (λ shard. bit ((shown_by shard).is_issued key)) core.shards + bit ((shown_by_pool core.pool).is_issued key)
+    shown_there : bit ((shown_at core.pool (shard_with core.shards key.span)).is_issued key)
+        ≡ sum_by (λ shard. bit ((shown_by shard).is_issued key)) core.shards + bit ((shown_by_pool core.pool).is_issued key)
     shown_there =
         read-shown_at key.span (λ plain. bit (plain.is_issued key)) (λ shard none. ap bit (issued-missed shard key none)) (λ pool none. ap bit (issued-unpooled pool key none)) core.pool core.shards
         (omega (arith, times-parts key.span core))
 
     -- one that a forgotten span has given out is none of the others
-    by_count : (n : ℕ) → times_forgotten key.span core ≡ n → issued_forgotten core key ≡ true → sum_by (λ shard. bit ((shown_by shard).is_issued key)) core.shards + bit ((shown_by_pool core.pool).is_issued key) ≡ 0
+    by_count : (n : ℕ) → times_forgotten key.span core ≡ n → issued_forgotten core key ≡ true
+        → sum_by (λ shard. bit ((shown_by shard).is_issued key)) core.shards + bit ((shown_by_pool core.pool).is_issued key) ≡ 0
     by_count zero none issued = absurd (false≢true (sym (issued-unforgotten core key none) ∙ issued))
     by_count (suc n) some issued =
         omega (
           arith,
           times-parts key.span core,
-          none-owned key.span (λ plain. bit (plain.is_issued key)) (λ shard none. ap bit (issued-missed shard key none)) (λ pool none. ap bit (issued-unpooled pool key none)) core.shards (omega (arith, times-parts key.span core)),
+          none-owned key.span (λ plain. bit (plain.is_issued key)) (λ shard none. ap bit (issued-missed shard key none))
+              (λ pool none. ap bit (issued-unpooled pool key none)) core.shards (omega (arith, times-parts key.span core)),
           ap bit (issued-unpooled core.pool key (omega (arith, times-parts key.span core))),
         )
 
     by_test : (b : Bool) → issued_forgotten core key ≡ b
-        → bit (b || (shown_at core.pool (shard_with core.shards key.span)).is_issued key) ≡ sum_by (λ shard. bit ((shown_by shard).is_issued key)) core.shards + bit ((shown_by_pool core.pool).is_issued key) + bit b
+        → bit (b || (shown_at core.pool (shard_with core.shards key.span)).is_issued key) ≡ sum_by (λ shard. bit ((shown_by shard).is_issued key)) core.shards
+        + bit ((shown_by_pool core.pool).is_issued key) + bit b
     by_test true issued = omega (arith, by_count (times_forgotten key.span core) refl issued)
     by_test false none = omega (arith, shown_there)

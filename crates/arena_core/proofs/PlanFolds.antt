@@ -111,12 +111,24 @@ module _ (old : CoreState) (plan : OpenPlan) (pair : SpanId × SpanId) (number :
     other_owned k p at differ same = differ (under.owned_once k plan.done p pair at next same)
 
     stands_still : (k : ℕ) (p : SpanId × SpanId) → slice_get plan.pairs k ≡ Some p → (k ≡ plan.done) ⊎ (k ≢ plan.done) → (group : GroupState) × IsOwned new p.1 group
-    stands_still k p at (inl same) = let one : pair ≡ p = same_some (sym next ∙ ap (slice_get plan.pairs) (sym same) ∙ at) in (joined, subst (λ (q : SpanId × SpanId). IsOwned new q.1 joined) one IsOwned-joined)
+    stands_still k p at (inl same) = let one : pair ≡ p = same_some (sym next ∙ ap (slice_get plan.pairs) (sym same) ∙ at) in
+        (joined, subst (λ (q : SpanId × SpanId). IsOwned new q.1 joined) one IsOwned-joined)
     stands_still k p at (inr differ) = let (group, is) = under.stands k p at in (group, IsOwned-other p.1 group (other_owned k p at differ) is)
 
     carried_still : (k : ℕ) (p : SpanId × SpanId) → slice_get plan.pairs k ≡ Some p → (k ≡ plan.done → ⊥) → IsCarriedOut old p → IsCarriedOut new p
-    carried_still k p at differ (inl guest) = inl (record { owned = guest.owned; place = guest.place; is_owned = IsOwned-other p.1 guest.owned (other_owned k p at differ) guest.is_owned; guest = guest.guest })
-    carried_still k p at differ (inr emptied) = inr (record { abandoned = emptied.abandoned; is_abandoned = IsAbandoned-other p.0 emptied.abandoned (other_abandoned k p at differ) emptied.is_abandoned; no_page = emptied.no_page })
+    carried_still k p at differ (inl guest) = inl
+        (record {
+          owned = guest.owned;
+          place = guest.place;
+          is_owned = IsOwned-other p.1 guest.owned (other_owned k p at differ) guest.is_owned;
+          guest = guest.guest;
+        })
+    carried_still k p at differ (inr emptied) = inr
+        (record {
+          abandoned = emptied.abandoned;
+          is_abandoned = IsAbandoned-other p.0 emptied.abandoned (other_abandoned k p at differ) emptied.is_abandoned;
+          no_page = emptied.no_page;
+        })
 
     carried_now : (k : ℕ) (p : SpanId × SpanId) → k < plan.done + 1 → slice_get plan.pairs k ≡ Some p → (k ≡ plan.done) ⊎ (k ≢ plan.done) → IsCarriedOut new p
     carried_now k p below at (inl same) = let one : pair ≡ p = same_some (sym next ∙ ap (slice_get plan.pairs) (sym same) ∙ at) in subst (IsCarriedOut new) one (inl IsGuest-folded)
@@ -183,5 +195,13 @@ module _ (old : CoreState) (plan : OpenPlan) (under : IsUnderWay old plan) (pair
     carried_out = λ k p below at. carried_next k p below at (cases_eq k plan.done);
     waiting = λ k p past at.
         let waits = under.waiting k p (omega arith) at in
-        record { abandoned = waits.abandoned; owned = waits.owned; is_abandoned = pooled_too p.0 waits.abandoned waits.is_abandoned; is_owned = owned_too p.1 waits.owned waits.is_owned; class_is = waits.class_is; apart = waits.apart; paged = waits.paged };
+        record {
+          abandoned = waits.abandoned;
+          owned = waits.owned;
+          is_abandoned = pooled_too p.0 waits.abandoned waits.is_abandoned;
+          is_owned = owned_too p.1 waits.owned waits.is_owned;
+          class_is = waits.class_is;
+          apart = waits.apart;
+          paged = waits.paged;
+        };
   }

@@ -38,12 +38,14 @@ pub AreDisjoint-within : (a a_now b b_now : SlotSet) → IsWithin a_now a → Is
 AreDisjoint-within a a_now b b_now less_a less_b apart = AreDisjoint-by_slot a_now b_now (λ q in_a in_b. AreDisjoint-at a b apart q (less_a q in_a) (less_b q in_b))
 
 -- a span that loses slots makes the union lose slots
-union_of-fewer : (spans : List SpanState) (place : ℕ) (span now : SpanState) → slice_get spans place ≡ Some span → IsWithin (live_slots now.log) (live_slots span.log) → IsWithin (union_of (set spans place now)) (union_of spans)
+union_of-fewer : (spans : List SpanState) (place : ℕ) (span now : SpanState) → slice_get spans place ≡ Some span
+    → IsWithin (live_slots now.log) (live_slots span.log) → IsWithin (union_of (set spans place now)) (union_of spans)
 union_of-fewer [] place span now here fewer slot live = absurd cc
 union_of-fewer (first ∷ spans) zero span now here fewer slot live =
     let same : first ≡ span = same_some here in
     contains-union nat_cmp_total (live_slots first.log) (union_of spans) slot
-    ∙ first_or (contains (live_slots now.log) slot) (contains (live_slots first.log) slot) (contains (union_of spans) slot) (λ e. ap (λ (s : SpanState). contains (live_slots s.log) slot) same ∙ fewer slot e)
+    ∙ first_or (contains (live_slots now.log) slot) (contains (live_slots first.log) slot) (contains (union_of spans) slot)
+    (λ e. ap (λ (s : SpanState). contains (live_slots s.log) slot) same ∙ fewer slot e)
     (sym (contains-union nat_cmp_total (live_slots now.log) (union_of spans) slot) ∙ live)
   where
     first_or : (a b c : Bool) → (a ≡ true → b ≡ true) → (a || c) ≡ true → (b || c) ≡ true
@@ -65,7 +67,8 @@ union_of-fewer (first ∷ spans) (suc place) span now here fewer slot live =
 -- every group of the pool stays, of its class, none grows, and none without a page gets one
 abbrev pub KeepsPooled : List PooledState → List PooledState → Type 0
 KeepsPooled old new = (index : ℕ) (group : PooledState) → slice_get old index ≡ Some group
-    → (place : ℕ) × (now : PooledState) × (slice_get new place ≡ Some now) × (now.head.id ≡ group.head.id) × (now.head.class ≡ group.head.class) × IsWithin (union_of (spans_of now)) (union_of (spans_of group)) × (group.page ≡ None → now.page ≡ None)
+    → (place : ℕ) × (now : PooledState) × (slice_get new place ≡ Some now) × (now.head.id ≡ group.head.id) × (now.head.class ≡ group.head.class)
+    × IsWithin (union_of (spans_of now)) (union_of (spans_of group)) × (group.page ≡ None → now.page ≡ None)
 
 -- the group is as it was, save that it may have lost slots
 pub record IsFewer (group now : GroupState) : Type 0 where
@@ -81,7 +84,8 @@ IsFewer-same group = record { head_is = refl; class_is = refl; slots = λ slot e
 
 -- every closed group stays, and none grows
 abbrev pub KeepsClosed : List GroupState → List GroupState → Type 0
-KeepsClosed old new = (index : ℕ) (group : GroupState) → slice_get old index ≡ Some group → group.closed ≡ true → (place : ℕ) × (now : GroupState) × (slice_get new place ≡ Some now) × IsFewer group now
+KeepsClosed old new = (index : ℕ) (group : GroupState) → slice_get old index ≡ Some group → group.closed ≡ true
+    → (place : ℕ) × (now : GroupState) × (slice_get new place ≡ Some now) × IsFewer group now
 
 -- every closed group of every shard stays, and none grows
 abbrev pub KeepsAllClosed : List ShardState → List ShardState → Type 0
@@ -93,7 +97,8 @@ KeepsClosed-same groups index group here closed = (index, group, here, IsFewer-s
 pub KeepsAllClosed-same : (shards : List ShardState) → KeepsAllClosed shards shards
 KeepsAllClosed-same shards number shard here = (shard, here, KeepsClosed-same shard.groups)
 
-pub KeepsAllClosed-set : (shards : List ShardState) (number : ℕ) (before after : ShardState) → slice_get shards number ≡ Some before → KeepsClosed before.groups after.groups → KeepsAllClosed shards (set shards number after)
+pub KeepsAllClosed-set : (shards : List ShardState) (number : ℕ) (before after : ShardState) → slice_get shards number ≡ Some before
+    → KeepsClosed before.groups after.groups → KeepsAllClosed shards (set shards number after)
 KeepsAllClosed-set shards number before after here keeps other shard there = by_place (cases_eq other number)
   where
     by_place : (other ≡ number) ⊎ (other ≢ number) → (now : ShardState) × (slice_get (set shards number after) other ≡ Some now) × KeepsClosed shard.groups now.groups
@@ -115,7 +120,9 @@ plans_onto-pair (first ∷ pairs) (suc k) pair here = ap (λ b. same_span first.
 
 -- the plan goes on
 module _ (old new : CoreState) (pooled : KeepsPooled old.pool.groups new.pool.groups) (owned : KeepsAllClosed old.shards new.shards) where
-  IsAbandoned-kept : (head : SpanId) (group : PooledState) → IsAbandoned old head group → (now : PooledState) × IsAbandoned new head now × (now.head.class ≡ group.head.class) × IsWithin (union_of (spans_of now)) (union_of (spans_of group)) × (group.page ≡ None → now.page ≡ None)
+  IsAbandoned-kept : (head : SpanId) (group : PooledState) → IsAbandoned old head group
+      → (now : PooledState) × IsAbandoned new head now × (now.head.class ≡ group.head.class) × IsWithin (union_of (spans_of now)) (union_of (spans_of group))
+      × (group.page ≡ None → now.page ≡ None)
   IsAbandoned-kept head group is =
       let (place, now, there, head_is, class_is, fewer, no_page) = pooled is.index group is.head_of.here in
       (now, record { index = place; head_of = record { here = there; head_is = head_is ∙ is.head_of.head_is } }, class_is, fewer, no_page)
@@ -186,7 +193,8 @@ guests-with_span group (suc place) span now here same id other (guest, there, is
     let (after, at_now, id_is) = after-set (λ (a b : SpanState). b.id ≡ a.id) (λ s. refl) group.guests place span now here same other guest there in
     (after, at_now, id_is ∙ is)
 
-class-with_span : (group : GroupState) (place : ℕ) (span now : SpanState) → slice_get (spans_of group) place ≡ Some span → now.class ≡ span.class → (with_span group place now).head.class ≡ group.head.class
+class-with_span : (group : GroupState) (place : ℕ) (span now : SpanState) → slice_get (spans_of group) place ≡ Some span → now.class ≡ span.class
+    → (with_span group place now).head.class ≡ group.head.class
 class-with_span group zero span now here same = let is : group.head ≡ span = same_some here in same ∙ ap (λ (s : SpanState). s.class) (sym is)
 class-with_span group (suc place) span now here same = refl
 
@@ -214,20 +222,24 @@ IsFewer-paged group now page still fewer = record { head_is = fewer.head_is; cla
 
 pub KeepsClosed-ChangesSpan : (before after : ShardState) → ChangesSpan before after → KeepsClosed before.groups after.groups
 KeepsClosed-ChangesSpan before after changes other there at_other closed =
-    let fewer = IsFewer-paged changes.group (with_span changes.group changes.place changes.now) changes.page changes.still_paged (IsFewer-with_span changes.group changes.place changes.span changes.now changes.span_is changes.same) in
-    let (now, there_now, is) = after-set IsFewer IsFewer-same before.groups changes.index changes.group (record (with_span changes.group changes.place changes.now) { page = changes.page }) changes.group_is fewer other there at_other in
+    let fewer = IsFewer-paged changes.group (with_span changes.group changes.place changes.now) changes.page changes.still_paged
+    (IsFewer-with_span changes.group changes.place changes.span changes.now changes.span_is changes.same) in
+    let (now, there_now, is) = after-set IsFewer IsFewer-same before.groups changes.index changes.group
+    (record (with_span changes.group changes.place changes.now) { page = changes.page }) changes.group_is fewer other there at_other in
     (other, now, ap (λ (s : ShardState). slice_get s.groups other) changes.after_is ∙ there_now, is)
 
 -- the pool
 
-pooled_head : (now group : PooledState) (place : ℕ) (span after : SpanState) → slice_get (spans_of group) place ≡ Some span → after.id ≡ span.id → spans_of now ≡ set (spans_of group) place after → now.head.id ≡ group.head.id
+pooled_head : (now group : PooledState) (place : ℕ) (span after : SpanState) → slice_get (spans_of group) place ≡ Some span → after.id ≡ span.id
+    → spans_of now ≡ set (spans_of group) place after → now.head.id ≡ group.head.id
 pooled_head now group zero span after here same is =
     let first : group.head ≡ span = same_some here in
     let head : now.head ≡ after = same_some (ap (λ spans. slice_get spans 0) is) in
     ap (λ (s : SpanState). s.id) head ∙ same ∙ ap (λ (s : SpanState). s.id) (sym first)
 pooled_head now group (suc place) span after here same is = let head : now.head ≡ group.head = same_some (ap (λ spans. slice_get spans 0) is) in ap (λ (s : SpanState). s.id) head
 
-pooled_class : (now group : PooledState) (place : ℕ) (span after : SpanState) → slice_get (spans_of group) place ≡ Some span → after.class ≡ span.class → spans_of now ≡ set (spans_of group) place after → now.head.class ≡ group.head.class
+pooled_class : (now group : PooledState) (place : ℕ) (span after : SpanState) → slice_get (spans_of group) place ≡ Some span → after.class ≡ span.class
+    → spans_of now ≡ set (spans_of group) place after → now.head.class ≡ group.head.class
 pooled_class now group zero span after here same is =
     let first : group.head ≡ span = same_some here in
     let head : now.head ≡ after = same_some (ap (λ spans. slice_get spans 0) is) in
@@ -237,7 +249,9 @@ pooled_class now group (suc place) span after here same is = let head : now.head
 pub KeepsPooled-ChangesPooled : (before after : PoolState) → ChangesPooled before after → KeepsPooled before.groups after.groups
 KeepsPooled-ChangesPooled before after changes other there at_other = by_place (cases_eq other changes.index)
   where
-    by_place : (other ≡ changes.index) ⊎ (other ≢ changes.index) → (place : ℕ) × (now : PooledState) × (slice_get after.groups place ≡ Some now) × (now.head.id ≡ there.head.id) × (now.head.class ≡ there.head.class) × IsWithin (union_of (spans_of now)) (union_of (spans_of there)) × (there.page ≡ None → now.page ≡ None)
+    by_place : (other ≡ changes.index) ⊎ (other ≢ changes.index)
+        → (place : ℕ) × (now : PooledState) × (slice_get after.groups place ≡ Some now) × (now.head.id ≡ there.head.id) × (now.head.class ≡ there.head.class)
+        × IsWithin (union_of (spans_of now)) (union_of (spans_of there)) × (there.page ≡ None → now.page ≡ None)
     by_place (inl same) =
         let is : changes.group ≡ there = same_some (sym changes.group_is ∙ ap (slice_get before.groups) (sym same) ∙ at_other) in (
           changes.index,
@@ -246,10 +260,19 @@ KeepsPooled-ChangesPooled before after changes other there at_other = by_place (
           pooled_head changes.group_now changes.group changes.place changes.span changes.now changes.span_is changes.same.id_is changes.spans_are ∙ ap (λ (g : PooledState). g.head.id) is,
           pooled_class changes.group_now changes.group changes.place changes.span changes.now changes.span_is changes.same.class_is changes.spans_are ∙ ap (λ (g : PooledState). g.head.class) is,
           (λ slot live. ap (λ (g : PooledState). contains (union_of (spans_of g)) slot) (sym is)
-              ∙ union_of-fewer (spans_of changes.group) changes.place changes.span changes.now changes.span_is changes.same.slots slot (ap (λ spans. contains (union_of spans) slot) (sym changes.spans_are) ∙ live)),
+              ∙ union_of-fewer (spans_of changes.group) changes.place changes.span changes.now changes.span_is changes.same.slots slot
+              (ap (λ spans. contains (union_of spans) slot) (sym changes.spans_are) ∙ live)),
           (λ none. changes.no_page (ap (λ (g : PooledState). g.page) is ∙ none)),
         )
-    by_place (inr differ) = (other, there, ap (λ gs. slice_get gs other) changes.groups_are ∙ slice_get-set_other before.groups changes.index other changes.group_now differ ∙ at_other, refl, refl, (λ slot e. e), λ none. none)
+    by_place (inr differ) = (
+      other,
+      there,
+      ap (λ gs. slice_get gs other) changes.groups_are ∙ slice_get-set_other before.groups changes.index other changes.group_now differ ∙ at_other,
+      refl,
+      refl,
+      (λ slot e. e),
+      λ none. none,
+    )
 
 -- the groups of before are there still
 abbrev pub HasStill : List PooledState → List PooledState → Type 0

@@ -90,7 +90,9 @@ tells_owned (shard ∷ shards) =
 
 -- two groups that the test calls compatible are of one class and share no slot
 class_from_test : (x y : Entry) → are_compatible x y ≡ true → x.class ≡ y.class
-class_from_test x y e = class_from_width x.class y.class (eqb-true (width_of x.class) (width_of y.class) (and_parts (eqb (width_of x.class) (width_of y.class)) (eqb (len (intersection x.occupied y.occupied)) 0) e).0)
+class_from_test x y e = class_from_width x.class y.class
+    (eqb-true (width_of x.class) (width_of y.class)
+    (and_parts (eqb (width_of x.class) (width_of y.class)) (eqb (len (intersection x.occupied y.occupied)) 0) e).0)
 
 apart_from_test : (x y : Entry) → are_compatible x y ≡ true → AreDisjoint x.occupied y.occupied
 apart_from_test x y e =
@@ -115,7 +117,13 @@ IsWaiting-seen core groups seen pair compatible =
       abandoned = a;
       owned = b;
       is_abandoned = record { index = i; head_of = record { here = at_a; head_is = ap (λ (e : Entry). e.id) tells_a ∙ same_id_from_test x.id pair.0 parts.0 } };
-      is_owned = record { number = n; shard = shard; index = j; shard_is = at_shard; head_of = record { here = at_b; head_is = ap (λ (e : Entry). e.id) tells_b ∙ same_id_from_test y.id pair.1 both.0 } };
+      is_owned = record {
+        number = n;
+        shard = shard;
+        index = j;
+        shard_is = at_shard;
+        head_of = record { here = at_b; head_is = ap (λ (e : Entry). e.id) tells_b ∙ same_id_from_test y.id pair.1 both.0 };
+      };
       paged = paged_b;
       class_is = ap (λ (e : Entry). e.class) tells_a ∙ class_from_test x y both.1 ∙ sym (ap (λ (e : Entry). e.class) tells_b);
       apart = subst (λ (e : Entry). AreDisjoint e.occupied (occupied b)) (sym tells_a) (subst (λ (e : Entry). AreDisjoint x.occupied e.occupied) (sym tells_b) (apart_from_test x y both.1));
@@ -131,7 +139,8 @@ once-IsDistinct f xs distinct i j p q at_i at_j same = by_order (cases_lt i j) (
         let apart : same_span (get_or (map f xs) a (f x)) (get_or (map f xs) b (f x)) ≡ false =
         apart_from_distinct same_span (map f xs) a b (f x) distinct below (let inside = slice_get_within xs b y at_b in omega (arith, length-map xs f)) in
         let one : same_span (f x) (f y) ≡ true = test_from_same_id (f x) (f y) is in
-        let e : true ≡ false = sym one ∙ ap (λ id. same_span id (f y)) (sym (get_or_from_slice_get (map f xs) a (f x) (f x) (slice_get-map_at f xs a x at_a))) ∙ ap (same_span (get_or (map f xs) a (f x))) (sym (get_or_from_slice_get (map f xs) b (f y) (f x) (slice_get-map_at f xs b y at_b))) ∙ apart in
+        let e : true ≡ false = sym one ∙ ap (λ id. same_span id (f y)) (sym (get_or_from_slice_get (map f xs) a (f x) (f x) (slice_get-map_at f xs a x at_a)))
+        ∙ ap (same_span (get_or (map f xs) a (f x))) (sym (get_or_from_slice_get (map f xs) b (f y) (f x) (slice_get-map_at f xs b y at_b))) ∙ apart in
         cc
 
     by_order : (i < j) ⊎ (j ≤ i) → (j < i) ⊎ (i ≤ j) → i ≡ j
@@ -147,7 +156,8 @@ compatible-sides_of groups a b = refl
 
 pub IsUnderWay-marked : (old new : CoreState) (groups : Groups) (pairs : List (SpanId × SpanId)) → IsSeenInPart old.pool old.shards groups → IsPlanOf groups pairs
     → ((head : SpanId) (group : PooledState) → IsAbandoned old head group → IsAbandoned new head group)
-    → ((head : SpanId) (group : GroupState) → IsOwned old head group → (now : GroupState) × IsOwned new head now × (now.head.class ≡ group.head.class) × (occupied now ≡ occupied group) × (now.page ≡ group.page))
+    → ((head : SpanId) (group : GroupState) → IsOwned old head group
+    → (now : GroupState) × IsOwned new head now × (now.head.class ≡ group.head.class) × (occupied now ≡ occupied group) × (now.page ≡ group.page))
     → IsUnderWay new (record { pairs = pairs; done = 0 })
 IsUnderWay-marked old new groups pairs seen plan pooled_still owned_still = record {
   within = omega arith;
@@ -161,7 +171,9 @@ IsUnderWay-marked old new groups pairs seen plan pooled_still owned_still = reco
     waits_at : (k : ℕ) (pair : SpanId × SpanId) → slice_get pairs k ≡ Some pair → IsWaiting new pair
     waits_at k pair at =
         let inside = slice_get_within pairs k pair at in
-        let compatible : any_compatible groups pair.0 pair.1 ≡ true = subst (λ (p : SpanId × SpanId). any_compatible groups p.0 p.1 ≡ true) (get_or_from_slice_get pairs k pair pair at) (sym (compatible-sides_of groups (get_or pairs k pair).0 (get_or pairs k pair).1) ∙ plan.compatible k pair inside) in
+        let compatible : any_compatible groups pair.0 pair.1
+        ≡ true = subst (λ (p : SpanId × SpanId). any_compatible groups p.0 p.1 ≡ true) (get_or_from_slice_get pairs k pair pair at)
+        (sym (compatible-sides_of groups (get_or pairs k pair).0 (get_or pairs k pair).1) ∙ plan.compatible k pair inside) in
         let found = IsWaiting-seen old groups seen pair compatible in
         let (now, now_is, same_class, same, same_page) = owned_still pair.1 found.owned found.is_owned in
         record {

@@ -54,22 +54,26 @@ pub record IsSoundStep (old : CoreState) (event : Event) (answer : Reply) (new :
   pub exact : CoreStep old event answer new
   pub plain : ErasedStep old.limits (shown old) event answer (shown new)
 
-with_plan_kept : (old : CoreState) (event : Event) (answer : Reply) (new : CoreState) → IsStep old event answer new → HasSoundPlan new → AreRings new.limits new.rings → IsSoundStep old event answer new
+with_plan_kept : (old : CoreState) (event : Event) (answer : Reply) (new : CoreState) → IsStep old event answer new → HasSoundPlan new
+    → AreRings new.limits new.rings → IsSoundStep old event answer new
 with_plan_kept old event answer new step keeps rings = record { kept = record { groups = step.kept; plan = keeps; rings = rings }; exact = step.exact; plain = step.plain }
 
 abbrev pub AreAllClosedAsPlanned : Option OpenPlan → List ShardState → Type 0
 AreAllClosedAsPlanned plan shards = (number : ℕ) (shard : ShardState) → slice_get shards number ≡ Some shard → AreClosedAsPlanned plan shard.groups
 
-pub AreAllClosedAsPlanned-set : (plan : Option OpenPlan) (shards : List ShardState) (number : ℕ) (after : ShardState) → AreAllClosedAsPlanned plan shards → AreClosedAsPlanned plan after.groups → AreAllClosedAsPlanned plan (set shards number after)
+pub AreAllClosedAsPlanned-set : (plan : Option OpenPlan) (shards : List ShardState) (number : ℕ) (after : ShardState) → AreAllClosedAsPlanned plan shards
+    → AreClosedAsPlanned plan after.groups → AreAllClosedAsPlanned plan (set shards number after)
 AreAllClosedAsPlanned-set plan shards number after all here = each-set (λ k shard. AreClosedAsPlanned plan shard.groups) shards number after here all
 
 -- the group of a pair's owned head is closed
 closed_if_planned : (core : CoreState) (plan : OpenPlan) → AreAllClosedAsPlanned (Some plan) core.shards
     → (k : ℕ) (pair : SpanId × SpanId) → slice_get plan.pairs k ≡ Some pair → (group : GroupState) → IsOwned core pair.1 group → group.closed ≡ true
-closed_if_planned core plan all k pair at group is = all is.number is.shard is.shard_is is.index group is.head_of.here ∙ ap (plans_onto plan.pairs) is.head_of.head_is ∙ plans_onto-pair plan.pairs k pair at
+closed_if_planned core plan all k pair at group is = all is.number is.shard is.shard_is is.index group is.head_of.here
+    ∙ ap (plans_onto plan.pairs) is.head_of.head_is ∙ plans_onto-pair plan.pairs k pair at
 
 -- where the plan stays and the groups that it names stay, all that holds of it holds still
-pub HasSoundPlan-kept : (old new : CoreState) → HasSoundPlan old → new.plan ≡ old.plan → new.pool.has_plan ≡ old.pool.has_plan → KeepsPooled old.pool.groups new.pool.groups → KeepsAllClosed old.shards new.shards → AreAllClosedAsPlanned old.plan new.shards → HasSoundPlan new
+pub HasSoundPlan-kept : (old new : CoreState) → HasSoundPlan old → new.plan ≡ old.plan → new.pool.has_plan ≡ old.pool.has_plan
+    → KeepsPooled old.pool.groups new.pool.groups → KeepsAllClosed old.shards new.shards → AreAllClosedAsPlanned old.plan new.shards → HasSoundPlan new
 HasSoundPlan-kept old new keeps plan_is told pooled owned closed = record {
   told = told ∙ keeps.told ∙ ap is_some (sym plan_is);
   closed = subst (λ plan. AreAllClosedAsPlanned plan new.shards) (sym plan_is) closed;
@@ -101,7 +105,8 @@ plans_onto-none (pair ∷ pairs) id never = by_test (same_span pair.1 id) refl (
 -- an owned group's span was opened
 opened-IsOwned : (core : CoreState) → IsSound core → (head : SpanId) (group : GroupState) → IsOwned core head group → head.serial < opened_by core.shards head.shard
 opened-IsOwned core sound head group is =
-    let has = has_span-here is.shard head is.index 0 group group.head (sound.groups.shards is.number is.shard is.shard_is).sound (record { group_is = is.head_of.here; span_is = refl; id_is = is.head_of.head_is }) in
+    let has = has_span-here is.shard head is.index 0 group group.head (sound.groups.shards is.number is.shard is.shard_is).sound
+    (record { group_is = is.head_of.here; span_is = refl; id_is = is.head_of.head_is }) in
     opened-somewhere core sound.groups head (omega (arith, times_in-found head is.shard has, times_in-le head core.shards is.number is.shard is.shard_is, times-parts head core))
 
 unplanned-next : (core : CoreState) → IsSound core → (id : SpanId) → opened_by core.shards id.shard ≤ id.serial → is_planned core.plan id ≡ false
@@ -117,7 +122,8 @@ unplanned-next core sound id past = by_plan core.plan refl sound.plan.under_way
 
 -- puts
 
-AreClosedAsPlanned-Puts : (plan : Option OpenPlan) (before after : ShardState) (value : Value) (key : Key) (at : ℕ) → Puts before (class_of value) value key at after → (before.opened ≤ key.span.serial → key.span.shard ≡ before.number → is_planned plan key.span ≡ false)
+AreClosedAsPlanned-Puts : (plan : Option OpenPlan) (before after : ShardState) (value : Value) (key : Key) (at : ℕ)
+    → Puts before (class_of value) value key at after → (before.opened ≤ key.span.serial → key.span.shard ≡ before.number → is_planned plan key.span ≡ false)
     → AreClosedAsPlanned plan before.groups → AreClosedAsPlanned plan after.groups
 AreClosedAsPlanned-Puts plan before after value key at (running, inl (index, group, room, span_is, generation_is, at_is, after_is)) fresh all other now here =
     elim (cases-set before.groups index (put_group group (class_of value) key.slot value) other now (ap (λ gs. slice_get gs other) (sym (ap (λ (s : ShardState). s.groups) after_is)) ∙ here)) [
@@ -131,9 +137,11 @@ AreClosedAsPlanned-Puts plan before after value key at (running, inr (full, page
       | inr (inr high) ↦ all high.0 now high.3
     ]
 
-pub HasSoundPlan-Puts : (old : CoreState) → IsSound old → (number : ℕ) (value : Value) (key : Key) (at : ℕ) (before after : ShardState) → slice_get old.shards number ≡ Some before → Puts before (class_of value) value key at after → HasSoundPlan (with_shard old number after)
+pub HasSoundPlan-Puts : (old : CoreState) → IsSound old → (number : ℕ) (value : Value) (key : Key) (at : ℕ) (before after : ShardState)
+    → slice_get old.shards number ≡ Some before → Puts before (class_of value) value key at after → HasSoundPlan (with_shard old number after)
 HasSoundPlan-Puts old sound number value key at before after here puts =
-    HasSoundPlan-kept old (with_shard old number after) sound.plan refl refl (KeepsPooled-same old.pool.groups) (KeepsAllClosed-set old.shards number before after here (KeepsClosed-Puts before after value key at puts))
+    HasSoundPlan-kept old (with_shard old number after) sound.plan refl refl (KeepsPooled-same old.pool.groups)
+    (KeepsAllClosed-set old.shards number before after here (KeepsClosed-Puts before after value key at puts))
     (AreAllClosedAsPlanned-set old.plan old.shards number after sound.plan.closed (AreClosedAsPlanned-Puts old.plan before after value key at puts fresh (sound.plan.closed number before here)))
   where
     fresh : before.opened ≤ key.span.serial → key.span.shard ≡ before.number → is_planned old.plan key.span ≡ false
@@ -145,15 +153,18 @@ HasSoundPlan-Puts old sound number value key at before after here puts =
 
 AreClosedAsPlanned-ChangesSpan : (plan : Option OpenPlan) (before after : ShardState) → ChangesSpan before after → AreClosedAsPlanned plan before.groups → AreClosedAsPlanned plan after.groups
 AreClosedAsPlanned-ChangesSpan plan before after changes all other now there =
-    elim (cases-set before.groups changes.index (record (with_span changes.group changes.place changes.now) { page = changes.page }) other now (ap (λ gs. slice_get gs other) (sym (ap (λ (s : ShardState). s.groups) changes.after_is)) ∙ there)) [
+    elim (cases-set before.groups changes.index (record (with_span changes.group changes.place changes.now) { page = changes.page }) other now
+    (ap (λ gs. slice_get gs other) (sym (ap (λ (s : ShardState). s.groups) changes.after_is)) ∙ there)) [
       | inl new ↦ let fewer = IsFewer-with_span changes.group changes.place changes.span changes.now changes.span_is changes.same in
           subst (λ (g : GroupState). g.closed ≡ is_planned plan g.head.id) new.1 (fewer.closed_is ∙ all changes.index changes.group changes.group_is ∙ ap (is_planned plan) (sym fewer.head_is))
       | inr old ↦ all other now old.1
     ]
 
-pub HasSoundPlan-ChangesSpan : (old : CoreState) → IsSound old → (number : ℕ) (before after : ShardState) → slice_get old.shards number ≡ Some before → ChangesSpan before after → HasSoundPlan (with_shard old number after)
+pub HasSoundPlan-ChangesSpan : (old : CoreState) → IsSound old → (number : ℕ) (before after : ShardState) → slice_get old.shards number ≡ Some before
+    → ChangesSpan before after → HasSoundPlan (with_shard old number after)
 HasSoundPlan-ChangesSpan old sound number before after here changes =
-    HasSoundPlan-kept old (with_shard old number after) sound.plan refl refl (KeepsPooled-same old.pool.groups) (KeepsAllClosed-set old.shards number before after here (KeepsClosed-ChangesSpan before after changes))
+    HasSoundPlan-kept old (with_shard old number after) sound.plan refl refl (KeepsPooled-same old.pool.groups)
+    (KeepsAllClosed-set old.shards number before after here (KeepsClosed-ChangesSpan before after changes))
     (AreAllClosedAsPlanned-set old.plan old.shards number after sound.plan.closed (AreClosedAsPlanned-ChangesSpan old.plan before after changes (sound.plan.closed number before here)))
 
 pub HasSoundPlan-ChangesPooled : (old : CoreState) → IsSound old → (pool : PoolState) → ChangesPooled old.pool pool → HasSoundPlan (with_pool old pool)
@@ -162,25 +173,31 @@ HasSoundPlan-ChangesPooled old sound pool changes =
 
 -- ends
 
-pub HasSoundPlan-Receives : (old : CoreState) → IsSound old → (number : ℕ) (before after : ShardState) (pool : PoolState) → slice_get old.shards number ≡ Some before → ((index : ℕ) (group : GroupState) → slice_get before.groups index ≡ Some group → group.closed ≡ false)
+pub HasSoundPlan-Receives : (old : CoreState) → IsSound old → (number : ℕ) (before after : ShardState) (pool : PoolState)
+    → slice_get old.shards number ≡ Some before → ((index : ℕ) (group : GroupState) → slice_get before.groups index ≡ Some group → group.closed ≡ false)
     → Receives old.pool before pool after → HasSoundPlan (with_pool (with_shard old number after) pool)
 HasSoundPlan-Receives old sound number before after pool here unclosed receives =
-    HasSoundPlan-kept old (with_pool (with_shard old number after) pool) sound.plan refl (has_plan-Receives old.pool pool before after receives) (KeepsPooled-Receives old.pool pool before after receives)
+    HasSoundPlan-kept old (with_pool (with_shard old number after) pool) sound.plan refl (has_plan-Receives old.pool pool before after receives)
+    (KeepsPooled-Receives old.pool pool before after receives)
     (KeepsAllClosed-set old.shards number before after here (λ index group at closed. absurd (let both : true ≡ false = sym closed ∙ unclosed index group at in cc)))
-    (AreAllClosedAsPlanned-set old.plan old.shards number after sound.plan.closed (λ index group at. absurd (none-some group (ap (λ (s : ShardState). slice_get s.groups index) (sym receives.after) ∙ at))))
+    (AreAllClosedAsPlanned-set old.plan old.shards number after sound.plan.closed
+    (λ index group at. absurd (none-some group (ap (λ (s : ShardState). slice_get s.groups index) (sym receives.after) ∙ at))))
 
-pub HasSoundPlan-Retires : (old : CoreState) → IsSound old → (number most count : ℕ) (before after : ShardState) (pool : PoolState) → slice_get old.shards number ≡ Some before → ((index : ℕ) (group : GroupState) → slice_get before.groups index ≡ Some group → group.closed ≡ false)
+pub HasSoundPlan-Retires : (old : CoreState) → IsSound old → (number most count : ℕ) (before after : ShardState) (pool : PoolState)
+    → slice_get old.shards number ≡ Some before → ((index : ℕ) (group : GroupState) → slice_get before.groups index ≡ Some group → group.closed ≡ false)
     → Retires old.pool before most count pool after → HasSoundPlan (with_pool (with_shard old number after) pool)
 HasSoundPlan-Retires old sound number most count before after pool here unclosed retires =
     let gone = HasGone-Retires old.pool before most count pool after retires in
     HasSoundPlan-kept old (with_pool (with_shard old number after) pool) sound.plan refl gone.has_plan_is
     (λ index group at. let (place, there) = gone.still index group at in (place, group, there, refl, refl, (λ slot e. e), λ none. none))
     (KeepsAllClosed-set old.shards number before after here (λ index group at closed. absurd (let both : true ≡ false = sym closed ∙ unclosed index group at in cc)))
-    (AreAllClosedAsPlanned-set old.plan old.shards number after sound.plan.closed (λ index group at. let (was, there) = gone.part index group at in sound.plan.closed number before here was group there))
+    (AreAllClosedAsPlanned-set old.plan old.shards number after sound.plan.closed (λ index group at. let (was, there) = gone.part index group at in
+    sound.plan.closed number before here was group there))
 
 -- adoptions
 
-pub HasSoundPlan-Adopts : (old : CoreState) → IsSound old → old.plan ≡ None → (number : ℕ) (head : SpanId) (before after : ShardState) (pool : PoolState) → slice_get old.shards number ≡ Some before → Adopts old.pool before head pool after → HasSoundPlan (with_pool (with_shard old number after) pool)
+pub HasSoundPlan-Adopts : (old : CoreState) → IsSound old → old.plan ≡ None → (number : ℕ) (head : SpanId) (before after : ShardState) (pool : PoolState)
+    → slice_get old.shards number ≡ Some before → Adopts old.pool before head pool after → HasSoundPlan (with_pool (with_shard old number after) pool)
 HasSoundPlan-Adopts old sound no_plan number head before after pool here adopts =
     HasSoundPlan-none (with_pool (with_shard old number after) pool) no_plan told (AreAllClosedAsPlanned-set None old.shards number after all adopted)
   where
@@ -200,11 +217,14 @@ HasSoundPlan-Adopts old sound no_plan number head before after pool here adopts 
 
 -- the steps, with the plan
 
-pub IsSoundStep-Puts : (old : CoreState) (number : ℕ) (value : Value) (key : Key) (at : ℕ) (before after : ShardState) → IsSound old → slice_get old.shards number ≡ Some before → Puts before (class_of value) value key at after
+pub IsSoundStep-Puts : (old : CoreState) (number : ℕ) (value : Value) (key : Key) (at : ℕ) (before after : ShardState) → IsSound old
+    → slice_get old.shards number ≡ Some before → Puts before (class_of value) value key at after
     → (shown_by before).is_issued key ≡ false → shown_by after ≡ with_key (shown_by before) key value → IsSoundShard after
     → IsSoundStep old (Put number value) (reply.Issued key) (with_shard old number after)
 IsSoundStep-Puts old number value key at before after sound here puts fresh plain sound_after =
-    with_plan_kept old (Put number value) (reply.Issued key) (with_shard old number after) (IsStep-Puts old number value key at before after sound.groups here puts fresh plain sound_after) (HasSoundPlan-Puts old sound number value key at before after here puts) sound.rings
+    with_plan_kept old (Put number value) (reply.Issued key) (with_shard old number after)
+    (IsStep-Puts old number value key at before after sound.groups here puts fresh plain sound_after)
+    (HasSoundPlan-Puts old sound number value key at before after here puts) sound.rings
 
 -- a key that is not live, or whose object has another class, is not set
 pub IsSoundStep-unset : (old : CoreState) (key : Key) (value : Value) → IsSound old → may_set (shown old) key value ≡ false → IsSoundStep old (Set key value) (reply.Replaced false) old
@@ -214,11 +234,13 @@ IsSoundStep-unset old key value sound never = with_plan_kept old (Set key value)
 pub IsSoundStep-set_refused : (old : CoreState) (key : Key) (value : Value) → IsSound old → may_set (shown old) key value ≡ true → IsSoundStep old (Set key value) (reply.Refused OutOfMemory) old
 IsSoundStep-set_refused old key value sound may = record { kept = sound; exact = (may, refl); plain = (may, refl) }
 
-pub IsSoundStep-Sets : (old : CoreState) (key : Key) (value : Value) (number : ℕ) (before after : ShardState) (answer : Replaced) → IsSound old → slice_get old.shards number ≡ Some before → has_span key.span before ≡ true → Sets before key value answer after
+pub IsSoundStep-Sets : (old : CoreState) (key : Key) (value : Value) (number : ℕ) (before after : ShardState) (answer : Replaced) → IsSound old
+    → slice_get old.shards number ≡ Some before → has_span key.span before ≡ true → Sets before key value answer after
     → was_replaced answer ≡ may_set (shown_by before) key value → shown_by after ≡ cond (was_replaced answer) (with_value (shown_by before) key value) (shown_by before) → IsSoundShard after
     → IsSoundStep old (Set key value) (reply.Replaced (was_replaced answer)) (with_shard old number after)
 IsSoundStep-Sets old key value number before after answer sound here has sets found plain sound_after =
-    with_plan_kept old (Set key value) (reply.Replaced (was_replaced answer)) (with_shard old number after) (IsStep-Sets old key value number before after answer sound.groups here has sets found plain sound_after) (by_answer answer sets) sound.rings
+    with_plan_kept old (Set key value) (reply.Replaced (was_replaced answer)) (with_shard old number after)
+    (IsStep-Sets old key value number before after answer sound.groups here has sets found plain sound_after) (by_answer answer sets) sound.rings
   where
     same : after ≡ before → HasSoundPlan (with_shard old number after)
     same is = subst HasSoundPlan (sym (with_shard-same old number before after here is)) sound.plan
@@ -228,11 +250,14 @@ IsSoundStep-Sets old key value number before after answer sound here has sets fo
     by_answer (replaced.No at) (index, place, group, span, there, unfit, at_is, is) = same is
     by_answer replaced.NotHere (elsewhere, is) = same is
 
-pub IsSoundStep-SetsPooled : (old : CoreState) (key : Key) (value : Value) (pool : PoolState) (answer : Replaced) → IsSound old → (shown old).value_of key ≡ (shown_by_pool old.pool).value_of key → SetsPooled old.pool key value answer pool
-    → was_replaced answer ≡ may_set (shown_by_pool old.pool) key value → shown_by_pool pool ≡ cond (was_replaced answer) (with_value (shown_by_pool old.pool) key value) (shown_by_pool old.pool) → IsSoundPool pool
+pub IsSoundStep-SetsPooled : (old : CoreState) (key : Key) (value : Value) (pool : PoolState) (answer : Replaced) → IsSound old
+    → (shown old).value_of key ≡ (shown_by_pool old.pool).value_of key → SetsPooled old.pool key value answer pool
+    → was_replaced answer ≡ may_set (shown_by_pool old.pool) key value
+    → shown_by_pool pool ≡ cond (was_replaced answer) (with_value (shown_by_pool old.pool) key value) (shown_by_pool old.pool) → IsSoundPool pool
     → IsSoundStep old (Set key value) (reply.Replaced (was_replaced answer)) (with_pool old pool)
 IsSoundStep-SetsPooled old key value pool answer sound pooled sets found plain sound_pool =
-    with_plan_kept old (Set key value) (reply.Replaced (was_replaced answer)) (with_pool old pool) (IsStep-SetsPooled old key value pool answer sound.groups pooled sets found plain sound_pool) (by_answer answer sets) sound.rings
+    with_plan_kept old (Set key value) (reply.Replaced (was_replaced answer)) (with_pool old pool)
+    (IsStep-SetsPooled old key value pool answer sound.groups pooled sets found plain sound_pool) (by_answer answer sets) sound.rings
   where
     same : pool ≡ old.pool → HasSoundPlan (with_pool old pool)
     same is = subst HasSoundPlan (sym (with_pool-same old pool is)) sound.plan
@@ -246,11 +271,13 @@ IsSoundStep-SetsPooled old key value pool answer sound pooled sets found plain s
 pub IsSoundStep-dead : (old : CoreState) (key : Key) → IsSound old → (shown old).value_of key ≡ None → IsSoundStep old (Free key) (reply.Freed false) old
 IsSoundStep-dead old key sound none = with_plan_kept old (Free key) (reply.Freed false) old (IsStep-dead old key sound.groups none) sound.plan sound.rings
 
-pub IsSoundStep-Frees : (old : CoreState) (key : Key) (number : ℕ) (before after : ShardState) (answer : Freed) → IsSound old → slice_get old.shards number ≡ Some before → has_span key.span before ≡ true → Frees before key answer after
+pub IsSoundStep-Frees : (old : CoreState) (key : Key) (number : ℕ) (before after : ShardState) (answer : Freed) → IsSound old
+    → slice_get old.shards number ≡ Some before → has_span key.span before ≡ true → Frees before key answer after
     → was_freed answer ≡ is_some ((shown_by before).value_of key) → shown_by after ≡ cond (was_freed answer) (without (shown_by before) key) (shown_by before) → IsSoundShard after
     → IsSoundStep old (Free key) (reply.Freed (was_freed answer)) (with_shard old number after)
 IsSoundStep-Frees old key number before after answer sound here has frees found plain sound_after =
-    with_plan_kept old (Free key) (reply.Freed (was_freed answer)) (with_shard old number after) (IsStep-Frees old key number before after answer sound.groups here has frees found plain sound_after) (by_answer answer frees) sound.rings
+    with_plan_kept old (Free key) (reply.Freed (was_freed answer)) (with_shard old number after)
+    (IsStep-Frees old key number before after answer sound.groups here has frees found plain sound_after) (by_answer answer frees) sound.rings
   where
     same : after ≡ before → HasSoundPlan (with_shard old number after)
     same is = subst HasSoundPlan (sym (with_shard-same old number before after here is)) sound.plan
@@ -260,11 +287,14 @@ IsSoundStep-Frees old key number before after answer sound here has frees found 
     by_answer (freed.No at) (index, place, group, span, there, dead, at_is, is) = same is
     by_answer freed.NotHere (elsewhere, is) = same is
 
-pub IsSoundStep-FreesPooled : (old : CoreState) (key : Key) (pool : PoolState) (answer : Freed) → IsSound old → (shown old).value_of key ≡ (shown_by_pool old.pool).value_of key → FreesPooled old.pool key answer pool
-    → was_freed answer ≡ is_some ((shown_by_pool old.pool).value_of key) → shown_by_pool pool ≡ cond (was_freed answer) (without (shown_by_pool old.pool) key) (shown_by_pool old.pool) → IsSoundPool pool
+pub IsSoundStep-FreesPooled : (old : CoreState) (key : Key) (pool : PoolState) (answer : Freed) → IsSound old
+    → (shown old).value_of key ≡ (shown_by_pool old.pool).value_of key → FreesPooled old.pool key answer pool
+    → was_freed answer ≡ is_some ((shown_by_pool old.pool).value_of key)
+    → shown_by_pool pool ≡ cond (was_freed answer) (without (shown_by_pool old.pool) key) (shown_by_pool old.pool) → IsSoundPool pool
     → IsSoundStep old (Free key) (reply.Freed (was_freed answer)) (with_pool old pool)
 IsSoundStep-FreesPooled old key pool answer sound pooled frees found plain sound_pool =
-    with_plan_kept old (Free key) (reply.Freed (was_freed answer)) (with_pool old pool) (IsStep-FreesPooled old key pool answer sound.groups pooled frees found plain sound_pool) (by_answer answer frees) sound.rings
+    with_plan_kept old (Free key) (reply.Freed (was_freed answer)) (with_pool old pool)
+    (IsStep-FreesPooled old key pool answer sound.groups pooled frees found plain sound_pool) (by_answer answer frees) sound.rings
   where
     same : pool ≡ old.pool → HasSoundPlan (with_pool old pool)
     same is = subst HasSoundPlan (sym (with_pool-same old pool is)) sound.plan
@@ -278,23 +308,33 @@ pub IsSoundStep-Receives : (old : CoreState) (number : ℕ) (before after : Shar
     → Receives old.pool before pool after → IsSoundShard after → IsSoundPool pool
     → IsSoundStep old (End number) reply.ShardEnded (with_pool (with_shard old number after) pool)
 IsSoundStep-Receives old number before after pool sound here none_closed receives sound_after sound_pool =
-    with_plan_kept old (End number) reply.ShardEnded (with_pool (with_shard old number after) pool) (IsStep-Receives old number before after pool sound.groups here none_closed receives sound_after sound_pool) (HasSoundPlan-Receives old sound number before after pool here (unclosed before.groups none_closed) receives) sound.rings
+    with_plan_kept old (End number) reply.ShardEnded (with_pool (with_shard old number after) pool)
+    (IsStep-Receives old number before after pool sound.groups here none_closed receives sound_after sound_pool)
+    (HasSoundPlan-Receives old sound number before after pool here (unclosed before.groups none_closed) receives) sound.rings
 
-pub IsSoundStep-Retires : (old : CoreState) (number most count : ℕ) (before after : ShardState) (pool : PoolState) → IsSound old → slice_get old.shards number ≡ Some before → (HasClosed before.groups → ⊥)
+pub IsSoundStep-Retires : (old : CoreState) (number most count : ℕ) (before after : ShardState) (pool : PoolState) → IsSound old
+    → slice_get old.shards number ≡ Some before → (HasClosed before.groups → ⊥)
     → Retires old.pool before most count pool after → HasRetired old.pool before count pool after → IsSoundShard after → IsSoundPool pool
     → IsSoundStep old (Retire number most) (reply.Retired count) (with_pool (with_shard old number after) pool)
 IsSoundStep-Retires old number most count before after pool sound here none_closed retires whole sound_after sound_pool =
-    with_plan_kept old (Retire number most) (reply.Retired count) (with_pool (with_shard old number after) pool) (IsStep-Retires old number most count before after pool sound.groups here none_closed retires whole sound_after sound_pool) (HasSoundPlan-Retires old sound number most count before after pool here (unclosed before.groups none_closed) retires) sound.rings
+    with_plan_kept old (Retire number most) (reply.Retired count) (with_pool (with_shard old number after) pool)
+    (IsStep-Retires old number most count before after pool sound.groups here none_closed retires whole sound_after sound_pool)
+    (HasSoundPlan-Retires old sound number most count before after pool here (unclosed before.groups none_closed) retires) sound.rings
 
-pub IsSoundStep-Trims : (old : CoreState) (number count : ℕ) (before after : ShardState) → IsSound old → slice_get old.shards number ≡ Some before → Trims before count after → shown_by after ≡ shown_by before → IsSoundShard after
+pub IsSoundStep-Trims : (old : CoreState) (number count : ℕ) (before after : ShardState) → IsSound old → slice_get old.shards number ≡ Some before
+    → Trims before count after → shown_by after ≡ shown_by before → IsSoundShard after
     → IsSoundStep old (Trim number) (reply.Trimmed count) (with_shard old number after)
 IsSoundStep-Trims old number count before after sound here trims plain sound_after =
     with_plan_kept old (Trim number) (reply.Trimmed count) (with_shard old number after) (IsStep-Trims old number count before after sound.groups here trims plain sound_after)
-    (HasSoundPlan-kept old (with_shard old number after) sound.plan refl refl (KeepsPooled-same old.pool.groups) (KeepsAllClosed-set old.shards number before after here (KeepsClosed-Trims before after count trims))
+    (HasSoundPlan-kept old (with_shard old number after) sound.plan refl refl (KeepsPooled-same old.pool.groups)
+    (KeepsAllClosed-set old.shards number before after here (KeepsClosed-Trims before after count trims))
     (AreAllClosedAsPlanned-set old.plan old.shards number after sound.plan.closed (AreClosedAsPlanned-Trims old.plan before after count trims (sound.plan.closed number before here))))
     sound.rings
 
-pub IsSoundStep-Adopts : (old : CoreState) (number : ℕ) (head : SpanId) (before after : ShardState) (pool : PoolState) → IsSound old → old.plan ≡ None → slice_get old.shards number ≡ Some before → before.ended ≡ false → Adopts old.pool before head pool after → IsSoundShard after → IsSoundPool pool
+pub IsSoundStep-Adopts : (old : CoreState) (number : ℕ) (head : SpanId) (before after : ShardState) (pool : PoolState) → IsSound old → old.plan ≡ None
+    → slice_get old.shards number ≡ Some before → before.ended ≡ false → Adopts old.pool before head pool after → IsSoundShard after → IsSoundPool pool
     → IsSoundStep old (Adopt number) (reply.Adopted head) (with_pool (with_shard old number after) pool)
 IsSoundStep-Adopts old number head before after pool sound no_plan here running adopts sound_after sound_pool =
-    with_plan_kept old (Adopt number) (reply.Adopted head) (with_pool (with_shard old number after) pool) (IsStep-Adopts old number head before after pool sound.groups no_plan here running adopts sound_after sound_pool) (HasSoundPlan-Adopts old sound no_plan number head before after pool here adopts) sound.rings
+    with_plan_kept old (Adopt number) (reply.Adopted head) (with_pool (with_shard old number after) pool)
+    (IsStep-Adopts old number head before after pool sound.groups no_plan here running adopts sound_after sound_pool)
+    (HasSoundPlan-Adopts old sound no_plan number head before after pool here adopts) sound.rings

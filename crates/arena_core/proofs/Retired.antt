@@ -101,7 +101,8 @@ HasGone-Retires old shard most count new left retires =
       has_plan_is = gone.has_plan_is;
     }
 
-pub IsMove-Retires : (before after : ShardState) (pool_before pool_after : PoolState) (most count : ℕ) → Retires pool_before before most count pool_after after → IsMove before after pool_before pool_after
+pub IsMove-Retires : (before after : ShardState) (pool_before pool_after : PoolState) (most count : ℕ) → Retires pool_before before most count pool_after after
+    → IsMove before after pool_before pool_after
 IsMove-Retires before after pool_before pool_after most count retires =
     let gone = HasGone-Retires pool_before before most count pool_after after retires in
     record {

@@ -25,7 +25,8 @@ with_rings-same old rings same = ap (with_rings old) same
 pub record IsSent (old : CoreState) (worker : ℕ) (key : Key) (answer : Result (Unit {0}) Refusal) (new : CoreState) : Type 0 where
   pub kept : IsSound new
   pub exact : MatchResult answer (λ sent. CoreStep old (Later worker key) reply.Sent new) (λ refusal. CoreStep old (Later worker key) (reply.Refused refusal) new)
-  pub plain : MatchResult answer (λ sent. PlainStep old.limits (shown old) (Later worker key) reply.Sent (shown new)) (λ refusal. PlainStep old.limits (shown old) (Later worker key) (reply.Refused refusal) (shown new))
+  pub plain : MatchResult answer (λ sent. PlainStep old.limits (shown old) (Later worker key) reply.Sent (shown new))
+      (λ refusal. PlainStep old.limits (shown old) (Later worker key) (reply.Refused refusal) (shown new))
 
 module _ (old : CoreState) (sound : IsSound old) (worker : ℕ) (key : Key) where
   sent : (rings : List (List RingState)) (done : Unit {0}) → Sends old.rings worker key rings → IsSent old worker key (Ok done) (with_rings old rings)
@@ -59,7 +60,8 @@ module _ (old : CoreState) (sound : IsSound old) (worker : ℕ) (key : Key) wher
       record { kept = sound; exact = (outside, refl); plain = (outside, refl) }
   unsent refusal never = absurd never
 
-  pub IsSent-later : (answer : Result (Unit {0}) Refusal) (rings : List (List RingState)) → MatchResult answer (λ done. Sends old.rings worker key rings) (λ refusal. CannotSend refusal old.rings worker key.span.shard × (rings ≡ old.rings))
+  pub IsSent-later : (answer : Result (Unit {0}) Refusal) (rings : List (List RingState))
+      → MatchResult answer (λ done. Sends old.rings worker key rings) (λ refusal. CannotSend refusal old.rings worker key.span.shard × (rings ≡ old.rings))
       → IsSent old worker key answer (with_rings old rings)
   IsSent-later (Ok done) rings sends = sent rings done sends
   IsSent-later (Err refusal) rings (cannot, same) = subst (IsSent old worker key (Err refusal)) (sym (with_rings-same old rings same)) (unsent refusal cannot)
@@ -77,7 +79,9 @@ module _ (old : CoreState) (sound : IsSound old) (worker shard : ℕ) where
       (IsSound-with_rings old (with_ring_at old.rings worker shard (with_keys ring left)) sound
       (AreRings-with old.rings worker shard ring (with_keys ring left) here old.limits sound.rings refl (omega (arith, (sound.rings.each worker shard ring here).1, ap length oldest))))
 
-  pub IsTaken-take : (answer : Result (Option Key) Refusal) (rings : List (List RingState)) → MatchResult answer (λ found. Takes old.rings worker shard found rings) (λ refusal. (refusal ≡ Config) × (ring_at old.rings worker shard ≡ None) × (rings ≡ old.rings))
+  pub IsTaken-take : (answer : Result (Option Key) Refusal) (rings : List (List RingState))
+      → MatchResult answer (λ found. Takes old.rings worker shard found rings)
+      (λ refusal. (refusal ≡ Config) × (ring_at old.rings worker shard ≡ None) × (rings ≡ old.rings))
       → IsTaken old worker shard answer (with_rings old rings)
   IsTaken-take (Ok found) rings takes = record { kept = Takes-kept found rings takes; taken = takes }
   IsTaken-take (Err refusal) rings (is, none, same) = record {
@@ -88,10 +92,12 @@ module _ (old : CoreState) (sound : IsSound old) (worker shard : ℕ) where
 -- how a core that was asked to settle a key took a step
 pub record IsSettled (old : CoreState) (worker shard : ℕ) (answer : Result (Option Key) Refusal) (new : CoreState) : Type 0 where
   pub exact : MatchResult answer (λ settled. CoreStep old (Settle worker shard) (reply.Settled settled) new) (λ refusal. CoreStep old (Settle worker shard) (reply.Refused refusal) new)
-  pub plain : MatchResult answer (λ settled. PlainStep old.limits (shown old) (Settle worker shard) (reply.Settled settled) (shown new)) (λ refusal. PlainStep old.limits (shown old) (Settle worker shard) (reply.Refused refusal) (shown new))
+  pub plain : MatchResult answer (λ settled. PlainStep old.limits (shown old) (Settle worker shard) (reply.Settled settled) (shown new))
+      (λ refusal. PlainStep old.limits (shown old) (Settle worker shard) (reply.Refused refusal) (shown new))
 
 -- the key that was taken is freed
-pub IsSettled-freed : (old mid new : CoreState) (worker shard : ℕ) (key : Key) (freed : Bool) → Takes old.rings worker shard (Some key) mid.rings → mid ≡ with_rings old mid.rings → CoreStep mid (Free key) (reply.Freed freed) new
+pub IsSettled-freed : (old mid new : CoreState) (worker shard : ℕ) (key : Key) (freed : Bool) → Takes old.rings worker shard (Some key) mid.rings
+    → mid ≡ with_rings old mid.rings → CoreStep mid (Free key) (reply.Freed freed) new
     → PlainStep mid.limits (shown mid) (Free key) (reply.Freed freed) (shown new) → IsSettled old worker shard (Ok (Some key)) new
 IsSettled-freed old mid new worker shard key freed (ring, left, here, oldest, after) is exact plain =
     let mid_is : mid ≡ with_rings old (with_ring_at old.rings worker shard (with_keys ring left)) = is ∙ ap (with_rings old) after in

@@ -31,18 +31,28 @@ module _ (rings : List (List RingState)) (worker shard : ℕ) (row : List RingSt
     set-unchanged : (now : RingState) → now ≡ ring → set rings shard (set row worker now) ≡ rings
     set-unchanged now same = ap (λ r. set rings shard (set row worker r)) same ∙ ap (set rings shard) (set-same row worker ring there) ∙ set-same rings shard row here
 
-    pub Takes-row : (now : RingState) (found : Option Key) → MatchOption found ((ring.keys ≡ []) × (now ≡ ring)) (λ key. ring ≡ record now { keys = key ∷ now.keys }) → Takes rings worker shard found (set rings shard (set row worker now))
+    pub Takes-row : (now : RingState) (found : Option Key)
+        → MatchOption found ((ring.keys ≡ []) × (now ≡ ring)) (λ key. ring ≡ record now { keys = key ∷ now.keys })
+        → Takes rings worker shard found (set rings shard (set row worker now))
     Takes-row now None (empty, same) = (ring, ring_at-here, empty, set-unchanged now same)
-    Takes-row now (Some key) taken =
-        (ring, now.keys, ring_at-here, ap (λ (r : RingState). r.keys) taken, ap (λ (r : RingState). set rings shard (set row worker (record r { keys = now.keys }))) (sym taken) ∙ set-with_ring_at (record ring { keys = now.keys }))
+    Takes-row now (Some key) taken = (
+      ring,
+      now.keys,
+      ring_at-here,
+      ap (λ (r : RingState). r.keys) taken,
+      ap (λ (r : RingState). set rings shard (set row worker (record r { keys = now.keys }))) (sym taken)
+          ∙ set-with_ring_at (record ring { keys = now.keys }),
+    )
 
     pub Sends-row : (now : RingState) (key : Key) (answer : Result (Unit {0}) Refusal) → key.span.shard ≡ shard
-        → MatchResult answer (λ sent. (length ring.keys < ring.capacity) × (now ≡ record ring { keys = ring.keys ++ key ∷ [] })) (λ refusal. (refusal ≡ RingFull) × (length ring.keys ≡ ring.capacity) × (now ≡ ring))
+        → MatchResult answer (λ sent. (length ring.keys < ring.capacity) × (now ≡ record ring { keys = ring.keys ++ key ∷ [] }))
+        (λ refusal. (refusal ≡ RingFull) × (length ring.keys ≡ ring.capacity) × (now ≡ ring))
         → MatchResult answer (λ sent. Sends rings worker key (set rings shard (set row worker now))) (λ refusal. CannotSend refusal rings worker shard × (set rings shard (set row worker now) ≡ rings))
     Sends-row now key (Ok sent) to (room, is) = record {
       ring = ring;
       here = ap (λ s. ring_at rings worker s) to ∙ ring_at-here;
       room = room;
-      after = ap (λ r. set rings shard (set row worker r)) is ∙ set-with_ring_at (record ring { keys = ring.keys ++ key ∷ [] }) ∙ ap (λ s. with_ring_at rings worker s (record ring { keys = ring.keys ++ key ∷ [] })) (sym to);
+      after = ap (λ r. set rings shard (set row worker r)) is ∙ set-with_ring_at (record ring { keys = ring.keys ++ key ∷ [] })
+          ∙ ap (λ s. with_ring_at rings worker s (record ring { keys = ring.keys ++ key ∷ [] })) (sym to);
     }
     Sends-row now key (Err refusal) to (is, full, same) = (subst (λ r. CannotSend r rings worker shard) (sym is) (ring, ring_at-here, full), set-unchanged now same)

@@ -29,7 +29,8 @@ ring_at-new shards capacity worker shard ring here = by_row (slice_get (new_ring
   where
     by_row : (o : Option (List RingState)) → slice_get (new_rings shards capacity) shard ≡ o → ring_in o worker ≡ Some ring → new_ring capacity ≡ ring
     by_row None is there = absurd cc
-    by_row (Some row) is there = slice_get-replicate shards (new_ring capacity) worker ring (ap (λ r. slice_get r worker) (slice_get-replicate shards (replicate shards (new_ring capacity)) shard row is) ∙ there)
+    by_row (Some row) is there = slice_get-replicate shards (new_ring capacity) worker ring
+        (ap (λ r. slice_get r worker) (slice_get-replicate shards (replicate shards (new_ring capacity)) shard row is) ∙ there)
 
 pub pending_at-new : (shards capacity worker shard : ℕ) → pending_at (new_rings shards capacity) worker shard ≡ []
 pending_at-new shards capacity worker shard = by_ring (ring_at (new_rings shards capacity) worker shard) refl
@@ -41,14 +42,17 @@ pending_at-new shards capacity worker shard = by_ring (ring_at (new_rings shards
 pub AreRings-new : (limits : Limits) → AreRings limits (new_rings limits.shards limits.ring_capacity)
 AreRings-new limits = record {
   shards = length-replicate limits.shards (replicate limits.shards (new_ring limits.ring_capacity));
-  workers = λ shard row here. ap length (sym (slice_get-replicate limits.shards (replicate limits.shards (new_ring limits.ring_capacity)) shard row here)) ∙ length-replicate limits.shards (new_ring limits.ring_capacity);
-  each = λ worker shard ring here. subst (λ (r : RingState). (r.capacity ≡ limits.ring_capacity) × (length r.keys ≤ limits.ring_capacity)) (ring_at-new limits.shards limits.ring_capacity worker shard ring here) (refl, omega arith);
+  workers = λ shard row here. ap length (sym (slice_get-replicate limits.shards (replicate limits.shards (new_ring limits.ring_capacity)) shard row here))
+      ∙ length-replicate limits.shards (new_ring limits.ring_capacity);
+  each = λ worker shard ring here. subst (λ (r : RingState). (r.capacity ≡ limits.ring_capacity) × (length r.keys ≤ limits.ring_capacity))
+      (ring_at-new limits.shards limits.ring_capacity worker shard ring here) (refl, omega arith);
 }
 
 -- another ring
 
 -- the row of a ring that is there
-ring_at-row : (rings : List (List RingState)) (worker shard : ℕ) (ring : RingState) → ring_at rings worker shard ≡ Some ring → (row : List RingState) × (slice_get rings shard ≡ Some row) × (slice_get row worker ≡ Some ring)
+ring_at-row : (rings : List (List RingState)) (worker shard : ℕ) (ring : RingState) → ring_at rings worker shard ≡ Some ring
+    → (row : List RingState) × (slice_get rings shard ≡ Some row) × (slice_get row worker ≡ Some ring)
 ring_at-row rings worker shard ring here = by_row (slice_get rings shard) refl here
   where
     by_row : (o : Option (List RingState)) → slice_get rings shard ≡ o → ring_in o worker ≡ Some ring → (row : List RingState) × (slice_get rings shard ≡ Some row) × (slice_get row worker ≡ Some ring)
@@ -72,7 +76,9 @@ module _ (rings : List (List RingState)) (worker shard : ℕ) (ring now : RingSt
   ]
 
   -- all other rings are as they were
-  pub ring_at-with : (other_worker other_shard : ℕ) → ring_at (with_ring_at rings worker shard now) other_worker other_shard ≡ cond ((other_worker == worker) && (other_shard == shard)) (Some now) (ring_at rings other_worker other_shard)
+  pub ring_at-with : (other_worker other_shard : ℕ)
+      → ring_at (with_ring_at rings worker shard now) other_worker other_shard
+      ≡ cond ((other_worker == worker) && (other_shard == shard)) (Some now) (ring_at rings other_worker other_shard)
   ring_at-with other_worker other_shard = ap (λ r. ring_at r other_worker other_shard) with_ring_at-row ∙ by_shard (cases_eq other_shard shard)
     where
       by_same : (b : Bool) → cond b (Some now) (slice_get row other_worker) ≡ cond (b && true) (Some now) (ring_in (Some row) other_worker)
@@ -83,7 +89,9 @@ module _ (rings : List (List RingState)) (worker shard : ℕ) (ring now : RingSt
       by_other true o = refl
       by_other false o = refl
 
-      by_shard : (other_shard ≡ shard) ⊎ (other_shard ≢ shard) → ring_at (set rings shard (set row worker now)) other_worker other_shard ≡ cond ((other_worker == worker) && (other_shard == shard)) (Some now) (ring_at rings other_worker other_shard)
+      by_shard : (other_shard ≡ shard) ⊎ (other_shard ≢ shard)
+          → ring_at (set rings shard (set row worker now)) other_worker other_shard
+          ≡ cond ((other_worker == worker) && (other_shard == shard)) (Some now) (ring_at rings other_worker other_shard)
       by_shard (inl same) =
           rw (same, eq-eqb shard shard refl)
           (ap (λ o. ring_in o other_worker) (slice_get-set_same rings shard row (set row worker now) row_is)
@@ -97,7 +105,9 @@ module _ (rings : List (List RingState)) (worker shard : ℕ) (ring now : RingSt
   pub pending_at-here : pending_at rings worker shard ≡ ring.keys
   pending_at-here = ap keys_of here
 
-  pub pending_at-with : (other_worker other_shard : ℕ) → pending_at (with_ring_at rings worker shard now) other_worker other_shard ≡ cond ((other_worker == worker) && (other_shard == shard)) now.keys (pending_at rings other_worker other_shard)
+  pub pending_at-with : (other_worker other_shard : ℕ)
+      → pending_at (with_ring_at rings worker shard now) other_worker other_shard
+      ≡ cond ((other_worker == worker) && (other_shard == shard)) now.keys (pending_at rings other_worker other_shard)
   pending_at-with other_worker other_shard = ap keys_of (ring_at-with other_worker other_shard) ∙ by_test ((other_worker == worker) && (other_shard == shard)) (ring_at rings other_worker other_shard)
     where
       by_test : (b : Bool) (o : Option RingState) → keys_of (cond b (Some now) o) ≡ cond b now.keys (keys_of o)
@@ -112,19 +122,24 @@ module _ (rings : List (List RingState)) (worker shard : ℕ) (ring now : RingSt
     each = λ other_worker other_shard other at. by_test other_worker other_shard other ((other_worker == worker) && (other_shard == shard)) (sym (ring_at-with other_worker other_shard) ∙ at);
   }
     where
-      by_test : (other_worker other_shard : ℕ) (other : RingState) (b : Bool) → cond b (Some now) (ring_at rings other_worker other_shard) ≡ Some other → (other.capacity ≡ limits.ring_capacity) × (length other.keys ≤ limits.ring_capacity)
-      by_test other_worker other_shard other true at = subst (λ (r : RingState). (r.capacity ≡ limits.ring_capacity) × (length r.keys ≤ limits.ring_capacity)) (same_some at) (capacity ∙ (are.each worker shard ring here).0, few)
+      by_test : (other_worker other_shard : ℕ) (other : RingState) (b : Bool) → cond b (Some now) (ring_at rings other_worker other_shard) ≡ Some other
+          → (other.capacity ≡ limits.ring_capacity) × (length other.keys ≤ limits.ring_capacity)
+      by_test other_worker other_shard other true at = subst (λ (r : RingState). (r.capacity ≡ limits.ring_capacity) × (length r.keys ≤ limits.ring_capacity))
+          (same_some at) (capacity ∙ (are.each worker shard ring here).0, few)
       by_test other_worker other_shard other false at = are.each other_worker other_shard other at
 
 -- a ring that is not there is outside of the numbers
 pub IsOutside-none : (limits : Limits) (rings : List (List RingState)) (worker shard : ℕ) → AreRings limits rings → ring_at rings worker shard ≡ None → IsOutside limits worker shard
 IsOutside-none limits rings worker shard are none = by_shard (slice_get_cases rings shard).1
   where
-    by_worker : (row : List RingState) → slice_get rings shard ≡ Some row → ((ring : RingState) × (worker < length row) × (slice_get row worker ≡ Some ring) × (get_or row worker ring ≡ ring)) ⊎ ((length row ≤ worker) × (slice_get row worker ≡ None)) → IsOutside limits worker shard
+    by_worker : (row : List RingState) → slice_get rings shard ≡ Some row
+        → ((ring : RingState) × (worker < length row) × (slice_get row worker ≡ Some ring) × (get_or row worker ring ≡ ring))
+        ⊎ ((length row ≤ worker) × (slice_get row worker ≡ None)) → IsOutside limits worker shard
     by_worker row is (inl (ring, within, there, read)) = absurd (let both : None ≡ Some ring = sym none ∙ ap (λ o. ring_in o worker) is ∙ there in cc)
     by_worker row is (inr (past, there)) = inl (omega (arith, are.workers shard row is))
 
-    by_shard : ((row : List RingState) × (shard < length rings) × (slice_get rings shard ≡ Some row) × (get_or rings shard row ≡ row)) ⊎ ((length rings ≤ shard) × (slice_get rings shard ≡ None)) → IsOutside limits worker shard
+    by_shard : ((row : List RingState) × (shard < length rings) × (slice_get rings shard ≡ Some row) × (get_or rings shard row ≡ row))
+        ⊎ ((length rings ≤ shard) × (slice_get rings shard ≡ None)) → IsOutside limits worker shard
     by_shard (inl (row, within, is, read)) = by_worker row is (slice_get_cases row worker).1
     by_shard (inr (past, is)) = inr (omega (arith, are.shards))
 
@@ -132,10 +147,19 @@ IsOutside-none limits rings worker shard are none = by_shard (slice_get_cases ri
 
 pub IsSound-with_rings : (core : CoreState) (rings : List (List RingState)) → IsSound core → AreRings core.limits rings → IsSound (with_rings core rings)
 IsSound-with_rings core rings sound are = record {
-  groups = record { within = sound.groups.within; count = sound.groups.count; shards = sound.groups.shards; pool = sound.groups.pool; gens = sound.groups.gens; once = sound.groups.once; forgotten = sound.groups.forgotten };
+  groups = record {
+    within = sound.groups.within;
+    count = sound.groups.count;
+    shards = sound.groups.shards;
+    pool = sound.groups.pool;
+    gens = sound.groups.gens;
+    once = sound.groups.once;
+    forgotten = sound.groups.forgotten;
+  };
   plan = HasSoundPlan-kept core (with_rings core rings) sound.plan refl refl (KeepsPooled-same core.pool.groups) (KeepsAllClosed-same core.shards) sound.plan.closed;
   rings = are;
 }
 
-pub shown-with_ring : (core : CoreState) (worker shard : ℕ) (ring now : RingState) → ring_at core.rings worker shard ≡ Some ring → shown (with_rings core (with_ring_at core.rings worker shard now)) ≡ with_pending (shown core) worker shard now.keys
+pub shown-with_ring : (core : CoreState) (worker shard : ℕ) (ring now : RingState) → ring_at core.rings worker shard ≡ Some ring
+    → shown (with_rings core (with_ring_at core.rings worker shard now)) ≡ with_pending (shown core) worker shard now.keys
 shown-with_ring core worker shard ring now here = same_plain_map _ _ (λ key. refl) (λ key. refl) (pending_at-with core.rings worker shard ring now here)

@@ -27,16 +27,20 @@ CountsPaged pool head spans = (index : ℕ) (group : PooledState) → IsHeadOf p
 
 module _ (pool : PoolState) (sound : IsSoundPool pool) (before after : ShardState) (sound_after : IsSoundShard after) (spans most : ℕ) (enough : spans ≤ most) where
   -- the group that was to come, by this head, is the one that came
-  pub HasAtMost-Adopts : (coming head : SpanId) (pool_after : PoolState) → IsHeadOfLowest pool coming → Adopts pool before head pool_after after → CountsPaged pool coming spans → HasAtMost after.groups head 0 most
+  pub HasAtMost-Adopts : (coming head : SpanId) (pool_after : PoolState) → IsHeadOfLowest pool coming → Adopts pool before head pool_after after
+      → CountsPaged pool coming spans → HasAtMost after.groups head 0 most
   HasAtMost-Adopts coming head pool_after (place, lowest, is_lowest, coming_is) adopts counts index group here =
       let known : adopts.group ≡ lowest = one_lowest pool sound.ascending adopts.index place adopts.group lowest adopts.lowest is_lowest in
       let (at, pooled, head_of, whole_is, rest) = adopts.lifts in
       let one : pooled ≡ adopts.group = one_head pool sound at adopts.index pooled adopts.group head_of.here adopts.lowest.here (head_of.head_is ∙ adopts.head_is) in
-      let counted : spans ≡ length (spans_of adopts.group) = counts adopts.index adopts.group (record { here = adopts.lowest.here; head_is = ap (λ (g : PooledState). g.head.id) known ∙ coming_is }) adopts.lowest.paged in
-      let same : group ≡ adopted adopts.whole = same_group after.groups sound_after.ascending head index adopts.takes_in.index group (adopted adopts.whole) here (adopted-here before after pool pool_after head adopts) in
+      let counted : spans ≡ length (spans_of adopts.group) = counts adopts.index adopts.group
+      (record { here = adopts.lowest.here; head_is = ap (λ (g : PooledState). g.head.id) known ∙ coming_is }) adopts.lowest.paged in
+      let same : group ≡ adopted adopts.whole = same_group after.groups sound_after.ascending head index adopts.takes_in.index group (adopted adopts.whole) here
+      (adopted-here before after pool pool_after head adopts) in
       omega (arith, enough, counted, ap (λ (g : GroupState). length (spans_of g)) same, ap (λ (w : WholeState). length (spans_moved w)) whole_is, ap (λ (g : PooledState). length (spans_of g)) one)
 
-  HasAtMost-same : (head : SpanId) (first : ℕ) → ((index : ℕ) (group : GroupState) → IsHeadOf before.groups head index group → first ≡ length (spans_of group)) → after ≡ before → HasAtMost after.groups head first most
+  HasAtMost-same : (head : SpanId) (first : ℕ) → ((index : ℕ) (group : GroupState) → IsHeadOf before.groups head index group → first ≡ length (spans_of group))
+      → after ≡ before → HasAtMost after.groups head first most
   HasAtMost-same head first count same index group here =
       omega (arith, count index group (record { here = ap (λ (s : ShardState). slice_get s.groups index) (sym same) ∙ here.here; head_is = here.head_is }))
 
@@ -47,17 +51,22 @@ module _ (pool : PoolState) (sound : IsSoundPool pool) (before after : ShardStat
       by_page None none = absurd (may.paged (may.present, (index, group, here, none)))
       by_page (Some words) some = refl
 
-  HasAtMost-Folds : (a b : SpanId) (pool_after : PoolState) (first : ℕ) → ((index : ℕ) (group : GroupState) → IsHeadOf before.groups b index group → first ≡ length (spans_of group)) → CountsPaged pool a spans → MayFold pool before a b → Folds pool before a b pool_after after → HasAtMost after.groups b first most
+  HasAtMost-Folds : (a b : SpanId) (pool_after : PoolState) (first : ℕ)
+      → ((index : ℕ) (group : GroupState) → IsHeadOf before.groups b index group → first ≡ length (spans_of group)) → CountsPaged pool a spans
+      → MayFold pool before a b → Folds pool before a b pool_after after → HasAtMost after.groups b first most
   HasAtMost-Folds a b pool_after first count counts may folds index group here =
       let (at, pooled, head_of, whole_is, rest) = folds.lifts in
       let counted : spans ≡ length (spans_of pooled) = counts at pooled head_of (paged_if_folded a b at pooled may head_of) in
       let onto = with_guests folds.grafts.group (spans_moved folds.whole) folds.grafts.words in
       let same : group ≡ onto = same_group after.groups sound_after.ascending b index folds.grafts.index group onto here (grafted-here pool before a b pool_after after folds) in
-      let guests : length (folds.grafts.group.guests ++ spans_moved folds.whole) ≡ length folds.grafts.group.guests + length (spans_moved folds.whole) = length-append folds.grafts.group.guests (spans_moved folds.whole) in
+      let guests : length (folds.grafts.group.guests ++ spans_moved folds.whole) ≡ length folds.grafts.group.guests
+      + length (spans_moved folds.whole) = length-append folds.grafts.group.guests (spans_moved folds.whole) in
       let was : first ≡ length (spans_of folds.grafts.group) = count folds.grafts.index folds.grafts.group (record { here = folds.grafts.here.here; head_is = folds.grafts.here.head_is }) in
       omega (arith, enough, counted, was, guests, ap (λ (g : GroupState). length (spans_of g)) same, ap (λ (w : WholeState). length (spans_moved w)) whole_is)
 
-  pub HasAtMost-Steps : (a b : SpanId) (pool_after : PoolState) (first : ℕ) (step : Outcome) → ((index : ℕ) (group : GroupState) → IsHeadOf before.groups b index group → first ≡ length (spans_of group)) → CountsPaged pool a spans → Steps pool before a b step pool_after after → HasAtMost after.groups b first most
+  pub HasAtMost-Steps : (a b : SpanId) (pool_after : PoolState) (first : ℕ) (step : Outcome)
+      → ((index : ℕ) (group : GroupState) → IsHeadOf before.groups b index group → first ≡ length (spans_of group)) → CountsPaged pool a spans
+      → Steps pool before a b step pool_after after → HasAtMost after.groups b first most
   HasAtMost-Steps a b pool_after first Absent count counts steps = HasAtMost-same b first count steps.2
   HasAtMost-Steps a b pool_after first Emptied count counts steps = HasAtMost-same b first count steps.2
   HasAtMost-Steps a b pool_after first Clash count counts steps = HasAtMost-same b first count steps.2

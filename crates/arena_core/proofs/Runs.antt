@@ -12,7 +12,8 @@ use Rattle.marks.specs.Numbers.{Limits}
 use Rattle.arena_core.specs.Step.{Answers, CoreRun, CoreStep}
 use Rattle.arena_core.proofs.Limits.{limits-CoreRun}
 
-PlainRun-push : (limits : Limits) (old mid new : PlainMap) (steps : List (Event × Reply)) (event : Event) (reply : Reply) → PlainRun limits old steps mid → PlainStep limits mid event reply new → PlainRun limits old (steps ++ (event, reply) ∷ []) new
+PlainRun-push : (limits : Limits) (old mid new : PlainMap) (steps : List (Event × Reply)) (event : Event) (reply : Reply) → PlainRun limits old steps mid
+    → PlainStep limits mid event reply new → PlainRun limits old (steps ++ (event, reply) ∷ []) new
 PlainRun-push limits old mid new [] event reply run step = (new, subst (λ m. PlainStep limits m event reply new) run step, refl)
 PlainRun-push limits old mid new (s ∷ steps) event reply (next, first, rest) step = (next, first, PlainRun-push limits next mid new steps event reply rest step)
 
@@ -23,7 +24,8 @@ added event reply = cond (is_plain event) ((event, reply) ∷ []) []
 PlainRun-stay : (limits : Limits) (old mid new : PlainMap) (steps : List (Event × Reply)) → PlainRun limits old steps mid → new ≡ mid → PlainRun limits old (steps ++ []) new
 PlainRun-stay limits old mid new steps run same = subst (λ s. PlainRun limits old s new) (sym (append-nil steps)) (subst (PlainRun limits old steps) (sym same) run)
 
-PlainRun-added : (limits : Limits) (old mid new : PlainMap) (steps : List (Event × Reply)) (event : Event) (reply : Reply) → PlainRun limits old steps mid → ErasedStep limits mid event reply new → PlainRun limits old (steps ++ added event reply) new
+PlainRun-added : (limits : Limits) (old mid new : PlainMap) (steps : List (Event × Reply)) (event : Event) (reply : Reply) → PlainRun limits old steps mid
+    → ErasedStep limits mid event reply new → PlainRun limits old (steps ++ added event reply) new
 PlainRun-added limits old mid new steps (Put shard value) reply run step = PlainRun-push limits old mid new steps (Put shard value) reply run step
 PlainRun-added limits old mid new steps (Get key) reply run step = PlainRun-push limits old mid new steps (Get key) reply run step
 PlainRun-added limits old mid new steps (Set key value) reply run step = PlainRun-push limits old mid new steps (Set key value) reply run step
@@ -40,14 +42,16 @@ PlainRun-added limits old mid new steps MarkSome reply run step = PlainRun-stay 
 PlainRun-added limits old mid new steps Step reply run step = PlainRun-stay limits old mid new steps run step
 PlainRun-added limits old mid new steps Close reply run step = PlainRun-stay limits old mid new steps run step
 
-erased-push : (events : List Event) (replies : List Reply) (event : Event) (reply : Reply) → length replies ≡ length events → erased (events ++ event ∷ []) (replies ++ reply ∷ []) ≡ erased events replies ++ added event reply
+erased-push : (events : List Event) (replies : List Reply) (event : Event) (reply : Reply) → length replies ≡ length events
+    → erased (events ++ event ∷ []) (replies ++ reply ∷ []) ≡ erased events replies ++ added event reply
 erased-push [] [] event reply each = refl
 erased-push [] (r ∷ replies) event reply each = absurd (omega arith)
 erased-push (e ∷ events) [] event reply each = absurd (omega arith)
 erased-push (e ∷ events) (r ∷ replies) event reply each = by_test (is_plain e) (erased-push events replies event reply (omega arith))
   where
     by_test : (b : Bool) → erased (events ++ event ∷ []) (replies ++ reply ∷ []) ≡ erased events replies ++ added event reply
-        → cond b ((e, r) ∷ erased (events ++ event ∷ []) (replies ++ reply ∷ [])) (erased (events ++ event ∷ []) (replies ++ reply ∷ [])) ≡ cond b ((e, r) ∷ erased events replies) (erased events replies) ++ added event reply
+        → cond b ((e, r) ∷ erased (events ++ event ∷ []) (replies ++ reply ∷ [])) (erased (events ++ event ∷ []) (replies ++ reply ∷ []))
+        ≡ cond b ((e, r) ∷ erased events replies) (erased events replies) ++ added event reply
     by_test true rest = ap (λ s. (e, r) ∷ s) rest
     by_test false rest = rest
 

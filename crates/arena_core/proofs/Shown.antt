@@ -71,7 +71,8 @@ module _ (old new : CoreState) (a b : PlainMap) (has : SpanId → Bool) (local :
         bit-injective _ _ (omega (arith, local.issued other, ap bit kept))
 
     pub shown-put : shown new ≡ with_put (shown old) key value
-    shown-put = same_plain_map _ _ (λ other. put_issued other _ refl) (λ other. value_set value (λ it. ap (λ (m : PlainMap). m.value_of it) puts) other _ refl) (λ worker shard. ap (λ r. pending_at r worker shard) local.rings)
+    shown-put = same_plain_map _ _ (λ other. put_issued other _ refl) (λ other. value_set value (λ it. ap (λ (m : PlainMap). m.value_of it) puts) other _ refl)
+        (λ worker shard. ap (λ r. pending_at r worker shard) local.rings)
 
     pub fresh-put : a.is_issued key ≡ false → (shown old).is_issued key ≡ false
     fresh-put fresh =
@@ -80,7 +81,9 @@ module _ (old new : CoreState) (a b : PlainMap) (has : SpanId → Bool) (local :
         bit-injective _ false (omega (arith, local.issued key, ap bit now, ap bit there, ap bit fresh))
 
   pub shown-set : (value : Value) → b ≡ with_value a key value → shown new ≡ with_value (shown old) key value
-  shown-set value sets = same_plain_map _ _ (issued_still (λ other. ap (λ (m : PlainMap). m.is_issued other) sets)) (λ other. value_set value (λ it. ap (λ (m : PlainMap). m.value_of it) sets) other _ refl) (λ worker shard. ap (λ r. pending_at r worker shard) local.rings)
+  shown-set value sets = same_plain_map _ _ (issued_still (λ other. ap (λ (m : PlainMap). m.is_issued other) sets))
+      (λ other. value_set value (λ it. ap (λ (m : PlainMap). m.value_of it) sets) other _ refl)
+      (λ worker shard. ap (λ r. pending_at r worker shard) local.rings)
 
   module _ (here : has key.span ≡ true) (frees : b ≡ without a key) where
     free_value : (other : Key) (s : Bool) → same_key key other ≡ s → (shown new).value_of other ≡ cond s None ((shown old).value_of other)
@@ -93,7 +96,8 @@ module _ (old new : CoreState) (a b : PlainMap) (has : SpanId → Bool) (local :
         code-injective _ _ (omega (arith, local.value other, ap code kept))
 
     pub shown-free : shown new ≡ without (shown old) key
-    shown-free = same_plain_map _ _ (issued_still (λ other. ap (λ (m : PlainMap). m.is_issued other) frees)) (λ other. free_value other _ refl) (λ worker shard. ap (λ r. pending_at r worker shard) local.rings)
+    shown-free = same_plain_map _ _ (issued_still (λ other. ap (λ (m : PlainMap). m.is_issued other) frees)) (λ other. free_value other _ refl)
+        (λ worker shard. ap (λ r. pending_at r worker shard) local.rings)
 
     -- what the owner showed under the key, the core showed
     pub value-before : (shown old).value_of key ≡ a.value_of key
@@ -127,7 +131,8 @@ pub has_pooled-counted : (id : SpanId) (pool : PoolState) → 1 ≤ times_pooled
 has_pooled-counted id pool some = find-counted (is_named id) (spans_in pool.groups) some
 
 module _ (old new : CoreState) (once : (id : SpanId) → times id old ≤ 1) (once_new : (id : SpanId) → times id new ≤ 1) where
-  pub IsLocal-shard : (number : ℕ) (before after : ShardState) → slice_get old.shards number ≡ Some before → new ≡ with_shard old number after → IsLocal old new (shown_by before) (shown_by after) (λ id. has_span id after)
+  pub IsLocal-shard : (number : ℕ) (before after : ShardState) → slice_get old.shards number ≡ Some before → new ≡ with_shard old number after
+      → IsLocal old new (shown_by before) (shown_by after) (λ id. has_span id after)
   IsLocal-shard number before after here is = record {
     rings = ap (λ (c : CoreState). c.rings) is;
     alike = λ x y same. ap is_some (find-same x y (spans_in after.groups) same);

@@ -20,7 +20,8 @@ module _ {F : Type 0} (T : F → ℕ → ℕ → Bool → ℕ → F → Type 0) 
     (says : (key number : ℕ) (b : Bool) (left : ℕ) (f' : F) → T f key number b left f' → TellsStanding shards key number b × (left ≡ number) × (f' ≡ f))
     (id : SpanId) (number : ℕ) where
   -- an entry whose span stands there stays
-  pub lookup-kept : (entries kept : List (ℕ × ℕ)) → RetainsPairs T f entries kept → lookup (nat_eq (rank id)) entries ≡ Some number → StandsIn shards id number → lookup (nat_eq (rank id)) kept ≡ Some number
+  pub lookup-kept : (entries kept : List (ℕ × ℕ)) → RetainsPairs T f entries kept → lookup (nat_eq (rank id)) entries ≡ Some number → StandsIn shards id number
+      → lookup (nat_eq (rank id)) kept ≡ Some number
   lookup-kept [] kept retains found stands = absurd cc
   lookup-kept ((key, value) ∷ entries) kept (b, left, f', rest, called, retains, is) found stands =
       let met = says key value b left f' called in
@@ -28,7 +29,8 @@ module _ {F : Type 0} (T : F → ℕ → ℕ → Bool → ℕ → F → Type 0) 
       ∙ by_test (nat_eq (rank id) key) refl found met.0 met.1 (lookup-kept entries rest (subst (λ g. RetainsPairs T g entries rest) met.2 retains))
     where
       by_test : (t : Bool) → nat_eq (rank id) key ≡ t → cond t (Some value) (lookup (nat_eq (rank id)) entries) ≡ Some number → TellsStanding shards key value b → left ≡ value
-          → (lookup (nat_eq (rank id)) entries ≡ Some number → StandsIn shards id number → lookup (nat_eq (rank id)) rest ≡ Some number) → lookup (nat_eq (rank id)) (cond b ((key, left) ∷ rest) rest) ≡ Some number
+          → (lookup (nat_eq (rank id)) entries ≡ Some number → StandsIn shards id number → lookup (nat_eq (rank id)) rest ≡ Some number)
+          → lookup (nat_eq (rank id)) (cond b ((key, left) ∷ rest) rest) ≡ Some number
       by_test true here there tells same later =
           let on : b ≡ true = (tells.stands id (eqb-true (rank id) key here)).1 (subst (StandsIn shards id) (sym (same_some there)) stands) in
           ap (λ c. lookup (nat_eq (rank id)) (cond c ((key, left) ∷ rest) rest)) on ∙ ap (λ t. cond t (Some left) (lookup (nat_eq (rank id)) rest)) here ∙ ap Some same ∙ there
@@ -73,7 +75,8 @@ id-of_rank id number shard serial made is shard_is serial_is in_range parts = by
     its_serial : serial ≡ id.serial
     its_serial = serial_is ∙ ap (λ n. n % MOST_SPANS) turned ∙ mod-mul-add id.shard MOST_SPANS id.serial id.serial_in_range
 
-    by_made : (made : Option SpanId) → (IsSome made ↔ ((shard < MOST_SHARDS) × (serial < MOST_SPANS))) → IfSome made (λ (other : SpanId). (other.shard ≡ shard) × (other.serial ≡ serial)) → made ≡ Some id
+    by_made : (made : Option SpanId) → (IsSome made ↔ ((shard < MOST_SHARDS) × (serial < MOST_SPANS)))
+        → IfSome made (λ (other : SpanId). (other.shard ≡ shard) × (other.serial ≡ serial)) → made ≡ Some id
     by_made None in_range parts =
         absurd (let no = in_range.1 (subst (λ n. n < MOST_SHARDS) (sym its_shard) id.shard_in_range, subst (λ n. n < MOST_SPANS) (sym its_serial) id.serial_in_range) in cc)
     by_made (Some other) in_range parts = ap Some (same_id other id (parts.0 ∙ its_shard) (parts.1 ∙ its_serial))
@@ -94,7 +97,8 @@ has_span-told shard id told is = by_cases told (has_span id shard) refl is.0 is.
 pub TellsStanding-none : (shards : List ShardState) (place number : ℕ) → ((id : SpanId) → rank id ≡ place → StandsIn shards id number → ⊥) → TellsStanding shards place number false
 TellsStanding-none shards place number none = record { stands = λ id is. ((λ told. absurd cc), (λ there. absurd (none id is there))) }
 
-pub TellsStanding-found : (shards : List ShardState) (place number : ℕ) (shard : ShardState) → slice_get shards number ≡ Some shard → (found : SpanId) → ((id : SpanId) → rank id ≡ place → Some found ≡ Some id)
+pub TellsStanding-found : (shards : List ShardState) (place number : ℕ) (shard : ShardState) → slice_get shards number ≡ Some shard → (found : SpanId)
+    → ((id : SpanId) → rank id ≡ place → Some found ≡ Some id)
     → (told : Bool) → told ≡ has_span found shard → TellsStanding shards place number told
 TellsStanding-found shards place number shard here found only told has = record {
   stands = λ id is.

@@ -39,7 +39,8 @@ opened_by-new limits [] number = refl
 opened_by-new limits (first ∷ numbers) zero = refl
 opened_by-new limits (first ∷ numbers) (suc number) = opened_by-new limits numbers number
 
-pub slice_get-range : (limits : Limits) (from count number : ℕ) (shard : ShardState) → slice_get (map (new_shard limits.page_limit limits.span_limit limits.gens) (range_with_len from count)) number ≡ Some shard
+pub slice_get-range : (limits : Limits) (from count number : ℕ) (shard : ShardState)
+    → slice_get (map (new_shard limits.page_limit limits.span_limit limits.gens) (range_with_len from count)) number ≡ Some shard
     → (number < count) × (new_shard limits.page_limit limits.span_limit limits.gens (from + number) ≡ shard)
 slice_get-range limits from zero number shard here = absurd cc
 slice_get-range limits from (suc count) zero shard here =
@@ -49,7 +50,9 @@ slice_get-range limits from (suc count) (suc number) shard here =
     let rest : (number < count) × (new_shard limits.page_limit limits.span_limit limits.gens (from + 1 + number) ≡ shard) = slice_get-range limits (from + 1) count number shard here in
     (omega arith, ap (new_shard limits.page_limit limits.span_limit limits.gens) (omega arith) ∙ rest.1)
 
-pub HasSoundGroups-new_core : (limits : Limits) → AreWithin limits → ((number : ℕ) → number < limits.shards → IsSoundShard (new_shard limits.page_limit limits.span_limit limits.gens number)) → HasSoundGroups (new_core limits)
+pub HasSoundGroups-new_core : (limits : Limits) → AreWithin limits
+    → ((number : ℕ) → number < limits.shards → IsSoundShard (new_shard limits.page_limit limits.span_limit limits.gens number))
+    → HasSoundGroups (new_core limits)
 HasSoundGroups-new_core limits within each = record {
   within = within;
   count = length-map-range_with_len (new_shard limits.page_limit limits.span_limit limits.gens) 0 limits.shards;
@@ -68,20 +71,50 @@ HasSoundGroups-new_core limits within each = record {
 
 pub shown-new_core : (limits : Limits) → shown (new_core limits) ≡ empty_map
 shown-new_core limits =
-    same_plain_map _ _ (λ key. ap (λ o. (shown_at new_pool o).is_issued key) (nowhere key.span)) (λ key. ap (λ o. (shown_at new_pool o).value_of key) (nowhere key.span)) (λ worker shard. pending_at-new limits.shards limits.ring_capacity worker shard)
+    same_plain_map _ _ (λ key. ap (λ o. (shown_at new_pool o).is_issued key) (nowhere key.span))
+    (λ key. ap (λ o. (shown_at new_pool o).value_of key) (nowhere key.span))
+    (λ worker shard. pending_at-new limits.shards limits.ring_capacity worker shard)
   where
     nowhere : (id : SpanId) → shard_with (new_core limits).shards id ≡ None
     nowhere id = shard_with-nowhere id (new_core limits).shards (sum-new (named id) limits (range_with_len 0 limits.shards))
 
 abbrev with_count : Limits → ℕ → List ShardState → CoreState
-with_count limits count shards = record { limits = record limits { shards = count }; shards = shards; pool = new_pool; plan = None; rings = new_rings limits.shards limits.ring_capacity; forgotten = [] }
+with_count limits count shards = record {
+  limits = record limits { shards = count };
+  shards = shards;
+  pool = new_pool;
+  plan = None;
+  rings = new_rings limits.shards limits.ring_capacity;
+  forgotten = [];
+}
 
 -- the fields of a new core show as the new core
 pub new_core-fields : (limits : Limits) (pages spans capacity gens : ℕ) (shards : List ShardState) (pool : PoolState) (plan : Option OpenPlan) (rings : List (List RingState)) (gone : List SpanState)
-    → pages ≡ limits.page_limit → spans ≡ limits.span_limit → capacity ≡ limits.ring_capacity → gens ≡ limits.gens → shards ≡ (new_core limits).shards → pool ≡ new_pool → plan ≡ None → rings ≡ (new_core limits).rings → gone ≡ []
-    → ◌≡◌ {A = CoreState} (record { limits = record { shards = length shards; page_limit = pages; span_limit = spans; ring_capacity = capacity; gens = gens }; shards = shards; pool = pool; plan = plan; rings = rings; forgotten = gone }) (new_core limits)
+    → pages ≡ limits.page_limit → spans ≡ limits.span_limit → capacity ≡ limits.ring_capacity → gens ≡ limits.gens → shards ≡ (new_core limits).shards
+    → pool ≡ new_pool → plan ≡ None → rings ≡ (new_core limits).rings → gone ≡ []
+    → ◌≡◌ {A = CoreState} (record {
+      limits = record { shards = length shards; page_limit = pages; span_limit = spans; ring_capacity = capacity; gens = gens };
+      shards = shards;
+      pool = pool;
+      plan = plan;
+      rings = rings;
+      forgotten = gone;
+    }) (new_core limits)
 new_core-fields limits pages spans capacity gens shards pool plan rings gone pages_are spans_are capacity_is gens_are are empty no_plan rings_are none_gone =
-    (λ i. record { limits = record { shards = length shards; page_limit = pages_are i; span_limit = spans_are i; ring_capacity = capacity_is i; gens = gens_are i }; shards = shards; pool = empty i; plan = no_plan i; rings = rings_are i; forgotten = none_gone i })
+    (λ i. record {
+      limits = record {
+        shards = length shards;
+        page_limit = pages_are i;
+        span_limit = spans_are i;
+        ring_capacity = capacity_is i;
+        gens = gens_are i;
+      };
+      shards = shards;
+      pool = empty i;
+      plan = no_plan i;
+      rings = rings_are i;
+      forgotten = none_gone i;
+    })
     ∙ ap (λ all. with_count limits (length all) all) are
     ∙ ap (λ n. with_count limits n (new_core limits).shards) (length-map-range_with_len (new_shard limits.page_limit limits.span_limit limits.gens) 0 limits.shards)
 

@@ -39,7 +39,8 @@ use Rattle.arena_core.proofs.Steps.{has_span-here, not_doubled_in, with_shard-sa
 
 -- a fold as a move of spans from the pool to the shard
 
-pub IsMove-Folds : (pool_before pool_after : PoolState) (before after : ShardState) (a b : SpanId) → before.ended ≡ false → Folds pool_before before a b pool_after after → IsMove before after pool_before pool_after
+pub IsMove-Folds : (pool_before pool_after : PoolState) (before after : ShardState) (a b : SpanId) → before.ended ≡ false
+    → Folds pool_before before a b pool_after after → IsMove before after pool_before pool_after
 IsMove-Folds pool_before pool_after before after a b running folds = record {
   number_is = number-Folds pool_before before a b pool_after after folds;
   page_limit_is = page_limit-Folds pool_before before a b pool_after after folds;
@@ -50,7 +51,8 @@ IsMove-Folds pool_before pool_after before after a b running folds = record {
   sums = sum_by-Folds pool_before before a b pool_after after folds;
 }
 
-IsFold-Folds : (old : CoreState) (pair : SpanId × SpanId) (number : ℕ) (before after : ShardState) (pool : PoolState) → slice_get old.shards number ≡ Some before → Folds old.pool before pair.0 pair.1 pool after → IsFold old pair number after pool
+IsFold-Folds : (old : CoreState) (pair : SpanId × SpanId) (number : ℕ) (before after : ShardState) (pool : PoolState)
+    → slice_get old.shards number ≡ Some before → Folds old.pool before pair.0 pair.1 pool after → IsFold old pair number after pool
 IsFold-Folds old pair number before after pool here folds =
     let (index, group, head_of, whole_is, after_is) = folds.lifts in
     record {
@@ -90,8 +92,10 @@ module _ (old : CoreState) (sound : IsSound old) (plan : OpenPlan) (pair : SpanI
     same_shard =
         let there = waits.is_owned in
         let fine = sound.groups.shards there.number there.shard there.shard_is in
-        let has_there = has_span-here there.shard pair.1 there.index 0 waits.owned waits.owned.head fine.sound (record { group_is = there.head_of.here; span_is = refl; id_is = there.head_of.head_is }) in
-        same_some (sym (shard_with-here pair.1 old.shards there.number there.shard there.shard_is has_there owned_once_at_most) ∙ shard_with-here pair.1 old.shards number before here has owned_once_at_most)
+        let has_there = has_span-here there.shard pair.1 there.index 0 waits.owned waits.owned.head fine.sound
+        (record { group_is = there.head_of.here; span_is = refl; id_is = there.head_of.head_is }) in
+        same_some (sym (shard_with-here pair.1 old.shards there.number there.shard there.shard_is has_there owned_once_at_most)
+        ∙ shard_with-here pair.1 old.shards number before here has owned_once_at_most)
 
     owned_here : IsHeadOf before.groups pair.1 waits.is_owned.index waits.owned
     owned_here = subst (λ (s : ShardState). IsHeadOf s.groups pair.1 waits.is_owned.index waits.owned) same_shard waits.is_owned.head_of
@@ -113,7 +117,8 @@ module _ (old : CoreState) (sound : IsSound old) (plan : OpenPlan) (pair : SpanI
 
     no_clash : fold.AreClashing old.pool before pair.0 pair.1 → ⊥
     no_clash (index, place, group, onto, head_a, head_b, clash) =
-        let one_a : waits.abandoned ≡ group = one_head old.pool sound.groups.pool waits.is_abandoned.index index waits.abandoned group waits.is_abandoned.head_of.here head_a.here (waits.is_abandoned.head_of.head_is ∙ sym head_a.head_is) in
+        let one_a : waits.abandoned ≡ group = one_head old.pool sound.groups.pool waits.is_abandoned.index index waits.abandoned group
+        waits.is_abandoned.head_of.here head_a.here (waits.is_abandoned.head_of.head_is ∙ sym head_a.head_is) in
         let one_b : waits.owned ≡ onto = same_group before.groups sound_before.ascending pair.1 waits.is_owned.index place waits.owned onto owned_here head_b in
         elim clash [
           | inl two_classes ↦ two_classes (ap (λ (g : GroupState). g.head.class) (sym one_b) ∙ sym waits.class_is ∙ ap (λ (g : PooledState). g.head.class) one_a)
@@ -122,7 +127,8 @@ module _ (old : CoreState) (sound : IsSound old) (plan : OpenPlan) (pair : SpanI
               (disjoint_swap (union_of (spans_of waits.abandoned)) (occupied waits.owned) waits.apart)))
         ]
 
-    page_goes : (after : ShardState) (pool : PoolState) → Folds old.pool before pair.0 pair.1 pool after → pages (with_plan (with_pool (with_shard old number after) pool) (Some (with_next_done plan))) + 1 ≡ pages old
+    page_goes : (after : ShardState) (pool : PoolState) → Folds old.pool before pair.0 pair.1 pool after
+        → pages (with_plan (with_pool (with_shard old number after) pool) (Some (with_next_done plan))) + 1 ≡ pages old
     page_goes after pool folds = omega (
       arith,
       sum_by-set_at (λ (s : ShardState). length (paged_in s.groups)) old.shards number before after here,
@@ -157,7 +163,15 @@ module _ (old : CoreState) (sound : IsSound old) (plan : OpenPlan) (pair : SpanI
     emptied : IsEmptyInPool old pair → IsSoundStep old Step (Stepped pair.0 pair.1 Emptied) (with_plan old (Some (with_next_done plan)))
     emptied empty = record {
       kept = record {
-        groups = record { within = sound.groups.within; count = sound.groups.count; shards = sound.groups.shards; pool = sound.groups.pool; gens = sound.groups.gens; once = sound.groups.once; forgotten = sound.groups.forgotten };
+        groups = record {
+          within = sound.groups.within;
+          count = sound.groups.count;
+          shards = sound.groups.shards;
+          pool = sound.groups.pool;
+          gens = sound.groups.gens;
+          once = sound.groups.once;
+          forgotten = sound.groups.forgotten;
+        };
         plan = record {
           told = sound.plan.told ∙ ap is_some next.plan_is;
           closed = subst (λ p. AreAllClosedAsPlanned p old.shards) next.plan_is sound.plan.closed;

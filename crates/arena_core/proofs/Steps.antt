@@ -52,7 +52,8 @@ pub record IsStep (old : CoreState) (event : Event) (answer : Reply) (new : Core
 -- where a span stands
 
 -- a span that stands in the shard
-pub has_span-here : (shard : ShardState) (id : SpanId) (index place : ℕ) (group : GroupState) (span : SpanState) → IsSoundShard shard → IsHere shard.groups id index place group span → has_span id shard ≡ true
+pub has_span-here : (shard : ShardState) (id : SpanId) (index place : ℕ) (group : GroupState) (span : SpanState) → IsSoundShard shard
+    → IsHere shard.groups id index place group span → has_span id shard ≡ true
 has_span-here shard id index place group span sound here = ap is_some (span_named-here shard.groups sound.groups sound.once id index place group span here)
 
 -- a span that does not stand there
@@ -82,7 +83,8 @@ module _ (core : CoreState) (sound : HasSoundGroups core) where
   owned-once id = omega (arith, times-parts id core, at_most_once core sound id)
 
   -- the shard that has the key's span answers for the key
-  pub value-shard : (key : Key) (number : ℕ) (shard : ShardState) → slice_get core.shards number ≡ Some shard → has_span key.span shard ≡ true → (shown core).value_of key ≡ (shown_by shard).value_of key
+  pub value-shard : (key : Key) (number : ℕ) (shard : ShardState) → slice_get core.shards number ≡ Some shard → has_span key.span shard ≡ true
+      → (shown core).value_of key ≡ (shown_by shard).value_of key
   value-shard key number shard here has = ap (λ o. (shown_at core.pool o).value_of key) (shard_with-here key.span core.shards number shard here has (owned-once key.span))
 
   -- a span of a shard that the core does not have was never opened
@@ -100,7 +102,8 @@ module _ (core : CoreState) (sound : HasSoundGroups core) where
       omega (arith, pooled-somewhere core.pool span.id some, times_in-le span.id core.shards number shard here, times-parts span.id core, at_most_once core sound span.id)
 
   -- a span of a group of the pool is in no shard, and none may yet open it
-  pub not_doubled_in : (number : ℕ) (shard : ShardState) → slice_get core.shards number ≡ Some shard → shard.ended ≡ false → (index : ℕ) (group : PooledState) → slice_get core.pool.groups index ≡ Some group → HasDoubled shard (spans_of group) → ⊥
+  pub not_doubled_in : (number : ℕ) (shard : ShardState) → slice_get core.shards number ≡ Some shard → shard.ended ≡ false → (index : ℕ) (group : PooledState)
+      → slice_get core.pool.groups index ≡ Some group → HasDoubled shard (spans_of group) → ⊥
   not_doubled_in number shard here running index group at (place, span, there, either) =
       let pooled : 1 ≤ times_pooled span.id core.pool = pooled-somewhere core.pool span.id (λ elsewhere. elsewhere index group at place (span, there, refl)) in
       let one : 1 ≤ times_in span.id shard = by_case pooled either in
@@ -120,7 +123,8 @@ module _ (core : CoreState) (sound : HasSoundGroups core) where
 
 -- puts
 
-pub IsStep-Puts : (old : CoreState) (number : ℕ) (value : Value) (key : Key) (at : ℕ) (before after : ShardState) → HasSoundGroups old → slice_get old.shards number ≡ Some before → Puts before (class_of value) value key at after
+pub IsStep-Puts : (old : CoreState) (number : ℕ) (value : Value) (key : Key) (at : ℕ) (before after : ShardState) → HasSoundGroups old
+    → slice_get old.shards number ≡ Some before → Puts before (class_of value) value key at after
     → (shown_by before).is_issued key ≡ false → shown_by after ≡ with_put (shown_by before) key value → IsSoundShard after
     → IsStep old (Put number value) (reply.Issued key) (with_shard old number after)
 IsStep-Puts old number value key at before after sound here puts fresh plain sound_after =
@@ -130,7 +134,10 @@ IsStep-Puts old number value key at before after sound here puts fresh plain sou
     record {
       kept = sound_new;
       exact = record { before = before; after = after; at = at; here = here; puts = puts; rest = refl };
-      plain = (fresh-put old (with_shard old number after) (shown_by before) (shown_by after) (λ id. has_span id after) local key value plain fresh, shown-put old (with_shard old number after) (shown_by before) (shown_by after) (λ id. has_span id after) local key value plain);
+      plain = (
+        fresh-put old (with_shard old number after) (shown_by before) (shown_by after) (λ id. has_span id after) local key value plain fresh,
+        shown-put old (with_shard old number after) (shown_by before) (shown_by after) (λ id. has_span id after) local key value plain,
+      );
     }
 
 -- a put that its shard refuses
@@ -166,7 +173,8 @@ pub IsStep-unset : (old : CoreState) (key : Key) (value : Value) → HasSoundGro
 IsStep-unset old key value sound never = record { kept = sound; exact = (never, refl); plain = (never, refl) }
 
 -- the shard that has the key's span decides whether the key may be set
-pub may_set-shard : (old : CoreState) → HasSoundGroups old → (key : Key) (value : Value) (number : ℕ) (shard : ShardState) → slice_get old.shards number ≡ Some shard → has_span key.span shard ≡ true → may_set (shown old) key value ≡ may_set (shown_by shard) key value
+pub may_set-shard : (old : CoreState) → HasSoundGroups old → (key : Key) (value : Value) (number : ℕ) (shard : ShardState)
+    → slice_get old.shards number ≡ Some shard → has_span key.span shard ≡ true → may_set (shown old) key value ≡ may_set (shown_by shard) key value
 may_set-shard old sound key value number shard here has = ap (has_as_many value) (value-shard old sound key number shard here has)
 
 -- a shard without the span shows no key that may be set
@@ -177,13 +185,15 @@ has_span-may_set shard key value may = by_test (has_span key.span shard) refl
     by_test true e = refl
     by_test false e = absurd (let never : false ≡ true = sym (ap (has_as_many value) (value-missed shard key (times_in-missed key.span shard e))) ∙ may in cc)
 
-IsStep-unset_in : (old : CoreState) (key : Key) (value : Value) (number : ℕ) (before after : ShardState) → HasSoundGroups old → slice_get old.shards number ≡ Some before → has_span key.span before ≡ true → false ≡ may_set (shown_by before) key value → after ≡ before
+IsStep-unset_in : (old : CoreState) (key : Key) (value : Value) (number : ℕ) (before after : ShardState) → HasSoundGroups old
+    → slice_get old.shards number ≡ Some before → has_span key.span before ≡ true → false ≡ may_set (shown_by before) key value → after ≡ before
     → IsStep old (Set key value) (reply.Replaced false) (with_shard old number after)
 IsStep-unset_in old key value number before after sound here has found same =
     subst (IsStep old (Set key value) (reply.Replaced false)) (sym (with_shard-same old number before after here same))
     (IsStep-unset old key value sound (may_set-shard old sound key value number before here has ∙ sym found))
 
-pub IsStep-Sets : (old : CoreState) (key : Key) (value : Value) (number : ℕ) (before after : ShardState) (answer : Replaced) → HasSoundGroups old → slice_get old.shards number ≡ Some before → has_span key.span before ≡ true → Sets before key value answer after
+pub IsStep-Sets : (old : CoreState) (key : Key) (value : Value) (number : ℕ) (before after : ShardState) (answer : Replaced) → HasSoundGroups old
+    → slice_get old.shards number ≡ Some before → has_span key.span before ≡ true → Sets before key value answer after
     → was_replaced answer ≡ may_set (shown_by before) key value → shown_by after ≡ cond (was_replaced answer) (with_value (shown_by before) key value) (shown_by before) → IsSoundShard after
     → IsStep old (Set key value) (reply.Replaced (was_replaced answer)) (with_shard old number after)
 IsStep-Sets old key value number before after (replaced.Yes at) sound here has sets found plain sound_after =
@@ -200,15 +210,18 @@ IsStep-Sets old key value number before after (replaced.No at) sound here has (i
     IsStep-unset_in old key value number before after sound here has found same
 IsStep-Sets old key value number before after replaced.NotHere sound here has sets found plain sound_after = IsStep-unset_in old key value number before after sound here has found sets.1
 
-IsStep-unset_pooled : (old : CoreState) (key : Key) (value : Value) (pool : PoolState) → HasSoundGroups old → (shown old).value_of key ≡ (shown_by_pool old.pool).value_of key → false ≡ may_set (shown_by_pool old.pool) key value → pool ≡ old.pool
+IsStep-unset_pooled : (old : CoreState) (key : Key) (value : Value) (pool : PoolState) → HasSoundGroups old
+    → (shown old).value_of key ≡ (shown_by_pool old.pool).value_of key → false ≡ may_set (shown_by_pool old.pool) key value → pool ≡ old.pool
     → IsStep old (Set key value) (reply.Replaced false) (with_pool old pool)
 IsStep-unset_pooled old key value pool sound pooled found same =
     subst (IsStep old (Set key value) (reply.Replaced false)) (sym (with_pool-same old pool same))
     (IsStep-unset old key value sound (ap (has_as_many value) pooled ∙ sym found))
 
 -- a set that the pool answers, where the core shows under the key what the pool shows
-pub IsStep-SetsPooled : (old : CoreState) (key : Key) (value : Value) (pool : PoolState) (answer : Replaced) → HasSoundGroups old → (shown old).value_of key ≡ (shown_by_pool old.pool).value_of key → SetsPooled old.pool key value answer pool
-    → was_replaced answer ≡ may_set (shown_by_pool old.pool) key value → shown_by_pool pool ≡ cond (was_replaced answer) (with_value (shown_by_pool old.pool) key value) (shown_by_pool old.pool) → IsSoundPool pool
+pub IsStep-SetsPooled : (old : CoreState) (key : Key) (value : Value) (pool : PoolState) (answer : Replaced) → HasSoundGroups old
+    → (shown old).value_of key ≡ (shown_by_pool old.pool).value_of key → SetsPooled old.pool key value answer pool
+    → was_replaced answer ≡ may_set (shown_by_pool old.pool) key value
+    → shown_by_pool pool ≡ cond (was_replaced answer) (with_value (shown_by_pool old.pool) key value) (shown_by_pool old.pool) → IsSoundPool pool
     → IsStep old (Set key value) (reply.Replaced (was_replaced answer)) (with_pool old pool)
 IsStep-SetsPooled old key value pool (replaced.Yes at) sound pooled sets found plain sound_pool =
     let call = IsPoolCall-ChangesPooled old.pool pool (ChangesPooled-Sets old.pool pool key value at sound.pool sets) in
@@ -220,7 +233,8 @@ IsStep-SetsPooled old key value pool (replaced.Yes at) sound pooled sets found p
       exact = inr (record { after = pool; at = at; sets = sets; rest = refl });
       plain = (ap (has_as_many value) pooled ∙ sym found, shown-set old new (shown_by_pool old.pool) (shown_by_pool pool) (λ id. has_pooled id pool) local key value plain);
     }
-IsStep-SetsPooled old key value pool (replaced.No at) sound pooled (index, place, group, span, there, unfit, at_is, same) found plain sound_pool = IsStep-unset_pooled old key value pool sound pooled found same
+IsStep-SetsPooled old key value pool (replaced.No at) sound pooled
+    (index, place, group, span, there, unfit, at_is, same) found plain sound_pool = IsStep-unset_pooled old key value pool sound pooled found same
 IsStep-SetsPooled old key value pool replaced.NotHere sound pooled sets found plain sound_pool = IsStep-unset_pooled old key value pool sound pooled found sets.1
 
 -- frees
@@ -229,13 +243,15 @@ IsStep-SetsPooled old key value pool replaced.NotHere sound pooled sets found pl
 pub IsStep-dead : (old : CoreState) (key : Key) → HasSoundGroups old → (shown old).value_of key ≡ None → IsStep old (Free key) (reply.Freed false) old
 IsStep-dead old key sound none = record { kept = sound; exact = (none, refl); plain = (none, refl) }
 
-IsStep-unfreed : (old : CoreState) (key : Key) (number : ℕ) (before after : ShardState) → HasSoundGroups old → slice_get old.shards number ≡ Some before → has_span key.span before ≡ true → false ≡ is_some ((shown_by before).value_of key) → after ≡ before
+IsStep-unfreed : (old : CoreState) (key : Key) (number : ℕ) (before after : ShardState) → HasSoundGroups old → slice_get old.shards number ≡ Some before
+    → has_span key.span before ≡ true → false ≡ is_some ((shown_by before).value_of key) → after ≡ before
     → IsStep old (Free key) (reply.Freed false) (with_shard old number after)
 IsStep-unfreed old key number before after sound here has found same =
     subst (IsStep old (Free key) (reply.Freed false)) (sym (with_shard-same old number before after here same))
     (IsStep-dead old key sound (value-shard old sound key number before here has ∙ None-if_not_some _ (sym found)))
 
-pub IsStep-Frees : (old : CoreState) (key : Key) (number : ℕ) (before after : ShardState) (answer : Freed) → HasSoundGroups old → slice_get old.shards number ≡ Some before → has_span key.span before ≡ true → Frees before key answer after
+pub IsStep-Frees : (old : CoreState) (key : Key) (number : ℕ) (before after : ShardState) (answer : Freed) → HasSoundGroups old
+    → slice_get old.shards number ≡ Some before → has_span key.span before ≡ true → Frees before key answer after
     → was_freed answer ≡ is_some ((shown_by before).value_of key) → shown_by after ≡ cond (was_freed answer) (without (shown_by before) key) (shown_by before) → IsSoundShard after
     → IsStep old (Free key) (reply.Freed (was_freed answer)) (with_shard old number after)
 IsStep-Frees old key number before after (freed.Yes at) sound here has frees found plain sound_after =
@@ -247,20 +263,26 @@ IsStep-Frees old key number before after (freed.Yes at) sound here has frees fou
     record {
       kept = sound_new;
       exact = inl (record { number = number; before = before; after = after; at = at; here = here; frees = frees; rest = refl });
-      plain = (ap is_some (value-before old new (shown_by before) (shown_by after) (λ id. has_span id after) local key still plain) ∙ sym found, shown-free old new (shown_by before) (shown_by after) (λ id. has_span id after) local key still plain);
+      plain = (
+        ap is_some (value-before old new (shown_by before) (shown_by after) (λ id. has_span id after) local key still plain) ∙ sym found,
+        shown-free old new (shown_by before) (shown_by after) (λ id. has_span id after) local key still plain,
+      );
     }
 IsStep-Frees old key number before after (freed.No at) sound here has (index, place, group, span, there, dead, at_is, same) found plain sound_after =
     IsStep-unfreed old key number before after sound here has found same
 IsStep-Frees old key number before after freed.NotHere sound here has frees found plain sound_after = IsStep-unfreed old key number before after sound here has found frees.1
 
-IsStep-unfreed_pooled : (old : CoreState) (key : Key) (pool : PoolState) → HasSoundGroups old → (shown old).value_of key ≡ (shown_by_pool old.pool).value_of key → false ≡ is_some ((shown_by_pool old.pool).value_of key) → pool ≡ old.pool → IsStep old (Free key) (reply.Freed false) (with_pool old pool)
+IsStep-unfreed_pooled : (old : CoreState) (key : Key) (pool : PoolState) → HasSoundGroups old → (shown old).value_of key ≡ (shown_by_pool old.pool).value_of key
+    → false ≡ is_some ((shown_by_pool old.pool).value_of key) → pool ≡ old.pool → IsStep old (Free key) (reply.Freed false) (with_pool old pool)
 IsStep-unfreed_pooled old key pool sound pooled found same =
     subst (IsStep old (Free key) (reply.Freed false)) (sym (with_pool-same old pool same))
     (IsStep-dead old key sound (pooled ∙ None-if_not_some _ (sym found)))
 
 -- a free that the pool answers, where the core shows under the key what the pool shows
-pub IsStep-FreesPooled : (old : CoreState) (key : Key) (pool : PoolState) (answer : Freed) → HasSoundGroups old → (shown old).value_of key ≡ (shown_by_pool old.pool).value_of key → FreesPooled old.pool key answer pool
-    → was_freed answer ≡ is_some ((shown_by_pool old.pool).value_of key) → shown_by_pool pool ≡ cond (was_freed answer) (without (shown_by_pool old.pool) key) (shown_by_pool old.pool) → IsSoundPool pool
+pub IsStep-FreesPooled : (old : CoreState) (key : Key) (pool : PoolState) (answer : Freed) → HasSoundGroups old
+    → (shown old).value_of key ≡ (shown_by_pool old.pool).value_of key → FreesPooled old.pool key answer pool
+    → was_freed answer ≡ is_some ((shown_by_pool old.pool).value_of key)
+    → shown_by_pool pool ≡ cond (was_freed answer) (without (shown_by_pool old.pool) key) (shown_by_pool old.pool) → IsSoundPool pool
     → IsStep old (Free key) (reply.Freed (was_freed answer)) (with_pool old pool)
 IsStep-FreesPooled old key pool (freed.Yes at) sound pooled frees found plain sound_pool =
     let (index, place, group, span, there, holds, at_is, leaves) = frees in

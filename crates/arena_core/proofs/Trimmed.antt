@@ -68,14 +68,16 @@ pub KeepsClosed-Trims : (before after : ShardState) (count : ℕ) → Trims befo
 KeepsClosed-Trims before after count trims index group here closed =
     (index, group, ap (λ (s : ShardState). slice_get s.groups index) trims.after ∙ slice_get-map_at trimmed before.groups index group here ∙ ap Some (trimmed-closed group closed), IsFewer-same group)
 
-pub AreClosedAsPlanned-Trims : (plan : Option OpenPlan) (before after : ShardState) (count : ℕ) → Trims before count after → AreClosedAsPlanned plan before.groups → AreClosedAsPlanned plan after.groups
+pub AreClosedAsPlanned-Trims : (plan : Option OpenPlan) (before after : ShardState) (count : ℕ) → Trims before count after
+    → AreClosedAsPlanned plan before.groups → AreClosedAsPlanned plan after.groups
 AreClosedAsPlanned-Trims plan before after count trims all index now there =
     let (was, here, is) = map_back trimmed before.groups index now (ap (λ (s : ShardState). slice_get s.groups index) (sym trims.after) ∙ there) in
     ap (λ (g : GroupState). g.closed) (sym is) ∙ trimmed-field (λ (g : GroupState). g.closed) was refl ∙ all index was here
     ∙ ap (is_planned plan) (sym (trimmed-field (λ (g : GroupState). g.head.id) was refl) ∙ ap (λ (g : GroupState). g.head.id) is)
 
 -- the step, whatever plan is open
-pub IsStep-Trims : (old : CoreState) (number count : ℕ) (before after : ShardState) → HasSoundGroups old → slice_get old.shards number ≡ Some before → Trims before count after → shown_by after ≡ shown_by before → IsSoundShard after
+pub IsStep-Trims : (old : CoreState) (number count : ℕ) (before after : ShardState) → HasSoundGroups old → slice_get old.shards number ≡ Some before
+    → Trims before count after → shown_by after ≡ shown_by before → IsSoundShard after
     → IsStep old (Trim number) (reply.Trimmed count) (with_shard old number after)
 IsStep-Trims old number count before after sound here trims plain sound_after =
     let new = with_shard old number after in

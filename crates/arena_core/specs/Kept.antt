@@ -7,7 +7,20 @@ use Rattle.arena_core.specs.State.{CoreState}
 
 -- what contracts see of the fields
 abbrev pub state_of : {L : Type 0} → Inside L → CoreState
-state_of c = record { limits = record { shards = length c.shards.items; page_limit = c.page_limit; span_limit = c.span_limit; ring_capacity = c.ring_capacity; gens = c.gens }; shards = c.shards.items; pool = c.pool; plan = c.plan; rings = c.rings; forgotten = c.forgotten.spans }
+state_of c = record {
+  limits = record {
+    shards = length c.shards.items;
+    page_limit = c.page_limit;
+    span_limit = c.span_limit;
+    ring_capacity = c.ring_capacity;
+    gens = c.gens;
+  };
+  shards = c.shards.items;
+  pool = c.pool;
+  plan = c.plan;
+  rings = c.rings;
+  forgotten = c.forgotten.spans;
+}
 
 pub record IsKept {L : Type 0} (c : Inside L) : Type 0 where
   pub sound : IsSound (state_of c)

@@ -33,11 +33,13 @@ PlainStep limits old (Set key value) (Replaced false) new = (may_set old key val
 PlainStep limits old (Set key value) (Refused OutOfMemory) new = (may_set old key value ≡ true) × (new ≡ old)
 PlainStep limits old (Free key) (Freed freed) new = Loses old key freed new
 -- where the list has room, the key goes last
-PlainStep limits old (Later worker key) Sent new = (length (old.pending worker key.span.shard) < limits.ring_capacity) × (new ≡ with_pending old worker key.span.shard (old.pending worker key.span.shard ++ key ∷ []))
+PlainStep limits old (Later worker key) Sent new = (length (old.pending worker key.span.shard) < limits.ring_capacity)
+    × (new ≡ with_pending old worker key.span.shard (old.pending worker key.span.shard ++ key ∷ []))
 PlainStep limits old (Later worker key) (Refused RingFull) new = (length (old.pending worker key.span.shard) ≡ limits.ring_capacity) × (new ≡ old)
 PlainStep limits old (Later worker key) (Refused Config) new = IsOutside limits worker key.span.shard × (new ≡ old)
 -- the front key leaves the list and, where it is there, the map
-PlainStep limits old (Settle worker shard) (Settled (Some key)) new = (rest : List Key) × (freed : Bool) × (old.pending worker shard ≡ key ∷ rest) × Loses (with_pending old worker shard rest) key freed new
+PlainStep limits old (Settle worker shard) (Settled (Some key)) new = (rest : List Key) × (freed : Bool) × (old.pending worker shard ≡ key ∷ rest)
+    × Loses (with_pending old worker shard rest) key freed new
 PlainStep limits old (Settle worker shard) (Settled None) new = (old.pending worker shard ≡ []) × (new ≡ old)
 PlainStep limits old (Settle worker shard) (Refused Config) new = IsOutside limits worker shard × (new ≡ old)
 -- no other pair comes

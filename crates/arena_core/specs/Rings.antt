@@ -59,4 +59,5 @@ CannotSend refusal rings worker shard = ⊥
 -- the oldest key leaves the ring from this worker to this shard, if one waits there
 abbrev pub Takes : List (List RingState) → ℕ → ℕ → Option Key → List (List RingState) → Type 0
 Takes old worker shard None new = (ring : RingState) × (ring_at old worker shard ≡ Some ring) × (ring.keys ≡ []) × (new ≡ old)
-Takes old worker shard (Some key) new = (ring : RingState) × (rest : List Key) × (ring_at old worker shard ≡ Some ring) × (ring.keys ≡ key ∷ rest) × (new ≡ with_ring_at old worker shard (with_keys ring rest))
+Takes old worker shard (Some key) new = (ring : RingState) × (rest : List Key) × (ring_at old worker shard ≡ Some ring) × (ring.keys ≡ key ∷ rest)
+    × (new ≡ with_ring_at old worker shard (with_keys ring rest))

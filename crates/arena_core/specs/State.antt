@@ -15,7 +15,8 @@ use Rattle.marks.specs.Numbers.{Limits}
 use Rattle.marks.specs.Plans.{OpenPlan}
 use Rattle.arena_core.specs.Rings.{RingState, new_rings, pending_at}
 
--- a core: the numbers of the product, the shards by their numbers, the pool of the groups whose shards have ended, the open plan, if there is one, the rings of keys that wait to be freed, by shard, then by worker, and the spans that were forgotten, of which no memory is kept
+-- a core: the numbers of the product, the shards by their numbers, the pool of the groups whose shards have ended, the open plan, if there is one, the rings of
+-- keys that wait to be freed, by shard, then by worker, and the spans that were forgotten, of which no memory is kept
 pub record CoreState : Type 0 where
   pub limits : Limits
   pub shards : List ShardState
@@ -26,7 +27,18 @@ pub record CoreState : Type 0 where
 
 -- a shard that has opened no span
 abbrev pub new_shard : ℕ → ℕ → ℕ → ℕ → ShardState
-new_shard page_limit span_limit gens number = record { number = number; page_limit = page_limit; span_limit = span_limit; gens = gens; opened = 0; ended = false; groups = []; group_room = 0; span_room = 0; onto = None }
+new_shard page_limit span_limit gens number = record {
+  number = number;
+  page_limit = page_limit;
+  span_limit = span_limit;
+  gens = gens;
+  opened = 0;
+  ended = false;
+  groups = [];
+  group_room = 0;
+  span_room = 0;
+  onto = None;
+}
 
 -- a pool with no group
 abbrev pub new_pool : PoolState
@@ -34,7 +46,14 @@ new_pool = record { groups = []; group_room = 0; span_room = 0; has_plan = false
 
 -- a core of new shards, one for each number, an empty pool, no plan, and empty rings, in which nothing was forgotten
 abbrev pub new_core : Limits → CoreState
-new_core limits = record { limits = limits; shards = map (new_shard limits.page_limit limits.span_limit limits.gens) (range_with_len 0 limits.shards); pool = new_pool; plan = None; rings = new_rings limits.shards limits.ring_capacity; forgotten = [] }
+new_core limits = record {
+  limits = limits;
+  shards = map (new_shard limits.page_limit limits.span_limit limits.gens) (range_with_len 0 limits.shards);
+  pool = new_pool;
+  plan = None;
+  rings = new_rings limits.shards limits.ring_capacity;
+  forgotten = [];
+}
 
 -- the core with another shard at this number
 abbrev pub with_shard : CoreState → ℕ → ShardState → CoreState

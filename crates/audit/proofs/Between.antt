@@ -132,7 +132,9 @@ module _ {X : Type 0} (f : X → List Receipt) (xs : List X) (logs : List SpanLo
           | inr found ↦
               let log = found.1.0 in
               let row : List (Option ℕ) = get_or rows found.0 [] in
-              let at_row : slice_get rows found.0 ≡ Some row = slice_get-get_or rows found.0 [] (let within = slice_get_within logs found.0 log found.1.1 in let len = are.rows_are.len in omega arith) in
+              let at_row : slice_get rows found.0
+              ≡ Some row = slice_get-get_or rows found.0 []
+              (let within = slice_get_within logs found.0 log found.1.1 in let len = are.rows_are.len in omega arith) in
               let is = are.rows_are.each found.0 log row found.1.1 at_row in
               let len : length (log_of logs a.key.span) ≡ length row = ap length found.1.3 ∙ sym is.len in
               let p = sections_here found.0 log row found.1.1 at_row all v i w k a b at_a at_b (sym found.1.2) (sym spans ∙ sym found.1.2) (omega arith) early in

@@ -88,7 +88,8 @@ module _ (changes : List Change) (found : List SlotChange) (by : IsBySlot change
     (low : (k : ℕ) (x : SlotChange) → k < n → slice_get found k ≡ Some x → change_rank x < slot_rank slot at)
     (high : (k : ℕ) (x : SlotChange) → n ≤ k → slice_get found k ≡ Some x → slot_rank slot at ≤ change_rank x) where
   -- a change of the slot before the place stands in the first n
-  early : (q : ℕ) (change : Change) → q < at → slice_get changes q ≡ Some change → slot_of change ≡ slot → (k : ℕ) × (x : SlotChange) × (k < n) × (slice_get found k ≡ Some x) × (x.place ≡ q) × (x.slot ≡ slot)
+  early : (q : ℕ) (change : Change) → q < at → slice_get changes q ≡ Some change → slot_of change ≡ slot
+      → (k : ℕ) × (x : SlotChange) × (k < n) × (slice_get found k ≡ Some x) × (x.place ≡ q) × (x.slot ≡ slot)
   early q change less at_q same =
       let there = by.has.each q change at_q in
       let of_slot : there.1.slot ≡ slot = there.4 ∙ same in
@@ -130,7 +131,8 @@ module _ (changes : List Change) (found : List SlotChange) (by : IsBySlot change
         }
 
 -- the same, by a rank that is that of the slot and the place
-module _ (changes : List Change) (found : List SlotChange) (by : IsBySlot changes found) (slot at n rank : ℕ) (small : at < 18446744073709551616) (is : rank ≡ slot_rank slot at) (split : IsSplitAt found rank n) where
+module _ (changes : List Change) (found : List SlotChange) (by : IsBySlot changes found) (slot at n rank : ℕ) (small : at < 18446744073709551616)
+    (is : rank ≡ slot_rank slot at) (split : IsSplitAt found rank n) where
   low_split : (k : ℕ) (x : SlotChange) → k < n → slice_get found k ≡ Some x → change_rank x < slot_rank slot at
   low_split k x less at_x = let below = split.low k x less at_x in omega (arith, is)
 
@@ -194,7 +196,8 @@ quiet_from changes slot from (suc m) quiet inside =
       | inl there ↦
           ap (λ k. map.get (replay (take k changes)) slot) next
           ∙ get_taken changes (from + m) there.0 slot there.2
-          ∙ ap (λ b. cond b (left_by there.0) (map.get (replay (take (from + m) changes)) slot)) (ne_eqb slot (slot_of there.0) (λ e. quiet (from + m) there.0 (omega arith) (omega arith) there.2 (sym e)))
+          ∙ ap (λ b. cond b (left_by there.0) (map.get (replay (take (from + m) changes)) slot))
+          (ne_eqb slot (slot_of there.0) (λ e. quiet (from + m) there.0 (omega arith) (omega arith) there.2 (sym e)))
           ∙ before
       | inr past ↦ absurd (omega (arith, past.0))
     ]

@@ -166,8 +166,10 @@ module _ (logs : List SpanLog) (calls : List Receipt) (rows : List (List (Option
               let is_x : log ≡ x = same_Some log x (sym at_log ∙ sym (ap (λ k. slice_get logs k) same) ∙ at_x) in
               subst (λ l. IsRowOf (calls ++ r ∷ []) x l) (sym is_l) (subst (λ (y : SpanLog). IsRowOf (calls ++ r ∷ []) y (set row r.at (Some r.section))) is_x IsRowOf-here)
           | inr other ↦
-              let within : i < length rows = let fits = slice_get_within (set rows j (set row r.at (Some r.section))) i l at_l in let long = length-set rows j (set row r.at (Some r.section)) in omega arith in
-              let read : l ≡ get_or rows i l = sym (get_or_from_slice_get (set rows j (set row r.at (Some r.section))) i l l at_l) ∙ get_or-set_other rows j i (set row r.at (Some r.section)) l other in
+              let within : i < length rows = let fits = slice_get_within (set rows j (set row r.at (Some r.section))) i l at_l in
+              let long = length-set rows j (set row r.at (Some r.section)) in omega arith in
+              let read : l ≡ get_or rows i l = sym (get_or_from_slice_get (set rows j (set row r.at (Some r.section))) i l l at_l)
+              ∙ get_or-set_other rows j i (set row r.at (Some r.section)) l other in
               IsRowOf-there x l (λ spans. other (one i j x log at_x at_log (spans ∙ sym of_span)))
               (are.rows_are.each i x l at_x (slice_get_read rows (length rows) i l refl within read))
         ];
@@ -250,7 +252,9 @@ module _ {X : Type 0} (f : X → List Receipt) (xs : List X) (logs : List SpanLo
       | inr found ↦
           let at_change : slice_get (kept_changes found.1.0.log) at ≡ Some change = ap (λ l. slice_get l at) (sym found.1.3) ∙ is in
           let row : List (Option ℕ) = get_or rows found.0 [] in
-          let at_row : slice_get rows found.0 ≡ Some row = slice_get-get_or rows found.0 [] (let within = slice_get_within logs found.0 found.1.0 found.1.1 in let len = are.rows_are.len in omega arith) in
+          let at_row : slice_get rows found.0
+          ≡ Some row = slice_get-get_or rows found.0 []
+          (let within = slice_get_within logs found.0 found.1.0 found.1.1 in let len = are.rows_are.len in omega arith) in
           let is_row = are.rows_are.each found.0 found.1.0 row found.1.1 at_row in
           let inside : at < length row = let within = slice_get_within (kept_changes found.1.0.log) at change at_change in let len = is_row.len in omega arith in
           let there = section_at row at inside (full found.0 row at_row) in

@@ -41,7 +41,8 @@ module _ {X Y : Type 0} (f : X → List Y) where
         (suc later.0, later.1, later.2, omega (arith, later.3, there.1))
   ]
 
-  pub flat_once : (xs : List X) (v i w j : ℕ) (a b : Y) → slice_get (get_or (map f xs) v []) i ≡ Some a → slice_get (get_or (map f xs) w []) j ≡ Some b → place xs v i ≡ place xs w j → (v ≡ w) × (i ≡ j)
+  pub flat_once : (xs : List X) (v i w j : ℕ) (a b : Y) → slice_get (get_or (map f xs) v []) i ≡ Some a → slice_get (get_or (map f xs) w []) j ≡ Some b
+      → place xs v i ≡ place xs w j → (v ≡ w) × (i ≡ j)
   flat_once [] v i w j a b at_i at_j same = absurd cc
   flat_once (x ∷ xs) zero i zero j a b at_i at_j same = (refl, same)
   flat_once (x ∷ xs) zero i (suc w) j a b at_i at_j same = absurd (let within = slice_get_within (f x) i a at_i in omega arith)

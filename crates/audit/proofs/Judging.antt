@@ -19,7 +19,8 @@ pub if_some : {X : Type 0} (P : X → Type 0) (found : Option X) (x : X) → fou
 if_some P found x is holds = subst (λ o. IfSome o P) is holds
 
 -- what a verdict says that is none of some
-right_of : (logs : List SpanLog) (rows : List (List (Option ℕ))) (list : List Receipt) (v : Verdict) → IsVerdict logs rows list v → (v ≡ verdict.OutOfMemory → ⊥) → (v ≡ verdict.Reply → ⊥) → IsRightList logs list
+right_of : (logs : List SpanLog) (rows : List (List (Option ℕ))) (list : List Receipt) (v : Verdict) → IsVerdict logs rows list v
+    → (v ≡ verdict.OutOfMemory → ⊥) → (v ≡ verdict.Reply → ⊥) → IsRightList logs list
 right_of logs rows list verdict.Passed is no_memory no_reply = is.0
 right_of logs rows list verdict.Reply is no_memory no_reply = absurd (no_reply refl)
 right_of logs rows list verdict.Order is no_memory no_reply = is.0
@@ -74,11 +75,13 @@ module _ {X : Type 0} (f : X → List Receipt) (xs : List X) (logs : List SpanLo
     module _ (no_order : HasVerdict verdicts verdict.Order → ⊥) where
       all_in_order : (w : ℕ) → IsInOrder (get_or (map f xs) w [])
       all_in_order = all_of IsInOrder (λ i j a b at_i at_j less. absurd cc)
-          (λ w less. order_of logs rows (get_or (map f xs) w []) (get_or verdicts w verdict.OutOfMemory) (at w less) (λ e. no_memory (w, less, e)) (λ e. no_reply (w, less, e)) (λ e. no_order (w, less, e)))
+          (λ w less. order_of logs rows (get_or (map f xs) w []) (get_or verdicts w verdict.OutOfMemory) (at w less) (λ e. no_memory (w, less, e))
+          (λ e. no_reply (w, less, e)) (λ e. no_order (w, less, e)))
 
       all_between : (HasVerdict verdicts verdict.Barrier → ⊥) → (w : ℕ) → StandBetween logs rows (get_or (map f xs) w [])
       all_between no_barrier = all_of (StandBetween logs rows) (λ i r at. absurd cc)
-          (λ w less. between_of logs rows (get_or (map f xs) w []) (get_or verdicts w verdict.OutOfMemory) (at w less) (λ e. no_memory (w, less, e)) (λ e. no_reply (w, less, e)) (λ e. no_order (w, less, e)) (λ e. no_barrier (w, less, e)))
+          (λ w less. between_of logs rows (get_or (map f xs) w []) (get_or verdicts w verdict.OutOfMemory) (at w less) (λ e. no_memory (w, less, e))
+          (λ e. no_reply (w, less, e)) (λ e. no_order (w, less, e)) (λ e. no_barrier (w, less, e)))
 
   -- the first part that fails in any list is the first that fails in all
   pub judged : LogsAreLegal logs → ChangesHaveReceipts logs (map f xs) → AreEntered logs (flat_map f xs) rows → AreFull rows → (cause : Option AuditCause) → IsFirstCause verdicts cause

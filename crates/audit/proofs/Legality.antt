@@ -49,7 +49,8 @@ AreAfter-more before c held s left long is_slot is_left after q fits = elim (cas
       ∙ sym (generation_more before c q ∙ ap (λ b. cond b (option_map generation_of (left_by c)) (option_map generation_of (map.get (replay before) q))) (eq-eqb q (slot_of c) (same ∙ is_slot)))
   | inr other ↦
       get_or-set_other held s q left None other ∙ after q fits
-      ∙ sym (generation_more before c q ∙ ap (λ b. cond b (option_map generation_of (left_by c)) (option_map generation_of (map.get (replay before) q))) (ne_eqb q (slot_of c) (λ e. other (e ∙ sym is_slot))))
+      ∙ sym (generation_more before c q ∙ ap (λ b. cond b (option_map generation_of (left_by c)) (option_map generation_of (map.get (replay before) q)))
+      (ne_eqb q (slot_of c) (λ e. other (e ∙ sym is_slot))))
 ]
 
 -- a set to an object of the class is legal after changes of the class where its slot holds something of its generation
@@ -91,7 +92,8 @@ puts_more gens before (Change.Put slot generation value) legal q = elim (cases_e
 puts_more gens before (Change.Set slot generation value) legal q = puts_of-set before slot generation value q ∙ puts_same before q slot
 puts_more gens before (Change.Free slot generation) legal q = puts_of-free before slot generation q ∙ puts_same before q slot
 
-pub AreIssued-more : (gens : ℕ) (before : List Change) (c : Change) (issued : List ℕ) (s last next : ℕ) → length issued ≡ 256 → s < 256 → s ≡ slot_of c → last ≡ get_or issued s 0 → next ≡ issued_by c last
+pub AreIssued-more : (gens : ℕ) (before : List Change) (c : Change) (issued : List ℕ) (s last next : ℕ) → length issued ≡ 256 → s < 256 → s ≡ slot_of c
+    → last ≡ get_or issued s 0 → next ≡ issued_by c last
     → AreIssued before issued → IsLegalAfter gens before c → AreIssued (before ++ c ∷ []) (set issued s next)
 AreIssued-more gens before c issued s last next long small is_slot is_last is_next is legal q fits =
     let lasts : last ≡ puts_of (slot_of c) before = is_last ∙ is s small ∙ ap (λ k. puts_of k before) is_slot in

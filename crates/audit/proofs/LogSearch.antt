@@ -25,7 +25,8 @@ IsSearchedFor places number result = IsBinarySearchResult (λ (place : LogPlace)
 told : (low high : ℕ) (order : Ordering) → nat_cmp low high ≡ order → MatchOrdering order (low < high) (low ≡ high) (high < low)
 told low high order is = subst (λ o. MatchOrdering o (low < high) (low ≡ high) (high < low)) is (ranks low high)
 
-pub found-searched : (places : List LogPlace) (span : SpanId) (number : ℕ) → number ≡ rank span → (result : Result ℕ ℕ) → IsSearchedFor places number result → IfSome (result_ok result) (λ k. (d : LogPlace) → same_span (get_or places k d).span span ≡ true)
+pub found-searched : (places : List LogPlace) (span : SpanId) (number : ℕ) → number ≡ rank span → (result : Result ℕ ℕ) → IsSearchedFor places number result
+    → IfSome (result_ok result) (λ k. (d : LogPlace) → same_span (get_or places k d).span span ≡ true)
 found-searched places span number is (Ok k) found = λ d. test_from_same_id _ _ (same_rank (get_or places k d).span span (told _ _ _ (found d) ∙ is))
 found-searched places span number is (Err k) found = tt
 

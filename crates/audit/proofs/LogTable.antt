@@ -227,7 +227,9 @@ pub place_in-found : (logs : List SpanLog) (span : SpanId) (j : ℕ) (log : Span
 place_in-found [] span j log one at is = absurd cc
 place_in-found (x ∷ xs) span j log one at is = elim (cases_Bool (same_span x.span span)) [
   | inl same ↦ ap (λ b. cond b 0 (suc (place_in xs span))) same ∙ one 0 j x log refl at (same_id_from_test x.span span same ∙ sym is)
-  | inr other ↦ ap (λ b. cond b 0 (suc (place_in xs span))) other ∙ later j at other (λ j at. place_in-found xs span j log (λ i k a b at_i at_k same. let e : suc i ≡ suc k = one (suc i) (suc k) a b at_i at_k same in omega arith) at is)
+  | inr other ↦ ap (λ b. cond b 0 (suc (place_in xs span))) other
+      ∙ later j at other (λ j at. place_in-found xs span j log (λ i k a b at_i at_k same. let e : suc i ≡ suc k = one (suc i) (suc k) a b at_i at_k same in
+      omega arith) at is)
 ]
   where
     later : (j : ℕ) → slice_get (x ∷ xs) j ≡ Some log → same_span x.span span ≡ false → ((j : ℕ) → slice_get xs j ≡ Some log → place_in xs span ≡ j) → suc (place_in xs span) ≡ j

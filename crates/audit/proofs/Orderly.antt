@@ -41,7 +41,8 @@ too_early logs list n left r nothing is_left at early order = elim (is_left.from
 ]
 
 -- a call that was answered right, and that makes the change of its place if it makes one, leaves nothing where there are no changes
-pub LeaveNothing-from : (logs : List SpanLog) (list : List Receipt) → ((i : ℕ) (r : Receipt) → slice_get list i ≡ Some r → IsRightReply logs r) → ((i : ℕ) (r : Receipt) → slice_get list i ≡ Some r → IsKnown logs r) → LeaveNothing logs list
+pub LeaveNothing-from : (logs : List SpanLog) (list : List Receipt) → ((i : ℕ) (r : Receipt) → slice_get list i ≡ Some r → IsRightReply logs r)
+    → ((i : ℕ) (r : Receipt) → slice_get list i ≡ Some r → IsKnown logs r) → LeaveNothing logs list
 LeaveNothing-from logs list right known i r at none = elim (cases_Bool (makes_change r)) [
   | inl makes ↦
       let made = known i r at makes in
@@ -91,7 +92,8 @@ module _ (logs : List SpanLog) (list : List Receipt) (n : ℕ) (left : List ℕ)
       ]
 
 module _ (logs : List SpanLog) (list : List Receipt) (n : ℕ) (left : List ℕ) (r : Receipt) (is_left : IsLeftBelow logs list n left) (at : slice_get list n ≡ Some r) where
-  pub IsLeftBelow-more : place_in logs r.key.span < length left → (after : ℕ) → after ≡ changes_after r → get_or left (place_in logs r.key.span) 0 ≤ after → IsLeftBelow logs list (n + 1) (set left (place_in logs r.key.span) after)
+  pub IsLeftBelow-more : place_in logs r.key.span < length left → (after : ℕ) → after ≡ changes_after r → get_or left (place_in logs r.key.span) 0 ≤ after
+      → IsLeftBelow logs list (n + 1) (set left (place_in logs r.key.span) after)
   IsLeftBelow-more inside after is rises = record {
     most = λ k a fits at_k. elim (cases_lt k n) [
       | inl before ↦ elim (cases_eq (place_in logs a.key.span) (place_in logs r.key.span)) [
@@ -113,7 +115,14 @@ module _ (logs : List SpanLog) (list : List Receipt) (n : ℕ) (left : List ℕ)
           (let new = get_or-set_same left (place_in logs r.key.span) after 0 inside in omega arith)
     ];
     from = λ q. elim (cases_eq q (place_in logs r.key.span)) [
-      | inl same ↦ inr (n, r, omega arith, at, sym same, sym is ∙ sym (ap (λ p. get_or (set left (place_in logs r.key.span) after) p 0) same ∙ get_or-set_same left (place_in logs r.key.span) after 0 inside))
+      | inl same ↦ inr (
+        n,
+        r,
+        omega arith,
+        at,
+        sym same,
+        sym is ∙ sym (ap (λ p. get_or (set left (place_in logs r.key.span) after) p 0) same ∙ get_or-set_same left (place_in logs r.key.span) after 0 inside),
+      )
       | inr other ↦
           let new : get_or (set left (place_in logs r.key.span) after) q 0 ≡ get_or left q 0 = get_or-set_other left (place_in logs r.key.span) q after 0 other in
           elim (is_left.from q) [
@@ -133,7 +142,8 @@ IsLeftFrom-all logs list n left is q = elim (is.from q) [
   | inr w ↦ inr (w.0, w.1, omega arith, w.3, w.4)
 ]
 
-pub IsLeftFrom-more : (logs : List SpanLog) (list : List Receipt) (n : ℕ) (left : List ℕ) (r : Receipt) → IsLeftFrom logs list n left → slice_get list n ≡ Some r → place_in logs r.key.span < length left
+pub IsLeftFrom-more : (logs : List SpanLog) (list : List Receipt) (n : ℕ) (left : List ℕ) (r : Receipt) → IsLeftFrom logs list n left
+    → slice_get list n ≡ Some r → place_in logs r.key.span < length left
     → IsLeftFrom logs list (n + 1) (set left (place_in logs r.key.span) 0)
 IsLeftFrom-more logs list n left r is at inside q = elim (cases_eq q (place_in logs r.key.span)) [
   | inl same ↦ inl (ap (λ p. get_or (set left (place_in logs r.key.span) 0) p 0) same ∙ get_or-set_same left (place_in logs r.key.span) 0 0 inside)

@@ -52,27 +52,33 @@ filter_distinct same test (y ∷ ys) d =
     elim (cases_Bool (test y)) [ inl e ↦ rw e (each_filtered (λ z. same y z ≡ false) test ys d.0, rest) | inr e ↦ rw e rest ]
 
 -- members that pass have what each passing member has
-each_passing : {K : Type 0} (same : K → K → Bool) (P : K → Type 0) (test : K → Bool) (zs ys : List K) → ((b : K) → among same b zs ≡ true → test b ≡ true → P b) → AllByRecursion (λ b. among same b zs ≡ true) ys → AllByRecursion P (filter test ys)
+each_passing : {K : Type 0} (same : K → K → Bool) (P : K → Type 0) (test : K → Bool) (zs ys : List K) → ((b : K) → among same b zs ≡ true → test b ≡ true → P b)
+    → AllByRecursion (λ b. among same b zs ≡ true) ys → AllByRecursion P (filter test ys)
 each_passing same P test zs [] h k = tt
 each_passing same P test zs (y ∷ ys) h k =
     let rest : AllByRecursion P (filter test ys) = each_passing same P test zs ys h k.1 in
     elim (cases_Bool (test y)) [ inl e ↦ rw e (h y k.0 e, rest) | inr e ↦ rw e rest ]
 
-pub each_in_filter : {K : Type 0} (same : K → K → Bool) → Tells same → (P : K → Type 0) (test : K → Bool) (ys : List K) → ((b : K) → among same b ys ≡ true → test b ≡ true → P b) → AllByRecursion P (filter test ys)
+pub each_in_filter : {K : Type 0} (same : K → K → Bool) → Tells same → (P : K → Type 0) (test : K → Bool) (ys : List K)
+    → ((b : K) → among same b ys ≡ true → test b ≡ true → P b) → AllByRecursion P (filter test ys)
 each_in_filter same t P test ys h = each_passing same P test ys ys h (all_among same t ys)
 
 -- no owned place has two mates
-pub each_second : {K : Type 0} (P : K → Type 0) (right left : List K) (ms : List (Option ℕ)) → ((i j : ℕ) (d : K) → mate ms i ≡ Some j → P (get_or right j d)) → AllByRecursion P (map (λ p. p.1) (pairs_of right left ms))
+pub each_second : {K : Type 0} (P : K → Type 0) (right left : List K) (ms : List (Option ℕ)) → ((i j : ℕ) (d : K) → mate ms i ≡ Some j → P (get_or right j d))
+    → AllByRecursion P (map (λ p. p.1) (pairs_of right left ms))
 each_second P right [] ms h = tt
 each_second P right (a ∷ left) [] h = tt
 each_second P right (a ∷ left) (None ∷ ms) h = each_second P right left ms (λ i j d m. h (suc i) j d m)
 each_second P right (a ∷ left) (Some j ∷ ms) h = (h 0 j a refl, each_second P right left ms (λ i j d m. h (suc i) j d m))
 
-pub right_distinct : {K : Type 0} (same : K → K → Bool) → Tells same → (right left : List K) (ms : List (Option ℕ)) → IsDistinct same right → ((i j : ℕ) → mate ms i ≡ Some j → j < length right) → ((i a j : ℕ) → mate ms i ≡ Some j → mate ms a ≡ Some j → i ≡ a) → IsDistinct same (map (λ p. p.1) (pairs_of right left ms))
+pub right_distinct : {K : Type 0} (same : K → K → Bool) → Tells same → (right left : List K) (ms : List (Option ℕ)) → IsDistinct same right
+    → ((i j : ℕ) → mate ms i ≡ Some j → j < length right) → ((i a j : ℕ) → mate ms i ≡ Some j → mate ms a ≡ Some j → i ≡ a)
+    → IsDistinct same (map (λ p. p.1) (pairs_of right left ms))
 unfolding IsDistinct
 right_distinct same t right [] ms u k once = tt
 right_distinct same t right (a ∷ left) [] u k once = tt
-right_distinct same t right (a ∷ left) (None ∷ ms) u k once = right_distinct same t right left ms u (λ i j m. k (suc i) j m) (λ i b j m n. let e : suc i ≡ suc b = once (suc i) (suc b) j m n in omega arith)
+right_distinct same t right (a ∷ left) (None ∷ ms) u k once = right_distinct same t right left ms u (λ i j m. k (suc i) j m)
+    (λ i b j m n. let e : suc i ≡ suc b = once (suc i) (suc b) j m n in omega arith)
 right_distinct same t right (a ∷ left) (Some q ∷ ms) u k once =
     let q_in : q < length right = k 0 q refl in (
       each_second (λ y. same (get_or right q a) y ≡ false) right left ms
@@ -90,7 +96,9 @@ marked_of reached right (a ∷ left) [] = []
 marked_of reached right (a ∷ left) (None ∷ ms) = marked_of reached right left ms
 marked_of reached right (a ∷ left) (Some j ∷ ms) = cond (is_marked reached j) (get_or right j a ∷ marked_of reached right left ms) (marked_of reached right left ms)
 
-pub marked_at : {K : Type 0} (same : K → K → Bool) → Tells same → (reached : List Bool) (right left : List K) (ms : List (Option ℕ)) (i j : ℕ) (d : K) → length ms ≡ length left → mate ms i ≡ Some j → j < length right → is_marked reached j ≡ true → among same (get_or right j d) (marked_of reached right left ms) ≡ true
+pub marked_at : {K : Type 0} (same : K → K → Bool) → Tells same → (reached : List Bool) (right left : List K) (ms : List (Option ℕ)) (i j : ℕ) (d : K)
+    → length ms ≡ length left → mate ms i ≡ Some j → j < length right → is_marked reached j ≡ true
+    → among same (get_or right j d) (marked_of reached right left ms) ≡ true
 marked_at same t reached right [] [] i j d n m j_in e = let no : None ≡ Some j = m in cc
 marked_at same t reached right [] (x ∷ ms) i j d n m j_in e = absurd (omega arith)
 marked_at same t reached right (a ∷ left) [] i j d n m j_in e = absurd (omega arith)
@@ -109,7 +117,8 @@ marked_at same t reached right (a ∷ left) (Some q ∷ ms) (suc i) j d n m j_in
     ]
 
 -- each place is left out, or has a marked mate, or one that is not
-pub counted : {K : Type 0} (reached : List Bool) (right left : List K) (ms : List (Option ℕ)) → length ms ≡ length left → length (pairs_of right left ms) + length (short_of reached left ms) ≡ length left + length (marked_of reached right left ms)
+pub counted : {K : Type 0} (reached : List Bool) (right left : List K) (ms : List (Option ℕ)) → length ms ≡ length left
+    → length (pairs_of right left ms) + length (short_of reached left ms) ≡ length left + length (marked_of reached right left ms)
 counted reached right [] [] n = refl
 counted reached right [] (m ∷ ms) n = absurd (omega arith)
 counted reached right (a ∷ left) [] n = absurd (omega arith)

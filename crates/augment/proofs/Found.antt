@@ -51,16 +51,20 @@ passes graph onto reached s test out step (suc n) t h l = elim (mate_cases (mate
       let lower : before s.entries t < t = s.search.linked.earlier t m.0 l m.1 in
       let lower_in : before s.entries t < length s.entries = omega arith in
       let lower_n : before s.entries t < n = omega arith in
-      step (group s.entries (before s.entries t)) m.0 (group s.entries t) (s.search.linked.within (before s.entries t) lower_in) (passes graph onto reached s test out step n (before s.entries t) lower_n lower_in) (s.search.linked.joined_to t m.0 l m.1) m.1
+      step (group s.entries (before s.entries t)) m.0 (group s.entries t) (s.search.linked.within (before s.entries t) lower_in)
+      (passes graph onto reached s test out step n (before s.entries t) lower_n lower_in) (s.search.linked.joined_to t m.0 l m.1) m.1
 ]
 
-pub outcome : (graph : Groups) (onto planned : List (Option ℕ)) (reached : List Bool) → IsAscending (ids graph.abandoned) → IsAscending (ids graph.owned) → length onto ≡ length graph.abandoned → length planned ≡ length graph.owned → Joins graph onto → ArePaired onto planned → IsSearched graph onto reached → IsOutcome same_span (sides_of graph) onto reached
+pub outcome : (graph : Groups) (onto planned : List (Option ℕ)) (reached : List Bool) → IsAscending (ids graph.abandoned) → IsAscending (ids graph.owned)
+    → length onto ≡ length graph.abandoned → length planned ≡ length graph.owned → Joins graph onto → ArePaired onto planned → IsSearched graph onto reached
+    → IsOutcome same_span (sides_of graph) onto reached
 unfolding sides_of
 outcome graph onto planned reached up_a up_b long_onto long_planned joins paired s =
     let left_ids : length (ids graph.abandoned) ≡ length graph.abandoned = length-map graph.abandoned (λ (x : Entry). x.id) in
     let right_ids : length (ids graph.owned) ≡ length graph.owned = length-map graph.owned (λ (x : Entry). x.id) in
     let right : (i j : ℕ) → mate onto i ≡ Some j → j < length (ids graph.owned) = λ i j m. let l : j < length planned = mate_within planned j i (paired.forth i j m) in omega arith in
-    let same : (i j : ℕ) (d : SpanId) → i < length (ids graph.abandoned) → j < length (ids graph.owned) → any_compatible graph (get_or (ids graph.abandoned) i d) (get_or (ids graph.owned) j d) ≡ compatible_at graph i j =
+    let same : (i j : ℕ) (d : SpanId) → i < length (ids graph.abandoned) → j < length (ids graph.owned)
+    → any_compatible graph (get_or (ids graph.abandoned) i d) (get_or (ids graph.owned) j d) ≡ compatible_at graph i j =
     λ i j d il jl. any_compatible-ids graph up_a up_b i j d (omega arith) (omega arith) in
     let in_left : (i : ℕ) → i < length onto → i < length (ids graph.abandoned) = λ i h. omega arith in
     let in_onto : (i : ℕ) → i < length (ids graph.abandoned) → i < length onto = λ i h. omega arith in

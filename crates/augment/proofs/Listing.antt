@@ -28,20 +28,24 @@ flipped same t x y h = elim (cases_Bool (same y x)) [
 ]
 
 -- members at two places differ
-pub apart_at : {K : Type 0} (same : K → K → Bool) → Tells same → (xs : List K) (i j : ℕ) (d : K) → IsDistinct same xs → i < length xs → j < length xs → i ≢ j → same (get_or xs i d) (get_or xs j d) ≡ false
+pub apart_at : {K : Type 0} (same : K → K → Bool) → Tells same → (xs : List K) (i j : ℕ) (d : K) → IsDistinct same xs → i < length xs → j < length xs → i ≢ j
+    → same (get_or xs i d) (get_or xs j d) ≡ false
 apart_at same t xs i j d u il jl n = elim (cases_lt i j) [
   | inl l ↦ apart_from_distinct same xs i j d u l jl
   | inr l ↦ let m : j < i = omega arith in flipped same t (get_or xs j d) (get_or xs i d) (apart_from_distinct same xs j i d u m il)
 ]
 
 -- what holds at each place with a mate holds of each pair, and the other way round
-pub each_pair : {K : Type 0} (P : K × K → Type 0) (right left : List K) (ms : List (Option ℕ)) → ((i j : ℕ) (d : K) → i < length left → mate ms i ≡ Some j → P (get_or left i d, get_or right j d)) → ((i j : ℕ) → mate ms i ≡ Some j → j < length right) → AllByRecursion P (pairs_of right left ms)
+pub each_pair : {K : Type 0} (P : K × K → Type 0) (right left : List K) (ms : List (Option ℕ))
+    → ((i j : ℕ) (d : K) → i < length left → mate ms i ≡ Some j → P (get_or left i d, get_or right j d)) → ((i j : ℕ) → mate ms i ≡ Some j → j < length right)
+    → AllByRecursion P (pairs_of right left ms)
 each_pair P right [] ms h k = tt
 each_pair P right (a ∷ left) [] h k = tt
 each_pair P right (a ∷ left) (None ∷ ms) h k = each_pair P right left ms (λ i j d l m. h (suc i) j d (omega arith) m) (λ i j m. k (suc i) j m)
 each_pair P right (a ∷ left) (Some q ∷ ms) h k = (h 0 q a (omega arith) refl, each_pair P right left ms (λ i j d l m. h (suc i) j d (omega arith) m) (λ i j m. k (suc i) j m))
 
-pub pair_at : {K : Type 0} (P : K × K → Type 0) (right left : List K) (ms : List (Option ℕ)) → AllByRecursion P (pairs_of right left ms) → (i j : ℕ) → i < length left → mate ms i ≡ Some j → (a : K) × (b : K) × P (a, b) × ((d : K) → get_or left i d ≡ a) × (b ≡ get_or right j a)
+pub pair_at : {K : Type 0} (P : K × K → Type 0) (right left : List K) (ms : List (Option ℕ)) → AllByRecursion P (pairs_of right left ms) → (i j : ℕ)
+    → i < length left → mate ms i ≡ Some j → (a : K) × (b : K) × P (a, b) × ((d : K) → get_or left i d ≡ a) × (b ≡ get_or right j a)
 pair_at P right [] ms all i j l m = absurd (omega arith)
 pair_at P right (a ∷ left) [] all i j l m = let no : None ≡ Some j = m in cc
 pair_at P right (a ∷ left) (None ∷ ms) all zero j l m = let no : None ≡ Some j = m in cc
@@ -50,7 +54,8 @@ pair_at P right (a ∷ left) (Some q ∷ ms) all zero j l m = let qj : q ≡ j =
 pair_at P right (a ∷ left) (Some q ∷ ms) all (suc i) j l m = pair_at P right left ms all.1 i j (omega arith) m
 
 -- a left member of a pair has a place with a mate
-pub place_of_left : {K : Type 0} (same : K → K → Bool) → Tells same → (x : K) (right left : List K) (ms : List (Option ℕ)) → among same x (map (λ p. p.0) (pairs_of right left ms)) ≡ true → (i : ℕ) × (j : ℕ) × (i < length left) × (get_or left i x ≡ x) × (mate ms i ≡ Some j)
+pub place_of_left : {K : Type 0} (same : K → K → Bool) → Tells same → (x : K) (right left : List K) (ms : List (Option ℕ))
+    → among same x (map (λ p. p.0) (pairs_of right left ms)) ≡ true → (i : ℕ) × (j : ℕ) × (i < length left) × (get_or left i x ≡ x) × (mate ms i ≡ Some j)
 place_of_left same t x right [] ms h = absurd (both_ways false refl h)
 place_of_left same t x right (a ∷ left) [] h = absurd (both_ways false refl h)
 place_of_left same t x right (a ∷ left) (None ∷ ms) h =
@@ -65,7 +70,8 @@ place_of_left same t x right (a ∷ left) (Some q ∷ ms) h = elim (or_cases (sa
       (suc p.0, p.1, omega arith, p.3, p.4)
 ]
 
-pub left_at : {K : Type 0} (same : K → K → Bool) → Tells same → (right left : List K) (ms : List (Option ℕ)) (i j : ℕ) (d : K) → i < length left → mate ms i ≡ Some j → among same (get_or left i d) (map (λ p. p.0) (pairs_of right left ms)) ≡ true
+pub left_at : {K : Type 0} (same : K → K → Bool) → Tells same → (right left : List K) (ms : List (Option ℕ)) (i j : ℕ) (d : K) → i < length left
+    → mate ms i ≡ Some j → among same (get_or left i d) (map (λ p. p.0) (pairs_of right left ms)) ≡ true
 left_at same t right [] ms i j d l m = absurd (omega arith)
 left_at same t right (a ∷ left) [] i j d l m = let no : None ≡ Some j = m in cc
 left_at same t right (a ∷ left) (None ∷ ms) zero j d l m = let no : None ≡ Some j = m in cc
@@ -74,7 +80,8 @@ left_at same t right (a ∷ left) (Some q ∷ ms) zero j d l m = or_left (same a
 left_at same t right (a ∷ left) (Some q ∷ ms) (suc i) j d l m = or_right (same (get_or left i d) a) _ (left_at same t right left ms i j d (omega arith) m)
 
 -- the short set: what holds at each of its places holds of each member, and a member has such a place
-pub each_short : {K : Type 0} (P : K → Type 0) (reached : List Bool) (left : List K) (ms : List (Option ℕ)) → ((i : ℕ) (d : K) → i < length left → is_short reached (mate ms i) ≡ true → P (get_or left i d)) → AllByRecursion P (short_of reached left ms)
+pub each_short : {K : Type 0} (P : K → Type 0) (reached : List Bool) (left : List K) (ms : List (Option ℕ))
+    → ((i : ℕ) (d : K) → i < length left → is_short reached (mate ms i) ≡ true → P (get_or left i d)) → AllByRecursion P (short_of reached left ms)
 each_short P reached [] ms h = tt
 each_short P reached (a ∷ left) [] h = tt
 each_short P reached (a ∷ left) (m ∷ ms) h =
@@ -84,7 +91,8 @@ each_short P reached (a ∷ left) (m ∷ ms) h =
       | inr e ↦ rw e rest
     ]
 
-pub place_of_short : {K : Type 0} (same : K → K → Bool) → Tells same → (x : K) (reached : List Bool) (left : List K) (ms : List (Option ℕ)) → among same x (short_of reached left ms) ≡ true → (i : ℕ) × (i < length left) × (get_or left i x ≡ x) × (is_short reached (mate ms i) ≡ true)
+pub place_of_short : {K : Type 0} (same : K → K → Bool) → Tells same → (x : K) (reached : List Bool) (left : List K) (ms : List (Option ℕ))
+    → among same x (short_of reached left ms) ≡ true → (i : ℕ) × (i < length left) × (get_or left i x ≡ x) × (is_short reached (mate ms i) ≡ true)
 place_of_short same t x reached [] ms h = absurd (both_ways false refl h)
 place_of_short same t x reached (a ∷ left) [] h = absurd (both_ways false refl h)
 place_of_short same t x reached (a ∷ left) (m ∷ ms) h = elim (cases_Bool (is_short reached m)) [
@@ -104,7 +112,8 @@ place_of_short same t x reached (a ∷ left) (m ∷ ms) h = elim (cases_Bool (is
       (suc p.0, omega arith, p.2, p.3)
 ]
 
-pub short_at : {K : Type 0} (same : K → K → Bool) → Tells same → (reached : List Bool) (left : List K) (ms : List (Option ℕ)) (i : ℕ) (d : K) → length ms ≡ length left → i < length left → is_short reached (mate ms i) ≡ true → among same (get_or left i d) (short_of reached left ms) ≡ true
+pub short_at : {K : Type 0} (same : K → K → Bool) → Tells same → (reached : List Bool) (left : List K) (ms : List (Option ℕ)) (i : ℕ) (d : K)
+    → length ms ≡ length left → i < length left → is_short reached (mate ms i) ≡ true → among same (get_or left i d) (short_of reached left ms) ≡ true
 short_at same t reached [] ms i d n l s = absurd (omega arith)
 short_at same t reached (a ∷ left) [] i d n l s = absurd (omega arith)
 short_at same t reached (a ∷ left) (m ∷ ms) zero d n l s = let e : is_short reached m ≡ true = s in rw e (or_left (same a a) _ (t.itself a))

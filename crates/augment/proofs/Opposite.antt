@@ -47,7 +47,8 @@ opposite-mark unmarked marked place word opposite within is =
     }
 
 -- a compatible place whose bit is off is marked
-pub marked-from_bits : (graph : Groups) (unmarked : List ℕ) (marked : List Bool) (g q : ℕ) → AreOpposite unmarked marked → length marked ≡ length graph.owned → (has_bit unmarked q ≡ true → compatible_at graph g q ≡ false) → compatible_at graph g q ≡ true → is_marked marked q ≡ true
+pub marked-from_bits : (graph : Groups) (unmarked : List ℕ) (marked : List Bool) (g q : ℕ) → AreOpposite unmarked marked → length marked ≡ length graph.owned
+    → (has_bit unmarked q ≡ true → compatible_at graph g q ≡ false) → compatible_at graph g q ≡ true → is_marked marked q ≡ true
 marked-from_bits graph unmarked marked g q opposite long off fits =
     let within : q < length marked = rw long (compatible_at-within graph g q fits) in
     elim (cases_Bool (is_marked marked q)) [

@@ -13,7 +13,8 @@ pub walk_root : (graph : Groups) (onto : List (Option ℕ)) (used : List Bool) (
 walk_root graph onto used root root_in none =
     let only : (t : ℕ) → t < 1 → t ≡ 0 = λ t h. omega arith in
     let at_root : (t : ℕ) → t < 1 → group (record { group = root; before = 0 } ∷ []) t ≡ root = λ t h. ap (group (record { group = root; before = 0 } ∷ [])) (only t h) in
-    let no : (t k : ℕ) → t < 1 → mate onto (group (record { group = root; before = 0 } ∷ []) t) ≡ Some k → ⊥ = λ t k h m. let f : None ≡ Some k = sym none ∙ (ap (mate onto) (sym (at_root t h)) ∙ m) in cc in
+    let no : (t k : ℕ) → t < 1 → mate onto (group (record { group = root; before = 0 } ∷ []) t) ≡ Some k
+    → ⊥ = λ t k h m. let f : None ≡ Some k = sym none ∙ (ap (mate onto) (sym (at_root t h)) ∙ m) in cc in
     record {
       linked = record {
         within = λ t h. rw (at_root t h) root_in;
@@ -25,7 +26,8 @@ walk_root graph onto used root root_in none =
     }
 
 -- one step more, over the unused k to its mate
-pub walk_more : (graph : Groups) (onto : List (Option ℕ)) (path : List Reached) (used : List Bool) (i k at : ℕ) → IsWalk graph onto path used → at < length path → k < length used → compatible_at graph (group path at) k ≡ true → is_marked used k ≡ false → mate onto i ≡ Some k
+pub walk_more : (graph : Groups) (onto : List (Option ℕ)) (path : List Reached) (used : List Bool) (i k at : ℕ) → IsWalk graph onto path used → at < length path
+    → k < length used → compatible_at graph (group path at) k ≡ true → is_marked used k ≡ false → mate onto i ≡ Some k
     → IsWalk graph onto (path ++ record { group = i; before = at } ∷ []) (set used k true)
 walk_more graph onto path used i k at w at_in k_in j unused m =
     let e : Reached = record { group = i; before = at } in

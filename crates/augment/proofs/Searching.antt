@@ -40,7 +40,8 @@ stands_last entries e =
     (length entries, omega arith, group_last entries e (length entries) refl)
 
 -- i, the mate of k, is reached over the unmarked k from entry at
-pub linked_more : (graph : Groups) (onto : List (Option ℕ)) (entries : List Reached) (reached : List Bool) (i k at : ℕ) → IsWalk graph onto entries reached → at < length entries → compatible_at graph (group entries at) k ≡ true → is_marked reached k ≡ false → mate onto i ≡ Some k
+pub linked_more : (graph : Groups) (onto : List (Option ℕ)) (entries : List Reached) (reached : List Bool) (i k at : ℕ) → IsWalk graph onto entries reached
+    → at < length entries → compatible_at graph (group entries at) k ≡ true → is_marked reached k ≡ false → mate onto i ≡ Some k
     → AreReached graph onto (entries ++ record { group = i; before = at } ∷ [])
 linked_more graph onto entries reached i k at s at_in j unmarked mate_i =
     let e : Reached = record { group = i; before = at } in
@@ -73,7 +74,9 @@ linked_more graph onto entries reached i k at s at_in j unmarked mate_i =
       ];
     }
 
-pub search_more : (graph : Groups) (onto planned : List (Option ℕ)) (entries : List Reached) (reached : List Bool) (next i k at : ℕ) → ArePaired onto planned → IsSearch graph onto entries reached next → next ≤ length entries → at < length entries → k < length reached → compatible_at graph (group entries at) k ≡ true → is_marked reached k ≡ false → mate onto i ≡ Some k
+pub search_more : (graph : Groups) (onto planned : List (Option ℕ)) (entries : List Reached) (reached : List Bool) (next i k at : ℕ) → ArePaired onto planned
+    → IsSearch graph onto entries reached next → next ≤ length entries → at < length entries → k < length reached
+    → compatible_at graph (group entries at) k ≡ true → is_marked reached k ≡ false → mate onto i ≡ Some k
     → IsSearch graph onto (entries ++ record { group = i; before = at } ∷ []) (set reached k true) next
 search_more graph onto planned entries reached next i k at paired s next_in at_in k_in j unmarked mate_i =
     let e : Reached = record { group = i; before = at } in

@@ -34,7 +34,8 @@ starting_skip onto entries i s m = record {
   ];
 }
 
-pub starting_push : (onto : List (Option ℕ)) (entries : List Reached) (i : ℕ) → IsStarting onto entries i → mate onto i ≡ None → IsStarting onto (entries ++ record { group = i; before = 0 } ∷ []) (i + 1)
+pub starting_push : (onto : List (Option ℕ)) (entries : List Reached) (i : ℕ) → IsStarting onto entries i → mate onto i ≡ None
+    → IsStarting onto (entries ++ record { group = i; before = 0 } ∷ []) (i + 1)
 starting_push onto entries i s m =
     let e : Reached = record { group = i; before = 0 } in
     record {
@@ -98,7 +99,9 @@ pub record IsReaching (graph : Groups) (onto : List (Option ℕ)) (entries : Lis
   pub left : length entries + unmarked reached ≡ total
   pub marks : length reached ≡ owned
 
-below_more_partner : (graph : Groups) (reached : List Bool) (g from k : ℕ) → ((q : ℕ) → q < from → compatible_at graph g q ≡ true → is_marked reached q ≡ true) → ((q : ℕ) → from ≤ q → q < k → compatible_at graph g q ≡ true → is_marked reached q ≡ true) → is_marked reached k ≡ true → (q : ℕ) → q < k + 1 → compatible_at graph g q ≡ true → is_marked reached q ≡ true
+below_more_partner : (graph : Groups) (reached : List Bool) (g from k : ℕ) → ((q : ℕ) → q < from → compatible_at graph g q ≡ true → is_marked reached q ≡ true)
+    → ((q : ℕ) → from ≤ q → q < k → compatible_at graph g q ≡ true → is_marked reached q ≡ true) → is_marked reached k ≡ true → (q : ℕ) → q < k + 1
+    → compatible_at graph g q ≡ true → is_marked reached q ≡ true
 below_more_partner graph reached g from k below least here q h j =
     elim (cases_lt q from) [
       | inl l ↦ below q l j
@@ -108,7 +111,10 @@ below_more_partner graph reached g from k below least here q h j =
       ]
     ]
 
-pub reaching_push : (graph : Groups) (onto planned : List (Option ℕ)) (entries : List Reached) (reached : List Bool) (at g from total owned k i : ℕ) → ArePaired onto planned → IsReaching graph onto entries reached at g from total owned → ((q : ℕ) → from ≤ q → q < k → compatible_at graph g q ≡ true → is_marked reached q ≡ true) → compatible_at graph g k ≡ true → k < owned → is_marked reached k ≡ false → mate planned k ≡ Some i
+pub reaching_push : (graph : Groups) (onto planned : List (Option ℕ)) (entries : List Reached) (reached : List Bool) (at g from total owned k i : ℕ)
+    → ArePaired onto planned → IsReaching graph onto entries reached at g from total owned
+    → ((q : ℕ) → from ≤ q → q < k → compatible_at graph g q ≡ true → is_marked reached q ≡ true) → compatible_at graph g k ≡ true → k < owned
+    → is_marked reached k ≡ false → mate planned k ≡ Some i
     → IsReaching graph onto (entries ++ record { group = i; before = at } ∷ []) (set reached k true) at g (k + 1) total owned
 reaching_push graph onto planned entries reached at g from total owned k i paired s least j k_in unmarked_k m =
     let e : Reached = record { group = i; before = at } in
@@ -120,7 +126,8 @@ reaching_push graph onto planned entries reached at g from total owned k i paire
       | inl o ↦ ap (is_marked (set reached k true)) o ∙ now
       | inr o ↦ get_or-set_other reached k q true false o ∙ s.below q h jq
     ] in
-    let kept_between : (q : ℕ) → from ≤ q → q < k → compatible_at graph g q ≡ true → is_marked (set reached k true) q ≡ true = λ q l h jq. get_or-set_other reached k q true false (λ e. absurd (omega arith)) ∙ least q l h jq in
+    let kept_between : (q : ℕ) → from ≤ q → q < k → compatible_at graph g q ≡ true
+    → is_marked (set reached k true) q ≡ true = λ q l h jq. get_or-set_other reached k q true false (λ e. absurd (omega arith)) ∙ least q l h jq in
     let fewer : unmarked (set reached k true) + 1 ≡ unmarked reached = unmarked-set reached k k_marks unmarked_k in
     let was : length entries + unmarked reached ≡ total = s.left in
     record {
@@ -132,7 +139,9 @@ reaching_push graph onto planned entries reached at g from total owned k i paire
       marks = length-set reached k true ∙ s.marks;
     }
 
-pub reaching_start : (graph : Groups) (onto : List (Option ℕ)) (entries : List Reached) (reached : List Bool) (at g total owned : ℕ) → IsSearch graph onto entries reached at → at < length entries → group entries at ≡ g → length entries + unmarked reached ≡ total → length reached ≡ owned → IsReaching graph onto entries reached at g 0 total owned
+pub reaching_start : (graph : Groups) (onto : List (Option ℕ)) (entries : List Reached) (reached : List Bool) (at g total owned : ℕ)
+    → IsSearch graph onto entries reached at → at < length entries → group entries at ≡ g → length entries + unmarked reached ≡ total → length reached ≡ owned
+    → IsReaching graph onto entries reached at g 0 total owned
 reaching_start graph onto entries reached at g total owned s h e l m = record {
   search = s;
   at_in = h;
@@ -142,7 +151,9 @@ reaching_start graph onto entries reached at g total owned s h e l m = record {
   marks = m;
 }
 
-pub reaching_end : (graph : Groups) (onto : List (Option ℕ)) (entries : List Reached) (reached : List Bool) (at g from total owned : ℕ) → IsReaching graph onto entries reached at g from total owned → ((q : ℕ) → from ≤ q → compatible_at graph g q ≡ true → is_marked reached q ≡ true) → IsSearch graph onto entries reached (at + 1)
+pub reaching_end : (graph : Groups) (onto : List (Option ℕ)) (entries : List Reached) (reached : List Bool) (at g from total owned : ℕ)
+    → IsReaching graph onto entries reached at g from total owned → ((q : ℕ) → from ≤ q → compatible_at graph g q ≡ true → is_marked reached q ≡ true)
+    → IsSearch graph onto entries reached (at + 1)
 reaching_end graph onto entries reached at g from total owned s none = record {
   linked = s.search.linked;
   marked = s.search.marked;

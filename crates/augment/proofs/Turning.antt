@@ -44,7 +44,8 @@ count_added onto i j il was =
     let old : cond {A = ℕ} (is_some (mate onto i)) 1 0 ≡ 0 = rw was refl in
     omega arith
 
-pub turning_more : (graph : Groups) (entries : List Reached) (start start_planned onto planned planned' : List (Option ℕ)) (last free left : ℕ) → AreReached graph start entries → ArePaired onto planned → IsTurning graph entries start start_planned onto planned last free
+pub turning_more : (graph : Groups) (entries : List Reached) (start start_planned onto planned planned' : List (Option ℕ)) (last free left : ℕ)
+    → AreReached graph start entries → ArePaired onto planned → IsTurning graph entries start start_planned onto planned last free
     → mate onto (group entries last) ≡ Some left → length planned' ≡ length planned → mate planned' left ≡ None
     → IsTurning graph entries start start_planned (set onto (group entries last) (Some free)) planned' (before entries last) left
 turning_more graph entries start start_planned onto planned planned' last free left linked paired t was long freed =

@@ -59,7 +59,8 @@ module _ (parts : List SlotSet) (index : ℕ) (within : index / 256 < length par
   pub numbers_in-insert : numbers_in (set parts (index / 256) (insert part (index % 256))) ≡ insert (numbers_in parts) index
   numbers_in-insert = same_slots _ _ (λ q. each q (cases_eq (q / 256) (index / 256)) (cases_eq q index) ∙ sym (contains-insert nat_cmp_total (numbers_in parts) index q))
     where
-      each : (q : ℕ) → (q / 256 ≡ index / 256) ⊎ (q / 256 ≡ index / 256 → ⊥) → (q ≡ index) ⊎ (q ≡ index → ⊥) → contains (numbers_in (set parts (index / 256) (insert part (index % 256)))) q ≡ (eq_by_cmp nat_cmp q index || contains (numbers_in parts) q)
+      each : (q : ℕ) → (q / 256 ≡ index / 256) ⊎ (q / 256 ≡ index / 256 → ⊥) → (q ≡ index) ⊎ (q ≡ index → ⊥)
+          → contains (numbers_in (set parts (index / 256) (insert part (index % 256)))) q ≡ (eq_by_cmp nat_cmp q index || contains (numbers_in parts) q)
       each q (inl here) (inl same) =
           contains-set_same parts (index / 256) within (insert part (index % 256)) q here
           ∙ contains-insert nat_cmp_total part (index % 256) (q % 256)
@@ -76,7 +77,8 @@ module _ (parts : List SlotSet) (index : ℕ) (within : index / 256 < length par
   pub numbers_in-remove : numbers_in (set parts (index / 256) (remove part (index % 256))) ≡ remove (numbers_in parts) index
   numbers_in-remove = same_slots _ _ (λ q. each q (cases_eq (q / 256) (index / 256)) (cases_eq q index) ∙ sym (contains-remove nat_cmp_total (numbers_in parts) index q))
     where
-      each : (q : ℕ) → (q / 256 ≡ index / 256) ⊎ (q / 256 ≡ index / 256 → ⊥) → (q ≡ index) ⊎ (q ≡ index → ⊥) → contains (numbers_in (set parts (index / 256) (remove part (index % 256)))) q ≡ (not (eq_by_cmp nat_cmp q index) && contains (numbers_in parts) q)
+      each : (q : ℕ) → (q / 256 ≡ index / 256) ⊎ (q / 256 ≡ index / 256 → ⊥) → (q ≡ index) ⊎ (q ≡ index → ⊥)
+          → contains (numbers_in (set parts (index / 256) (remove part (index % 256)))) q ≡ (not (eq_by_cmp nat_cmp q index) && contains (numbers_in parts) q)
       each q (inl here) (inl same) =
           contains-set_same parts (index / 256) within (remove part (index % 256)) q here
           ∙ contains-remove nat_cmp_total part (index % 256) (q % 256)
@@ -113,7 +115,8 @@ pub HasNoneIn-past : (parts : List SlotSet) (at : ℕ) → length parts ≤ at �
 HasNoneIn-past parts at past q here = contains-past parts q (omega (arith, here, past))
 
 -- the least number of a part is one of the parts'
-pub in_room : (parts : List SlotSet) (part : ℕ) (found : Option ℕ) → MatchOption found (HasNoneIn (numbers_in parts) part) (IsLowestIn (numbers_in parts) part) → IfSome found (λ n. n < 256 * length parts)
+pub in_room : (parts : List SlotSet) (part : ℕ) (found : Option ℕ) → MatchOption found (HasNoneIn (numbers_in parts) part) (IsLowestIn (numbers_in parts) part)
+    → IfSome found (λ n. n < 256 * length parts)
 in_room parts part None none = tt
 in_room parts part (Some n) lowest = elim (cases_lt n (256 * length parts)) [
   | inl low ↦ low
@@ -124,7 +127,8 @@ pub numbers_in-none : (parts : List SlotSet) → parts ≡ [] → numbers_in par
 numbers_in-none parts none = same_slots _ _ (λ q. contains-past parts q (omega (arith, ap length none)) ∙ sym (contains-empty nat_cmp q))
 
 -- one part more has the numbers below the count
-pub below-part : (parts : List SlotSet) (at count : ℕ) (new : SlotSet) → at < length parts → ((slot : ℕ) → slot < 256 → contains new slot ≡ nat_lt slot (count - 256 * at)) → ((q : ℕ) → q < 256 * at → contains (numbers_in parts) q ≡ nat_lt q count)
+pub below-part : (parts : List SlotSet) (at count : ℕ) (new : SlotSet) → at < length parts
+    → ((slot : ℕ) → slot < 256 → contains new slot ≡ nat_lt slot (count - 256 * at)) → ((q : ℕ) → q < 256 * at → contains (numbers_in parts) q ≡ nat_lt q count)
     → (q : ℕ) → q < 256 * (at + 1) → contains (numbers_in (set parts at new)) q ≡ nat_lt q count
 below-part parts at count new within new_is before q less = elim (cases_lt q (256 * at)) [
   | inl low ↦ contains-set_other parts at within new q (λ e. absurd (omega (arith, e, low))) ∙ before q low
@@ -136,14 +140,17 @@ below-part parts at count new within new_is before q less = elim (cases_lt q (25
     same (inr high) here = le-ltb (q % 256) (count - 256 * at) (omega (arith, high, here, less)) ∙ sym (le-ltb q count high)
 
 -- where all parts have the numbers below the count, no other has one
-pub below-all : (parts : List SlotSet) (count : ℕ) → count ≤ 256 * length parts → ((q : ℕ) → q < 256 * length parts → contains (numbers_in parts) q ≡ nat_lt q count) → (q : ℕ) → contains (numbers_in parts) q ≡ nat_lt q count
+pub below-all : (parts : List SlotSet) (count : ℕ) → count ≤ 256 * length parts
+    → ((q : ℕ) → q < 256 * length parts → contains (numbers_in parts) q ≡ nat_lt q count) → (q : ℕ) → contains (numbers_in parts) q ≡ nat_lt q count
 below-all parts count few each q = elim (cases_lt q (256 * length parts)) [
   | inl low ↦ each q low
   | inr past ↦ contains-past parts q (omega (arith, past)) ∙ sym (le-ltb q count (omega (arith, past, few)))
 ]
 
 -- parts that come, with no number
-pub numbers_in-grown : (parts after : List SlotSet) → length parts ≤ length after → ((at : ℕ) → at < length parts → get_or after at empty ≡ get_or parts at empty) → ((at : ℕ) → length parts ≤ at → at < length after → get_or after at empty ≡ empty) → numbers_in after ≡ numbers_in parts
+pub numbers_in-grown : (parts after : List SlotSet) → length parts ≤ length after
+    → ((at : ℕ) → at < length parts → get_or after at empty ≡ get_or parts at empty)
+    → ((at : ℕ) → length parts ≤ at → at < length after → get_or after at empty ≡ empty) → numbers_in after ≡ numbers_in parts
 numbers_in-grown parts after longer same none = numbers_in-alike after parts (λ at. elim (cases_lt at (length parts)) [
   | inl low ↦ same at low
   | inr past ↦ elim (cases_lt at (length after)) [

@@ -33,18 +33,22 @@ module _ (low : SlotSet) (high : List SlotSet) (n : ℕ) where
   insert-low within = same_slots _ _ (λ q. each q (cases_eq q n) (cases_lt q 256))
     where
       each : (q : ℕ) → (q ≡ n) ⊎ (q ≡ n → ⊥) → (q < 256) ⊎ (256 ≤ q) → contains (numbers_in (insert low n ∷ high)) q ≡ contains (insert (numbers_in (low ∷ high)) n) q
-      each q (inl same) (inl small) = contains-low (insert low n) high q small ∙ ap (contains (insert low n)) same ∙ contains-insert_same low n ∙ sym (ap (contains (insert (numbers_in (low ∷ high)) n)) same ∙ contains-insert_same (numbers_in (low ∷ high)) n)
+      each q (inl same) (inl small) = contains-low (insert low n) high q small ∙ ap (contains (insert low n)) same ∙ contains-insert_same low n
+          ∙ sym (ap (contains (insert (numbers_in (low ∷ high)) n)) same ∙ contains-insert_same (numbers_in (low ∷ high)) n)
       each q (inl same) (inr large) = absurd (omega arith)
-      each q (inr other) (inl small) = contains-low (insert low n) high q small ∙ contains-insert_other low n q other ∙ sym (contains-insert_other (numbers_in (low ∷ high)) n q other ∙ contains-low low high q small)
+      each q (inr other) (inl small) = contains-low (insert low n) high q small ∙ contains-insert_other low n q other
+          ∙ sym (contains-insert_other (numbers_in (low ∷ high)) n q other ∙ contains-low low high q small)
       each q (inr other) (inr large) = contains-high (insert low n) high q large ∙ sym (contains-insert_other (numbers_in (low ∷ high)) n q other ∙ contains-high low high q large)
 
   pub remove-low : n < 256 → numbers_in (remove low n ∷ high) ≡ remove (numbers_in (low ∷ high)) n
   remove-low within = same_slots _ _ (λ q. each q (cases_eq q n) (cases_lt q 256))
     where
       each : (q : ℕ) → (q ≡ n) ⊎ (q ≡ n → ⊥) → (q < 256) ⊎ (256 ≤ q) → contains (numbers_in (remove low n ∷ high)) q ≡ contains (remove (numbers_in (low ∷ high)) n) q
-      each q (inl same) (inl small) = contains-low (remove low n) high q small ∙ ap (contains (remove low n)) same ∙ contains-remove_same low n ∙ sym (ap (contains (remove (numbers_in (low ∷ high)) n)) same ∙ contains-remove_same (numbers_in (low ∷ high)) n)
+      each q (inl same) (inl small) = contains-low (remove low n) high q small ∙ ap (contains (remove low n)) same ∙ contains-remove_same low n
+          ∙ sym (ap (contains (remove (numbers_in (low ∷ high)) n)) same ∙ contains-remove_same (numbers_in (low ∷ high)) n)
       each q (inl same) (inr large) = absurd (omega arith)
-      each q (inr other) (inl small) = contains-low (remove low n) high q small ∙ contains-remove_other low n q other ∙ sym (contains-remove_other (numbers_in (low ∷ high)) n q other ∙ contains-low low high q small)
+      each q (inr other) (inl small) = contains-low (remove low n) high q small ∙ contains-remove_other low n q other
+          ∙ sym (contains-remove_other (numbers_in (low ∷ high)) n q other ∙ contains-low low high q small)
       each q (inr other) (inr large) = contains-high (remove low n) high q large ∙ sym (contains-remove_other (numbers_in (low ∷ high)) n q other ∙ contains-high low high q large)
 
   module _ (after : List SlotSet) (large : 256 ≤ n) where
@@ -53,18 +57,26 @@ module _ (low : SlotSet) (high : List SlotSet) (n : ℕ) where
       where
         each : (q : ℕ) → (q ≡ n) ⊎ (q ≡ n → ⊥) → (q < 256) ⊎ (256 ≤ q) → contains (numbers_in (low ∷ after)) q ≡ contains (insert (numbers_in (low ∷ high)) n) q
         each q (inl same) (inl small) = absurd (omega arith)
-        each q (inl same) (inr past) = contains-high low after q past ∙ ap (λ s. contains s (q - 256)) is ∙ ap (λ k. contains (insert (numbers_in high) (n - 256)) (k - 256)) same ∙ contains-insert_same (numbers_in high) (n - 256) ∙ sym (ap (contains (insert (numbers_in (low ∷ high)) n)) same ∙ contains-insert_same (numbers_in (low ∷ high)) n)
+        each q (inl same) (inr past) = contains-high low after q past ∙ ap (λ s. contains s (q - 256)) is
+            ∙ ap (λ k. contains (insert (numbers_in high) (n - 256)) (k - 256)) same ∙ contains-insert_same (numbers_in high) (n - 256)
+            ∙ sym (ap (contains (insert (numbers_in (low ∷ high)) n)) same ∙ contains-insert_same (numbers_in (low ∷ high)) n)
         each q (inr other) (inl small) = contains-low low after q small ∙ sym (contains-insert_other (numbers_in (low ∷ high)) n q other ∙ contains-low low high q small)
-        each q (inr other) (inr past) = contains-high low after q past ∙ ap (λ s. contains s (q - 256)) is ∙ contains-insert_other (numbers_in high) (n - 256) (q - 256) (λ e. other (omega (arith, e, past, large))) ∙ sym (contains-insert_other (numbers_in (low ∷ high)) n q other ∙ contains-high low high q past)
+        each q (inr other) (inr past) = contains-high low after q past ∙ ap (λ s. contains s (q - 256)) is
+            ∙ contains-insert_other (numbers_in high) (n - 256) (q - 256) (λ e. other (omega (arith, e, past, large)))
+            ∙ sym (contains-insert_other (numbers_in (low ∷ high)) n q other ∙ contains-high low high q past)
 
     pub remove-high : numbers_in after ≡ remove (numbers_in high) (n - 256) → numbers_in (low ∷ after) ≡ remove (numbers_in (low ∷ high)) n
     remove-high is = same_slots _ _ (λ q. each q (cases_eq q n) (cases_lt q 256))
       where
         each : (q : ℕ) → (q ≡ n) ⊎ (q ≡ n → ⊥) → (q < 256) ⊎ (256 ≤ q) → contains (numbers_in (low ∷ after)) q ≡ contains (remove (numbers_in (low ∷ high)) n) q
         each q (inl same) (inl small) = absurd (omega arith)
-        each q (inl same) (inr past) = contains-high low after q past ∙ ap (λ s. contains s (q - 256)) is ∙ ap (λ k. contains (remove (numbers_in high) (n - 256)) (k - 256)) same ∙ contains-remove_same (numbers_in high) (n - 256) ∙ sym (ap (contains (remove (numbers_in (low ∷ high)) n)) same ∙ contains-remove_same (numbers_in (low ∷ high)) n)
+        each q (inl same) (inr past) = contains-high low after q past ∙ ap (λ s. contains s (q - 256)) is
+            ∙ ap (λ k. contains (remove (numbers_in high) (n - 256)) (k - 256)) same ∙ contains-remove_same (numbers_in high) (n - 256)
+            ∙ sym (ap (contains (remove (numbers_in (low ∷ high)) n)) same ∙ contains-remove_same (numbers_in (low ∷ high)) n)
         each q (inr other) (inl small) = contains-low low after q small ∙ sym (contains-remove_other (numbers_in (low ∷ high)) n q other ∙ contains-low low high q small)
-        each q (inr other) (inr past) = contains-high low after q past ∙ ap (λ s. contains s (q - 256)) is ∙ contains-remove_other (numbers_in high) (n - 256) (q - 256) (λ e. other (omega (arith, e, past, large))) ∙ sym (contains-remove_other (numbers_in (low ∷ high)) n q other ∙ contains-high low high q past)
+        each q (inr other) (inr past) = contains-high low after q past ∙ ap (λ s. contains s (q - 256)) is
+            ∙ contains-remove_other (numbers_in high) (n - 256) (q - 256) (λ e. other (omega (arith, e, past, large)))
+            ∙ sym (contains-remove_other (numbers_in (low ∷ high)) n q other ∙ contains-high low high q past)
 
 -- the least number is the first part's, where it has one
 
@@ -96,7 +108,8 @@ joined-empty low high none no_high = same_slots _ _ (λ q. elim (cases_lt q 256)
 ])
 
 -- the numbers below a count
-pub joined-below : (low : SlotSet) (high : List SlotSet) (count : ℕ) → ((q : ℕ) → contains low q ≡ nat_lt q (min count 256)) → ((q : ℕ) → contains (numbers_in high) q ≡ nat_lt q (count - 256)) → (q : ℕ) → contains (numbers_in (low ∷ high)) q ≡ nat_lt q count
+pub joined-below : (low : SlotSet) (high : List SlotSet) (count : ℕ) → ((q : ℕ) → contains low q ≡ nat_lt q (min count 256))
+    → ((q : ℕ) → contains (numbers_in high) q ≡ nat_lt q (count - 256)) → (q : ℕ) → contains (numbers_in (low ∷ high)) q ≡ nat_lt q count
 joined-below low high count low_is high_is q = elim (cases_lt q 256) [
   | inl small ↦ contains-low low high q small ∙ low_is q ∙ below (cases_lt q count) small
   | inr large ↦ contains-high low high q large ∙ high_is (q - 256) ∙ above (cases_lt q count) large

@@ -94,10 +94,14 @@ module _ (numbers filled : SlotSet) (summary : IsSummary numbers filled) where
   has_some part member none = let (n, place, is) = summary.some part member in true≢false (sym is ∙ none n place)
 
   pub empty-summary : filled ≡ empty → numbers ≡ empty
-  empty-summary none = same_slots _ _ (λ q. false_from_ne_true (contains numbers q) (λ member. true≢false (sym (summary.has q member) ∙ ap (λ s. contains s (q / 256)) none ∙ contains-empty nat_cmp (q / 256))) ∙ sym (contains-empty nat_cmp q))
+  empty-summary none = same_slots _ _
+      (λ q. false_from_ne_true (contains numbers q)
+      (λ member. true≢false (sym (summary.has q member) ∙ ap (λ s. contains s (q / 256)) none ∙ contains-empty nat_cmp (q / 256)))
+      ∙ sym (contains-empty nat_cmp q))
 
 -- the numbers below a count, and the parts of these
-pub IsSummary-below : (numbers filled : SlotSet) (count parts : ℕ) → count ≤ 256 * parts → 256 * parts < count + 256 → ((q : ℕ) → contains numbers q ≡ nat_lt q count) → ((q : ℕ) → contains filled q ≡ nat_lt q parts) → IsSummary numbers filled
+pub IsSummary-below : (numbers filled : SlotSet) (count parts : ℕ) → count ≤ 256 * parts → 256 * parts < count + 256
+    → ((q : ℕ) → contains numbers q ≡ nat_lt q count) → ((q : ℕ) → contains filled q ≡ nat_lt q parts) → IsSummary numbers filled
 IsSummary-below numbers filled count parts low high below parts_below = record {
   has = λ n member. let less : n < count = ltb-true n count (sym (below n) ∙ member) in parts_below (n / 256) ∙ lt-ltb (n / 256) parts (omega (arith, less, low));
   some = λ part member.
@@ -123,13 +127,16 @@ below-next s count below q = each (cases_eq q count) (cases_lt q count)
 module _ (numbers filled : SlotSet) (summary : IsSummary numbers filled) (at : ℕ) (after : SlotSet) (after_is : after ≡ remove numbers at) where
   pub IsSummary-left : (found : Option ℕ) → MatchOption found (HasNoneIn after (at / 256)) (IsLowestIn after (at / 256)) → is_some found ≡ true → IsSummary after filled
   IsSummary-left None none some = absurd (true≢false (sym some))
-  IsSummary-left (Some left) lowest some = subst (λ s. IsSummary s filled) (sym after_is) (IsSummary-remove numbers filled summary at left lowest.part_is (ap (λ s. contains s left) (sym after_is) ∙ lowest.inside))
+  IsSummary-left (Some left) lowest some = subst (λ s. IsSummary s filled) (sym after_is)
+      (IsSummary-remove numbers filled summary at left lowest.part_is (ap (λ s. contains s left) (sym after_is) ∙ lowest.inside))
 
   pub IsSummary-left_none : (found : Option ℕ) → MatchOption found (HasNoneIn after (at / 256)) (IsLowestIn after (at / 256)) → is_some found ≡ false → IsSummary after (remove filled (at / 256))
-  IsSummary-left_none None none gone = subst (λ s. IsSummary s (remove filled (at / 256))) (sym after_is) (IsSummary-remove_last numbers filled summary at (subst (λ s. HasNoneIn s (at / 256)) after_is none))
+  IsSummary-left_none None none gone = subst (λ s. IsSummary s (remove filled (at / 256))) (sym after_is)
+      (IsSummary-remove_last numbers filled summary at (subst (λ s. HasNoneIn s (at / 256)) after_is none))
   IsSummary-left_none (Some left) lowest gone = absurd (true≢false gone)
 
 -- the least number of the least part that has one
-pub lowest-part : (numbers filled : SlotSet) → IsSummary numbers filled → (part : ℕ) → IsLowest filled part → (found : Option ℕ) → MatchOption found (HasNoneIn numbers part) (IsLowestIn numbers part) → MatchOption found (numbers ≡ empty) (IsLowest numbers)
+pub lowest-part : (numbers filled : SlotSet) → IsSummary numbers filled → (part : ℕ) → IsLowest filled part → (found : Option ℕ)
+    → MatchOption found (HasNoneIn numbers part) (IsLowestIn numbers part) → MatchOption found (numbers ≡ empty) (IsLowest numbers)
 lowest-part numbers filled summary part least None none = absurd (has_some numbers filled summary part least.inside none)
 lowest-part numbers filled summary part least (Some n) lowest = IsLowest-part numbers filled summary part n least lowest

@@ -29,5 +29,6 @@ pub value_more : (ds : List ℕ) (i : ℕ) → AllDigits 10 ds → i < length ds
 value_more ds i all h = digits_value_more 10 ds i h ∙ ap (λ d. digits_value 10 (take i ds) * 10 + d) (digit_value-digit _ (digit_at ds i all h))
 
 -- one digit more, of a number that is kept clipped
-pub clip-more : (ds : List ℕ) (i : ℕ) → AllDigits 10 ds → i < length ds → min (min (clip (digits_value 10 (take i ds)) * 10) 4294967295 + (get_or ds i 0 - 48)) 4294967295 ≡ clip (digits_value 10 (take (i + 1) ds))
+pub clip-more : (ds : List ℕ) (i : ℕ) → AllDigits 10 ds → i < length ds
+    → min (min (clip (digits_value 10 (take i ds)) * 10) 4294967295 + (get_or ds i 0 - 48)) 4294967295 ≡ clip (digits_value 10 (take (i + 1) ds))
 clip-more ds i all h = let e = value_more ds i all h in rw e (grind arith)

@@ -56,13 +56,15 @@ ascending-push ids y up late k l =
           let less : get_or (map rank ids) k 0 < rank y = late k e in
           omega arith
       | inr n ↦
-          let next : get_or (map rank (ids ++ y ∷ [])) (k + 1) 0 ≡ get_or (map rank ids) (k + 1) 0 = ap (λ xs. get_or xs (k + 1) 0) all ∙ get_or_append_left (map rank ids) (rank y ∷ []) 0 (k + 1) (omega arith) in
+          let next : get_or (map rank (ids ++ y ∷ [])) (k + 1) 0 ≡ get_or (map rank ids) (k + 1) 0 = ap (λ xs. get_or xs (k + 1) 0) all
+          ∙ get_or_append_left (map rank ids) (rank y ∷ []) 0 (k + 1) (omega arith) in
           let less : get_or (map rank ids) k 0 < get_or (map rank ids) (k + 1) 0 = up k (omega arith) in
           omega arith
     ]
 
 -- the first k items of n have been read, and the last of them has this id
-pub record IsReading {X Y : Type 0} (parse : List ℕ → Result X Cause) (id_of : X → Id) (view : Y → X) (key : Y → SpanId) (parts : List (List ℕ)) (at n : ℕ) (done : List Y) (last : Option SpanId) (k : ℕ) : Type 0 where
+pub record IsReading {X Y : Type 0} (parse : List ℕ → Result X Cause) (id_of : X → Id) (view : Y → X) (key : Y
+    → SpanId) (parts : List (List ℕ)) (at n : ℕ) (done : List Y) (last : Option SpanId) (k : ℕ) : Type 0 where
   pub count : length done ≡ k
   pub within : k ≤ n
   pub so_far : items_in parse id_of parts None at n ≡ carried (map view done) (items_in parse id_of parts (option_map id_parts last) (at + k) (n - k))
@@ -70,7 +72,8 @@ pub record IsReading {X Y : Type 0} (parse : List ℕ → Result X Cause) (id_of
   pub first : last ≡ None → length done ≡ 0
   pub latest : (l : SpanId) (i : ℕ) → last ≡ Some l → i + 1 ≡ length done → get_or (map rank (map key done)) i 0 ≡ rank l
 
-module _ {X Y : Type 0} (parse : List ℕ → Result X Cause) (id_of : X → Id) (view : Y → X) (key : Y → SpanId) (keys : (y : Y) → id_of (view y) ≡ id_parts (key y)) (parts : List (List ℕ)) (at n : ℕ) where
+module _ {X Y : Type 0} (parse : List ℕ → Result X Cause) (id_of : X → Id) (view : Y → X) (key : Y → SpanId) (keys : (y : Y)
+    → id_of (view y) ≡ id_parts (key y)) (parts : List (List ℕ)) (at n : ℕ) where
   pub IsReading-start : IsReading parse id_of view key parts at n [] None 0
   IsReading-start = record {
     count = refl;
@@ -88,7 +91,8 @@ module _ {X Y : Type 0} (parse : List ℕ → Result X Cause) (id_of : X → Id)
       counts = omega arith
 
   module _ (done : List Y) (last : Option SpanId) (k : ℕ) (s : IsReading parse id_of view key parts at n done last k) where
-    pub IsReading-more : (y : Y) → k < n → Ok (view y) ≡ line_in (item_in parse id_of (option_map id_parts last)) parts (at + k) → ComesAfter last (key y) → IsReading parse id_of view key parts at n (done ++ y ∷ []) (Some (key y)) (k + 1)
+    pub IsReading-more : (y : Y) → k < n → Ok (view y) ≡ line_in (item_in parse id_of (option_map id_parts last)) parts (at + k) → ComesAfter last (key y)
+        → IsReading parse id_of view key parts at n (done ++ y ∷ []) (Some (key y)) (k + 1)
     IsReading-more y l line after = record {
       count = length_push done y ∙ ap (λ m. m + 1) s.count;
       within = omega arith;
@@ -102,7 +106,8 @@ module _ {X Y : Type 0} (parse : List ℕ → Result X Cause) (id_of : X → Id)
       latest = λ l i e n. let same : key y ≡ l = cc in
           let long : length (map rank (map key done)) ≡ length done = length-map (map key done) rank ∙ length-map done key in
           let more : length (done ++ y ∷ []) ≡ length done + 1 = length_push done y in
-          ap (λ xs. get_or (map rank xs) i 0) (map_push key done y) ∙ ap (λ xs. get_or xs i 0) (map_push rank (map key done) (key y)) ∙ get_or_push (map rank (map key done)) (rank (key y)) 0 i (omega arith) ∙ ap rank same;
+          ap (λ xs. get_or (map rank xs) i 0) (map_push key done y) ∙ ap (λ xs. get_or xs i 0) (map_push rank (map key done) (key y))
+          ∙ get_or_push (map rank (map key done)) (rank (key y)) 0 i (omega arith) ∙ ap rank same;
     }
       where
         suc_of : n - k ≡ suc (n - (k + 1))
@@ -111,11 +116,14 @@ module _ {X Y : Type 0} (parse : List ℕ → Result X Cause) (id_of : X → Id)
         next : at + k + 1 ≡ at + (k + 1)
         next = omega arith
 
-        before : (last : Option SpanId) → ComesAfter last (key y) → ((l : SpanId) (i : ℕ) → last ≡ Some l → i + 1 ≡ length done → get_or (map rank (map key done)) i 0 ≡ rank l) → (last ≡ None → length done ≡ 0) → (i : ℕ) → i + 1 ≡ length done → get_or (map rank (map key done)) i 0 < rank (key y)
+        before : (last : Option SpanId) → ComesAfter last (key y)
+            → ((l : SpanId) (i : ℕ) → last ≡ Some l → i + 1 ≡ length done → get_or (map rank (map key done)) i 0 ≡ rank l) → (last ≡ None → length done ≡ 0)
+            → (i : ℕ) → i + 1 ≡ length done → get_or (map rank (map key done)) i 0 < rank (key y)
         before None after latest first i e = let none : length done ≡ 0 = first refl in absurd (omega arith)
         before (Some l) after latest first i e = let at_l : get_or (map rank (map key done)) i 0 ≡ rank l = latest l i refl e in omega (arith, after)
 
-    pub IsReading-refused : (cause : Cause) → k < n → Err cause ≡ line_in (item_in parse id_of (option_map id_parts last)) parts (at + k) → items_in parse id_of parts None at n ≡ Err (BadCertificate (at + k + 1) cause)
+    pub IsReading-refused : (cause : Cause) → k < n → Err cause ≡ line_in (item_in parse id_of (option_map id_parts last)) parts (at + k)
+        → items_in parse id_of parts None at n ≡ Err (BadCertificate (at + k + 1) cause)
     IsReading-refused cause l line =
         s.so_far
         ∙ ap (λ m. carried (map view done) (items_in parse id_of parts (option_map id_parts last) (at + k) m)) (suc_of)
@@ -145,21 +153,30 @@ module _ {X : Type 0} (title : List ℕ) (parse : List ℕ → Result X Cause) (
 
 -- the body of a certificate, where its lists are read
 pub body_in-lists : (version : Version) (parts : List (List ℕ)) (abandoned owned : List Listed) (folds : List (Id × Id)) (short : List Id) (second third fourth fifth : ℕ)
-    → list_in (codes "abandoned") (entry_in version) (λ x. x.id) parts 1 ≡ Ok abandoned → list_in (codes "owned") (entry_in version) (λ x. x.id) parts second ≡ Ok owned → list_in (codes "folds") pair_in (λ p. p.0) parts third ≡ Ok folds
+    → list_in (codes "abandoned") (entry_in version) (λ x. x.id) parts 1 ≡ Ok abandoned
+    → list_in (codes "owned") (entry_in version) (λ x. x.id) parts second ≡ Ok owned → list_in (codes "folds") pair_in (λ p. p.0) parts third ≡ Ok folds
     → list_in (codes "short") id_in (λ id. id) parts fourth ≡ Ok short
-    → second ≡ 2 + length abandoned → third ≡ 3 + length abandoned + length owned → fourth ≡ 4 + length abandoned + length owned + length folds → fifth ≡ 5 + length abandoned + length owned + length folds + length short
-    → body_in version parts ≡ (at_line fifth (line_in (fixed_in (codes "end")) parts fifth) >>= (λ ended. at_line (fifth + 1) (end_in parts (fifth + 1)) >>= (λ done. Ok (record { abandoned = abandoned; owned = owned; folds = folds; short = short }))))
+    → second ≡ 2 + length abandoned → third ≡ 3 + length abandoned + length owned → fourth ≡ 4 + length abandoned + length owned + length folds
+    → fifth ≡ 5 + length abandoned + length owned + length folds + length short
+    → body_in version parts ≡ (at_line fifth (line_in (fixed_in (codes "end")) parts fifth) >>=
+    (λ ended. at_line (fifth + 1) (end_in parts (fifth + 1)) >>= (λ done. Ok (record { abandoned = abandoned; owned = owned; folds = folds; short = short }))))
 body_in-lists version parts abandoned owned folds short second third fourth fifth a o f s two three four five =
-    let o' : list_in (codes "owned") (entry_in version) (λ x. x.id) parts (2 + length abandoned) ≡ Ok owned = subst (λ p. list_in (codes "owned") (entry_in version) (λ x. x.id) parts p ≡ Ok owned) two o in
+    let o' : list_in (codes "owned") (entry_in version) (λ x. x.id) parts (2 + length abandoned)
+    ≡ Ok owned = subst (λ p. list_in (codes "owned") (entry_in version) (λ x. x.id) parts p ≡ Ok owned) two o in
     let f' : list_in (codes "folds") pair_in (λ p. p.0) parts (3 + length abandoned + length owned) ≡ Ok folds = subst (λ p. list_in (codes "folds") pair_in (λ p. p.0) parts p ≡ Ok folds) three f in
-    let s' : list_in (codes "short") id_in (λ id. id) parts (4 + length abandoned + length owned + length folds) ≡ Ok short = subst (λ p. list_in (codes "short") id_in (λ id. id) parts p ≡ Ok short) four s in
+    let s' : list_in (codes "short") id_in (λ id. id) parts (4 + length abandoned + length owned + length folds)
+    ≡ Ok short = subst (λ p. list_in (codes "short") id_in (λ id. id) parts p ≡ Ok short) four s in
     let six : 6 + length abandoned + length owned + length folds + length short ≡ fifth + 1 = omega arith in
-    let rest : ℕ → ℕ → Result Outline ReadError = λ p q. at_line p (line_in (fixed_in (codes "end")) parts p) >>= (λ ended. at_line q (end_in parts q) >>= (λ done. Ok (record { abandoned = abandoned; owned = owned; folds = folds; short = short }))) in
-    let all : body_in version parts ≡ rest (5 + length abandoned + length owned + length folds + length short) (6 + length abandoned + length owned + length folds + length short) = rw (a, o', f', s') refl in
+    let rest : ℕ → ℕ → Result Outline ReadError = λ p q. at_line p (line_in (fixed_in (codes "end")) parts p) >>=
+    (λ ended. at_line q (end_in parts q) >>= (λ done. Ok (record { abandoned = abandoned; owned = owned; folds = folds; short = short }))) in
+    let all : body_in version parts
+    ≡ rest (5 + length abandoned + length owned + length folds + length short) (6 + length abandoned + length owned + length folds + length short) = rw
+    (a, o', f', s') refl in
     all ∙ (λ i. rest (sym five i) (six i))
 
 -- a list of the text was read from the place on, and then another text and place are left: the same text, and the place past the list
-pub record IsPast {X Y : Type 0} (title : List ℕ) (parse : List ℕ → Result X Cause) (id_of : X → Id) (view : Y → X) (text : List ℕ) (at : ℕ) (ys : List Y) (text_now : List ℕ) (at_now : ℕ) : Type 0 where
+pub record IsPast {X Y : Type 0} (title : List ℕ) (parse : List ℕ → Result X Cause) (id_of : X → Id) (view : Y
+    → X) (text : List ℕ) (at : ℕ) (ys : List Y) (text_now : List ℕ) (at_now : ℕ) : Type 0 where
   pub read : list_in title parse id_of (lines_of text) at ≡ Ok (map view ys)
   pub text_is : text_now ≡ text
   pub place : at_now ≡ at + 1 + length ys
@@ -168,7 +185,10 @@ pub record IsPast {X Y : Type 0} (title : List ℕ) (parse : List ℕ → Result
 pub body_in-read : (version : Version) {text text1 text2 text3 text4 : List ℕ} {at at1 at2 at3 at4 : ℕ} (abandoned owned : List Entry) (folds : List (SpanId × SpanId)) (short : List SpanId) → at ≡ 1
     → IsPast (codes "abandoned") (entry_in version) (λ x. x.id) entry_parts text at abandoned text1 at1 → IsPast (codes "owned") (entry_in version) (λ x. x.id) entry_parts text1 at1 owned text2 at2
     → IsPast (codes "folds") pair_in (λ p. p.0) pair_parts text2 at2 folds text3 at3 → IsPast (codes "short") id_in (λ id. id) id_parts text3 at3 short text4 at4
-    → body_in version (lines_of text) ≡ (at_line at4 (line_in (fixed_in (codes "end")) (lines_of text4) at4) >>= (λ ended. at_line (at4 + 1) (end_in (lines_of text4) (at4 + 1)) >>= (λ done. Ok (record { abandoned = map entry_parts abandoned; owned = map entry_parts owned; folds = map pair_parts folds; short = map id_parts short }))))
+    → body_in version (lines_of text)
+    ≡ (at_line at4 (line_in (fixed_in (codes "end")) (lines_of text4) at4) >>=
+    (λ ended. at_line (at4 + 1) (end_in (lines_of text4) (at4 + 1)) >>=
+    (λ done. Ok (record { abandoned = map entry_parts abandoned; owned = map entry_parts owned; folds = map pair_parts folds; short = map id_parts short }))))
 body_in-read version {text} {text1} {text2} {text3} {text4} {at} {at1} {at2} {at3} {at4} abandoned owned folds short first a o f s =
     let a_long = length-map abandoned entry_parts in
     let o_long = length-map owned entry_parts in
@@ -187,4 +207,11 @@ body_in-read version {text} {text1} {text2} {text3} {text4} {at} {at1} {at2} {at
     ((λ i. list_in (codes "folds") pair_in (λ p. p.0) (lines_of (sym same2 i)) at2) ∙ f.read)
     ((λ i. list_in (codes "short") id_in (λ id. id) (lines_of (sym same3 i)) at3) ∙ s.read)
     second third fourth fifth
-    ∙ (λ i. at_line at4 (line_in (fixed_in (codes "end")) (lines_of (sym same4 i)) at4) >>= (λ ended. at_line (at4 + 1) (end_in (lines_of (sym same4 i)) (at4 + 1)) >>= (λ done. Ok (record { abandoned = map entry_parts abandoned; owned = map entry_parts owned; folds = map pair_parts folds; short = map id_parts short }))))
+    ∙ (λ i. at_line at4 (line_in (fixed_in (codes "end")) (lines_of (sym same4 i)) at4) >>=
+    (λ ended. at_line (at4 + 1) (end_in (lines_of (sym same4 i)) (at4 + 1)) >>=
+    (λ done. Ok (record {
+      abandoned = map entry_parts abandoned;
+      owned = map entry_parts owned;
+      folds = map pair_parts folds;
+      short = map id_parts short;
+    }))))

@@ -46,7 +46,8 @@ drop-drop n (suc m) [] = drop-nil n ∙ sym (drop-nil (suc m + n))
 drop-drop n (suc m) (x ∷ xs) = let same : suc (m + n) ≡ suc m + n = omega arith in drop-drop n m xs ∙ ap (λ k. drop k (x ∷ xs)) same
 
 -- the first line of those that are left
-get_or-left : (parts : List (List ℕ)) (at : ℕ) (line : List ℕ) (rest : List (List ℕ)) → drop at parts ≡ line ∷ rest → (length parts ≡ at + 1 + length rest) × (get_or parts at [] ≡ line) × (drop (at + 1) parts ≡ rest)
+get_or-left : (parts : List (List ℕ)) (at : ℕ) (line : List ℕ) (rest : List (List ℕ)) → drop at parts ≡ line ∷ rest
+    → (length parts ≡ at + 1 + length rest) × (get_or parts at [] ≡ line) × (drop (at + 1) parts ≡ rest)
 get_or-left parts at line rest left =
     let long : length parts - at ≡ suc (length rest) = sym (length-drop at parts) ∙ ap length left in
     let both : get_or parts at [] ∷ drop (at + 1) parts ≡ line ∷ rest = sym (drop_more parts at [] (omega arith)) ∙ left in

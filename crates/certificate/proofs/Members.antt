@@ -39,7 +39,8 @@ among-without same t x q (y ∷ ys) n h =
       ]
     ]
 
-left_within : {K : Type 0} (same : K → K → Bool) → Tells same → (x : K) (xs ys : List K) → AllByRecursion (λ y. same x y ≡ false) xs → AllByRecursion (λ x. among same x ys ≡ true) xs → AllByRecursion (λ q. among same q (without same x ys) ≡ true) xs
+left_within : {K : Type 0} (same : K → K → Bool) → Tells same → (x : K) (xs ys : List K) → AllByRecursion (λ y. same x y ≡ false) xs
+    → AllByRecursion (λ x. among same x ys ≡ true) xs → AllByRecursion (λ q. among same q (without same x ys) ≡ true) xs
 left_within same t x [] ys d h = tt
 left_within same t x (q ∷ xs) ys d h = (among-without same t x q ys d.0 h.0, left_within same t x xs ys d.1 h.1)
 
@@ -73,7 +74,8 @@ any_from_among same t test x (y ∷ ys) h p =
       | inr f ↦ or_right (test y) _ (any_from_among same t test x ys f p)
     ]
 
-kept : {K : Type 0} (same : K → K → Bool) → Tells same → (zs xs ys : List K) → AllByRecursion (λ x. among same x ys ≡ true) xs → AllByRecursion (λ x. among same x zs ≡ true) xs → AllByRecursion (λ x. among same x (filter (λ y. among same y zs) ys) ≡ true) xs
+kept : {K : Type 0} (same : K → K → Bool) → Tells same → (zs xs ys : List K) → AllByRecursion (λ x. among same x ys ≡ true) xs
+    → AllByRecursion (λ x. among same x zs ≡ true) xs → AllByRecursion (λ x. among same x (filter (λ y. among same y zs) ys) ≡ true) xs
 kept same t zs [] ys h k = tt
 kept same t zs (x ∷ xs) ys h k = (among-filter same t (λ y. among same y zs) x ys h.0 k.0, kept same t zs xs ys h.1 k.1)
 
@@ -86,12 +88,15 @@ pub all_among : {K : Type 0} (same : K → K → Bool) → Tells same → (xs : 
 all_among same t [] = tt
 all_among same t (x ∷ xs) = (or_left (same x x) _ (t.itself x), all_more same x xs xs (all_among same t xs))
 
-pub among_itself : {K : Type 0} (same : K → K → Bool) → Tells same → (xs ys : List K) → AllByRecursion (λ x. among same x ys ≡ true) xs → AllByRecursion (λ x. among same x (filter (λ y. among same y xs) ys) ≡ true) xs
+pub among_itself : {K : Type 0} (same : K → K → Bool) → Tells same → (xs ys : List K) → AllByRecursion (λ x. among same x ys ≡ true) xs
+    → AllByRecursion (λ x. among same x (filter (λ y. among same y xs) ys) ≡ true) xs
 among_itself same t xs ys h = kept same t xs xs ys h (all_among same t xs)
 
 -- those outside a choice are as many as the choice leaves
-pub length-outside : {K : Type 0} (same : K → K → Bool) → Tells same → (xs ys : List K) → IsDistinct same xs → AllByRecursion (λ x. among same x ys ≡ true) xs → length (filter (λ y. not (among same y xs)) ys) + length xs ≤ length ys
+pub length-outside : {K : Type 0} (same : K → K → Bool) → Tells same → (xs ys : List K) → IsDistinct same xs → AllByRecursion (λ x. among same x ys ≡ true) xs
+    → length (filter (λ y. not (among same y xs)) ys) + length xs ≤ length ys
 length-outside same t xs ys d h =
     let inside : length xs ≤ length (filter (λ y. among same y xs) ys) = length-le_from_distinct same t xs (filter (λ y. among same y xs) ys) d (among_itself same t xs ys h) in
-    let both : length (filter (λ y. among same y xs) ys) + length (filter (λ y. not (among same y xs)) ys) ≡ length ys = length-filter_both (λ y. among same y xs) (λ y. not (among same y xs)) (λ y. refl) ys in
+    let both : length (filter (λ y. among same y xs) ys) + length (filter (λ y. not (among same y xs)) ys)
+    ≡ length ys = length-filter_both (λ y. among same y xs) (λ y. not (among same y xs)) (λ y. refl) ys in
     omega arith

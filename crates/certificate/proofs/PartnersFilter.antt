@@ -30,11 +30,13 @@ pub is_partner-at : (s : Groups) (short : List SpanId) (j : ℕ) (y : Entry) →
     → list_any (λ a. any_compatible s a y.id) short ≡ fits_any s.abandoned short y
 is_partner-at s short j y up l is =
     let itself : same_span (get_or s.owned j y).id y.id ≡ true = ap (λ (z : Entry). same_span z.id y.id) (sym is) ∙ tells_span.itself y.id in
-    let inner : (x : Entry) → list_any (λ z. same_span z.id y.id && are_compatible x z) s.owned ≡ are_compatible x y = λ x. any_at s.owned y.id (are_compatible x) j y up l itself ∙ ap (are_compatible x) (sym is) in
+    let inner : (x : Entry) → list_any (λ z. same_span z.id y.id && are_compatible x z) s.owned
+    ≡ are_compatible x y = λ x. any_at s.owned y.id (are_compatible x) j y up l itself ∙ ap (are_compatible x) (sym is) in
     (λ k. list_any (λ a. list_any (λ x. same_span x.id a && inner x k) s.abandoned) short)
 
 -- a filter of what a list is mapped to, where the tests agree on its members
-filter-map : {X K : Type 0} (test : K → Bool) (f : X → K) (own : X → Bool) (xs : List X) → ((j : ℕ) (x : X) → j < length xs → x ≡ get_or xs j x → test (f x) ≡ own x) → filter test (map f xs) ≡ map f (filter own xs)
+filter-map : {X K : Type 0} (test : K → Bool) (f : X → K) (own : X → Bool) (xs : List X)
+    → ((j : ℕ) (x : X) → j < length xs → x ≡ get_or xs j x → test (f x) ≡ own x) → filter test (map f xs) ≡ map f (filter own xs)
 filter-map test f own [] same = refl
 filter-map test f own (x ∷ xs) same =
     let rest : filter test (map f xs) ≡ map f (filter own xs) = filter-map test f own xs (λ j y l is. same (suc j) y (omega arith) is) in
@@ -108,7 +110,9 @@ sets_of-at (y ∷ ys) class id zero x up within is same =
     let here : x ≡ y = is in
     let first : same_span y.id id ≡ true = ap (λ (z : Entry). same_span z.id id) (sym here) ∙ same in
     let others : has_id ys id ≡ false = list_any_none (λ (z : Entry). same_span z.id id) ys (λ k d low. later k d low first) in
-    let whole : sets_of (y ∷ ys) class id ≡ cond (width_of y.class == width_of class) (y.occupied ∷ []) [] = rw first (by_class (width_of y.class == width_of class) (sets_of-none ys class id others)) in
+    let whole : sets_of (y ∷ ys) class id
+    ≡ cond (width_of y.class == width_of class) (y.occupied ∷ []) [] = rw first
+    (by_class (width_of y.class == width_of class) (sets_of-none ys class id others)) in
     whole ∙ (λ t. cond (width_of (sym here t).class == width_of class) ((sym here t).occupied ∷ []) [])
   where
     later : (k : ℕ) (d : Entry) → k < length ys → same_span y.id id ≡ true → same_span (get_or ys k d).id id ≡ false
@@ -117,7 +121,8 @@ sets_of-at (y ∷ ys) class id zero x up within is same =
       | inr other ↦ other
     ]
 
-    by_class : (b : Bool) → map (λ (z : Entry). z.occupied) (filter (is_member class id) ys) ≡ [] → map (λ (z : Entry). z.occupied) (cond b (y ∷ filter (is_member class id) ys) (filter (is_member class id) ys)) ≡ cond b (y.occupied ∷ []) []
+    by_class : (b : Bool) → map (λ (z : Entry). z.occupied) (filter (is_member class id) ys) ≡ []
+        → map (λ (z : Entry). z.occupied) (cond b (y ∷ filter (is_member class id) ys) (filter (is_member class id) ys)) ≡ cond b (y.occupied ∷ []) []
     by_class true none = ap (λ l. y.occupied ∷ l) none
     by_class false none = none
 sets_of-at (y ∷ ys) class id (suc p) x up within is same =
@@ -137,7 +142,8 @@ sets_of-next abandoned class chosen k id low is =
     ∙ ap (λ l. flat_map (sets_of abandoned class) (take k chosen) ++ l) (flat_map-cons (sets_of abandoned class) id [] ∙ append-nil (sets_of abandoned class id)))
 
 -- the ids of the groups that pass a test, of one more group
-module _ (test : Entry → Bool) (owned : List Entry) (n : ℕ) (y : Entry) (found : List SpanId) (low : n < length owned) (read : y ≡ get_or owned n y) (is : found ≡ map (λ (y : Entry). y.id) (filter test (take n owned))) where
+module _ (test : Entry → Bool) (owned : List Entry) (n : ℕ) (y : Entry) (found : List SpanId) (low : n < length owned) (read : y ≡ get_or owned n y)
+    (is : found ≡ map (λ (y : Entry). y.id) (filter test (take n owned))) where
   more : map (λ (y : Entry). y.id) (filter test (take (n + 1) owned)) ≡ found ++ map (λ (y : Entry). y.id) (cond (test y) (y ∷ []) [])
   more =
       ap (map (λ (y : Entry). y.id)) (filter_more test owned n y low ∙ ap (λ z. filter test (take n owned) ++ cond (test z) (z ∷ []) []) (sym read))

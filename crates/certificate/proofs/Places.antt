@@ -40,7 +40,8 @@ count-more test n =
     ∙ ap (λ ks. sum_by (λ k. cond (test k) 1 0) ks + cond (test n) 1 0) (map-id (range_with_len 0 n))
 
 -- as many places as elements that pass
-pub count-places : {X : Type 0} (test : X → Bool) (at : ℕ → Bool) (first : ℕ) (xs : List X) → ((k : ℕ) (d : X) → k < length xs → at (first + k) ≡ test (get_or xs k d)) → count_by at (range_with_len first (length xs)) ≡ count_by test xs
+pub count-places : {X : Type 0} (test : X → Bool) (at : ℕ → Bool) (first : ℕ) (xs : List X)
+    → ((k : ℕ) (d : X) → k < length xs → at (first + k) ≡ test (get_or xs k d)) → count_by at (range_with_len first (length xs)) ≡ count_by test xs
 count-places test at first [] same = refl
 count-places test at first (x ∷ xs) same =
     let here : at first ≡ test x = ap at (let e : first ≡ first + 0 = omega arith in e) ∙ same 0 x (omega arith) in
@@ -128,7 +129,8 @@ module _ (entries : List Entry) (before : List SpanId) (id : SpanId) (old : List
         ]
 
 -- whether the group was seen
-pub was-seen : (entries : List Entry) (before : List SpanId) (id : SpanId) (old : List ℕ) (p : ℕ) → HasSeen entries before old → p < length entries → ((d : Entry) → same_span (get_or entries p d).id id ≡ true)
+pub was-seen : (entries : List Entry) (before : List SpanId) (id : SpanId) (old : List ℕ) (p : ℕ) → HasSeen entries before old → p < length entries
+    → ((d : Entry) → same_span (get_or entries p d).id id ≡ true)
     → has_bit old p ≡ (has_id entries id && list_any (same_span id) before)
 was-seen [] before id old p seen p_in at = absurd (omega arith)
 was-seen (x ∷ xs) before id old p seen p_in at =
@@ -172,7 +174,9 @@ module _ (entries : List Entry) (ids : List SpanId) (k : ℕ) (x : SpanId) (low 
             elim (cases_Bool (same_span (get_or (take (k + 1) ids) i d) x)) [
               | inl same ↦
                   let one : get_or (take (k + 1) ids) i d ≡ x = same_id_from_test _ x same in
-                  let there : list_any (same_span x) (take k ids) ≡ true = list_any_at (same_span x) (take k ids) i d (omega arith) (test_from_same_id x (get_or (take k ids) i d) (sym one ∙ read_i ∙ sym first)) in
+                  let there : list_any (same_span x) (take k ids)
+                  ≡ true = list_any_at (same_span x) (take k ids) i d (omega arith)
+                  (test_from_same_id x (get_or (take k ids) i d) (sym one ∙ read_i ∙ sym first)) in
                   absurd (both_ways (has_id entries x && list_any (same_span x) (take k ids)) new (and_from (has_id entries x) _ (ap (has_id entries) (sym one) ∙ has) there))
               | inr other ↦ ap (same_span (get_or (take (k + 1) ids) i d)) here ∙ other
             ]
@@ -221,7 +225,8 @@ module _ (entries first rest : List Entry) (ids : List SpanId) (parts : entries 
   AreOnce-rest once i j d less within has = once i j d less within (has_id-parts (get_or ids i d) ∙ or_right (has_id first (get_or ids i d)) _ has)
 
 -- where each id is of some group, none stands twice
-pub IsDistinct-from_once : (entries : List Entry) (ids : List SpanId) → ((i : ℕ) (d : SpanId) → i < length ids → has_id entries (get_or ids i d) ≡ true) → AreOnce entries ids → IsDistinct same_span ids
+pub IsDistinct-from_once : (entries : List Entry) (ids : List SpanId) → ((i : ℕ) (d : SpanId) → i < length ids → has_id entries (get_or ids i d) ≡ true)
+    → AreOnce entries ids → IsDistinct same_span ids
 IsDistinct-from_once entries ids all once = IsDistinct-from_apart same_span ids (λ i j d less within. once i j d less within (all i d (omega arith)))
 
 pub once-from_distinct : (entries : List Entry) (ids : List SpanId) → IsDistinct same_span ids → AreOnce entries ids
@@ -240,7 +245,8 @@ module _ (abandoned : List Entry) (before : List SpanId) (id : SpanId) (owned : 
       ∙ ap (λ b. fits_any abandoned before y || b) (sym (any_none abandoned id (λ x. are_compatible x y) none))
       ∙ sym (more y)
 
-  pub HasFitting-more : (p : ℕ) (x : Entry) (new : List ℕ) → IsAscending (ids abandoned) → p < length abandoned → ((d : Entry) → same_span (get_or abandoned p d).id id ≡ true) → x ≡ get_or abandoned p x
+  pub HasFitting-more : (p : ℕ) (x : Entry) (new : List ℕ) → IsAscending (ids abandoned) → p < length abandoned
+      → ((d : Entry) → same_span (get_or abandoned p d).id id ≡ true) → x ≡ get_or abandoned p x
       → ((q : ℕ) (d : Entry) → q < length owned → has_bit new q ≡ (has_bit old q || are_compatible x (get_or owned q d))) → HasFitting abandoned (before ++ id ∷ []) owned new
   HasFitting-more p x new up p_in at is bits q d within =
       let y = get_or owned q d in
@@ -283,7 +289,8 @@ module _ (x : Entry) (owned : List Entry) (old : List ℕ) where
         ])
   ]
 
-  pub HasAdded-all : (k : ℕ) (new : List ℕ) → HasAdded x owned k old new → length owned ≤ k → (q : ℕ) (d : Entry) → q < length owned → has_bit new q ≡ (has_bit old q || are_compatible x (get_or owned q d))
+  pub HasAdded-all : (k : ℕ) (new : List ℕ) → HasAdded x owned k old new → length owned ≤ k → (q : ℕ) (d : Entry) → q < length owned
+      → has_bit new q ≡ (has_bit old q || are_compatible x (get_or owned q d))
   HasAdded-all k new added past q d within = added q d within ∙ ap (λ b. has_bit old q || (b && are_compatible x (get_or owned q d))) (lt-ltb q k (omega arith))
 
 -- how many fit, by the bits of all of the ids

@@ -48,7 +48,9 @@ number_in-decimal n fits =
           let high : 48 < get_or (decimal n) 0 0 = first_decimal n (omega arith) fits in
           or_right (length (decimal n) == 1) (not (get_or (decimal n) 0 0 == 48)) (ap not (ne_eqb (get_or (decimal n) 0 0) 48 (λ e. absurd (omega arith))))
     ] in
-    let numeral : is_numeral (decimal n) ≡ true = and_from (nat_lt 0 (length (decimal n))) _ some (and_from (length (decimal n) == 1 || not (get_or (decimal n) 0 0 == 48)) (list_all is_ascii_digit (decimal n)) front digits) in
+    let numeral : is_numeral (decimal n)
+    ≡ true = and_from (nat_lt 0 (length (decimal n))) _ some
+    (and_from (length (decimal n) == 1 || not (get_or (decimal n) 0 0 == 48)) (list_all is_ascii_digit (decimal n)) front digits) in
     rw numeral (ap Some is.1)
 
 lacks-decimal : (c n : ℕ) → c < 48 → n < 2 ^ 64 → lacks c (decimal n) ≡ true
@@ -165,7 +167,8 @@ abbrev pub classless_body : Entry → List ℕ
 classless_body x = id_text x.id ++ (codes " " ++ set_text x.occupied)
 
 pub lacks-classless_body : (x : Entry) → lacks 10 (classless_body x) ≡ true
-lacks-classless_body x = lacks-append 10 (id_text x.id) (codes " " ++ set_text x.occupied) (lacks-id_text 10 x.id (omega arith)) (lacks-append 10 (codes " ") (set_text x.occupied) refl (lacks-set_text 10 x.occupied (omega arith)))
+lacks-classless_body x = lacks-append 10 (id_text x.id) (codes " " ++ set_text x.occupied) (lacks-id_text 10 x.id (omega arith))
+    (lacks-append 10 (codes " ") (set_text x.occupied) refl (lacks-set_text 10 x.occupied (omega arith)))
 
 -- a fold's line
 abbrev pub pair_body : SpanId × SpanId → List ℕ

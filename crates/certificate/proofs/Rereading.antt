@@ -22,14 +22,16 @@ use Rattle.certificate.proofs.Split.{lacks, parts-word}
 
 -- ---- the lines of a text
 
-parts_of-lines : {X : Type 0} (line body : X → List ℕ) → ((x : X) → line x ≡ body x ++ 10 ∷ []) → ((x : X) → lacks 10 (body x) ≡ true) → (xs : List X) (rest : List ℕ) → parts_of 10 (lines_text line xs ++ rest) ≡ map body xs ++ parts_of 10 rest
+parts_of-lines : {X : Type 0} (line body : X → List ℕ) → ((x : X) → line x ≡ body x ++ 10 ∷ []) → ((x : X) → lacks 10 (body x) ≡ true)
+    → (xs : List X) (rest : List ℕ) → parts_of 10 (lines_text line xs ++ rest) ≡ map body xs ++ parts_of 10 rest
 parts_of-lines line body is plain [] rest = refl
 parts_of-lines line body is plain (x ∷ xs) rest =
     ap (parts_of 10) (append_assoc (line x) (lines_text line xs) rest ∙ ap (λ t. t ++ (lines_text line xs ++ rest)) (is x) ∙ append_assoc (body x) (10 ∷ []) (lines_text line xs ++ rest))
     ∙ parts-word 10 (body x) (lines_text line xs ++ rest) (plain x)
     ∙ ap (λ ps. body x ∷ ps) (parts_of-lines line body is plain xs rest)
 
-parts_of-list : {X : Type 0} (title : List ℕ) (line body : X → List ℕ) → lacks 10 title ≡ true → ((x : X) → line x ≡ body x ++ 10 ∷ []) → ((x : X) → lacks 10 (body x) ≡ true) → (xs : List X) (rest : List ℕ) → length xs ≤ 4096
+parts_of-list : {X : Type 0} (title : List ℕ) (line body : X → List ℕ) → lacks 10 title ≡ true → ((x : X) → line x ≡ body x ++ 10 ∷ [])
+    → ((x : X) → lacks 10 (body x) ≡ true) → (xs : List X) (rest : List ℕ) → length xs ≤ 4096
     → parts_of 10 (list_text title line xs ++ rest) ≡ title_body title (length xs) ∷ (map body xs ++ parts_of 10 rest)
 parts_of-list title line body head is plain xs rest few =
     let d : List ℕ = decimal (length xs) in
@@ -73,7 +75,8 @@ all_lines c = lines_with (codes "meshcert 2") entry_body c
 abbrev pub classless_lines : Certificate → List (List ℕ)
 classless_lines c = lines_with (codes "meshcert 1") classless_body c
 
-parts_of-text_with : (opening : List ℕ) (line body : Entry → List ℕ) → lacks 10 opening ≡ true → ((x : Entry) → line x ≡ body x ++ 10 ∷ []) → ((x : Entry) → lacks 10 (body x) ≡ true) → (c : Certificate) → IsWritable c
+parts_of-text_with : (opening : List ℕ) (line body : Entry → List ℕ) → lacks 10 opening ≡ true → ((x : Entry) → line x ≡ body x ++ 10 ∷ [])
+    → ((x : Entry) → lacks 10 (body x) ≡ true) → (c : Certificate) → IsWritable c
     → parts_of 10 (text_with (opening ++ 10 ∷ []) line c) ≡ lines_with opening body c
 parts_of-text_with opening line body head is plain c w =
     let last : parts_of 10 (codes "end\n") ≡ codes "end" ∷ [] ∷ [] = refl in
@@ -109,7 +112,8 @@ at-front : {X : Type 0} (front : List X) (x : X) (rest : List X) (d : X) → get
 at-front [] x rest d = refl
 at-front (y ∷ front) x rest d = at-front front x rest d
 
-line_in-at : {X : Type 0} (parse : List ℕ → Result X Cause) (front : List (List ℕ)) (line : List ℕ) (rest : List (List ℕ)) → 0 < length rest → line_in parse (front ++ line ∷ rest) (length front) ≡ parse line
+line_in-at : {X : Type 0} (parse : List ℕ → Result X Cause) (front : List (List ℕ)) (line : List ℕ) (rest : List (List ℕ)) → 0 < length rest
+    → line_in parse (front ++ line ∷ rest) (length front) ≡ parse line
 line_in-at parse front line rest some =
     let all : length (front ++ line ∷ rest) ≡ length front + length (line ∷ rest) = length-append front (line ∷ rest) in
     rw (lt-ltb (length front + 1) (length (front ++ line ∷ rest)) (omega arith), at-front front line rest []) refl
@@ -138,7 +142,8 @@ module _ {X Y : Type 0} (parse : List ℕ → Result X Cause) (id_of : X → Id)
   items_in-at (y ∷ ys) front rest last reads up some =
       let follow : 0 < length (map body ys ++ rest) = let all : length (map body ys ++ rest) ≡ length (map body ys) + length rest = length-append (map body ys) rest in omega arith in
       let item : item_in parse id_of (option_map id_parts last) (body y) ≡ Ok (view y) = rw (reads.0, keys y, in-order last (key y) up.0) refl in
-      let here : line_in (item_in parse id_of (option_map id_parts last)) (front ++ (body y ∷ (map body ys ++ rest))) (length front) ≡ Ok (view y) = line_in-at (item_in parse id_of (option_map id_parts last)) front (body y) (map body ys ++ rest) follow ∙ item in
+      let here : line_in (item_in parse id_of (option_map id_parts last)) (front ++ (body y ∷ (map body ys ++ rest))) (length front)
+      ≡ Ok (view y) = line_in-at (item_in parse id_of (option_map id_parts last)) front (body y) (map body ys ++ rest) follow ∙ item in
       let longer : length (front ++ body y ∷ []) ≡ length front + 1 = length-append front (body y ∷ []) in
       let again : items_in parse id_of (front ++ (body y ∷ (map body ys ++ rest))) (Some (id_of (view y))) (length front + 1) (length ys) ≡ Ok (map view ys) =
       (λ i. items_in parse id_of (sym (append_assoc front (body y ∷ []) (map body ys ++ rest)) i) (Some (keys y i)) (sym longer i) (length ys))
@@ -146,14 +151,16 @@ module _ {X Y : Type 0} (parse : List ℕ → Result X Cause) (id_of : X → Id)
       ap (λ r. at_line (length front) r >>= (λ x. items_in parse id_of (front ++ (body y ∷ (map body ys ++ rest))) (Some (id_of x)) (length front + 1) (length ys) >>= (λ more. Ok (x ∷ more)))) here
       ∙ ap (λ r. r >>= (λ more. Ok (view y ∷ more))) again
 
-  list_in-at : (title : List ℕ) (ys : List Y) (front rest : List (List ℕ)) → lacks 32 title ≡ true → length ys ≤ 4096 → AllByRecursion (λ y. parse (body y) ≡ Ok (view y)) ys → IsAscending (map key ys) → 0 < length rest
+  list_in-at : (title : List ℕ) (ys : List Y) (front rest : List (List ℕ)) → lacks 32 title ≡ true → length ys ≤ 4096
+      → AllByRecursion (λ y. parse (body y) ≡ Ok (view y)) ys → IsAscending (map key ys) → 0 < length rest
       → list_in title parse id_of (front ++ (title_body title (length ys) ∷ (map body ys ++ rest))) (length front) ≡ Ok (map view ys)
   unfolding list_in
   list_in-at title ys front rest plain few reads up some =
       let head : List ℕ = title_body title (length ys) in
       let follow : 0 < length (map body ys ++ rest) = let all : length (map body ys ++ rest) ≡ length (map body ys) + length rest = length-append (map body ys) rest in omega arith in
       let longer : length (front ++ head ∷ []) ≡ length front + 1 = length-append front (head ∷ []) in
-      ap (λ r. at_line (length front) r >>= items_in parse id_of (front ++ (head ∷ (map body ys ++ rest))) None (length front + 1)) (line_in-at (count_in title) front head (map body ys ++ rest) follow ∙ count_in-body title (length ys) plain few)
+      ap (λ r. at_line (length front) r >>= items_in parse id_of (front ++ (head ∷ (map body ys ++ rest))) None (length front + 1))
+      (line_in-at (count_in title) front head (map body ys ++ rest) follow ∙ count_in-body title (length ys) plain few)
       ∙ (λ i. items_in parse id_of (sym (append_assoc front (head ∷ []) (map body ys ++ rest)) i) None (sym longer i) (length ys))
       ∙ items_in-at ys (front ++ head ∷ []) rest None reads (chain key ys up) some
 
@@ -163,12 +170,14 @@ each : {Y : Type 0} {P Q : Y → Type 0} → ((y : Y) → P y → Q y) → (ys :
 each h [] all = tt
 each h (y ∷ ys) all = (h y all.0, each h ys all.1)
 
-each_entry : (xs : List Entry) → AllByRecursion (λ x. HasTextSerial x.id) xs → AllByRecursion IsReadable xs → AllByRecursion FitsClass xs → AllByRecursion (λ x. entry_in Two (entry_body x) ≡ Ok (entry_parts x)) xs
+each_entry : (xs : List Entry) → AllByRecursion (λ x. HasTextSerial x.id) xs → AllByRecursion IsReadable xs → AllByRecursion FitsClass xs
+    → AllByRecursion (λ x. entry_in Two (entry_body x) ≡ Ok (entry_parts x)) xs
 each_entry [] within back fit = tt
 each_entry (x ∷ xs) within back fit = (entry_in-body x within.0 back.0 fit.0, each_entry xs within.1 back.1 fit.1)
 
 -- what is written is read again
-pub certificate_in-text : (c : Certificate) → IsWritable c → IsWithinText c → IsAscending (ids c.snapshot.abandoned) → IsAscending (ids c.snapshot.owned) → AllByRecursion IsReadable c.snapshot.abandoned → AllByRecursion IsReadable c.snapshot.owned
+pub certificate_in-text : (c : Certificate) → IsWritable c → IsWithinText c → IsAscending (ids c.snapshot.abandoned) → IsAscending (ids c.snapshot.owned)
+    → AllByRecursion IsReadable c.snapshot.abandoned → AllByRecursion IsReadable c.snapshot.owned
     → certificate_in (certificate_text c) ≡ Ok (outline_of c)
 unfolding certificate_in
 certificate_in-text c w within up_a up_o sets_a sets_o =
@@ -201,16 +210,33 @@ certificate_in-text c w within up_a up_o sets_a sets_o =
     let n5 : length front5 ≡ length front4 + length head_s = length-append front4 head_s in
     let n6 : length (front5 ++ codes "end" ∷ []) ≡ length front5 + 1 = length-append front5 (codes "end" ∷ []) in
     let n7 : length ((front5 ++ codes "end" ∷ []) ++ ([] ∷ [])) ≡ length (front5 ++ codes "end" ∷ []) + 1 = length-append (front5 ++ codes "end" ∷ []) ([] ∷ []) in
-    let read_a : list_in (codes "abandoned") (entry_in Two) (λ x. x.id) (all_lines c) 1 ≡ Ok (map entry_parts A) = list_in-at (entry_in Two) (λ x. x.id) entry_parts (λ x. x.id) (λ y. refl) entry_body (codes "abandoned") A front1 (owned_lines c) refl w.abandoned (each_entry A (recursion_from_All (λ x. HasTextSerial x.id) A within.abandoned) sets_a (recursion_from_All FitsClass A w.abandoned_fit)) up_a (omega arith) in
-    let read_o : list_in (codes "owned") (entry_in Two) (λ x. x.id) (all_lines c) (length front2) ≡ Ok (map entry_parts O) = ap (λ ps. list_in (codes "owned") (entry_in Two) (λ x. x.id) ps (length front2)) whole2 ∙ list_in-at (entry_in Two) (λ x. x.id) entry_parts (λ x. x.id) (λ y. refl) entry_body (codes "owned") O front2 (fold_lines c) refl w.owned (each_entry O (recursion_from_All (λ x. HasTextSerial x.id) O within.owned) sets_o (recursion_from_All FitsClass O w.owned_fit)) up_o (omega arith) in
-    let read_f : list_in (codes "folds") pair_in (λ p. p.0) (all_lines c) (length front3) ≡ Ok (map pair_parts c.plan) = ap (λ ps. list_in (codes "folds") pair_in (λ p. p.0) ps (length front3)) whole3 ∙ list_in-at pair_in (λ p. p.0) pair_parts (λ p. p.0) (λ y. refl) pair_body (codes "folds") c.plan front3 (short_lines c) refl w.folds (each pair_in-body c.plan (recursion_from_All (λ p. HasTextSerial p.0 × HasTextSerial p.1) c.plan within.folds)) w.folds_ascending (omega arith) in
-    let read_s : list_in (codes "short") id_in (λ id. id) (all_lines c) (length front4) ≡ Ok (map id_parts c.short) = ap (λ ps. list_in (codes "short") id_in (λ id. id) ps (length front4)) whole4 ∙ list_in-at id_in (λ id. id) id_parts (λ id. id) (λ y. refl) id_text (codes "short") c.short front4 (codes "end" ∷ [] ∷ []) refl w.short (each id_in-text c.short (recursion_from_All HasTextSerial c.short within.short)) (subst IsAscending (sym (map-id c.short)) w.short_ascending) (omega arith) in
-    let read_end : line_in (fixed_in (codes "end")) (all_lines c) (length front5) ≡ Ok tt = ap (λ ps. line_in (fixed_in (codes "end")) ps (length front5)) whole5 ∙ line_in-at (fixed_in (codes "end")) front5 (codes "end") ([] ∷ []) (omega arith) in
+    let read_a : list_in (codes "abandoned") (entry_in Two) (λ x. x.id) (all_lines c) 1
+    ≡ Ok (map entry_parts A) = list_in-at (entry_in Two) (λ x. x.id) entry_parts (λ x. x.id) (λ y. refl) entry_body (codes "abandoned") A front1
+    (owned_lines c) refl w.abandoned
+    (each_entry A (recursion_from_All (λ x. HasTextSerial x.id) A within.abandoned) sets_a (recursion_from_All FitsClass A w.abandoned_fit)) up_a
+    (omega arith) in
+    let read_o : list_in (codes "owned") (entry_in Two) (λ x. x.id) (all_lines c) (length front2)
+    ≡ Ok (map entry_parts O) = ap (λ ps. list_in (codes "owned") (entry_in Two) (λ x. x.id) ps (length front2)) whole2
+    ∙ list_in-at (entry_in Two) (λ x. x.id) entry_parts (λ x. x.id) (λ y. refl) entry_body (codes "owned") O front2 (fold_lines c) refl w.owned
+    (each_entry O (recursion_from_All (λ x. HasTextSerial x.id) O within.owned) sets_o (recursion_from_All FitsClass O w.owned_fit)) up_o (omega arith) in
+    let read_f : list_in (codes "folds") pair_in (λ p. p.0) (all_lines c) (length front3)
+    ≡ Ok (map pair_parts c.plan) = ap (λ ps. list_in (codes "folds") pair_in (λ p. p.0) ps (length front3)) whole3
+    ∙ list_in-at pair_in (λ p. p.0) pair_parts (λ p. p.0) (λ y. refl) pair_body (codes "folds") c.plan front3 (short_lines c) refl w.folds
+    (each pair_in-body c.plan (recursion_from_All (λ p. HasTextSerial p.0 × HasTextSerial p.1) c.plan within.folds)) w.folds_ascending (omega arith) in
+    let read_s : list_in (codes "short") id_in (λ id. id) (all_lines c) (length front4)
+    ≡ Ok (map id_parts c.short) = ap (λ ps. list_in (codes "short") id_in (λ id. id) ps (length front4)) whole4
+    ∙ list_in-at id_in (λ id. id) id_parts (λ id. id) (λ y. refl) id_text (codes "short") c.short front4 (codes "end" ∷ [] ∷ []) refl w.short
+    (each id_in-text c.short (recursion_from_All HasTextSerial c.short within.short)) (subst IsAscending (sym (map-id c.short)) w.short_ascending)
+    (omega arith) in
+    let read_end : line_in (fixed_in (codes "end")) (all_lines c) (length front5)
+    ≡ Ok tt = ap (λ ps. line_in (fixed_in (codes "end")) ps (length front5)) whole5
+    ∙ line_in-at (fixed_in (codes "end")) front5 (codes "end") ([] ∷ []) (omega arith) in
     let size : length (all_lines c) ≡ length front5 + 1 + 1 = ap length whole6 ∙ n7 ∙ ap (λ n. n + 1) n6 in
     let empty : get_or (all_lines c) (length front5 + 1) [] ≡ [] = (λ i. get_or (whole6 i) (sym n6 i) []) ∙ at-front (front5 ++ codes "end" ∷ []) [] [] [] in
     let nothing : end_in (all_lines c) (length front5 + 1) ≡ Ok tt = rw (eq-eqb (length (all_lines c)) (length front5 + 1 + 1) size, empty) refl in
     let opening : line_in version_in (all_lines c) 0 ≡ Ok Two = line_in-at version_in [] (codes "meshcert 2") (head_a ++ owned_lines c) (omega arith) in
     ap (λ ps. at_line 0 (line_in version_in ps 0) >>= (λ version. body_in version ps)) (parts_of-text c w)
     ∙ rw opening (
-    body_in-lists Two (all_lines c) (map entry_parts A) (map entry_parts O) (map pair_parts c.plan) (map id_parts c.short) (length front2) (length front3) (length front4) (length front5) read_a read_o read_f read_s (omega arith) (omega arith) (omega arith) (omega arith)
+    body_in-lists Two (all_lines c) (map entry_parts A) (map entry_parts O) (map pair_parts c.plan) (map id_parts c.short) (length front2) (length front3)
+    (length front4) (length front5) read_a read_o read_f read_s (omega arith) (omega arith) (omega arith) (omega arith)
     ∙ rw (read_end, nothing) refl)

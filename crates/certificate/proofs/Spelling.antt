@@ -240,14 +240,15 @@ count_of_number-ok (Some m) n h =
 count_of_words-ok : (title : List ℕ) (words : List (List ℕ)) (n : ℕ) → count_of_words title words ≡ Ok n → words ≡ title ∷ decimal n ∷ []
 count_of_words-ok title [] n h = cc
 count_of_words-ok title (word ∷ []) n h = cc
-count_of_words-ok title (word ∷ number ∷ []) n h = elim (bytes_eq word title) as (λ b. bytes_eq word title ≡ b → cond b (count_of_number (number_in number)) (Err Form) ≡ Ok n → (word ∷ number ∷ []) ≡ title ∷ decimal n ∷ []) [
-  | true ↦ λ same said.
-      let p = count_of_number-ok (number_in number) n said in
-      let first : word ≡ title = same_bytes word title same in
-      let second : number ≡ decimal n = word-number number n p.0 (omega (arith, p.1)) in
-      (λ k. first k ∷ second k ∷ [])
-  | false ↦ λ same said. cc
-] refl h
+count_of_words-ok title (word ∷ number ∷ []) n h = elim (bytes_eq word title) as (λ b. bytes_eq word title ≡ b
+    → cond b (count_of_number (number_in number)) (Err Form) ≡ Ok n → (word ∷ number ∷ []) ≡ title ∷ decimal n ∷ []) [
+      | true ↦ λ same said.
+          let p = count_of_number-ok (number_in number) n said in
+          let first : word ≡ title = same_bytes word title same in
+          let second : number ≡ decimal n = word-number number n p.0 (omega (arith, p.1)) in
+          (λ k. first k ∷ second k ∷ [])
+      | false ↦ λ same said. cc
+    ] refl h
 count_of_words-ok title (word ∷ number ∷ more ∷ rest) n h = cc
 
 count_in-spells : (title : List ℕ) → Spells (count_in title) (title_body title)
@@ -259,13 +260,15 @@ fixed_in-spells bytes line done h = same_bytes line bytes (if-ok (bytes_eq line 
 -- ---- lines at their places
 
 line_in-ok : {X : Type 0} (parse : List ℕ → Result X Cause) (parts : List (List ℕ)) (at : ℕ) (x : X) → line_in parse parts at ≡ Ok x → (at + 1 < length parts) × (parse (get_or parts at []) ≡ Ok x)
-line_in-ok parse parts at x h = elim (nat_lt (at + 1) (length parts)) as (λ b. nat_lt (at + 1) (length parts) ≡ b → (cond b (Ok (get_or parts at [])) (Err Cut) >>= parse) ≡ Ok x → (at + 1 < length parts) × (parse (get_or parts at []) ≡ Ok x)) [
-  | true ↦ λ within said. (ltb-true (at + 1) (length parts) within, said)
-  | false ↦ λ within said. cc
-] refl h
+line_in-ok parse parts at x h = elim (nat_lt (at + 1) (length parts)) as (λ b. nat_lt (at + 1) (length parts) ≡ b
+    → (cond b (Ok (get_or parts at [])) (Err Cut) >>= parse) ≡ Ok x → (at + 1 < length parts) × (parse (get_or parts at []) ≡ Ok x)) [
+      | true ↦ λ within said. (ltb-true (at + 1) (length parts) within, said)
+      | false ↦ λ within said. cc
+    ] refl h
 
 -- a line that was read stands first of those that were left
-line_in-spells : {X : Type 0} (parse : List ℕ → Result X Cause) (spelled : X → List ℕ) (parts : List (List ℕ)) (at : ℕ) (x : X) → Spells parse spelled → at_line at (line_in parse parts at) ≡ Ok x → drop at parts ≡ spelled x ∷ drop (at + 1) parts
+line_in-spells : {X : Type 0} (parse : List ℕ → Result X Cause) (spelled : X → List ℕ) (parts : List (List ℕ)) (at : ℕ) (x : X) → Spells parse spelled
+    → at_line at (line_in parse parts at) ≡ Ok x → drop at parts ≡ spelled x ∷ drop (at + 1) parts
 line_in-spells parse spelled parts at x spells h =
     let p = line_in-ok parse parts at x (at_line-ok at (line_in parse parts at) x h) in
     drop_more parts at [] (omega (arith, p.0)) ∙ ap (λ line. line ∷ drop (at + 1) parts) (spells (get_or parts at []) x p.1)
@@ -296,7 +299,8 @@ module _ {X : Type 0} (parse : List ℕ → Result X Cause) (spelled : X → Lis
       )
 
   -- a title and its items stand first of the lines that were left
-  list_in-spells : (title : List ℕ) (at : ℕ) (xs : List X) → list_in title parse id_of parts at ≡ Ok xs → drop at parts ≡ title_body title (length xs) ∷ (map spelled xs ++ drop (at + 1 + length xs) parts)
+  list_in-spells : (title : List ℕ) (at : ℕ) (xs : List X) → list_in title parse id_of parts at ≡ Ok xs
+      → drop at parts ≡ title_body title (length xs) ∷ (map spelled xs ++ drop (at + 1 + length xs) parts)
   unfolding list_in
   list_in-spells title at xs h =
       let p = >>=-ok (at_line at (line_in (count_in title) parts at)) (items_in parse id_of parts None (at + 1)) xs h in
@@ -397,8 +401,10 @@ body_in-spells version parts o h =
           list_in-spells (entry_in version) (entry_words version) (λ x. x.id) (entry_in-spells version) parts (codes "owned") second w.0 w.1
           ∙ ap (λ ps. title_body (codes "owned") (length w.0) ∷ (map (entry_words version) w.0 ++ ps)) (ap (λ at. drop at parts) to_third ∙ folds))
           ∙ ap (outline_lines version) same,
-      subst (λ (o : Outline). AllByRecursion (IsOfVersion version) o.abandoned) same (list_in-have (entry_in version) (λ x. x.id) (IsOfVersion version) (entry_in-version version) parts (codes "abandoned") 1 a.0 a.1),
-      subst (λ (o : Outline). AllByRecursion (IsOfVersion version) o.owned) same (list_in-have (entry_in version) (λ x. x.id) (IsOfVersion version) (entry_in-version version) parts (codes "owned") second w.0 w.1),
+      subst (λ (o : Outline). AllByRecursion (IsOfVersion version) o.abandoned) same
+          (list_in-have (entry_in version) (λ x. x.id) (IsOfVersion version) (entry_in-version version) parts (codes "abandoned") 1 a.0 a.1),
+      subst (λ (o : Outline). AllByRecursion (IsOfVersion version) o.owned) same
+          (list_in-have (entry_in version) (λ x. x.id) (IsOfVersion version) (entry_in-version version) parts (codes "owned") second w.0 w.1),
     )
 
 -- the first line of a version
@@ -407,14 +413,15 @@ opening_of One = codes "meshcert 1"
 opening_of Two = codes "meshcert 2"
 
 version_in-spells : Spells version_in opening_of
-version_in-spells line version h = elim (bytes_eq line (codes "meshcert 1")) as (λ b. bytes_eq line (codes "meshcert 1") ≡ b → cond b (Ok One) (cond (bytes_eq line (codes "meshcert 2")) (Ok Two) (Err Form)) ≡ Ok version → line ≡ opening_of version) [
-  | true ↦ λ first said.
-      let named : One ≡ version = cc said in
-      same_bytes line (codes "meshcert 1") first ∙ ap opening_of named
-  | false ↦ λ first said.
-      let p = if-ok (bytes_eq line (codes "meshcert 2")) Two version Form said in
-      same_bytes line (codes "meshcert 2") p.0 ∙ ap opening_of p.1
-] refl h
+version_in-spells line version h = elim (bytes_eq line (codes "meshcert 1")) as (λ b. bytes_eq line (codes "meshcert 1") ≡ b
+    → cond b (Ok One) (cond (bytes_eq line (codes "meshcert 2")) (Ok Two) (Err Form)) ≡ Ok version → line ≡ opening_of version) [
+      | true ↦ λ first said.
+          let named : One ≡ version = cc said in
+          same_bytes line (codes "meshcert 1") first ∙ ap opening_of named
+      | false ↦ λ first said.
+          let p = if-ok (bytes_eq line (codes "meshcert 2")) Two version Form said in
+          same_bytes line (codes "meshcert 2") p.0 ∙ ap opening_of p.1
+    ] refl h
 
 same_map : {X Y Z : Type 0} (g : Y → Z) (f : X → Y) (xs : List X) → map g (map f xs) ≡ map (λ x. g (f x)) xs
 same_map g f [] = refl
@@ -425,7 +432,8 @@ classes-version [] h = tt
 classes-version (x ∷ xs) h = (h.0 refl, classes-version xs h.1)
 
 -- the lines that are said are those that are written
-outline_lines-outline_of : (version : Version) (body : Entry → List ℕ) → ((x : Entry) → entry_words version (entry_parts x) ≡ body x) → (c : Certificate) → opening_of version ∷ outline_lines version (outline_of c) ≡ lines_with (opening_of version) body c
+outline_lines-outline_of : (version : Version) (body : Entry → List ℕ) → ((x : Entry) → entry_words version (entry_parts x) ≡ body x) → (c : Certificate)
+    → opening_of version ∷ outline_lines version (outline_of c) ≡ lines_with (opening_of version) body c
 outline_lines-outline_of version body same c =
     let A = c.snapshot.abandoned in
     let O = c.snapshot.owned in

@@ -112,7 +112,8 @@ module _ (s : Groups) where
       let both = and_parts (any_compatible s p.0 p.1) (all_compatible s pairs) all in
       and_from (has_id s.owned p.1) _ (among-ids s.owned p.1 ∙ among_right s p.0 p.1 both.0) (right_have_ids pairs both.1)
 
-pub plan-from_tests : (s : Groups) (pairs : List (SpanId × SpanId)) → all_compatible s pairs ≡ true → IsDistinct same_span (map (λ p. p.0) pairs) → IsDistinct same_span (map (λ p. p.1) pairs) → IsPlanOf s pairs
+pub plan-from_tests : (s : Groups) (pairs : List (SpanId × SpanId)) → all_compatible s pairs ≡ true → IsDistinct same_span (map (λ p. p.0) pairs)
+    → IsDistinct same_span (map (λ p. p.1) pairs) → IsPlanOf s pairs
 unfolding sides_of
 plan-from_tests s pairs all left right = record {
   left = record {

@@ -49,7 +49,8 @@ help_flag = with_index 2 (filled help_rule)
 -- a use of the file has a value
 file_filling : IsFilling (codes "FILE") file_rule
 file_filling again [] rows e filled = cc
-file_filling again (v ∷ vs) rows e filled = Filled-with_values (codes "FILE") (codes "FILE") _ CommandLine (v ∷ vs) (without (codes "FILE") rows) (λ none. cc) (Filled-without (codes "FILE") (codes "FILE") rows filled)
+file_filling again (v ∷ vs) rows e filled = Filled-with_values (codes "FILE") (codes "FILE") _ CommandLine (v ∷ vs) (without (codes "FILE") rows) (λ none. cc)
+    (Filled-without (codes "FILE") (codes "FILE") rows filled)
 
 -- a request for help leaves the rows as they are
 help_filling : IsFilling (codes "FILE") help_flag
@@ -125,10 +126,12 @@ pub names_job : (words : List Text) → kinds_of words ≡ [] → is_some (subco
 names_job words fault e =
     let stop = stop_after (built program_app).top.rules (names_of (built program_app)) (argument_words program_app words) in
     let walked = split (walk_fault (built program_app).top (names_of (built program_app)) (walk_from nothing_held) (argument_words program_app words)) _ fault in
-    enters stop (walk_stops (built program_app).top refl (names_of (built program_app)) (walk_from nothing_held) (argument_words program_app words) walked.0 tt) (split (entered_fault (built program_app) stop) _ walked.1).0 e
+    enters stop (walk_stops (built program_app).top refl (names_of (built program_app)) (walk_from nothing_held) (argument_words program_app words) walked.0 tt)
+    (split (entered_fault (built program_app) stop) _ walked.1).0 e
 
 -- a parse by the program's command names a job, and enters what the words say
-pub entered : (program built : Command) (words : List Text) (m : ArgMatches) → IsApp program_app program → BuildsTo program built → ((fields_of built).has_globals ≡ false → IsParsed built (found_of m) (has_subcommand m)) → HasMatchesOf (app_of program) words m
+pub entered : (program built : Command) (words : List Text) (m : ArgMatches) → IsApp program_app program → BuildsTo program built
+    → ((fields_of built).has_globals ≡ false → IsParsed built (found_of m) (has_subcommand m)) → HasMatchesOf (app_of program) words m
     → kinds_of words ≡ [] → (subcommand_rows_of m ≡ subcommand_of program_app words) × NamesJob (subcommand_rows_of m)
 entered program built words m app builds parsed has fault =
     let same : subcommand_rows_of m ≡ subcommand_of program_app words = (has (ap is_simple app.0)).1 ∙ ap (λ a. subcommand_of a words) app.0 in

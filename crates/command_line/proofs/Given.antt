@@ -77,7 +77,9 @@ module _ (id : Text) where
         by_id None vs f e = filled
         by_id (Some a) vs f e = f s.args_override_self vs h.rows e filled
 
-        go : (p : Option (Text × List Text)) → option_map_or (λ p. option_map_or (λ a. use_fault s.args_override_self a p.1 h.rows) (arg_by_id s.rules p.0) []) p [] ≡ [] → Filled (settled_rows s.rules p h.rows)
+        go : (p : Option (Text × List Text))
+            → option_map_or (λ p. option_map_or (λ a. use_fault s.args_override_self a p.1 h.rows) (arg_by_id s.rules p.0) []) p [] ≡ []
+            → Filled (settled_rows s.rules p h.rows)
         go None e = filled
         go (Some p) e = by_id (arg_by_id s.rules p.0) p.1 (fine _) e
 
@@ -109,20 +111,23 @@ module _ (id : Text) where
     Filled-short None rest h faults go_on after f e filled = filled
     Filled-short (Some a) rest h faults go_on after f e filled = go (takes_values a) e
       where
-        go : (b : Bool) → cond b (option_fault s.rules s.args_override_self a (attached_value rest) h) (or_else (react_fault s.rules s.args_override_self a [] h) (faults (reacted s.rules a [] h))) ≡ []
+        go : (b : Bool) → cond b (option_fault s.rules s.args_override_self a (attached_value rest) h)
+            (or_else (react_fault s.rules s.args_override_self a [] h) (faults (reacted s.rules a [] h))) ≡ []
             → Filled (cond b (option_met s.rules a (attached_value rest) h) (go_on (reacted s.rules a [] h))).0.rows
         go true e = Filled-option a (attached_value rest) h f e filled
         go false e =
             let parts = split (react_fault s.rules s.args_override_self a [] h) (faults (reacted s.rules a [] h)) e in
             after (reacted s.rules a [] h) parts.1 (Filled-reacted a [] h f parts.0 filled)
 
-    Filled-bundle : (k : ℕ) (flags : Text) (skip : ℕ) (so_far : Outcome) (h : Held) → flags_fault s.rules s.args_override_self k flags skip h ≡ [] → Filled h.rows → Filled (bundle_met s.rules k flags skip so_far h).0.rows
+    Filled-bundle : (k : ℕ) (flags : Text) (skip : ℕ) (so_far : Outcome) (h : Held) → flags_fault s.rules s.args_override_self k flags skip h ≡ []
+        → Filled h.rows → Filled (bundle_met s.rules k flags skip so_far h).0.rows
     unfolding flags_fault bundle_met
     Filled-bundle zero flags skip so_far h e filled = filled
     Filled-bundle (suc k) flags skip so_far h e filled = go (slice_get (chars flags) 0) skip e (Filled-bundle k)
       where
         go : (o : Option ℕ) (skip : ℕ) → bundle_step_fault s.rules s.args_override_self o flags skip h (flags_fault s.rules s.args_override_self k) ≡ []
-            → ((flags : Text) (skip : ℕ) (so_far : Outcome) (h : Held) → flags_fault s.rules s.args_override_self k flags skip h ≡ [] → Filled h.rows → Filled (bundle_met s.rules k flags skip so_far h).0.rows)
+            → ((flags : Text) (skip : ℕ) (so_far : Outcome) (h : Held) → flags_fault s.rules s.args_override_self k flags skip h ≡ [] → Filled h.rows
+            → Filled (bundle_met s.rules k flags skip so_far h).0.rows)
             → Filled (bundle_step s.rules o flags skip so_far h (bundle_met s.rules k)).0.rows
         go None skip e rec = filled
         go (Some x) zero e rec = let rest = drop (length (encode_utf8 x)) flags in

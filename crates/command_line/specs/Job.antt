@@ -66,7 +66,8 @@ bytes_of text = option_map (λ t. t.now) text
 
 -- the job is `run` with these values of its arguments
 abbrev pub IsRunJob : List Row → Job → Type 0
-IsRunJob rows (Run trace serial replies certificate) = (bytes_of trace ≡ first_of (codes "TRACE") rows) × IsFlag (one_of (codes "serial") rows) serial × IsFlag (one_of (codes "replies") rows) replies × (bytes_of certificate ≡ first_of (codes "certificate") rows)
+IsRunJob rows (Run trace serial replies certificate) = (bytes_of trace ≡ first_of (codes "TRACE") rows) × IsFlag (one_of (codes "serial") rows) serial
+    × IsFlag (one_of (codes "replies") rows) replies × (bytes_of certificate ≡ first_of (codes "certificate") rows)
 IsRunJob rows (Check file) = ⊥
 
 -- the job is `check` with this value of its argument

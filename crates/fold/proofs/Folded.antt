@@ -60,7 +60,8 @@ module _ (pool : PoolState) (sound : IsSound pool) (shard : ShardState) (a b : S
     ]
 
   -- the room that is made is for the spans that come
-  module _ (whole : WholeState) (pool_new : PoolState) (lifts : Lifts pool a (Some whole) pool_new) (index : ℕ) (group : PooledState) (from : IsHeadOf pool.groups a index group) (spans : ℕ) (spans_is : spans ≡ length (spans_of group)) (room : ShardState)
+  module _ (whole : WholeState) (pool_new : PoolState) (lifts : Lifts pool a (Some whole) pool_new) (index : ℕ) (group : PooledState)
+      (from : IsHeadOf pool.groups a index group) (spans : ℕ) (spans_is : spans ≡ length (spans_of group)) (room : ShardState)
       (room_is : room ≡ with_room shard (head_among shard.groups (Some b)) spans) where
     whole_is : whole ≡ whole_of group
     whole_is = lifts.3 ∙ ap whole_of (one_head pool sound lifts.0 index lifts.1 group lifts.2.here from.here (lifts.2.head_is ∙ sym from.head_is))
@@ -82,7 +83,13 @@ module _ (pool : PoolState) (sound : IsSound pool) (shard : ShardState) (a b : S
         | inl below ↦ below
         | inr past ↦ absurd (may.present (inr (inr (index, group, from, (at, span, ap (λ xs. slice_get xs at) (sym spans_are) ∙ there, inl (mine, past))))))
       ];
-      apart = (onto.0, onto.1, onto.2, same_class index group from ∙ ap (λ (w : WholeState). w.head.class) (sym whole_is), subst (λ xs. AreDisjoint (occupied onto.1) (union_of xs)) (sym spans_are) (apart index group from));
+      apart = (
+        onto.0,
+        onto.1,
+        onto.2,
+        same_class index group from ∙ ap (λ (w : WholeState). w.head.class) (sym whole_is),
+        subst (λ xs. AreDisjoint (occupied onto.1) (union_of xs)) (sym spans_are) (apart index group from),
+      );
       onto = refl;
       span_room = omega arith;
     })
@@ -91,7 +98,8 @@ module _ (pool : PoolState) (sound : IsSound pool) (shard : ShardState) (a b : S
     Folds-grafted shard_new grafts = record { whole = whole; lifts = lifts; grafts = subst (λ (s : ShardState). Grafts s b whole shard_new) room_for grafts }
 
 -- pool and shard show together what they showed
-pub together-Folds : (pool : PoolState) (shard : ShardState) (a b : SpanId) (pool_new : PoolState) (shard_new : ShardState) → IsSound pool → IsSoundShard shard → IsSound pool_new → IsSoundShard shard_new → Folds pool shard a b pool_new shard_new
+pub together-Folds : (pool : PoolState) (shard : ShardState) (a b : SpanId) (pool_new : PoolState) (shard_new : ShardState) → IsSound pool → IsSoundShard shard
+    → IsSound pool_new → IsSoundShard shard_new → Folds pool shard a b pool_new shard_new
     → together (shown pool_new) (shown_by_shard shard_new) ≡ together (shown pool) (shown_by_shard shard)
 together-Folds pool shard a b pool_new shard_new sound sound_shard sound_new sound_shard_new folds =
     let whole = folds.whole in

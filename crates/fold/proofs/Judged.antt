@@ -15,7 +15,8 @@ use Rattle.abandoned.specs.State.{PoolState, PooledState}
 use Rattle.abandoned.proofs.Adopted.{one_head}
 use Rattle.fold.specs.Folds.{IsAbsent, IsClash, IsEmptied, MayFold}
 
-module _ (pool : PoolState) (sound : IsSound pool) (shard : ShardState) (sound_shard : IsSoundShard shard) (a b : SpanId) (index place : ℕ) (group : PooledState) (onto : GroupState) (from : IsHeadOf pool.groups a index group) (to : IsHeadOf shard.groups b place onto)
+module _ (pool : PoolState) (sound : IsSound pool) (shard : ShardState) (sound_shard : IsSoundShard shard) (a b : SpanId) (index place : ℕ)
+    (group : PooledState) (onto : GroupState) (from : IsHeadOf pool.groups a index group) (to : IsHeadOf shard.groups b place onto)
     (fresh : WouldDouble pool shard a → ⊥) where
   same_from : (other : ℕ) (g : PooledState) → IsHeadOf pool.groups a other g → g ≡ group
   same_from other g its = one_head pool sound other index g group its.here from.here (its.head_is ∙ sym from.head_is)
@@ -47,7 +48,8 @@ module _ (pool : PoolState) (sound : IsSound pool) (shard : ShardState) (sound_s
       apart = λ (there, some, (i, j, g, h, its, others, clash)). elim clash [
         | inl differ ↦ differ (ap (λ (x : GroupState). x.head.class) (same_onto j h others) ∙ same ∙ ap (λ (x : PooledState). x.head.class) (sym (same_from i g its)))
         | inr both ↦
-            both (subst (λ (x : GroupState). AreDisjoint (occupied x) (union_of (spans_of g))) (sym (same_onto j h others)) (subst (λ (x : PooledState). AreDisjoint (occupied onto) (union_of (spans_of x))) (sym (same_from i g its)) apart))
+            both (subst (λ (x : GroupState). AreDisjoint (occupied x) (union_of (spans_of g))) (sym (same_onto j h others))
+            (subst (λ (x : PooledState). AreDisjoint (occupied onto) (union_of (spans_of x))) (sym (same_from i g its)) apart))
       ];
     }
 

@@ -44,12 +44,14 @@ spans_in-Grafts old new head whole grafts =
 
 -- sums over the spans
 
-pub sum_by-Lifts : (w : SpanState → ℕ) (old new : PoolState) (head : SpanId) (whole : WholeState) → Lifts old head (Some whole) new → sum_by w (spans_in new.groups) + sum_by w (spans_moved whole) ≡ sum_by w (spans_in old.groups)
+pub sum_by-Lifts : (w : SpanState → ℕ) (old new : PoolState) (head : SpanId) (whole : WholeState) → Lifts old head (Some whole) new
+    → sum_by w (spans_in new.groups) + sum_by w (spans_moved whole) ≡ sum_by w (spans_in old.groups)
 sum_by-Lifts w old new head whole lifts =
     let out = spans_in-Lifts old new head whole lifts in
     omega (arith, ap (sum_by w) out.2, ap (sum_by w) out.3, sum_by-append w out.0 out.1, sum_by-append w out.0 (spans_moved whole ++ out.1), sum_by-append w (spans_moved whole) out.1)
 
-pub sum_by-Grafts : (w : SpanState → ℕ) (old new : ShardState) (head : SpanId) (whole : WholeState) → Grafts old head whole new → sum_by w (spans_in new.groups) ≡ sum_by w (spans_in old.groups) + sum_by w (spans_moved whole)
+pub sum_by-Grafts : (w : SpanState → ℕ) (old new : ShardState) (head : SpanId) (whole : WholeState) → Grafts old head whole new
+    → sum_by w (spans_in new.groups) ≡ sum_by w (spans_in old.groups) + sum_by w (spans_moved whole)
 sum_by-Grafts w old new head whole grafts =
     let into = spans_in-Grafts old new head whole grafts in
     omega (
@@ -105,7 +107,8 @@ module _ (pool : PoolState) (shard : ShardState) (a b : SpanId) (pool_new : Pool
 
   -- the shard has as many groups as before
   pub length_groups-Folds : length shard_new.groups ≡ length shard.groups
-  length_groups-Folds = ap (λ (s : ShardState). length s.groups) folds.grafts.after ∙ length-set shard.groups folds.grafts.index (with_guests folds.grafts.group (spans_moved folds.whole) folds.grafts.words)
+  length_groups-Folds = ap (λ (s : ShardState). length s.groups) folds.grafts.after
+      ∙ length-set shard.groups folds.grafts.index (with_guests folds.grafts.group (spans_moved folds.whole) folds.grafts.words)
 
   -- and as many with a page, where the one that takes the spans has one
   pub length_shard_pages-Folds : IsSoundShard shard → HasPagedHead shard.groups b → length (paged_in shard_new.groups) ≡ length (paged_in shard.groups)

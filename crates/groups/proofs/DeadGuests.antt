@@ -67,7 +67,8 @@ empty_left a b none = same_slots _ _ (λ q. outside_left a b q (ap (λ (s : Slot
 pub live_slots-none : (spans : List SpanState) → union_of spans ≡ empty → (place : ℕ) (span : SpanState) → slice_get spans place ≡ Some span → live_slots span.log ≡ empty
 live_slots-none [] none place span there = absurd cc
 live_slots-none (first ∷ rest) none zero span there = ap (λ (s : SpanState). live_slots s.log) (sym (same_some there)) ∙ empty_left (live_slots first.log) (union_of rest) none
-live_slots-none (first ∷ rest) none (suc place) span there = live_slots-none rest (empty_left (union_of rest) (live_slots first.log) (union-swap (union_of rest) (live_slots first.log) ∙ none)) place span there
+live_slots-none (first ∷ rest) none (suc place) span there = live_slots-none rest
+    (empty_left (union_of rest) (live_slots first.log) (union-swap (union_of rest) (live_slots first.log) ∙ none)) place span there
 
 -- and none of them is live
 pub live_among-none : (spans : List SpanState) → ((place : ℕ) (span : SpanState) → slice_get spans place ≡ Some span → live_slots span.log ≡ empty) → live_among spans ≡ []
@@ -130,7 +131,8 @@ module _ {Closed : Type 0} (group : Group Closed) where
     page = by_page group.page sound.page;
   }
     where
-      by_page : (page : Option Words) → MatchOption page (union_of (spans_of group) ≡ empty) (AreStored (spans_of group)) → MatchOption page (union_of (spans_of (without_dead group)) ≡ empty) (AreStored (spans_of (without_dead group)))
+      by_page : (page : Option Words) → MatchOption page (union_of (spans_of group) ≡ empty) (AreStored (spans_of group))
+          → MatchOption page (union_of (spans_of (without_dead group)) ≡ empty) (AreStored (spans_of (without_dead group)))
       by_page None none = occupied-without_dead ∙ none
       by_page (Some words) stored = λ place span there. let was = before-without_dead place span there in stored was.0 span was.1
 

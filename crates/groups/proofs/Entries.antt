@@ -39,7 +39,8 @@ module _ {S : Type 0} where
     ]
 
     pub entries_of-insert : (key : ℕ) (place : Place) → hash.Updates nat_eq m n key (Some place) → entries_of n ≡ map.insert (entries_of m) key place
-    entries_of-insert key place updates = same_nat_map _ _ (λ q. get-entries_of n q ∙ set_at key (Some place) (Sets-number m n key (Some place) updates) q ∙ sym (get-insert (entries_of m) key place q))
+    entries_of-insert key place updates = same_nat_map _ _
+        (λ q. get-entries_of n q ∙ set_at key (Some place) (Sets-number m n key (Some place) updates) q ∙ sym (get-insert (entries_of m) key place q))
 
     pub entries_of-remove : (key : ℕ) → hash.Updates nat_eq m n key None → entries_of n ≡ map.remove (entries_of m) key
     entries_of-remove key updates = same_nat_map _ _ (λ q. get-entries_of n q ∙ set_at key None (Sets-number m n key None updates) q ∙ sym (get-remove (entries_of m) key q))
@@ -65,7 +66,8 @@ module _ (before now : DirectoryState) (guests : List SpanState) (head : SpanId)
     least = omega (arith, is.least);
   }
 
-  pub IsEntering-all : length guests ≤ place → place ≤ length guests → now ≡ record { entries = entered before.entries (drop first guests) head (first + 1); room = before.room + first - length guests }
+  pub IsEntering-all : length guests ≤ place → place ≤ length guests
+      → now ≡ record { entries = entered before.entries (drop first guests) head (first + 1); room = before.room + first - length guests }
   IsEntering-all most least =
       let at : place ≡ length guests = omega arith in
       same_directory now (record { entries = entered before.entries (drop first guests) head (first + 1); room = before.room + first - length guests })
@@ -103,8 +105,11 @@ module _ (before now : DirectoryState) (spans : List SpanState) (index : ℕ) (i
     after : drop (index + 1) spans ≡ drop (suc index) spans
     after = let next : index + 1 ≡ suc index = omega arith in ap (λ n. drop n spans) next
 
-    by_test : (b : Bool) → is_live span ≡ b → struck now.entries (dead_among (drop index spans)) ≡ struck now.entries (cond (not b) (span ∷ dead_among (drop (suc index) spans)) (dead_among (drop (suc index) spans)))
-    by_test b is_b = ap (λ left. struck now.entries (dead_among left)) (drop_step spans index span here) ∙ ap (λ c. struck now.entries (cond (not c) (span ∷ dead_among (drop (suc index) spans)) (dead_among (drop (suc index) spans)))) is_b
+    by_test : (b : Bool) → is_live span ≡ b
+        → struck now.entries (dead_among (drop index spans))
+        ≡ struck now.entries (cond (not b) (span ∷ dead_among (drop (suc index) spans)) (dead_among (drop (suc index) spans)))
+    by_test b is_b = ap (λ left. struck now.entries (dead_among left)) (drop_step spans index span here)
+        ∙ ap (λ c. struck now.entries (cond (not c) (span ∷ dead_among (drop (suc index) spans)) (dead_among (drop (suc index) spans)))) is_b
 
     pub IsStrikingDead-dead : is_live span ≡ false → IsStrikingDead before (record now { entries = map.remove now.entries (rank span.id) }) spans (index + 1)
     IsStrikingDead-dead dead = record {
@@ -132,7 +137,8 @@ pub record IsMoving (before now : DirectoryState) (guests : List SpanState) (hea
   pub there : AreEntered now.entries guests
 
 module _ (before now : DirectoryState) (guests : List SpanState) (head : SpanId) (index : ℕ) (is : IsMoving before now guests head index) where
-  pub IsMoving-next : (guest : SpanState) → slice_get guests index ≡ Some guest → IsMoving before (record now { entries = map.insert now.entries (rank guest.id) (record { head = head; place = index + 1 }) }) guests head (index + 1)
+  pub IsMoving-next : (guest : SpanState) → slice_get guests index ≡ Some guest
+      → IsMoving before (record now { entries = map.insert now.entries (rank guest.id) (record { head = head; place = index + 1 }) }) guests head (index + 1)
   IsMoving-next guest here = record {
     entries =
         let next : index + 1 ≡ suc index = omega arith in
@@ -145,9 +151,14 @@ module _ (before now : DirectoryState) (guests : List SpanState) (head : SpanId)
     there = λ place span at. still (rank span.id) (eqb (rank span.id) (rank guest.id)) refl (is.there place span at);
   }
     where
-      still : (number : ℕ) (b : Bool) → eqb number (rank guest.id) ≡ b → is_some (map.get now.entries number) ≡ true → is_some (map.get (map.insert now.entries (rank guest.id) (record { head = head; place = index + 1 })) number) ≡ true
-      still number true same was = ap is_some (get-insert now.entries (rank guest.id) (record { head = head; place = index + 1 }) number ∙ ap (λ b. cond b (Some (record { head = head; place = index + 1 })) (map.get now.entries number)) same)
-      still number false other was = ap is_some (get-insert now.entries (rank guest.id) (record { head = head; place = index + 1 }) number ∙ ap (λ b. cond b (Some (record { head = head; place = index + 1 })) (map.get now.entries number)) other) ∙ was
+      still : (number : ℕ) (b : Bool) → eqb number (rank guest.id) ≡ b → is_some (map.get now.entries number) ≡ true
+          → is_some (map.get (map.insert now.entries (rank guest.id) (record { head = head; place = index + 1 })) number) ≡ true
+      still number true same was = ap is_some
+          (get-insert now.entries (rank guest.id) (record { head = head; place = index + 1 }) number
+          ∙ ap (λ b. cond b (Some (record { head = head; place = index + 1 })) (map.get now.entries number)) same)
+      still number false other was = ap is_some
+          (get-insert now.entries (rank guest.id) (record { head = head; place = index + 1 }) number
+          ∙ ap (λ b. cond b (Some (record { head = head; place = index + 1 })) (map.get now.entries number)) other) ∙ was
 
   pub IsMoving-all : length guests ≤ index → index ≤ length guests → now ≡ record before { entries = entered before.entries guests head 1 }
   IsMoving-all most least =

@@ -54,18 +54,22 @@ module _ {G : Type 0} (head_of : G → SpanId) (guests_of : G → List SpanState
     now = entered left live (head_of before) 1
 
     -- a guest of another group has its entry
-    old : (other place : ℕ) (g : G) (guest : SpanState) → (other ≡ index → ⊥) → slice_get groups other ≡ Some g → slice_get (guests_of g) place ≡ Some guest → map.get now (rank guest.id) ≡ Some (record { head = head_of g; place = suc place })
+    old : (other place : ℕ) (g : G) (guest : SpanState) → (other ≡ index → ⊥) → slice_get groups other ≡ Some g → slice_get (guests_of g) place ≡ Some guest
+        → map.get now (rank guest.id) ≡ Some (record { head = head_of g; place = suc place })
     old other place g guest elsewhere at there =
         get-entered_out live left (head_of before) 1 (rank guest.id)
-        (λ k span within same. let was = before-filter is_live (guests_of before) k span within in elsewhere (one_group head_of guests_of groups entries is heads other index place was.0 g before guest span at here there was.1 (sym same)))
+        (λ k span within same. let was = before-filter is_live (guests_of before) k span within in
+        elsewhere (one_group head_of guests_of groups entries is heads other index place was.0 g before guest span at here there was.1 (sym same)))
         ∙ get-struck_out dead entries (rank guest.id)
-        (λ k span within same. let was = before-filter is_dead (guests_of before) k span within in elsewhere (one_group head_of guests_of groups entries is heads other index place was.0 g before guest span at here there was.1 (sym same)))
+        (λ k span within same. let was = before-filter is_dead (guests_of before) k span within in
+        elsewhere (one_group head_of guests_of groups entries is heads other index place was.0 g before guest span at here there was.1 (sym same)))
         ∙ is.known other place g guest at there
 
     next : (place : ℕ) → 1 + place ≡ suc place
     next place = omega arith
 
-    moved : (number : ℕ) (at : Place) → map.get now number ≡ Some at → HasNoRank dead number → IsGuestAt head_of guests_of groups number at → IsGuestAt head_of guests_of (set groups index after) number at
+    moved : (number : ℕ) (at : Place) → map.get now number ≡ Some at → HasNoRank dead number → IsGuestAt head_of guests_of groups number at
+        → IsGuestAt head_of guests_of (set groups index after) number at
     moved number at found none was = elim (cases_eq was.index index) [
       | inl same ↦
           let one : was.group ≡ before = same_some (sym was.group_is ∙ ap (slice_get groups) same ∙ here) in
@@ -77,7 +81,11 @@ module _ {G : Type 0} (head_of : G → SpanId) (guests_of : G → List SpanState
         by_live : slice_get (guests_of before) was.place ≡ Some was.guest → (b : Bool) → is_live was.guest ≡ b → IsGuestAt head_of guests_of (set groups index after) number at
         by_live there true lives =
             let kept = after-filter is_live (guests_of before) was.place was.guest there lives in
-            let entry : record { head = head_of before; place = 1 + kept.0 } ≡ at = same_some (sym (get-entered_in live left (head_of before) 1 kept.0 was.guest own kept.1) ∙ ap (map.get now) was.rank_is ∙ found) in
+            let entry : record {
+              head = head_of before;
+              place = 1 + kept.0;
+            } ≡ at = same_some
+            (sym (get-entered_in live left (head_of before) 1 kept.0 was.guest own kept.1) ∙ ap (map.get now) was.rank_is ∙ found) in
             record {
               index = index;
               place = kept.0;
@@ -122,7 +130,8 @@ module _ {Closed : Type 0} (groups : List (Group Closed)) (entries : Entries) (k
   pub AreEntered-forgotten : AreEntered (struck entries (dead_among group.guests)) (live_among group.guests)
   AreEntered-forgotten = AreEntered-live (λ (g : Group Closed). g.head.id) (λ (g : Group Closed). g.guests) groups entries knows index group here
 
-  pub KnowsGuests-forgotten_apart : HaveOwnHeads (λ (g : Group Closed). g.head.id) (λ (g : Group Closed). g.guests) groups → ((id : SpanId) → count_by (λ (s : SpanState). same_span s.id id) group.guests ≤ 1)
+  pub KnowsGuests-forgotten_apart : HaveOwnHeads (λ (g : Group Closed). g.head.id) (λ (g : Group Closed). g.guests) groups
+      → ((id : SpanId) → count_by (λ (s : SpanState). same_span s.id id) group.guests ≤ 1)
       → KnowsGuests (set groups index (without_dead group)) (entered (struck entries (dead_among group.guests)) (live_among group.guests) group.head.id 1)
   KnowsGuests-forgotten_apart heads once =
       IsDirectory-live (λ (g : Group Closed). g.head.id) (λ (g : Group Closed). g.guests) groups entries knows index group here

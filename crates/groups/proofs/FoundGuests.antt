@@ -52,11 +52,13 @@ module _ {G : Type 0} (head : G → SpanState) (guests : G → List SpanState) w
     IsDirectory-gone ascend index group here = IsDirectory-remove id_of guests groups entries knows (own_heads groups ascend) index group here
 
     -- a span that is elsewhere is no guest here
-    no_guest : (id : SpanId) → IsInNone spans_of groups id → (index place : ℕ) (group : G) (guest : SpanState) → slice_get groups index ≡ Some group → slice_get (guests group) place ≡ Some guest → rank guest.id ≡ rank id → ⊥
+    no_guest : (id : SpanId) → IsInNone spans_of groups id → (index place : ℕ) (group : G) (guest : SpanState) → slice_get groups index ≡ Some group
+        → slice_get (guests group) place ≡ Some guest → rank guest.id ≡ rank id → ⊥
     no_guest id elsewhere index place group guest here there same = elsewhere index group here (suc place) (guest, there, id_from_rank guest.id id same)
 
     pub IsDirectory-come : (index : ℕ) (group : G) → index ≤ length groups → ((id : SpanId) → count_by (λ (s : SpanState). same_span s.id id) (spans_of group) ≤ 1)
-        → ((place : ℕ) (span : SpanState) → slice_get (spans_of group) place ≡ Some span → IsInNone spans_of groups span.id) → IsDirectory id_of guests (insert groups index group) (entered entries (guests group) (id_of group) 1)
+        → ((place : ℕ) (span : SpanState) → slice_get (spans_of group) place ≡ Some span → IsInNone spans_of groups span.id)
+        → IsDirectory id_of guests (insert groups index group) (entered entries (guests group) (id_of group) 1)
     IsDirectory-come index group within once elsewhere =
         IsDirectory-insert id_of guests groups entries knows index group within
         (λ low high a b less at_low at_high same. HaveOwnRanks-once (spans_of group) once (suc low) (suc high) a b (omega arith) at_low at_high same)
@@ -70,14 +72,16 @@ module _ {G : Type 0} (head : G → SpanState) (guests : G → List SpanState) w
 
     -- a look-up
 
-    there : AreAscending id_of groups → (id : SpanId) (entry : Option Place) → entry ≡ map.get entries (rank id) → (index : ℕ) (group : G) → StandsWithHead groups (place_or_head entry id).head index group → FoundAt groups id index (place_or_head entry id).place
+    there : AreAscending id_of groups → (id : SpanId) (entry : Option Place) → entry ≡ map.get entries (rank id) → (index : ℕ) (group : G)
+        → StandsWithHead groups (place_or_head entry id).head index group → FoundAt groups id index (place_or_head entry id).place
     there ascend id None is index group here = (group, head group, here.0, refl, here.1)
     there ascend id (Some at) is index group here =
         let was = knows.only (rank id) at (sym is) in
         let one : was.group ≡ group = one_of_head id_of groups ascend was.index index was.group group was.group_is here.0 (sym was.head_is ∙ sym here.1) in
         (group, was.guest, here.0, ap (slice_get (spans_of group)) was.place_is ∙ ap (λ g. slice_get (guests g) was.place) (sym one) ∙ was.guest_is, id_from_rank was.guest.id id was.rank_is)
 
-    not_there : (id : SpanId) (entry : Option Place) → entry ≡ map.get entries (rank id) → ((index : ℕ) (group : G) → StandsWithHead groups (place_or_head entry id).head index group → ⊥) → IsInNone spans_of groups id
+    not_there : (id : SpanId) (entry : Option Place) → entry ≡ map.get entries (rank id)
+        → ((index : ℕ) (group : G) → StandsWithHead groups (place_or_head entry id).head index group → ⊥) → IsInNone spans_of groups id
     not_there id (Some at) is none index group here place found =
         let was = knows.only (rank id) at (sym is) in
         none was.index was.group (was.group_is, sym was.head_is)

@@ -20,7 +20,8 @@ use Rattle.groups.proofs.Unions.{live_if_held, lose_held}
 pub IsSoundGroup-unpaged : {Closed : Type 0} (group : Group Closed) → IsSoundGroup group → union_of (spans_of group) ≡ empty → IsSoundGroup (record group { page = None })
 IsSoundGroup-unpaged group sound none = record { apart = sound.apart; legal = sound.legal; classes = sound.classes; page = none }
 
-module _ {Closed : Type 0} (group : Group Closed) (sound : IsSoundGroup group) (place : ℕ) (span : SpanState) (key : Key) (here : slice_get (spans_of group) place ≡ Some span) (holds : Holds span.log key.slot key.generation) where
+module _ {Closed : Type 0} (group : Group Closed) (sound : IsSoundGroup group) (place : ℕ) (span : SpanState) (key : Key)
+    (here : slice_get (spans_of group) place ≡ Some span) (holds : Holds span.log key.slot key.generation) where
   abbrev changed : SpanState
   changed = with_free span key
 
@@ -31,7 +32,8 @@ module _ {Closed : Type 0} (group : Group Closed) (sound : IsSoundGroup group) (
   changed_or_kept : (at : ℕ) (other : SpanState) → slice_get (spans_of after) at ≡ Some other → ((at ≡ place) × (changed ≡ other)) ⊎ ((at ≡ place → ⊥) × (slice_get (spans_of group) at ≡ Some other))
   changed_or_kept at other there = cases-set (spans_of group) place changed at other (ap (λ spans. slice_get spans at) (sym (spans_of-with_span group place changed)) ∙ there)
 
-  page_now : (page : Option Words) → MatchOption page (union_of (spans_of group) ≡ empty) (AreStored (spans_of group)) → MatchOption page (union_of (spans_of after) ≡ empty) (AreStored (spans_of after))
+  page_now : (page : Option Words) → MatchOption page (union_of (spans_of group) ≡ empty) (AreStored (spans_of group))
+      → MatchOption page (union_of (spans_of after) ≡ empty) (AreStored (spans_of after))
   page_now None none = absurd (none_live group sound place span here key.slot none (live_if_held span.log key.slot key.generation holds))
   page_now (Some words) stored = λ at other there. elim (changed_or_kept at other there) [
     | inl this ↦ subst (IsStored words) this.1 (λ q held is. stored place span here q held (was_held span key q held is))

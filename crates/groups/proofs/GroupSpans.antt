@@ -42,7 +42,8 @@ module _ {G : Type 0} (spans_of : G → List SpanState) where
   ]
 
   -- a span that is found by its id stands in a group
-  pub named_stands : (groups : List G) (id : SpanId) (span : SpanState) → find (λ (s : SpanState). same_span s.id id) (all_in groups) ≡ Some span → StandsSomewhere groups span × (same_span span.id id ≡ true)
+  pub named_stands : (groups : List G) (id : SpanId) (span : SpanState) → find (λ (s : SpanState). same_span s.id id) (all_in groups) ≡ Some span
+      → StandsSomewhere groups span × (same_span span.id id ≡ true)
   named_stands groups id span found =
       let there = found_at (λ (s : SpanState). same_span s.id id) (all_in groups) span found in
       (stands_in groups there.0.0 span there.0.1, there.1)
@@ -130,7 +131,8 @@ module _ {G : Type 0} (spans_of : G → List SpanState) where
     count-stands (first ∷ groups) (suc index) place group span stands passes =
         omega (arith, count-append p (spans_of first) (all_in groups), count-stands groups index place group span (stands.0, stands.1) passes)
 
-    pub count-spans_remove : (groups : List G) (index : ℕ) (group : G) → slice_get groups index ≡ Some group → count_by p (all_in groups) ≡ count_by p (spans_of group) + count_by p (all_in (remove groups index))
+    pub count-spans_remove : (groups : List G) (index : ℕ) (group : G) → slice_get groups index ≡ Some group
+        → count_by p (all_in groups) ≡ count_by p (spans_of group) + count_by p (all_in (remove groups index))
     count-spans_remove groups index group here =
         let out = taken_out groups index group here in
         omega (

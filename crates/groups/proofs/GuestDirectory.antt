@@ -59,7 +59,8 @@ module _ {G : Type 0} (head_of : G → SpanId) (guests_of : G → List SpanState
   HasNoGuest groups number = (index place : ℕ) (group : G) (guest : SpanState) → slice_get groups index ≡ Some group → slice_get (guests_of group) place ≡ Some guest → rank guest.id ≡ number → ⊥
 
   -- the guest, among other groups
-  pub stands_too : (groups others : List G) (number : ℕ) (at : Place) (was : IsGuestAt head_of guests_of groups number at) (index : ℕ) → slice_get others index ≡ Some was.group → IsGuestAt head_of guests_of others number at
+  pub stands_too : (groups others : List G) (number : ℕ) (at : Place) (was : IsGuestAt head_of guests_of groups number at) (index : ℕ)
+      → slice_get others index ≡ Some was.group → IsGuestAt head_of guests_of others number at
   stands_too groups others number at was index here = record {
     index = index;
     place = was.place;
@@ -165,7 +166,8 @@ module _ {G : Type 0} (head_of : G → SpanId) (guests_of : G → List SpanState
 
     module _ (heads : HaveOwnHeads groups) where
       -- a guest stands in one group
-      pub one_group : (i j p q : ℕ) (a b : G) (x y : SpanState) → slice_get groups i ≡ Some a → slice_get groups j ≡ Some b → slice_get (guests_of a) p ≡ Some x → slice_get (guests_of b) q ≡ Some y → rank x.id ≡ rank y.id → i ≡ j
+      pub one_group : (i j p q : ℕ) (a b : G) (x y : SpanState) → slice_get groups i ≡ Some a → slice_get groups j ≡ Some b → slice_get (guests_of a) p ≡ Some x
+          → slice_get (guests_of b) q ≡ Some y → rank x.id ≡ rank y.id → i ≡ j
       one_group i j p q a b x y at_i at_j at_p at_q same =
           let one : ◌≡◌ {A = Place} (record { head = head_of a; place = suc p }) (record { head = head_of b; place = suc q }) =
           same_some (sym (is.known i p a x at_i at_p) ∙ ap (map.get entries) same ∙ is.known j q b y at_j at_q) in
@@ -190,7 +192,8 @@ module _ {G : Type 0} (head_of : G → SpanId) (guests_of : G → List SpanState
               stands_too groups (remove groups index) number at was now.0 now.1
 
     -- a group takes guests in, which are elsewhere
-    pub IsDirectory-guests : (index : ℕ) (before after : G) (more : List SpanState) → slice_get groups index ≡ Some before → head_of after ≡ head_of before → guests_of after ≡ guests_of before ++ more → HaveOwnRanks more
+    pub IsDirectory-guests : (index : ℕ) (before after : G) (more : List SpanState) → slice_get groups index ≡ Some before → head_of after ≡ head_of before
+        → guests_of after ≡ guests_of before ++ more → HaveOwnRanks more
         → ((place : ℕ) (guest : SpanState) → slice_get more place ≡ Some guest → HasNoGuest groups (rank guest.id))
         → IsDirectory head_of guests_of (set groups index after) (entered entries more (head_of before) (suc (length (guests_of before))))
     IsDirectory-guests index before after more here head guests apart new = record {

@@ -18,7 +18,8 @@ module _ {G : Type 0} (id_of : G → SpanId) where
 
   module _ (groups : List G) (id : SpanId) (index : ℕ) (is : IsLower groups (rank id) index) where
     -- where no head is this one, those that are not lower are higher
-    pub higher-lower : ((other : ℕ) (group : G) → slice_get groups other ≡ Some group → id_of group ≡ id → ⊥) → (other : ℕ) (group : G) → index ≤ other → slice_get groups other ≡ Some group → rank id < rank (id_of group)
+    pub higher-lower : ((other : ℕ) (group : G) → slice_get groups other ≡ Some group → id_of group ≡ id → ⊥) → (other : ℕ) (group : G) → index ≤ other
+        → slice_get groups other ≡ Some group → rank id < rank (id_of group)
     higher-lower none other group above there =
         let least : rank id ≤ rank (id_of group) = is.others other group above there in
         elim (cases_eq (rank id) (rank (id_of group))) [
@@ -27,7 +28,8 @@ module _ {G : Type 0} (id_of : G → SpanId) where
         ]
 
     -- a head that is not at the index is at none
-    pub no_head-lower : AreAscending id_of groups → ((group : G) → slice_get groups index ≡ Some group → id_of group ≡ id → ⊥) → (other : ℕ) (group : G) → slice_get groups other ≡ Some group → id_of group ≡ id → ⊥
+    pub no_head-lower : AreAscending id_of groups → ((group : G) → slice_get groups index ≡ Some group → id_of group ≡ id → ⊥) → (other : ℕ) (group : G)
+        → slice_get groups other ≡ Some group → id_of group ≡ id → ⊥
     no_head-lower ascend unlike other group here head_is =
         let same : rank (id_of group) ≡ rank id = ap rank head_is in
         elim (cases_lt other index) [

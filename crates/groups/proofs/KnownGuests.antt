@@ -35,7 +35,8 @@ module _ {Closed : Type 0} where
 
     -- a group that comes with its guests
     pub KnowsGuests-insert : (index : ℕ) (group : Group Closed) → index ≤ length groups → ((id : SpanId) → count_by (λ (s : SpanState). same_span s.id id) (spans_of group) ≤ 1)
-        → ((place : ℕ) (span : SpanState) → slice_get (spans_of group) place ≡ Some span → IsElsewhere groups span.id) → KnowsGuests (insert groups index group) (entered entries group.guests group.head.id 1)
+        → ((place : ℕ) (span : SpanState) → slice_get (spans_of group) place ≡ Some span → IsElsewhere groups span.id)
+        → KnowsGuests (insert groups index group) (entered entries group.guests group.head.id 1)
     KnowsGuests-insert = IsDirectory-come head_in guests_in groups entries knows
 
     -- a look-up

@@ -20,14 +20,16 @@ read_at xs at x read here is = slice_get_read xs _ at read refl (slice_get_withi
 
 -- what relates an element to the one that is written over it, and each to itself, relates old and new at each place
 module _ {X : Type 0} (R : X → X → Type 0) (self : (x : X) → R x x) where
-  pub before-set : (xs : List X) (at : ℕ) (x y : X) → slice_get xs at ≡ Some x → R x y → (other : ℕ) (new : X) → slice_get (set xs at y) other ≡ Some new → (old : X) × (slice_get xs other ≡ Some old) × R old new
+  pub before-set : (xs : List X) (at : ℕ) (x y : X) → slice_get xs at ≡ Some x → R x y → (other : ℕ) (new : X) → slice_get (set xs at y) other ≡ Some new
+      → (old : X) × (slice_get xs other ≡ Some old) × R old new
   before-set [] at x y here r other new there = absurd cc
   before-set (z ∷ zs) zero x y here r zero new there = (x, here, subst (R x) (same_some there) r)
   before-set (z ∷ zs) zero x y here r (suc other) new there = (new, there, self new)
   before-set (z ∷ zs) (suc at) x y here r zero new there = (new, there, self new)
   before-set (z ∷ zs) (suc at) x y here r (suc other) new there = before-set zs at x y here r other new there
 
-  pub after-set : (xs : List X) (at : ℕ) (x y : X) → slice_get xs at ≡ Some x → R x y → (other : ℕ) (old : X) → slice_get xs other ≡ Some old → (new : X) × (slice_get (set xs at y) other ≡ Some new) × R old new
+  pub after-set : (xs : List X) (at : ℕ) (x y : X) → slice_get xs at ≡ Some x → R x y → (other : ℕ) (old : X) → slice_get xs other ≡ Some old
+      → (new : X) × (slice_get (set xs at y) other ≡ Some new) × R old new
   after-set [] at x y here r other old there = absurd cc
   after-set (z ∷ zs) zero x y here r zero old there = (y, refl, subst (λ w. R w y) (same_some (sym here ∙ there)) r)
   after-set (z ∷ zs) zero x y here r (suc other) old there = (old, there, self old)
@@ -217,7 +219,8 @@ module _ {X : Type 0} (p : X → Bool) where
   found_at [] x e = absurd cc
   found_at (y ∷ xs) x e = by_test (p y) refl e (found_at xs x)
     where
-      by_test : (b : Bool) → p y ≡ b → cond b (Some y) (find p xs) ≡ Some x → (find p xs ≡ Some x → ((at : ℕ) × (slice_get xs at ≡ Some x)) × (p x ≡ true)) → ((at : ℕ) × (slice_get (y ∷ xs) at ≡ Some x)) × (p x ≡ true)
+      by_test : (b : Bool) → p y ≡ b → cond b (Some y) (find p xs) ≡ Some x → (find p xs ≡ Some x → ((at : ℕ) × (slice_get xs at ≡ Some x)) × (p x ≡ true))
+          → ((at : ℕ) × (slice_get (y ∷ xs) at ≡ Some x)) × (p x ≡ true)
       by_test true passes here rest = let same : y ≡ x = cc in ((0, here), ap p (sym same) ∙ passes)
       by_test false fails here rest = let later = rest here in ((suc later.0.0, later.0.1), later.1)
 

@@ -30,7 +30,8 @@ union-insert_right a b slot = same_slots _ _ (λ q.
     ∙ ap (λ x. eq_by_cmp nat_cmp q slot || x) (sym (contains-union nat_cmp_total a b q))
     ∙ sym (contains-insert nat_cmp_total (union a b) slot q))
 
-len-union_list : (a : SlotSet) (ks : List ℕ) → ((q : ℕ) → contains (from_list {R = nat_cmp} ks) q ≡ true → contains a q ≡ false) → len (union a (from_list ks)) ≡ len a + len (from_list {R = nat_cmp} ks)
+len-union_list : (a : SlotSet) (ks : List ℕ) → ((q : ℕ) → contains (from_list {R = nat_cmp} ks) q ≡ true → contains a q ≡ false)
+    → len (union a (from_list ks)) ≡ len a + len (from_list {R = nat_cmp} ks)
 len-union_list a [] apart = ap len (union-empty a) ∙ omega (arith, len-empty nat_cmp)
 len-union_list a (k ∷ ks) apart =
     let rest : SlotSet = from_list ks in

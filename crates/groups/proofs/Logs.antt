@@ -23,7 +23,8 @@ pub value_in-gone : (log : List Change) (slot generation : ℕ) → (Holds log s
 value_in-gone log slot generation gone = None-if_not_some (value_in log slot generation) (is_some-value_in-gone log slot generation gone)
 
 -- and one that is live finds the value of its slot
-pub value_in-held : (log : List Change) (slot generation : ℕ) (value : Value) → Holds log slot generation → ((held : Held) → map.get (replay log) slot ≡ Some held → value ≡ held.value) → value_in log slot generation ≡ Some value
+pub value_in-held : (log : List Change) (slot generation : ℕ) (value : Value) → Holds log slot generation
+    → ((held : Held) → map.get (replay log) slot ≡ Some held → value ≡ held.value) → value_in log slot generation ≡ Some value
 value_in-held log slot generation value holds same = by_slot (map.get (replay log) slot) holds same
   where
     by_slot : (o : Option Held) → IsSomeAnd o (λ held. held.generation ≡ generation) → ((held : Held) → o ≡ Some held → value ≡ held.value) → value_if generation o ≡ Some value

@@ -22,7 +22,8 @@ use Rattle.groups.proofs.Lists.{same_some}
 use Rattle.groups.proofs.StoredObjects.{stored_in}
 use Rattle.groups.proofs.Unions.{AreDisjoint-insert, member_of_union, outside_left, outside_right}
 
-module _ {Closed : Type 0} (group : Group Closed) (sound : IsSoundGroup group) (class : Class) (class_is : group.head.class ≡ class) (slot : ℕ) (on_page : slot < slots_in class) (value : Value) (width : length value ≡ width_of class)
+module _ {Closed : Type 0} (group : Group Closed) (sound : IsSoundGroup group) (class : Class) (class_is : group.head.class ≡ class) (slot : ℕ)
+    (on_page : slot < slots_in class) (value : Value) (width : length value ≡ width_of class)
     (free_slot : contains (occupied group) slot ≡ false) (not_worn : contains (worn_slots group.head.gens group.head.log) slot ≡ false) where
   abbrev head : SpanState
   head = with_put group.head slot value
@@ -40,7 +41,8 @@ module _ {Closed : Type 0} (group : Group Closed) (sound : IsSoundGroup group) (
   not_in_guests = outside_right (live_slots group.head.log) (union_of group.guests) slot free_slot
 
   -- what a span of the group holds at another slot stays
-  stored_other : (place : ℕ) (span : SpanState) → slice_get (spans_of group) place ≡ Some span → (q : ℕ) (held : Held) → map.get (replay span.log) q ≡ Some held → (q ≡ slot → ⊥) → object_in page_now span.class q ≡ held.value
+  stored_other : (place : ℕ) (span : SpanState) → slice_get (spans_of group) place ≡ Some span → (q : ℕ) (held : Held) → map.get (replay span.log) q ≡ Some held
+      → (q ≡ slot → ⊥) → object_in page_now span.class q ≡ held.value
   stored_other place span here q held is other =
       let its = sound.classes place span here in
       let same : span.class ≡ class = its.class_is ∙ class_is in
@@ -53,7 +55,9 @@ module _ {Closed : Type 0} (group : Group Closed) (sound : IsSoundGroup group) (
     | inl same ↦
         let put : Some (record { generation = puts_of slot group.head.log + 1; value = value }) ≡ Some held =
         sym (get-put group.head.log slot (puts_of slot group.head.log + 1) value q ∙ rw (eq-eqb q slot same) refl) ∙ is in
-        subst (λ c. object_in page_now c q ≡ held.value) (sym class_is) (ap (object_in page_now class) same ∙ object_in-set_object_same (words_of group.page) class slot value on_page width ∙ ap (λ (h : Held). h.value) (same_some put))
+        subst (λ c. object_in page_now c q ≡ held.value) (sym class_is)
+        (ap (object_in page_now class) same ∙ object_in-set_object_same (words_of group.page) class slot value on_page width
+        ∙ ap (λ (h : Held). h.value) (same_some put))
     | inr other ↦ stored_other 0 group.head refl q held (sym (get-put group.head.log slot (puts_of slot group.head.log + 1) value q ∙ rw (ne_eqb q slot other) refl) ∙ is) other
   ]
 

@@ -4,7 +4,8 @@ use Rattle.std.specs.Prelude.{count_by, insert, remove}
 use Rattle.groups.proofs.Lists.{count-cons, none_where, same_some}
 
 -- an old element, which stood at the same place or at the next
-pub cases-remove : {X : Type 0} (xs : List X) (at other : ℕ) (y : X) → slice_get (remove xs at) other ≡ Some y → ((other < at) × (slice_get xs other ≡ Some y)) ⊎ ((at ≤ other) × (slice_get xs (suc other) ≡ Some y))
+pub cases-remove : {X : Type 0} (xs : List X) (at other : ℕ) (y : X) → slice_get (remove xs at) other ≡ Some y
+    → ((other < at) × (slice_get xs other ≡ Some y)) ⊎ ((at ≤ other) × (slice_get xs (suc other) ≡ Some y))
 cases-remove [] zero other y there = absurd cc
 cases-remove [] (suc at) other y there = absurd cc
 cases-remove (x ∷ xs) zero other y there = inr (omega arith, there)

@@ -30,7 +30,8 @@ pub length-same : (before after : List SpanState) → HaveSameIds before after �
 length-same [] [] ids = refl
 length-same [] (new ∷ news) ids = absurd (let was = ids.back 0 new refl in none-some was.0 was.1)
 length-same (old ∷ olds) [] ids = absurd (let now = ids.forth 0 old refl in none-some now.0 now.1)
-length-same (old ∷ olds) (new ∷ news) ids = ap suc (length-same olds news (record { forth = λ place span here. ids.forth (suc place) span here; back = λ place span here. ids.back (suc place) span here }))
+length-same (old ∷ olds) (new ∷ news) ids = ap suc
+    (length-same olds news (record { forth = λ place span here. ids.forth (suc place) span here; back = λ place span here. ids.back (suc place) span here }))
 
 module _ {Closed : Type 0} where
   -- the groups have spans of the same ids, at the same places
@@ -44,8 +45,10 @@ module _ {Closed : Type 0} where
   guests-alike old new ids = record { forth = λ place span here. ids.forth (suc place) span here; back = λ place span here. ids.back (suc place) span here }
 
   -- a change of one span that leaves its id
-  pub AreAlike-with_span : (group : Group Closed) (place : ℕ) (span changed : SpanState) → slice_get (spans_of group) place ≡ Some span → changed.id ≡ span.id → AreAlike group (with_span group place changed)
-  AreAlike-with_span group place span changed here same = subst (HaveSameIds (spans_of group)) (sym (spans_of-with_span group place changed)) (HaveSameIds-set (spans_of group) place span changed here same)
+  pub AreAlike-with_span : (group : Group Closed) (place : ℕ) (span changed : SpanState) → slice_get (spans_of group) place ≡ Some span → changed.id ≡ span.id
+      → AreAlike group (with_span group place changed)
+  AreAlike-with_span group place span changed here same = subst (HaveSameIds (spans_of group)) (sym (spans_of-with_span group place changed))
+      (HaveSameIds-set (spans_of group) place span changed here same)
 
   module _ (groups : List (Group Closed)) (index : ℕ) (group after : Group Closed) (here : slice_get groups index ≡ Some group) (ids : AreAlike group after) where
     -- where a group of these ids stood before

@@ -40,7 +40,8 @@ apart_at (first ∷ rest) (suc i) zero a b q apart at_i at_j differ in_a in_b =
 apart_at (first ∷ rest) (suc i) (suc j) a b q apart at_i at_j differ in_a in_b = apart_at rest i j a b q apart.1 at_i at_j (λ e. differ (ap suc e)) in_a in_b
 
 -- a set of a live slot to as many words as the class has is legal
-pub IsLegal-set : (class : Class) (gens : ℕ) (log : List Change) (slot generation : ℕ) (value : Value) → IsLegal gens log → IsOfClass class log → Holds log slot generation → length value ≡ width_of class
+pub IsLegal-set : (class : Class) (gens : ℕ) (log : List Change) (slot generation : ℕ) (value : Value) → IsLegal gens log → IsOfClass class log
+    → Holds log slot generation → length value ≡ width_of class
     → IsLegal gens (log ++ Set slot generation value ∷ [])
 IsLegal-set class gens log slot generation value legal of_class holds wide = IsLegal-push gens log _ legal (fits (map.get (replay log) slot) refl holds)
   where
@@ -110,7 +111,8 @@ module _ {Closed : Type 0} (group : Group Closed) (sound : IsSoundGroup group)
   fits_page = subst (λ c. (slot < slots_in c) × (length value ≡ width_of c)) its.class_is (on_page, settable.1)
 
   -- what a span of the group holds at another slot stays
-  stored_other : (at : ℕ) (other : SpanState) → slice_get (spans_of group) at ≡ Some other → (q : ℕ) (held : Held) → map.get (replay other.log) q ≡ Some held → (q ≡ slot → ⊥) → object_in page_now other.class q ≡ held.value
+  stored_other : (at : ℕ) (other : SpanState) → slice_get (spans_of group) at ≡ Some other → (q : ℕ) (held : Held) → map.get (replay other.log) q ≡ Some held
+      → (q ≡ slot → ⊥) → object_in page_now other.class q ≡ held.value
   stored_other at other there q held is differ =
       let of_other = sound.classes at other there in
       let same : other.class ≡ span.class = of_other.class_is ∙ sym its.class_is in

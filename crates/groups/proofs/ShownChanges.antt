@@ -29,7 +29,8 @@ module _ {Closed : Type 0} (groups : List (Group Closed)) (sound : AreSoundGroup
   shown_around = shown_by-logged groups sound once ∙ ap (λ spans. logged spans nothing_pending) round.whole
 
   -- with another span of its id in its place
-  shown_after : (changed : SpanState) → changed.id ≡ span.id → (now : Group Closed) → IsSoundGroup now → spans_of now ≡ set (spans_of group) place changed → shown_by (set groups index now) ≡ logged (round.left ++ changed ∷ round.right) nothing_pending
+  shown_after : (changed : SpanState) → changed.id ≡ span.id → (now : Group Closed) → IsSoundGroup now → spans_of now ≡ set (spans_of group) place changed
+      → shown_by (set groups index now) ≡ logged (round.left ++ changed ∷ round.right) nothing_pending
   shown_after changed same now now_sound spans =
       let ids = subst (HaveSameIds (spans_of group)) (sym spans) (HaveSameIds-set (spans_of group) place span changed here.span_is same) in
       shown_by-logged (set groups index now) (AreSoundGroups-replaced groups index now sound now_sound) (λ id. rw (times-replaced groups index group now here.group_is ids id) (once id))
@@ -42,13 +43,15 @@ module _ {Closed : Type 0} (groups : List (Group Closed)) (sound : AreSoundGroup
         ∙ logged-free round.left round.right span nothing_pending key none (sym here.id_is) holds
         ∙ ap (λ m. without m key) (sym shown_around)
 
-    pub shown_by-set : (value : Value) → spans_of now ≡ set (spans_of group) place (with_set span key value) → Holds span.log key.slot key.generation → shown_by (set groups index now) ≡ with_value (shown_by groups) key value
+    pub shown_by-set : (value : Value) → spans_of now ≡ set (spans_of group) place (with_set span key value) → Holds span.log key.slot key.generation
+        → shown_by (set groups index now) ≡ with_value (shown_by groups) key value
     shown_by-set value spans holds =
         shown_after (with_set span key value) refl now now_sound spans
         ∙ logged-set round.left round.right span nothing_pending key none (sym here.id_is) value holds
         ∙ ap (λ m. with_value m key value) (sym shown_around)
 
-    pub shown_by-put : (value : Value) → spans_of now ≡ set (spans_of group) place (with_put_at span key.slot value) → key.generation ≡ puts_of key.slot span.log + 1 → contains (live_slots span.log) key.slot ≡ false
+    pub shown_by-put : (value : Value) → spans_of now ≡ set (spans_of group) place (with_put_at span key.slot value)
+        → key.generation ≡ puts_of key.slot span.log + 1 → contains (live_slots span.log) key.slot ≡ false
         → shown_by (set groups index now) ≡ with_put (shown_by groups) key value
     shown_by-put value spans next unused =
         shown_after (with_put_at span key.slot value) refl now now_sound spans

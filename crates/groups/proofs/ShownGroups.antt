@@ -50,11 +50,13 @@ module _ {Closed : Type 0} where
       → slice_get groups index ≡ Some group → slice_get (spans_of group) place ≡ Some span → (id : SpanId) → same_span span.id id ≡ true → page_of groups id ≡ group.page
   page_of-stands [] once index place group span at_group at_span id same = absurd (none-some group at_group)
   page_of-stands (first ∷ groups) once zero place group span at_group at_span id same =
-      let has : has_span id first ≡ true = find-is_some (λ (s : SpanState). same_span s.id id) (spans_of first) place span (ap (λ (g : Group Closed). slice_get (spans_of g) place) (same_some at_group) ∙ at_span) same in
+      let has : has_span id first ≡ true = find-is_some (λ (s : SpanState). same_span s.id id) (spans_of first) place span
+      (ap (λ (g : Group Closed). slice_get (spans_of g) place) (same_some at_group) ∙ at_span) same in
       rw has (ap (λ (g : Group Closed). g.page) (same_some at_group))
   page_of-stands (first ∷ groups) once (suc index) place group span at_group at_span id same =
       by_test (has_span id first) refl
-      (page_of-stands groups (λ other. omega (arith, once other, count-append (λ (s : SpanState). same_span s.id other) (spans_of first) (spans_in groups))) index place group span at_group at_span id same)
+      (page_of-stands groups (λ other. omega (arith, once other, count-append (λ (s : SpanState). same_span s.id other) (spans_of first) (spans_in groups)))
+      index place group span at_group at_span id same)
     where
       by_test : (b : Bool) → has_span id first ≡ b → page_of groups id ≡ group.page → page_in (cond b (Some first) (find (has_span id) groups)) ≡ group.page
       by_test true has rest = elim (none_or_some (λ (s : SpanState). same_span s.id id) (spans_of first)) [
@@ -72,7 +74,8 @@ module _ {Closed : Type 0} where
         → (slot : ℕ) (held : Held) → map.get (replay span.log) slot ≡ Some held → option_map (λ words. object_in words span.class slot) group.page ≡ Some held.value
     stored_at index place group span at_group at_span slot held is = by_page group.page (sound index group at_group).page
       where
-        by_page : (page : Option Words) → MatchOption page (union_of (spans_of group) ≡ empty) (AreStored (spans_of group)) → option_map (λ words. object_in words span.class slot) page ≡ Some held.value
+        by_page : (page : Option Words) → MatchOption page (union_of (spans_of group) ≡ empty) (AreStored (spans_of group))
+            → option_map (λ words. object_in words span.class slot) page ≡ Some held.value
         by_page None none =
             let live : contains (live_slots span.log) slot ≡ true = contains-live_slots span.log slot ∙ ap is_some is in
             absurd (false≢true (sym (contains-empty nat_cmp slot) ∙ ap (λ slots. contains slots slot) (sym none) ∙ member_of_union (spans_of group) place span slot at_span live))
@@ -84,7 +87,8 @@ module _ {Closed : Type 0} where
         let ((index, place, group, (at_group, at_span)), same) = named_stands spans_of groups key.span span e in
         let page = page_of-stands groups once index place group span at_group at_span key.span same in
         ap (λ page. cond (is_some (value_in span.log key.slot key.generation)) (option_map (λ words. object_in words span.class key.slot) page) None) page
-        ∙ object_or_none (map.get (replay span.log) key.slot) key.generation (option_map (λ words. object_in words span.class key.slot) group.page) (λ held is. stored_at index place group span at_group at_span key.slot held is)
+        ∙ object_or_none (map.get (replay span.log) key.slot) key.generation (option_map (λ words. object_in words span.class key.slot) group.page)
+        (λ held is. stored_at index place group span at_group at_span key.slot held is)
 
     -- the objects on the pages are what the logs say
     pub shown_by-logged : shown_by groups ≡ logged (spans_in groups) nothing_pending
@@ -101,7 +105,8 @@ module _ {Closed : Type 0} where
     value-logged key = ap (λ (m : PlainMap). m.value_of key) shown_by-logged
 
     -- the value of a key is that of its span's log
-    pub value_of-here : (key : Key) (index place : ℕ) (group : Group Closed) (span : SpanState) → IsHere groups key.span index place group span → (shown_by groups).value_of key ≡ value_in span.log key.slot key.generation
+    pub value_of-here : (key : Key) (index place : ℕ) (group : Group Closed) (span : SpanState) → IsHere groups key.span index place group span
+        → (shown_by groups).value_of key ≡ value_in span.log key.slot key.generation
     value_of-here key index place group span here = value-logged key ∙ ap (logged_by key) (span_named-here key.span index place group span here)
 
     pub value_of-elsewhere : (key : Key) → IsElsewhere groups key.span → (shown_by groups).value_of key ≡ None

@@ -30,8 +30,10 @@ module _ {Closed : Type 0} where
   class-with_span group (suc place) span same = refl
 
   -- the spans stay of the class of the head
-  pub AreSpansOf-with_span : (group : Group Closed) (place : ℕ) (span : SpanState) → AreSpansOf group.head.class (spans_of group) → IsSpanOf group.head.class span → AreSpansOf (with_span group place span).head.class (spans_of (with_span group place span))
-  AreSpansOf-with_span group place span are its at other there = subst (λ c. IsSpanOf c other) (sym (class-with_span group place span its.class_is)) (elim (cases-set (spans_of group) place span at other (ap (λ spans. slice_get spans at) (sym (spans_of-with_span group place span)) ∙ there)) [
-    | inl this ↦ subst (IsSpanOf group.head.class) this.1 its
-    | inr that ↦ are at other that.1
-  ])
+  pub AreSpansOf-with_span : (group : Group Closed) (place : ℕ) (span : SpanState) → AreSpansOf group.head.class (spans_of group)
+      → IsSpanOf group.head.class span → AreSpansOf (with_span group place span).head.class (spans_of (with_span group place span))
+  AreSpansOf-with_span group place span are its at other there = subst (λ c. IsSpanOf c other) (sym (class-with_span group place span its.class_is))
+      (elim (cases-set (spans_of group) place span at other (ap (λ spans. slice_get spans at) (sym (spans_of-with_span group place span)) ∙ there)) [
+        | inl this ↦ subst (IsSpanOf group.head.class) this.1 its
+        | inr that ↦ are at other that.1
+      ])

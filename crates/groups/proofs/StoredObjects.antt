@@ -25,7 +25,8 @@ module _ {Closed : Type 0} (group : Group Closed) (sound : IsSoundGroup group) (
     pub stored_on : (words : Words) × (group.page ≡ Some words) × (object_at group.page span.class slot ≡ held.value)
     stored_on = by_page group.page refl sound.page
       where
-        by_page : (page : Option Words) → group.page ≡ page → MatchOption page (union_of (spans_of group) ≡ empty) (AreStored (spans_of group)) → (words : Words) × (page ≡ Some words) × (object_at page span.class slot ≡ held.value)
+        by_page : (page : Option Words) → group.page ≡ page → MatchOption page (union_of (spans_of group) ≡ empty) (AreStored (spans_of group))
+            → (words : Words) × (page ≡ Some words) × (object_at page span.class slot ≡ held.value)
         by_page None page none = absurd (none_live none (contains-live_slots span.log slot ∙ ap is_some is))
         by_page (Some words) page stored = (words, refl, stored place span here slot held is)
 
@@ -33,7 +34,8 @@ module _ {Closed : Type 0} (group : Group Closed) (sound : IsSoundGroup group) (
     stored_in = stored_on.2
 
 -- a group with a live key has a page
-module _ {Closed : Type 0} (group : Group Closed) (sound : IsSoundGroup group) (place : ℕ) (span : SpanState) (slot generation : ℕ) (there : slice_get (spans_of group) place ≡ Some span) (holds : Holds span.log slot generation) where
+module _ {Closed : Type 0} (group : Group Closed) (sound : IsSoundGroup group) (place : ℕ) (span : SpanState) (slot generation : ℕ)
+    (there : slice_get (spans_of group) place ≡ Some span) (holds : Holds span.log slot generation) where
   pub page_if_held : (words : Words) × (group.page ≡ Some words)
   page_if_held = by_page group.page sound.page
     where

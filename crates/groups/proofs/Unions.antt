@@ -73,7 +73,8 @@ pub union-remove_right : (a b : SlotSet) (slot : ℕ) → contains a slot ≡ fa
 union-remove_right a b slot out = union-swap a (remove b slot) ∙ union-remove_left b a slot out ∙ ap (λ s. remove s slot) (union-swap b a)
 
 -- a live slot of one of the spans is in their union
-pub member_of_union : (spans : List SpanState) (place : ℕ) (span : SpanState) (slot : ℕ) → slice_get spans place ≡ Some span → contains (live_slots span.log) slot ≡ true → contains (union_of spans) slot ≡ true
+pub member_of_union : (spans : List SpanState) (place : ℕ) (span : SpanState) (slot : ℕ) → slice_get spans place ≡ Some span
+    → contains (live_slots span.log) slot ≡ true → contains (union_of spans) slot ≡ true
 member_of_union [] place span slot at live = absurd cc
 member_of_union (first ∷ rest) zero span slot at live =
     let same : first ≡ span = cc in

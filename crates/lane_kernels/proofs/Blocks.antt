@@ -61,12 +61,14 @@ module _ (left : ℕ) (some : left ≡ 0 → ⊥) (fits : left < 2 ^ 64) where
 added : (block rows : List ℕ) (from i b : ℕ) → length block ≡ 16 → from + 16 ≤ length rows → i < 16
     → bit_at (get_or (zip2 bit_or block (chunk from 16 rows)) i 0) b ≡ max (bit_at (get_or block i 0) b) (bit_at (get_or rows (from + i) 0) b)
 added block rows from i b sixteen room low =
-    ap (λ n. bit_at n b) (get_or-zip2 bit_or block (chunk from 16 rows) i 0 0 0 (omega arith) (omega (arith, low, length-chunk from 16 rows room)) ∙ ap (bit_or (get_or block i 0)) (get_or-chunk from 16 rows i 0 low))
+    ap (λ n. bit_at n b) (get_or-zip2 bit_or block (chunk from 16 rows) i 0 0 0 (omega arith) (omega (arith, low, length-chunk from 16 rows room))
+    ∙ ap (bit_or (get_or block i 0)) (get_or-chunk from 16 rows i 0 low))
     ∙ bit_at_or (get_or block i 0) (get_or rows (from + i) 0) b
 
 -- what is left to add after the row of the lowest bit was added
 pub rows-step : (left first W i b : ℕ) (block rows : List ℕ) → (left ≡ 0 → ⊥) → left < 2 ^ 64 → length block ≡ 16 → first + W * trailing_zeros w64 left + 16 ≤ length rows → i < 16
-    → ((bit_at (get_or (zip2 bit_or block (chunk (first + W * trailing_zeros w64 left) 16 rows)) i 0) b ≡ 0) × IsClear (without_lowest left) rows W (first + i) b) ↔ ((bit_at (get_or block i 0) b ≡ 0) × IsClear left rows W (first + i) b)
+    → ((bit_at (get_or (zip2 bit_or block (chunk (first + W * trailing_zeros w64 left) 16 rows)) i 0) b ≡ 0)
+    × IsClear (without_lowest left) rows W (first + i) b) ↔ ((bit_at (get_or block i 0) b ≡ 0) × IsClear left rows W (first + i) b)
 rows-step left first W i b block rows some fits sixteen room low =
     let from : ℕ = first + W * trailing_zeros w64 left in
     let bit = added block rows from i b sixteen room low in
@@ -130,7 +132,8 @@ row_bit-is W rows q j size low inside =
     let place : W * q + j / 64 ≡ j / 64 + W * q = omega arith in
     ap (λ n. bit_at n (j % 64) == 1) (get_or-chunk (W * q) W rows (j / 64) 0 inside ∙ ap (λ n. get_or rows n 0) place)
 
-module _ (set : SlotSet) (words rows : List ℕ) (W j bit : ℕ) (size : length rows ≡ W * 256) (inside : j / 64 < W) (are : (q : ℕ) → has_bit words q ≡ contains set q) (small : bit < 2) (is : (bit ≡ 0) ↔ IsClearIn words rows W (j / 64) (j % 64) 256) where
+module _ (set : SlotSet) (words rows : List ℕ) (W j bit : ℕ) (size : length rows ≡ W * 256) (inside : j / 64 < W) (are : (q : ℕ)
+    → has_bit words q ≡ contains set q) (small : bit < 2) (is : (bit ≡ 0) ↔ IsClearIn words rows W (j / 64) (j % 64) 256) where
   abbrev held : ℕ → Bool
   held q = not (has_bit (row_at W rows q) j)
 
@@ -160,7 +163,8 @@ module _ (set : SlotSet) (words rows : List ℕ) (W j bit : ℕ) (size : length 
     | inr other ↦ let zeros : bit ≡ 0 = omega arith in rw (zeros, clear_all (is.0 zeros)) refl
   ]
 
-module _ (set : SlotSet) (words rows block first old new : List ℕ) (W at : ℕ) (aligned : at % 16 ≡ 0) (within : at + 16 ≤ W) (size : length rows ≡ W * 256) (are : (q : ℕ) → has_bit words q ≡ contains set q)
+module _ (set : SlotSet) (words rows block first old new : List ℕ) (W at : ℕ) (aligned : at % 16 ≡ 0) (within : at + 16 ≤ W) (size : length rows ≡ W * 256)
+    (are : (q : ℕ) → has_bit words q ≡ contains set q)
     (bits : (i b : ℕ) → i < 16 → b < 64 → (bit_at (get_or block i 0) b ≡ 0) ↔ IsClearIn words rows W (at + i) b 256) (long_old : length old ≡ length first) (long_new : length new ≡ length old)
     (taken : (i b : ℕ) → i < 16 → b < 64 → at + i < length old → (bit_at (get_or new (at + i) 0) b == 1) ≡ ((bit_at (get_or old (at + i) 0) b == 1) && not (bit_at (get_or block i 0) b == 1)))
     (before : (w : ℕ) → w < at → get_or new w 0 ≡ get_or old w 0)
@@ -198,7 +202,8 @@ pub taken_bit : (old other new b : ℕ) → other < 2 ^ 64 → b < 64 → new �
 taken_bit old other new b fits small is = rw (is, bit_at_and, bit_at_not w64 other b fits small) (only_bit _ _ (bit_at-lt _ b) (bit_at-lt _ b))
 
 -- past the row no bit is set
-pub past-row : (set : SlotSet) (rows first row : List ℕ) (W at : ℕ) → length row ≡ length first → length row ≤ at → ((j : ℕ) → j < 64 * at → has_bit row j ≡ (has_bit first j && survives W rows j (ascending set)))
+pub past-row : (set : SlotSet) (rows first row : List ℕ) (W at : ℕ) → length row ≡ length first → length row ≤ at
+    → ((j : ℕ) → j < 64 * at → has_bit row j ≡ (has_bit first j && survives W rows j (ascending set)))
     → (j : ℕ) → has_bit row j ≡ (has_bit first j && survives W rows j (ascending set))
 past-row set rows first row W at long ends done j = elim (cases_lt j (64 * at)) [
   | inl low ↦ done j low

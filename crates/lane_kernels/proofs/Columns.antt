@@ -83,7 +83,8 @@ four_words words long = same_number_lists (get_or words 0 0 ∷ get_or words 1 0
     each (suc (suc (suc (suc k)))) below = absurd (omega arith)
 
 -- each row goes on by a word of the set
-pub pushed : (p q r s p' q' r' s' words : List ℕ) (set : SlotSet) (sets : List SlotSet) → length q ≡ length p → length r ≡ length p → length s ≡ length p → length words ≡ 4 → slots_of_words words ≡ set → sets_of p q r s ≡ sets
+pub pushed : (p q r s p' q' r' s' words : List ℕ) (set : SlotSet) (sets : List SlotSet) → length q ≡ length p → length r ≡ length p → length s ≡ length p
+    → length words ≡ 4 → slots_of_words words ≡ set → sets_of p q r s ≡ sets
     → p' ≡ p ++ get_or words 0 0 ∷ [] → q' ≡ q ++ get_or words 1 0 ∷ [] → r' ≡ r ++ get_or words 2 0 ∷ [] → s' ≡ s ++ get_or words 3 0 ∷ [] → sets_of p' q' r' s' ≡ sets ++ set ∷ []
 pushed p q r s p' q' r' s' words set sets long_q long_r long_s four is view in_p in_q in_r in_s =
     rw (in_p, in_q, in_r, in_s)

@@ -64,7 +64,8 @@ module _ (p q r s : List ℕ) (at : ℕ) (in_p : at + 8 ≤ length p) (in_q : at
       rw (get_or-map-range_with_len (ones_of p q r s) at 8 i (at + i) 0 (omega (arith, below, length-map-range_with_len (ones_of p q r s) at 8)) refl) (record { fits = few (at + i) })))
 
 -- a set has as many slots as its column has ones
-pub ones-len : (p q r s : List ℕ) (k : ℕ) → slice_index p k < 2 ^ 64 → slice_index q k < 2 ^ 64 → slice_index r k < 2 ^ 64 → slice_index s k < 2 ^ 64 → ones_of p q r s k ≡ len (slots_of_words (column p q r s k))
+pub ones-len : (p q r s : List ℕ) (k : ℕ) → slice_index p k < 2 ^ 64 → slice_index q k < 2 ^ 64 → slice_index r k < 2 ^ 64 → slice_index s k < 2 ^ 64
+    → ones_of p q r s k ≡ len (slots_of_words (column p q r s k))
 ones-len p q r s k in_p in_q in_r in_s = len-slots_of_words (column p q r s k) (record { four = refl; fit = fit })
   where
     fit : (i : ℕ) → slice_index (column p q r s k) i < 2 ^ 64

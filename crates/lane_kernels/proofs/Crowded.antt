@@ -55,7 +55,8 @@ ones-apart a b fits_a fits_b none =
 either_zero : (x y : ℕ) → bit_or x y ≡ 0 → (x ≡ 0) × (y ≡ 0)
 either_zero x y none = (omega (arith, le_or_l x y), omega (arith, le_or_r x y))
 
-module _ (a p q r s : List ℕ) (are : AreWords a) (fit_p : (k : ℕ) → get_or p k 0 < 2 ^ 64) (fit_q : (k : ℕ) → get_or q k 0 < 2 ^ 64) (fit_r : (k : ℕ) → get_or r k 0 < 2 ^ 64) (fit_s : (k : ℕ) → get_or s k 0 < 2 ^ 64) (k : ℕ) where
+module _ (a p q r s : List ℕ) (are : AreWords a) (fit_p : (k : ℕ) → get_or p k 0 < 2 ^ 64) (fit_q : (k : ℕ) → get_or q k 0 < 2 ^ 64) (fit_r : (k : ℕ)
+    → get_or r k 0 < 2 ^ 64) (fit_s : (k : ℕ) → get_or s k 0 < 2 ^ 64) (k : ℕ) where
   words : AreWords (column p q r s k)
   words = record { four = refl; fit = each }
     where
@@ -72,7 +73,15 @@ module _ (a p q r s : List ℕ) (are : AreWords a) (fit_p : (k : ℕ) → get_or
       let three = either_zero _ _ (eqb-true _ 0 disjoint) in
       let two = either_zero _ _ three.0 in
       let one = either_zero _ _ two.0 in
-      omega (arith, len-slots_of_words a are, len-slots_of_words (column p q r s k) words, ones-apart _ _ (are.fit 0) (fit_p k) one.0, ones-apart _ _ (are.fit 1) (fit_q k) one.1, ones-apart _ _ (are.fit 2) (fit_r k) two.1, ones-apart _ _ (are.fit 3) (fit_s k) three.1)
+      omega (
+        arith,
+        len-slots_of_words a are,
+        len-slots_of_words (column p q r s k) words,
+        ones-apart _ _ (are.fit 0) (fit_p k) one.0,
+        ones-apart _ _ (are.fit 1) (fit_q k) one.1,
+        ones-apart _ _ (are.fit 2) (fit_r k) two.1,
+        ones-apart _ _ (are.fit 3) (fit_s k) three.1,
+      )
 
   -- a set that has more than 256 slots with that of a column shares one
   pub is_apart-crowded : 256 < len (slots_of_words a) + len (slots_of_words (column p q r s k)) → is_apart a p q r s k ≡ false

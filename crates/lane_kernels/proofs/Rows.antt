@@ -201,7 +201,8 @@ module _ (set : SlotSet) (sets : List SlotSet) (row : List ℕ) where
     fits_none : list_any (λ other. are_disjoint other set) sets ≡ false → (j : ℕ) → has_bit row j ≡ false
     fits_none none j = elim (cases_lt j (length sets)) [
       | inl low ↦ elim (cases_Bool (has_bit row j)) [
-        | inl bit ↦ absurd (both_ways (list_any (λ other. are_disjoint other set) sets) none (list_any_at (λ other. are_disjoint other set) sets j set low (are_disjoint-comm (get_or sets j set) set ∙ sym (fits_at j low) ∙ bit)))
+        | inl bit ↦ absurd (both_ways (list_any (λ other. are_disjoint other set) sets) none
+            (list_any_at (λ other. are_disjoint other set) sets j set low (are_disjoint-comm (get_or sets j set) set ∙ sym (fits_at j low) ∙ bit)))
         | inr e ↦ e
       ]
       | inr past ↦ fits_past j past
@@ -253,6 +254,7 @@ left_fits set sets rows full row width below are is_full wide bits =
     (λ j past. bits j ∙ ap (λ b. b && survives width rows j (ascending set)) (is_full.rest j past))
 
 -- the same of rows that may have been refused
-pub told : (p q r s : List ℕ) (sets : List SlotSet) → sets_of p q r s ≡ sets → (found : Result (Vec ℕ Global) AllocError) → IfOk found (λ rows. AreBitRows p q r s 256 rows.items) → IfOk found (λ rows. AreSlotRows sets rows.items)
+pub told : (p q r s : List ℕ) (sets : List SlotSet) → sets_of p q r s ≡ sets → (found : Result (Vec ℕ Global) AllocError)
+    → IfOk found (λ rows. AreBitRows p q r s 256 rows.items) → IfOk found (λ rows. AreSlotRows sets rows.items)
 told p q r s sets view (Ok rows) have = AreSlotRows-from_bits p q r s sets rows.items view have
 told p q r s sets view (Err e) have = tt

@@ -55,7 +55,8 @@ no_bit_at test first n k past =
 
 -- twice the bits of fewer than 64 columns, and one more, fit a word
 pub doubled : (test : ℕ → Bool) (first n : ℕ) → n < 64 → 2 * word_of test first n + 1 < 2 ^ 64
-doubled test first n few = let b = bound test first n in let m : 2 ^ (n + 1) ≤ 2 ^ 64 = pow_mono {i = n + 1} {j = 64} (omega arith) in let e = add-one n in omega (arith, pow-suc 2 n, ap (λ k. 2 ^ k) e)
+doubled test first n few = let b = bound test first n in let m : 2 ^ (n + 1) ≤ 2 ^ 64 = pow_mono {i = n + 1} {j = 64} (omega arith) in let e = add-one n in
+    omega (arith, pow-suc 2 n, ap (λ k. 2 ^ k) e)
 
 has_one : (x k : ℕ) → (bit_and x (2 ^ k) == 2 ^ k) ≡ (x / 2 ^ k % 2 == 1)
 has_one x k = elim (cases_eq (x / 2 ^ k % 2) 1) [
@@ -70,7 +71,8 @@ has_one x k = elim (cases_eq (x / 2 ^ k % 2) 1) [
 
 -- the lanes of one plane that have a bit
 pub with_bit : (p : List ℕ) (k at m : ℕ) → m ≡ 2 ^ k → at + 64 ≤ length p
-    → mask_l (map (top (hbits w64)) (zip2 (λ x y. cond (x == y) (2 ^ bits w64 - 1) 0) (zip2 bit_and (chunk at 64 p) (replicate 64 m)) (replicate 64 m))) % 2 ^ 64 ≡ word_of (λ j. slice_index p j / 2 ^ k % 2 == 1) at 64
+    → mask_l (map (top (hbits w64)) (zip2 (λ x y. cond (x == y) (2 ^ bits w64 - 1) 0) (zip2 bit_and (chunk at 64 p) (replicate 64 m)) (replicate 64 m))) % 2 ^
+    64 ≡ word_of (λ j. slice_index p j / 2 ^ k % 2 == 1) at 64
 with_bit p k at m is room =
     let V = range_with_len at 64 in
     let has = λ (j : ℕ). bit_and (slice_index p j) m in

@@ -31,7 +31,8 @@ module _ {T : Type 0} where
         taken s wide zero = let one : get_or (set s.words 16 1) 16 0 ≡ 1 = get_or-set_same s.words 16 1 0 (omega arith) in absurd (omega arith)
 
   -- who has the slot, with a value, gives it back as it stores 0
-  pub gives_it : (slots id : ℕ) (me : Me (Option T) (Unit {0})) (value : T) → me.1 ≡ (0, Some value) ∷ [] → Allows (IsKept {T = T}) slots id me 16 (λ _. 0) (λ _. gave (step slots 16 0 0 mathlib.Core.Option.none) me 0)
+  pub gives_it : (slots id : ℕ) (me : Me (Option T) (Unit {0})) (value : T) → me.1 ≡ (0, Some value) ∷ []
+      → Allows (IsKept {T = T}) slots id me 16 (λ _. 0) (λ _. gave (step slots 16 0 0 mathlib.Core.Option.none) me 0)
   gives_it slots id me value has s kept long at small = (
     tt,
     gives,

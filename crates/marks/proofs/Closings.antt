@@ -22,7 +22,8 @@ use Rattle.marks.proofs.Lists.{slice_get-map_at, slice_get-set_other, slice_get-
 -- a list written one element after another
 
 -- the element at the index gives way to what the function makes of it
-pub written-more : {X : Type 0} (f : X → X) (before now : List X) (index : ℕ) (item after : X) → now ≡ map f (take index before) ++ drop index before → index < length now → after ≡ f (get_or now index item)
+pub written-more : {X : Type 0} (f : X → X) (before now : List X) (index : ℕ) (item after : X) → now ≡ map f (take index before) ++ drop index before
+    → index < length now → after ≡ f (get_or now index item)
     → set now index after ≡ map f (take (index + 1) before) ++ drop (index + 1) before
 written-more {X = X} f before now index item after now_is within after_is =
     ap (λ xs. set xs index after) split
@@ -34,7 +35,15 @@ written-more {X = X} f before now index item after now_is within after_is =
     below : index < length before
     below = elim (cases_lt index (length before)) [
       | inl fine ↦ fine
-      | inr past ↦ absurd (omega (arith, within, ap length now_is, length-append (map f (take index before)) (drop index before), length-map (take index before) f, length-take index before, length-drop index before))
+      | inr past ↦ absurd (omega (
+        arith,
+        within,
+        ap length now_is,
+        length-append (map f (take index before)) (drop index before),
+        length-map (take index before) f,
+        length-take index before,
+        length-drop index before,
+      ))
     ]
 
     read : X
@@ -60,7 +69,8 @@ plans_onto-more pairs pair head =
     ∙ ap (λ b. plans_onto pairs head || b) (or-false (same_span pair.1 head))
 
 -- a group that the pair does not name, or that has no page, stays as it was
-closed_by-other : (pairs : List (SpanId × SpanId)) (pair : SpanId × SpanId) (group : GroupState) → (is_some group.page ≡ true → group.head.id ≡ pair.1 → ⊥) → closed_by pairs group ≡ closed_by (pairs ++ pair ∷ []) group
+closed_by-other : (pairs : List (SpanId × SpanId)) (pair : SpanId × SpanId) (group : GroupState) → (is_some group.page ≡ true → group.head.id ≡ pair.1 → ⊥)
+    → closed_by pairs group ≡ closed_by (pairs ++ pair ∷ []) group
 closed_by-other pairs pair group other = ap (λ b. record group { closed = group.closed || b }) (by_page (is_some group.page) other)
   where
     by_page : (paged : Bool) → (paged ≡ true → group.head.id ≡ pair.1 → ⊥) → (paged && plans_onto pairs group.head.id) ≡ (paged && plans_onto (pairs ++ pair ∷ []) group.head.id)
@@ -74,32 +84,44 @@ closed_by-other pairs pair group other = ap (λ b. record group { closed = group
         ]
 
 -- the group with a page that the pair names is closed
-closed_by-named : (pairs : List (SpanId × SpanId)) (pair : SpanId × SpanId) (group : GroupState) → is_some group.page ≡ true → group.head.id ≡ pair.1 → closed_group (closed_by pairs group) ≡ closed_by (pairs ++ pair ∷ []) group
+closed_by-named : (pairs : List (SpanId × SpanId)) (pair : SpanId × SpanId) (group : GroupState) → is_some group.page ≡ true → group.head.id ≡ pair.1
+    → closed_group (closed_by pairs group) ≡ closed_by (pairs ++ pair ∷ []) group
 closed_by-named pairs pair group paged named =
     ap (λ b. record group { closed = b }) (sym (or_right group.closed (is_some group.page && plans_onto (pairs ++ pair ∷ []) group.head.id)
-    (ap (λ b. b && plans_onto (pairs ++ pair ∷ []) group.head.id) paged ∙ plans_onto-more pairs pair group.head.id ∙ or_right (plans_onto pairs group.head.id) (same_span pair.1 group.head.id) (test_from_same_id pair.1 group.head.id (sym named)))))
+    (ap (λ b. b && plans_onto (pairs ++ pair ∷ []) group.head.id) paged ∙ plans_onto-more pairs pair group.head.id
+    ∙ or_right (plans_onto pairs group.head.id) (same_span pair.1 group.head.id) (test_from_same_id pair.1 group.head.id (sym named)))))
 
-pub closed-others : (pairs : List (SpanId × SpanId)) (pair : SpanId × SpanId) (groups : List GroupState) → ((index : ℕ) (group : GroupState) → slice_get groups index ≡ Some group → is_some group.page ≡ true → group.head.id ≡ pair.1 → ⊥)
+pub closed-others : (pairs : List (SpanId × SpanId)) (pair : SpanId × SpanId) (groups : List GroupState)
+    → ((index : ℕ) (group : GroupState) → slice_get groups index ≡ Some group → is_some group.page ≡ true → group.head.id ≡ pair.1 → ⊥)
     → map (closed_by pairs) groups ≡ map (closed_by (pairs ++ pair ∷ [])) groups
 closed-others pairs pair [] others = refl
 closed-others pairs pair (group ∷ groups) others =
     ap (λ g. g ∷ map (closed_by pairs) groups) (closed_by-other pairs pair group (others 0 group refl))
     ∙ ap (λ gs. closed_by (pairs ++ pair ∷ []) group ∷ gs) (closed-others pairs pair groups (λ index other here. others (suc index) other here))
 
-closed-one : (pairs : List (SpanId × SpanId)) (pair : SpanId × SpanId) (groups : List GroupState) (index : ℕ) (group : GroupState) → slice_get (map (closed_by pairs) groups) index ≡ Some group → is_some group.page ≡ true → group.head.id ≡ pair.1
+closed-one : (pairs : List (SpanId × SpanId)) (pair : SpanId × SpanId) (groups : List GroupState) (index : ℕ) (group : GroupState)
+    → slice_get (map (closed_by pairs) groups) index ≡ Some group → is_some group.page ≡ true → group.head.id ≡ pair.1
     → ((place : ℕ) (other : GroupState) → slice_get groups place ≡ Some other → other.head.id ≡ pair.1 → place ≡ index)
     → set (map (closed_by pairs) groups) index (closed_group group) ≡ map (closed_by (pairs ++ pair ∷ [])) groups
 closed-one pairs pair [] index group here paged named only = absurd cc
 closed-one pairs pair (first ∷ groups) zero group here paged named only =
     let same : closed_by pairs first ≡ group = cc in
-    ap (λ g. g ∷ map (closed_by pairs) groups) (ap closed_group (sym same) ∙ closed_by-named pairs pair first (ap (λ (g : GroupState). is_some g.page) same ∙ paged) (ap (λ (g : GroupState). g.head.id) same ∙ named))
-    ∙ ap (λ gs. closed_by (pairs ++ pair ∷ []) first ∷ gs) (closed-others pairs pair groups (λ place other there paged is. let past : suc place ≡ 0 = only (suc place) other there is in absurd (omega (arith, past))))
+    ap (λ g. g ∷ map (closed_by pairs) groups)
+    (ap closed_group (sym same) ∙ closed_by-named pairs pair first (ap (λ (g : GroupState). is_some g.page) same ∙ paged)
+    (ap (λ (g : GroupState). g.head.id) same ∙ named))
+    ∙ ap (λ gs. closed_by (pairs ++ pair ∷ []) first ∷ gs)
+    (closed-others pairs pair groups (λ place other there paged is. let past : suc place ≡ 0 = only (suc place) other there is in
+    absurd (omega (arith, past))))
 closed-one pairs pair (first ∷ groups) (suc index) group here paged named only =
-    ap (λ g. g ∷ set (map (closed_by pairs) groups) index (closed_group group)) (closed_by-other pairs pair first (λ paged is. let past : 0 ≡ suc index = only 0 first refl is in absurd (omega (arith, past))))
-    ∙ ap (λ gs. closed_by (pairs ++ pair ∷ []) first ∷ gs) (closed-one pairs pair groups index group here paged named (λ place other there is. let next : suc place ≡ suc index = only (suc place) other there is in omega (arith, next)))
+    ap (λ g. g ∷ set (map (closed_by pairs) groups) index (closed_group group))
+    (closed_by-other pairs pair first (λ paged is. let past : 0 ≡ suc index = only 0 first refl is in absurd (omega (arith, past))))
+    ∙ ap (λ gs. closed_by (pairs ++ pair ∷ []) first ∷ gs)
+    (closed-one pairs pair groups index group here paged named
+    (λ place other there is. let next : suc place ≡ suc index = only (suc place) other there is in omega (arith, next)))
 
 -- where the heads ascend, one group at most has the head
-one_head : (groups : List GroupState) (head : SpanId) (low high : ℕ) (a b : GroupState) → Ascend groups → slice_get groups low ≡ Some a → slice_get groups high ≡ Some b → a.head.id ≡ head → b.head.id ≡ head → low ≡ high
+one_head : (groups : List GroupState) (head : SpanId) (low high : ℕ) (a b : GroupState) → Ascend groups → slice_get groups low ≡ Some a
+    → slice_get groups high ≡ Some b → a.head.id ≡ head → b.head.id ≡ head → low ≡ high
 one_head groups head low high a b up here there a_is b_is = elim (cases_eq low high) [
   | inl same ↦ same
   | inr differ ↦ elim (cases_lt low high) [
@@ -109,9 +131,14 @@ one_head groups head low high a b up here there a_is b_is = elim (cases_eq low h
 ]
 
 -- one pair more
-pub closing-more : (shard : ShardState) (pairs : List (SpanId × SpanId)) (pair : SpanId × SpanId) (told : Bool) (after : ShardState) → Ascend after.groups → Closes (closing pairs shard) pair.1 told after → after ≡ closing (pairs ++ pair ∷ []) shard
+pub closing-more : (shard : ShardState) (pairs : List (SpanId × SpanId)) (pair : SpanId × SpanId) (told : Bool) (after : ShardState) → Ascend after.groups
+    → Closes (closing pairs shard) pair.1 told after → after ≡ closing (pairs ++ pair ∷ []) shard
 closing-more shard pairs pair false after up (none, after_is) =
-    after_is ∙ ap (λ groups. record shard { groups = groups }) (closed-others pairs pair shard.groups (λ index group here paged is. false≢true (sym (ap is_some (none index (closed_by pairs group) (record { here = slice_get-map_at (closed_by pairs) shard.groups index group here; head_is = is }))) ∙ paged)))
+    after_is ∙ ap (λ groups. record shard { groups = groups })
+    (closed-others pairs pair shard.groups
+    (λ index group here paged is. false≢true
+    (sym (ap is_some (none index (closed_by pairs group)
+    (record { here = slice_get-map_at (closed_by pairs) shard.groups index group here; head_is = is }))) ∙ paged)))
 closing-more shard pairs pair true after up (index, group, found, paged, after_is) =
     after_is ∙ ap (λ groups. record shard { groups = groups }) (closed-one pairs pair shard.groups index group found.here paged found.head_is only)
   where

@@ -25,7 +25,8 @@ owned-more lent shards index shard within is =
     ∙ ap owned_entries (sym (map-append lent (take index shards) (shard ∷ [])) ∙ ap (map lent) (ap (λ s. take index shards ++ s ∷ []) is ∙ sym (take_more shards index shard within)))
 
 -- where the pool has few groups, a side has too many exactly where the shards have
-pub too_many-owned : (pool : PoolState) (shards : List ShardState) (pages owned : ℕ) → pages ≡ length (paged_groups pool) → pages ≤ 4096 → owned ≡ min (sum_by (λ shard. length (paged_in shard.groups)) shards) (2 ^ 64 - 1)
+pub too_many-owned : (pool : PoolState) (shards : List ShardState) (pages owned : ℕ) → pages ≡ length (paged_groups pool) → pages ≤ 4096
+    → owned ≡ min (sum_by (λ shard. length (paged_in shard.groups)) shards) (2 ^ 64 - 1)
     → IsTrue (nat_lt 4096 owned) ↔ AreTooMany pool shards
 too_many-owned pool shards pages owned pages_is few owned_is = (
   λ more. inr (omega (arith, ltb-true 4096 owned more, length-owned shards)),

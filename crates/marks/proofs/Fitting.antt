@@ -62,11 +62,14 @@ owned_fit : (shards : List ShardState) → AreSound shards → All FitsClass (ow
 owned_fit [] sound = All-nil FitsClass
 owned_fit (shard ∷ shards) sound =
     All-append FitsClass (map_list summary (paged_in shard.groups)) (owned_entries shards)
-    (All-map FitsClass summary (paged_in shard.groups) (All-filter (λ (group : GroupState). is_some group.page) (λ group. FitsClass (summary group)) shard.groups (groups_fit shard.groups (sound 0 shard refl).groups)))
+    (All-map FitsClass summary (paged_in shard.groups)
+    (All-filter (λ (group : GroupState). is_some group.page) (λ group. FitsClass (summary group)) shard.groups
+    (groups_fit shard.groups (sound 0 shard refl).groups)))
     (owned_fit shards (λ number other at. sound (suc number) other at))
 
 -- so do those that a mark sees, also one that sees a part
-pub fit_in_part : (pool : PoolState) (shards : List ShardState) (groups : Groups) → IsSeenInPart pool shards groups → IsSoundPool pool → AreSound shards → All FitsClass groups.abandoned × All FitsClass groups.owned
+pub fit_in_part : (pool : PoolState) (shards : List ShardState) (groups : Groups) → IsSeenInPart pool shards groups → IsSoundPool pool → AreSound shards
+    → All FitsClass groups.abandoned × All FitsClass groups.owned
 fit_in_part pool shards groups seen sound sound_shards = (
   All-sparsest FitsClass 4096 (abandoned_entries pool) groups.abandoned seen.abandoned (abandoned_fit pool sound),
   All-sparsest FitsClass 4096 (owned_entries shards) groups.owned seen.owned (owned_fit shards sound_shards),

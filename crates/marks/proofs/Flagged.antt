@@ -40,7 +40,8 @@ module _ (closed : GroupState → Bool) where
     ascending = λ low high a b less at_low at_high.
         let (was_a, here_a, is_a) = map_back (with_flag closed) shard.groups low a at_low in
         let (was_b, here_b, is_b) = map_back (with_flag closed) shard.groups high b at_high in
-        subst (λ (g : GroupState). rank a.head.id < rank g.head.id) is_b (subst (λ (g : GroupState). rank g.head.id < rank was_b.head.id) is_a (sound.ascending low high was_a was_b less here_a here_b));
+        subst (λ (g : GroupState). rank a.head.id < rank g.head.id) is_b
+        (subst (λ (g : GroupState). rank g.head.id < rank was_b.head.id) is_a (sound.ascending low high was_a was_b less here_a here_b));
     groups = λ index group at.
         let (was, here, is) = map_back (with_flag closed) shard.groups index group at in
         let fine = sound.groups index was here in

@@ -11,7 +11,8 @@ use Rattle.certificate.specs.declared.certificate.Certificate.{Certificate}
 use Rattle.marks.specs.Seen.{AreTooMany, IsLargest, IsLargestInPart, IsSeen, IsSeenInPart, abandoned_entries, owned_entries}
 
 -- the sparsest of a snapshot of all
-pub IsSeenInPart-sparsest : (pool : PoolState) (shards : List ShardState) (all groups : Groups) → IsSeen pool shards all → AreSparsest 4096 all.abandoned groups.abandoned → AreSparsest 4096 all.owned groups.owned
+pub IsSeenInPart-sparsest : (pool : PoolState) (shards : List ShardState) (all groups : Groups) → IsSeen pool shards all
+    → AreSparsest 4096 all.abandoned groups.abandoned → AreSparsest 4096 all.owned groups.owned
     → IsAscending (ids groups.abandoned) → IsAscending (ids groups.owned) → IsSeenInPart pool shards groups
 IsSeenInPart-sparsest pool shards all groups seen abandoned owned abandoned_up owned_up = record {
   abandoned = AreSparsest-permuted 4096 (abandoned_entries pool) all.abandoned groups.abandoned seen.abandoned abandoned;

@@ -60,7 +60,8 @@ head_stands shard head (index, group, found, paged) =
 ids-shards : (shard : ShardState) (shards : List ShardState) → ids (owned_entries (shard ∷ shards)) ≡ ids (entries_in shard.groups) ++ ids (owned_entries shards)
 ids-shards shard shards = map-append (λ (entry : Entry). entry.id) (entries_in shard.groups) (owned_entries shards)
 
-head_owned : (shards : List ShardState) (number : ℕ) (shard : ShardState) (head : SpanId) → slice_get shards number ≡ Some shard → HasPagedHead shard.groups head → Stands (ids (owned_entries shards)) head
+head_owned : (shards : List ShardState) (number : ℕ) (shard : ShardState) (head : SpanId) → slice_get shards number ≡ Some shard
+    → HasPagedHead shard.groups head → Stands (ids (owned_entries shards)) head
 head_owned [] number shard head here has = absurd cc
 head_owned (first ∷ shards) zero shard head here has =
     let stands = head_stands first head (subst (λ (s : ShardState). HasPagedHead s.groups head) (sym (same_some here)) has) in
@@ -94,23 +95,28 @@ closing-other : (done : List (SpanId × SpanId)) (pair : SpanId × SpanId) (shar
 closing-other done pair shard none =
     ap (λ groups. record shard { groups = groups }) (closed-others done pair shard.groups (λ index group here paged is. none (index, group, record { here = here; head_is = is }, paged)))
 
-closing-others : (done : List (SpanId × SpanId)) (pair : SpanId × SpanId) (shards : List ShardState) → ((number : ℕ) (shard : ShardState) → slice_get shards number ≡ Some shard → HasPagedHead shard.groups pair.1 → ⊥)
+closing-others : (done : List (SpanId × SpanId)) (pair : SpanId × SpanId) (shards : List ShardState)
+    → ((number : ℕ) (shard : ShardState) → slice_get shards number ≡ Some shard → HasPagedHead shard.groups pair.1 → ⊥)
     → map (closing done) shards ≡ map (closing (done ++ pair ∷ [])) shards
 closing-others done pair [] none = refl
 closing-others done pair (shard ∷ shards) none =
     ap (λ s. s ∷ map (closing done) shards) (closing-other done pair shard (none 0 shard refl))
     ∙ ap (λ rest. closing (done ++ pair ∷ []) shard ∷ rest) (closing-others done pair shards (λ number other here. none (suc number) other here))
 
-closing-set : (done : List (SpanId × SpanId)) (pair : SpanId × SpanId) (shards : List ShardState) (number : ℕ) (shard after : ShardState) → slice_get shards number ≡ Some shard → after ≡ closing (done ++ pair ∷ []) shard
+closing-set : (done : List (SpanId × SpanId)) (pair : SpanId × SpanId) (shards : List ShardState) (number : ℕ) (shard after : ShardState)
+    → slice_get shards number ≡ Some shard → after ≡ closing (done ++ pair ∷ []) shard
     → ((other : ℕ) (s : ShardState) → slice_get shards other ≡ Some s → HasPagedHead s.groups pair.1 → other ≡ number)
     → set (map (closing done) shards) number after ≡ map (closing (done ++ pair ∷ [])) shards
 closing-set done pair [] number shard after here after_is only = absurd cc
 closing-set done pair (first ∷ shards) zero shard after here after_is only =
     ap (λ s. s ∷ map (closing done) shards) (after_is ∙ ap (closing (done ++ pair ∷ [])) (sym (same_some here)))
-    ∙ ap (λ rest. closing (done ++ pair ∷ []) first ∷ rest) (closing-others done pair shards (λ other s there has. let past : suc other ≡ 0 = only (suc other) s there has in absurd (omega (arith, past))))
+    ∙ ap (λ rest. closing (done ++ pair ∷ []) first ∷ rest)
+    (closing-others done pair shards (λ other s there has. let past : suc other ≡ 0 = only (suc other) s there has in absurd (omega (arith, past))))
 closing-set done pair (first ∷ shards) (suc number) shard after here after_is only =
     ap (λ s. s ∷ set (map (closing done) shards) number after) (closing-other done pair first (λ has. let past : 0 ≡ suc number = only 0 first refl has in absurd (omega (arith, past))))
-    ∙ ap (λ rest. closing (done ++ pair ∷ []) first ∷ rest) (closing-set done pair shards number shard after here after_is (λ other s there has. let next : suc other ≡ suc number = only (suc other) s there has in omega (arith, next)))
+    ∙ ap (λ rest. closing (done ++ pair ∷ []) first ∷ rest)
+    (closing-set done pair shards number shard after here after_is (λ other s there has. let next : suc other ≡ suc number = only (suc other) s there has in
+    omega (arith, next)))
 
 -- closing groups changes no head, and no page
 HasPagedHead-closing : (done : List (SpanId × SpanId)) (shard : ShardState) (head : SpanId) → HasPagedHead (closing done shard).groups head → HasPagedHead shard.groups head
@@ -123,7 +129,8 @@ pub closing-found : (first : List ShardState) (done : List (SpanId × SpanId)) (
     → ClosesAt old place pair.1 true new → new ≡ map (closing (done ++ pair ∷ [])) first
 closing-found first done pair old new place once old_is (shard, after, here, closes, up, new_is) =
     let was = map_back (closing done) first place shard (ap (λ shards. slice_get shards place) (sym old_is) ∙ here) in
-    let has : HasPagedHead was.0.groups pair.1 = HasPagedHead-closing done was.0 pair.1 (subst (λ (s : ShardState). HasPagedHead s.groups pair.1) (sym was.2) (closes.0, closes.1, closes.2, closes.3)) in
+    let has : HasPagedHead was.0.groups pair.1 = HasPagedHead-closing done was.0 pair.1
+    (subst (λ (s : ShardState). HasPagedHead s.groups pair.1) (sym was.2) (closes.0, closes.1, closes.2, closes.3)) in
     let more = closing-more was.0 done pair true after up (subst (λ (s : ShardState). Closes s pair.1 true after) (sym was.2) closes) in
     new_is ∙ ap (λ shards. set shards place after) old_is
     ∙ closing-set done pair first place was.0 after was.1 more (λ other s there has_too. once other place s was.0 there was.1 has_too has)

@@ -17,7 +17,8 @@ use Rattle.mesh_graph.specs.declared.by_class.Masks.{Masks}
 use Rattle.mesh_graph.proofs.OfClass.{has_partner-kept}
 
 -- one more row
-pub rows-more : (abandoned : List Entry) (sets : List SlotSet) (masks : Option Masks) (n : ℕ) (y : Entry) (words row : List ℕ) → HaveRows abandoned sets masks n words → n < length abandoned → y ≡ get_or abandoned n y
+pub rows-more : (abandoned : List Entry) (sets : List SlotSet) (masks : Option Masks) (n : ℕ) (y : Entry) (words row : List ℕ)
+    → HaveRows abandoned sets masks n words → n < length abandoned → y ≡ get_or abandoned n y
     → length row ≡ width_of (length sets) → ((j : ℕ) → has_bit row j ≡ row_bit sets masks y j) → HaveRows abandoned sets masks (n + 1) (words ++ row)
 rows-more abandoned sets masks n y words row have low read long bits = record {
   size = let more = mul-suc (width_of (length sets)) n in omega (arith, length-append words row, have.size, long, more);
@@ -95,7 +96,8 @@ pub compatible_at-within : (s : Groups) (i j : ℕ) → compatible_at s i j ≡ 
 unfolding compatible_at
 compatible_at-within s i j h = elim (cases_lt j (length s.owned)) [
   | inl l ↦ l
-  | inr g ↦ absurd (both_ways (are_partners (slice_get s.abandoned i) (slice_get s.owned j)) (ap (are_partners (slice_get s.abandoned i)) (slice_get_past s.owned j g) ∙ none (slice_get s.abandoned i)) h)
+  | inr g ↦ absurd (both_ways (are_partners (slice_get s.abandoned i) (slice_get s.owned j))
+      (ap (are_partners (slice_get s.abandoned i)) (slice_get_past s.owned j g) ∙ none (slice_get s.abandoned i)) h)
 ]
   where
     none : (x : Option Entry) → are_partners x None ≡ false
@@ -103,6 +105,7 @@ compatible_at-within s i j h = elim (cases_lt j (length s.owned)) [
     none (Some x) = refl
 
 -- a bit of a row stands for an owned group
-pub within-from_bits : (s : Groups) (i : ℕ) (words : List ℕ) (found : Option ℕ) → ((j : ℕ) → has_bit words j ≡ compatible_at s i j) → IfSome found (λ j. has_bit words j ≡ true) → IfSome found (λ j. j < length s.owned)
+pub within-from_bits : (s : Groups) (i : ℕ) (words : List ℕ) (found : Option ℕ) → ((j : ℕ) → has_bit words j ≡ compatible_at s i j)
+    → IfSome found (λ j. has_bit words j ≡ true) → IfSome found (λ j. j < length s.owned)
 within-from_bits s i words None bits set = tt
 within-from_bits s i words (Some j) bits set = compatible_at-within s i j (sym (bits j) ∙ set)

@@ -56,7 +56,8 @@ first-later b j n none = elim (cases_lt j n) [
 ]
 
 -- one group is gone over
-module _ (class : Class) (owned : List Entry) (mask : List ℕ) (n : ℕ) (y : Entry) (low : n < length owned) (read : y ≡ get_or owned n y) (before : (j : ℕ) → has_bit mask j ≡ has_first class owned n j) where
+module _ (class : Class) (owned : List Entry) (mask : List ℕ) (n : ℕ) (y : Entry) (low : n < length owned) (read : y ≡ get_or owned n y) (before : (j : ℕ)
+    → has_bit mask j ≡ has_first class owned n j) where
   here : is_of class (slice_get owned n) ≡ (width_of class == width_of y.class)
   here = ap (is_of class) (slice_get-get_or owned n y low) ∙ ap (λ (z : Entry). width_of class == width_of z.class) (sym read)
 
@@ -79,7 +80,8 @@ module _ (class : Class) (owned : List Entry) (mask : List ℕ) (n : ℕ) (y : E
   ]))
 
 -- all groups are gone over
-pub mask-done : (class : Class) (owned : List Entry) (mask : List ℕ) (n : ℕ) → length owned ≤ n → ((j : ℕ) → has_bit mask j ≡ has_first class owned n j) → (j : ℕ) → has_bit mask j ≡ is_of class (slice_get owned j)
+pub mask-done : (class : Class) (owned : List Entry) (mask : List ℕ) (n : ℕ) → length owned ≤ n → ((j : ℕ) → has_bit mask j ≡ has_first class owned n j)
+    → (j : ℕ) → has_bit mask j ≡ is_of class (slice_get owned j)
 mask-done class owned mask n past before j = before j ∙ elim (cases_lt j n) [
   | inl low ↦ rw (lt-ltb j n low) refl
   | inr high ↦ rw (le-ltb j n high, slice_get_past owned j (omega arith)) refl
@@ -96,7 +98,8 @@ all-at class xs i x all at = elim (cases_Bool (width_of x.class == width_of clas
 ]
 
 -- the groups of both sides are all of the class
-pub AreOfOneClass-all : (class : Class) (abandoned owned : List Entry) → list_all (λ x. width_of x.class == width_of class) owned ≡ true → list_all (λ x. width_of x.class == width_of class) abandoned ≡ true → AreOfOneClass abandoned owned
+pub AreOfOneClass-all : (class : Class) (abandoned owned : List Entry) → list_all (λ x. width_of x.class == width_of class) owned ≡ true
+    → list_all (λ x. width_of x.class == width_of class) abandoned ≡ true → AreOfOneClass abandoned owned
 AreOfOneClass-all class abandoned owned all_o all_a i j x y at_x at_y = all-at class abandoned i x all_a at_x ∙ sym (all-at class owned j y all_o at_y)
 
 -- where there is no owned group, none has another class
@@ -104,7 +107,8 @@ pub AreOfOneClass-none : (abandoned owned : List Entry) → length owned ≡ 0 �
 AreOfOneClass-none abandoned owned none i j x y at_x at_y = absurd (none-some y (sym (slice_get_past owned j (omega arith)) ∙ at_y))
 
 -- the bits of a group's row that are kept: those of the groups with which it is compatible
-pub has_partner-kept : (abandoned owned : List Entry) (sets : List SlotSet) (masks : Option Masks) (n : ℕ) (x : Entry) → MatchOption masks (AreOfOneClass abandoned owned) (AreMasks owned) → sets ≡ map (λ y. y.occupied) owned
+pub has_partner-kept : (abandoned owned : List Entry) (sets : List SlotSet) (masks : Option Masks) (n : ℕ) (x : Entry)
+    → MatchOption masks (AreOfOneClass abandoned owned) (AreMasks owned) → sets ≡ map (λ y. y.occupied) owned
     → n < length abandoned → x ≡ get_or abandoned n x → (j : ℕ) → (is_kept masks x.class j && fits x.occupied (slice_get sets j)) ≡ has_partner x (slice_get owned j)
 has_partner-kept abandoned owned sets masks n x told are low read j =
     ap (λ o. is_kept masks x.class j && fits x.occupied o) (ap (λ l. slice_get l j) are ∙ slice_get-map (λ (y : Entry). y.occupied) owned j)
@@ -120,6 +124,7 @@ has_partner-kept abandoned owned sets masks n x told are low read j =
     told_of (Some masks) told (Some y) e = ap (λ b. b && fits x.occupied (Some y.occupied)) ((told x.class).bits j ∙ ap (is_of x.class) e)
 
 -- the same, of the test
-pub OnTrue-one_class : (class : Class) (abandoned owned : List Entry) (all : Bool) → list_all (λ x. width_of x.class == width_of class) owned ≡ true → all ≡ list_all (λ x. width_of x.class == width_of class) abandoned → OnTrue all (AreOfOneClass abandoned owned)
+pub OnTrue-one_class : (class : Class) (abandoned owned : List Entry) (all : Bool) → list_all (λ x. width_of x.class == width_of class) owned ≡ true
+    → all ≡ list_all (λ x. width_of x.class == width_of class) abandoned → OnTrue all (AreOfOneClass abandoned owned)
 OnTrue-one_class class abandoned owned true all_o is = AreOfOneClass-all class abandoned owned all_o (sym is)
 OnTrue-one_class class abandoned owned false all_o is = tt

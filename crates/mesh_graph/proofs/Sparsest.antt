@@ -8,14 +8,16 @@ use Rattle.span.specs.declared.entry.Entry.{Entry}
 use Rattle.mesh_graph.specs.Sparsest.{AreSparsest, occupied_count}
 
 -- the first of those that stand by their numbers of live slots, in another order
-pub AreSparsest-first : (most : ℕ) (entries by_count chosen : List Entry) → most ≤ length entries → IsPermutation entries by_count → IsNonDecreasingBy occupied_count by_count → IsPermutation (take most by_count) chosen → AreSparsest most entries chosen
+pub AreSparsest-first : (most : ℕ) (entries by_count chosen : List Entry) → most ≤ length entries → IsPermutation entries by_count
+    → IsNonDecreasingBy occupied_count by_count → IsPermutation (take most by_count) chosen → AreSparsest most entries chosen
 AreSparsest-first most entries by_count chosen some sorted up moved =
     let len = length_permutation entries by_count sorted in
     let short = length-take-le most by_count (omega (arith, len)) in
     record {
       left_out = drop most by_count;
       each = IsPermutation-trans entries by_count (chosen ++ drop most by_count) sorted
-          (subst (λ (list : List Entry). IsPermutation list (chosen ++ drop most by_count)) (take-append-drop most by_count) (IsPermutation-append_left (drop most by_count) (take most by_count) chosen moved));
+          (subst (λ (list : List Entry). IsPermutation list (chosen ++ drop most by_count)) (take-append-drop most by_count)
+          (IsPermutation-append_left (drop most by_count) (take most by_count) chosen moved));
       count = omega (arith, length_permutation (take most by_count) chosen moved, short, len);
       fewest = All-permutation (λ (a : Entry). All (λ (b : Entry). occupied_count a ≤ occupied_count b) (drop most by_count)) (take most by_count) chosen moved
           (λ i a low k b within.

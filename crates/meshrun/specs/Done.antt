@@ -59,7 +59,8 @@ module _ {D : Type 0} (held : D → List ℕ → Option (List ℕ)) where
 -- at fault, memory ran out, or the file could not be read
 abbrev pub HaltsCheck : (failures_old failures_new : ℕ) → (old new : Option (List ℕ)) → Fault → Type 0
 HaltsCheck failures_old failures_new old new fault.SinkFailed = (failures_new ≡ failures_old + 1) × ((text : List ℕ) × WritesVerdictFront text old new)
-HaltsCheck failures_old failures_new old new (fault.BadCertificate line cause) = ((text : List ℕ) × (certificate_in text ≡ Err (read_error.BadCertificate line cause))) × (failures_new ≡ failures_old) × (new ≡ old)
+HaltsCheck failures_old failures_new old new (fault.BadCertificate line cause) =
+    ((text : List ℕ) × (certificate_in text ≡ Err (read_error.BadCertificate line cause))) × (failures_new ≡ failures_old) × (new ≡ old)
 HaltsCheck failures_old failures_new old new fault.OutOfMemory = (failures_new ≡ failures_old) × (new ≡ old)
 HaltsCheck failures_old failures_new old new (fault.Io file error) = (failures_new ≡ failures_old) × (new ≡ old)
 HaltsCheck failures_old failures_new old new _ = ⊥
@@ -85,19 +86,24 @@ module _ {D : Type 0} (held : D → List ℕ → Option (List ℕ)) (failures : 
   -- the report was written whole; there was a certificate, whose file could not be written: that failed once, and the other files are as they were
   abbrev pub IsReplayedUnsaved : (serial replies : Bool) → (certificate : Option Text) → (failures_old failures_new : ℕ) → (old new : Option (List ℕ)) → (before after : D) → Type 0
   IsReplayedUnsaved serial replies certificate failures_old failures_new old new before after =
-      (failures_new ≡ failures_old) × ((text : List ℕ) × (bytes : List ℕ) × WritesRun serial text replies old new bytes × IsUnsaved held certificate bytes before after) × (failures after ≡ failures before + 1)
+      (failures_new ≡ failures_old) ×
+      ((text : List ℕ) × (bytes : List ℕ) × WritesRun serial text replies old new bytes × IsUnsaved held certificate bytes before after)
+      × (failures after ≡ failures before + 1)
 
   -- where a run came to a halt: at a sink that failed, once, with a prefix of the report taken and no file written; at a file that
   -- could not be read, or that of the certificate, which could not be written; or with nothing written at the fault of a text, where an allocation was refused,
   -- or, by threads alone, where a shard or the pool was not as the run had left it or the audit failed
   abbrev pub HaltsRun : (serial replies : Bool) → (certificate : Option Text) → (failures_old failures_new : ℕ) → (old new : Option (List ℕ)) → (before after : D) → Fault → Type 0
-  HaltsRun serial replies certificate failures_old failures_new old new before after fault.SinkFailed = (failures_new ≡ failures_old + 1) × ((text : List ℕ) × WritesRunFront serial text replies old new) × (after ≡ before)
+  HaltsRun serial replies certificate failures_old failures_new old new before after fault.SinkFailed = (failures_new ≡ failures_old + 1)
+      × ((text : List ℕ) × WritesRunFront serial text replies old new) × (after ≡ before)
   HaltsRun serial replies certificate failures_old failures_new old new before after (fault.Io file error) =
       IsUntouched failures_old failures_new old new before after ⊎ IsReplayedUnsaved serial replies certificate failures_old failures_new old new before after
-  HaltsRun serial replies certificate failures_old failures_new old new before after (fault.BadTrace line cause) = ((text : List ℕ) × IsFaultAt text line cause) × IsUntouched failures_old failures_new old new before after
+  HaltsRun serial replies certificate failures_old failures_new old new before after (fault.BadTrace line cause) = ((text : List ℕ) × IsFaultAt text line cause)
+      × IsUntouched failures_old failures_new old new before after
   HaltsRun serial replies certificate failures_old failures_new old new before after fault.OutOfMemory = IsUntouched failures_old failures_new old new before after
   HaltsRun serial replies certificate failures_old failures_new old new before after fault.Doubled = (serial ≡ false) × IsUntouched failures_old failures_new old new before after
-  HaltsRun serial replies certificate failures_old failures_new old new before after (fault.Audit cause) = (serial ≡ false) × ((text : List ℕ) × FailsAudit text replies cause) × IsUntouched failures_old failures_new old new before after
+  HaltsRun serial replies certificate failures_old failures_new old new before after (fault.Audit cause) = (serial ≡ false)
+      × ((text : List ℕ) × FailsAudit text replies cause) × IsUntouched failures_old failures_new old new before after
   HaltsRun serial replies certificate failures_old failures_new old new before after _ = ⊥
 
   -- where the job came to a halt; a check writes no file
@@ -108,4 +114,5 @@ module _ {D : Type 0} (held : D → List ℕ → Option (List ℕ)) (failures : 
   -- no job was begun, and nothing was written; or the job that words name came to a halt
   abbrev pub IsHalted : (failures_old failures_new : ℕ) → (old new : Option (List ℕ)) → (before after : D) → Fault → Type 0
   IsHalted failures_old failures_new old new before after stop =
-      (IsOfWords stop × IsUntouched failures_old failures_new old new before after) ⊎ ((words : List Text) × (job : Job) × IsJobOf words job × Halts job failures_old failures_new old new before after stop)
+      (IsOfWords stop × IsUntouched failures_old failures_new old new before after)
+      ⊎ ((words : List Text) × (job : Job) × IsJobOf words job × Halts job failures_old failures_new old new before after stop)

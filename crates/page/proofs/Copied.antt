@@ -63,7 +63,8 @@ get_or-written words others class (slot ∷ slots) j low =
         ≡ cond (eqb (j / width_of class) slot || among (j / width_of class) slots) (get_or others.items j 0) (get_or words.items j 0)
     by_slot (inl same) =
         let read : get_or (object_in others class slot) (j % width_of class) 0 ≡ get_or others.items j 0 =
-        get_or-object_in others class slot (j % width_of class) (place-lt class j) ∙ ap (λ n. get_or others.items n 0) (ap (λ q. width_of class * q + j % width_of class) (sym same) ∙ whole_of class j) in
+        get_or-object_in others class slot (j % width_of class) (place-lt class j)
+        ∙ ap (λ n. get_or others.items n 0) (ap (λ q. width_of class * q + j % width_of class) (sym same) ∙ whole_of class j) in
         rw (eq-eqb (j / width_of class) slot same, read) (same_both (among (j / width_of class) slots) (get_or others.items j 0))
     by_slot (inr apart) = rw (ne_eqb (j / width_of class) slot apart) refl
 
@@ -71,7 +72,8 @@ among-filter : (p : ℕ → Bool) (q : ℕ) (slots : List ℕ) → among q (filt
 among-filter p q [] = refl
 among-filter p q (slot ∷ slots) = by_test (p slot) refl (cases_eq q slot) (among-filter p q slots)
   where
-    by_test : (b : Bool) → p slot ≡ b → (q ≡ slot) ⊎ (q ≡ slot → ⊥) → among q (filter p slots) ≡ (among q slots && p q) → among q (cond b (slot ∷ filter p slots) (filter p slots)) ≡ ((eqb q slot || among q slots) && p q)
+    by_test : (b : Bool) → p slot ≡ b → (q ≡ slot) ⊎ (q ≡ slot → ⊥) → among q (filter p slots) ≡ (among q slots && p q)
+        → among q (cond b (slot ∷ filter p slots) (filter p slots)) ≡ ((eqb q slot || among q slots) && p q)
     by_test true passes (inl same) rest = rw (eq-eqb q slot same) (sym (ap p same ∙ passes))
     by_test true passes (inr apart) rest = rw (ne_eqb q slot apart) rest
     by_test false fails (inl same) rest = rw (eq-eqb q slot same) (rest ∙ ap (λ b. among q slots && b) (ap p same ∙ fails) ∙ never (among q slots) ∙ sym (ap p same ∙ fails))
@@ -97,7 +99,8 @@ copied-written words others class slots = same_words _ _
     (λ j low.
     let q = j / width_of class in
     get_or-written words others class (ascending slots) j low
-    ∙ ap (λ b. cond b (get_or others.items j 0) (get_or words.items j 0)) (among-filter (contains slots) q (range_with_len 0 256) ∙ ap (λ b. b && contains slots q) (among-range 0 256 q (omega arith) (slot-lt class j low)))))
+    ∙ ap (λ b. cond b (get_or others.items j 0) (get_or words.items j 0))
+    (among-filter (contains slots) q (range_with_len 0 256) ∙ ap (λ b. b && contains slots q) (among-range 0 256 q (omega arith) (slot-lt class j low)))))
 
 -- the objects after a copy
 module _ (words others : Words) (class : Class) (slots : SlotSet) where

@@ -29,7 +29,8 @@ place_of_word C64 slot k within = omega (arith, within)
 place_of_word C256 slot k within = omega (arith, within)
 
 -- a list is an object's where it has its words
-pub object_in-from : (words : Words) (class : Class) (slot : ℕ) (object : List ℕ) → length object ≡ width_of class → ((k : ℕ) → k < width_of class → get_or object k 0 ≡ get_or words.items (width_of class * slot + k) 0) → object ≡ object_in words class slot
+pub object_in-from : (words : Words) (class : Class) (slot : ℕ) (object : List ℕ) → length object ≡ width_of class
+    → ((k : ℕ) → k < width_of class → get_or object k 0 ≡ get_or words.items (width_of class * slot + k) 0) → object ≡ object_in words class slot
 unfolding object_in
 object_in-from words class slot object long each =
     fill_by_all (λ k. get_or words.items (width_of class * slot + k) 0) object (width_of class) 0 long each
@@ -44,12 +45,16 @@ get_or-object_in words class slot k within = get_or-map-range_with_len (λ k. ge
 
 module _ (words : Words) (class : Class) (slot : ℕ) (object : List ℕ) where
   -- the word at a place of the page, after the object was written
-  pub get_or-set_object : (j : ℕ) → j < 256 → get_or (set_object words class slot object).items j 0 ≡ (if j / width_of class == slot then get_or object (j % width_of class) 0 else get_or words.items j 0)
+  pub get_or-set_object : (j : ℕ) → j < 256
+      → get_or (set_object words class slot object).items j 0
+      ≡ (if j / width_of class == slot then get_or object (j % width_of class) 0 else get_or words.items j 0)
   unfolding set_object
   get_or-set_object j low = get_or-map-range_with_len (λ j. if j / width_of class == slot then get_or object (j % width_of class) 0 else get_or words.items j 0) 0 256 j j 0 low (omega arith)
 
   -- words are those after the write, where each of them is
-  pub set_object-from : (after : Words) → ((j : ℕ) → j < 256 → get_or after.items j 0 ≡ (if j / width_of class == slot then get_or object (j % width_of class) 0 else get_or words.items j 0)) → after ≡ set_object words class slot object
+  pub set_object-from : (after : Words)
+      → ((j : ℕ) → j < 256 → get_or after.items j 0 ≡ (if j / width_of class == slot then get_or object (j % width_of class) 0 else get_or words.items j 0))
+      → after ≡ set_object words class slot object
   unfolding set_object
   set_object-from after each =
       same_words _ _ (fill_by_all (λ j. if j / width_of class == slot then get_or object (j % width_of class) 0 else get_or words.items j 0) after.items 256 0 after.whole each)
@@ -79,7 +84,8 @@ last_of C64 slot low = omega (arith, low)
 last_of C256 slot low = omega (arith, low)
 
 -- what is read from the first word of a slot on is its object
-pub object_in-between : (words : Words) (class : Class) (slot first : ℕ) → first ≡ width_of class * slot → slot < slots_in class → between first (first + width_of class) words.items ≡ object_in words class slot
+pub object_in-between : (words : Words) (class : Class) (slot first : ℕ) → first ≡ width_of class * slot → slot < slots_in class
+    → between first (first + width_of class) words.items ≡ object_in words class slot
 object_in-between words class slot first is low =
     let last = last_of class slot low in
     object_in-from words class slot (between first (first + width_of class) words.items)
@@ -108,12 +114,14 @@ out_of_slot class slot j apart = elim (cases_lt j (width_of class * slot)) [
     within C256 slot j from inside = omega (arith, from, inside)
 
 -- the words with one of them written, where an object is one word
-pub set_object-word : (before words : Words) (class : Class) (slot first : ℕ) (object : List ℕ) (x : ℕ) → before ≡ words → width_of class ≡ 1 → first ≡ slot → slot < slots_in class → x ≡ get_or object 0 0
+pub set_object-word : (before words : Words) (class : Class) (slot first : ℕ) (object : List ℕ) (x : ℕ) → before ≡ words → width_of class ≡ 1 → first ≡ slot
+    → slot < slots_in class → x ≡ get_or object 0 0
     → (after : Words) → after.items ≡ set before.items first x → after ≡ set_object words class slot object
 set_object-word before words class slot first object x same one is low value after items =
     set_object-from words class slot object after (λ j there. ap (λ l. get_or l j 0) (items ∙ ap (λ (w : Words). set w.items first x) same) ∙ of_class class one low j there)
   where
-    of_class : (class : Class) → width_of class ≡ 1 → slot < slots_in class → (j : ℕ) → j < 256 → get_or (set words.items first x) j 0 ≡ (if j / width_of class == slot then get_or object (j % width_of class) 0 else get_or words.items j 0)
+    of_class : (class : Class) → width_of class ≡ 1 → slot < slots_in class → (j : ℕ) → j < 256
+        → get_or (set words.items first x) j 0 ≡ (if j / width_of class == slot then get_or object (j % width_of class) 0 else get_or words.items j 0)
     of_class C16 one low j there = elim (cases_eq j first) [
       | inl here ↦
           let at : j / 1 ≡ slot = omega (arith, here, is) in
@@ -150,7 +158,16 @@ module _ (xs ys : List ℕ) (a n : ℕ) (within : a + n ≤ length xs) (long : l
 
 length-pasted : (xs ys : List ℕ) (a n : ℕ) → a + n ≤ length xs → length ys ≡ n → length (put_mid a n xs ys) ≡ length xs
 length-pasted xs ys a n within long =
-    omega (arith, length-append (take a xs) (ys ++ drop n (drop a xs)), length-append ys (drop n (drop a xs)), length-take-le a xs (omega (arith, within)), length-drop n (drop a xs), length-drop a xs, within, long)
+    omega (
+      arith,
+      length-append (take a xs) (ys ++ drop n (drop a xs)),
+      length-append ys (drop n (drop a xs)),
+      length-take-le a xs (omega (arith, within)),
+      length-drop n (drop a xs),
+      length-drop a xs,
+      within,
+      long,
+    )
 
 -- the words with an object written from the first word of a slot on
 pub set_object-run : (before words : Words) (class : Class) (slot first : ℕ) (object : List ℕ) → before ≡ words → first ≡ width_of class * slot → slot < slots_in class → length object ≡ width_of class
@@ -164,7 +181,9 @@ set_object-run before words class slot first object same is low long =
     within : first + length object ≤ length words.items
     within = omega (arith, is, long, last_of class slot low, words.whole)
 
-    by_place : (j : ℕ) → (j / width_of class ≡ slot) ⊎ (j / width_of class ≡ slot → ⊥) → get_or (put_mid first (length object) words.items object) j 0 ≡ (if j / width_of class == slot then get_or object (j % width_of class) 0 else get_or words.items j 0)
+    by_place : (j : ℕ) → (j / width_of class ≡ slot) ⊎ (j / width_of class ≡ slot → ⊥)
+        → get_or (put_mid first (length object) words.items object) j 0
+        ≡ (if j / width_of class == slot then get_or object (j % width_of class) 0 else get_or words.items j 0)
     by_place j (inl here) =
         let there = in_slot class slot j here in
         let place : j - first ≡ j % width_of class = ap (λ n. j - n) is ∙ sym there.2 in
@@ -175,13 +194,15 @@ set_object-run before words class slot first object same is low long =
     ])
 
 -- the same of what the call wrote
-pub set_object-pasted : (before words : Words) (class : Class) (slot first : ℕ) (object : List ℕ) (many : ℕ) (held now : List ℕ) → before ≡ words → first ≡ width_of class * slot → slot < slots_in class → length object ≡ width_of class
+pub set_object-pasted : (before words : Words) (class : Class) (slot first : ℕ) (object : List ℕ) (many : ℕ) (held now : List ℕ) → before ≡ words
+    → first ≡ width_of class * slot → slot < slots_in class → length object ≡ width_of class
     → many ≡ length object → held ≡ before.items → now ≡ object → (after : Words) → after.items ≡ put_mid first many held now → after ≡ set_object words class slot object
 set_object-pasted before words class slot first object many held now same is low long many_is held_is now_is after items =
     same_words after (set_object words class slot object) (items ∙ (λ i. put_mid first (many_is i) (held_is i) (now_is i)) ∙ set_object-run before words class slot first object same is low long)
 
 -- as many words as before
-pub length-written : (before : Words) (class : Class) (slot first : ℕ) (object : List ℕ) (many : ℕ) (held now : List ℕ) → first ≡ width_of class * slot → slot < slots_in class → length object ≡ width_of class
+pub length-written : (before : Words) (class : Class) (slot first : ℕ) (object : List ℕ) (many : ℕ) (held now : List ℕ) → first ≡ width_of class * slot
+    → slot < slots_in class → length object ≡ width_of class
     → many ≡ length object → held ≡ before.items → now ≡ object → length (put_mid first many held now) ≡ 256
 length-written before class slot first object many held now is low long many_is held_is now_is =
     (λ i. length (put_mid first (many_is i) (held_is i) (now_is i)))

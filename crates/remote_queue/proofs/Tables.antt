@@ -100,7 +100,8 @@ pub mapped_within : {V A B : Type 0} (items : V → List A) (f : A → B) (vs : 
     → map (λ v. map f (items v)) (slice_set vs i v) ≡ slice_set (map (λ v. map f (items v)) vs) i (slice_index_or (map (λ v. map f (items v)) vs) i [] ++ f x ∷ [])
 mapped_within items f vs i v d x below is =
     map-set (λ v. map f (items v)) vs i v
-    ∙ ap (slice_set (map (λ v. map f (items v)) vs) i) (mapped_more f (items v) (items (slice_index_or vs i d)) x is ∙ ap (λ l. l ++ f x ∷ []) (sym (get_or-map (λ v. map f (items v)) vs i d [] below)))
+    ∙ ap (slice_set (map (λ v. map f (items v)) vs) i)
+    (mapped_more f (items v) (items (slice_index_or vs i d)) x is ∙ ap (λ l. l ++ f x ∷ []) (sym (get_or-map (λ v. map f (items v)) vs i d [] below)))
 
 module _ {T : Type 0} where
   pub row_step : (x after old : List (List T)) (row more : List T) (s : ℕ) (r q : T) → old ≡ with_row x row → length row ≡ s → s < length x → q ≡ r

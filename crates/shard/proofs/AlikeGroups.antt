@@ -46,21 +46,25 @@ alike (x ∷ xs) (y ∷ ys) e =
       many = ap suc rest.many;
     }
   where
-    stood : bare y ≡ bare x → AreAlike xs ys → (index : ℕ) (group : GroupState) → slice_get (y ∷ ys) index ≡ Some group → (before : GroupState) × (slice_get (x ∷ xs) index ≡ Some before) × (bare group ≡ bare before)
+    stood : bare y ≡ bare x → AreAlike xs ys → (index : ℕ) (group : GroupState) → slice_get (y ∷ ys) index ≡ Some group
+        → (before : GroupState) × (slice_get (x ∷ xs) index ≡ Some before) × (bare group ≡ bare before)
     stood head rest zero group there = (x, refl, ap bare (sym (same_some there)) ∙ head)
     stood head rest (suc index) group there = rest.stood index group there
 
-    stands : bare y ≡ bare x → AreAlike xs ys → (index : ℕ) (group : GroupState) → slice_get (x ∷ xs) index ≡ Some group → (now : GroupState) × (slice_get (y ∷ ys) index ≡ Some now) × (bare now ≡ bare group)
+    stands : bare y ≡ bare x → AreAlike xs ys → (index : ℕ) (group : GroupState) → slice_get (x ∷ xs) index ≡ Some group
+        → (now : GroupState) × (slice_get (y ∷ ys) index ≡ Some now) × (bare now ≡ bare group)
     stands head rest zero group there = (y, refl, head ∙ ap bare (same_some there))
     stands head rest (suc index) group there = rest.stands index group there
 
 -- a change of each group
 
-pub map_bare-map : (change : GroupState → GroupState) → ((group : GroupState) → bare (change group) ≡ bare group) → (groups : List GroupState) → map_list bare (map_list change groups) ≡ map_list bare groups
+pub map_bare-map : (change : GroupState → GroupState) → ((group : GroupState) → bare (change group) ≡ bare group) → (groups : List GroupState)
+    → map_list bare (map_list change groups) ≡ map_list bare groups
 map_bare-map change keeps [] = refl
 map_bare-map change keeps (first ∷ groups) = (λ i. keeps first i ∷ map_bare-map change keeps groups i)
 
-pub AreSoundGroups-map : (change : GroupState → GroupState) → ((group : GroupState) → IsSoundGroup group → IsSoundGroup (change group)) → (groups : List GroupState) → AreSoundGroups groups → AreSoundGroups (map_list change groups)
+pub AreSoundGroups-map : (change : GroupState → GroupState) → ((group : GroupState) → IsSoundGroup group → IsSoundGroup (change group))
+    → (groups : List GroupState) → AreSoundGroups groups → AreSoundGroups (map_list change groups)
 AreSoundGroups-map change each groups sound index group there =
     let before = before-map change groups index group there in
     subst IsSoundGroup before.2 (each before.0 (sound index before.0 before.1))

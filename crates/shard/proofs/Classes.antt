@@ -74,6 +74,10 @@ fits_read sets now three same class past n fits = omega (arith, fits, ap (λ (s 
 pub fits_second : (sets now : List NumbersState) → length sets ≡ 3 → sets ≡ now → (first past : NumbersState) (n : ℕ) → n ≤ room_of now C64 → n ≤ (get_or (set sets 0 first) 1 past).room
 fits_second sets now three same first past n fits = rw (get_or-set_other sets 0 1 first past (λ e. absurd (omega (arith, e)))) (fits_read sets now three same C64 past n fits)
 
-pub fits_third : (sets now : List NumbersState) → length sets ≡ 3 → sets ≡ now → (first second past : NumbersState) (n : ℕ) → n ≤ room_of now C256 → n ≤ (get_or (set (set sets 0 first) 1 second) 2 past).room
+pub fits_third : (sets now : List NumbersState) → length sets ≡ 3 → sets ≡ now → (first second past : NumbersState) (n : ℕ) → n ≤ room_of now C256
+    → n ≤ (get_or (set (set sets 0 first) 1 second) 2 past).room
 fits_third sets now three same first second past n fits =
-    rw (get_or-set_other (set sets 0 first) 1 2 second past (λ e. absurd (omega (arith, e))), get_or-set_other sets 0 2 first past (λ e. absurd (omega (arith, e)))) (fits_read sets now three same C256 past n fits)
+    rw (
+      get_or-set_other (set sets 0 first) 1 2 second past (λ e. absurd (omega (arith, e))),
+      get_or-set_other sets 0 2 first past (λ e. absurd (omega (arith, e))),
+    ) (fits_read sets now three same C256 past n fits)

@@ -86,7 +86,8 @@ Ascend-changed_below at groups ascend low high a b less at_low at_high =
     rw (x.2, y.2) (ascend low high x.0 y.0 less x.1 y.1)
 
 -- no id stands twice among the guests of a group
-pub guests_once : (groups : List GroupState) → ((id : SpanId) → times id (spans_in groups) ≤ 1) → (index : ℕ) (group : GroupState) → slice_get groups index ≡ Some group → (id : SpanId) → times id group.guests ≤ 1
+pub guests_once : (groups : List GroupState) → ((id : SpanId) → times id (spans_in groups) ≤ 1) → (index : ℕ) (group : GroupState)
+    → slice_get groups index ≡ Some group → (id : SpanId) → times id group.guests ≤ 1
 guests_once groups once index group here id =
     let p = λ (s : SpanState). same_span s.id id in
     omega (arith, once id, count-spans_remove spans_of p groups index group here, count-cons p group.head group.guests)

@@ -18,7 +18,9 @@ module _ {L : Type 0} (s : Inside L) (kept : IsKept s) (groups : Vec GroupState)
   after = record s { groups = groups; rooms = rooms }
 
   -- the groups are as they were
-  pub IsKept-same : groups.items ≡ s.groups.items → vec_capacity s.groups ≤ vec_capacity groups → ((class : Class) → HasRooms class s.groups.items (rooms_of rooms class)) → ((class : Class) → room_of s.rooms class ≤ room_of rooms class) → IsKept after
+  pub IsKept-same : groups.items ≡ s.groups.items → vec_capacity s.groups ≤ vec_capacity groups
+      → ((class : Class) → HasRooms class s.groups.items (rooms_of rooms class)) → ((class : Class) → room_of s.rooms class ≤ room_of rooms class)
+      → IsKept after
   IsKept-same same room has more = record {
     number_fits = kept.number_fits;
     pages_fit = kept.pages_fit;
@@ -34,8 +36,11 @@ module _ {L : Type 0} (s : Inside L) (kept : IsKept s) (groups : Vec GroupState)
   }
 
   -- one is replaced by a group whose spans have the same ids
-  pub IsKept-replaced : (index : ℕ) (group now : GroupState) → slice_get s.groups.items index ≡ Some group → AreAlike group now → groups.items ≡ set s.groups.items index now → vec_capacity s.groups ≡ vec_capacity groups
-      → IsSound (record (state_of s) { groups = set s.groups.items index now }) → ((class : Class) → HasRooms class (set s.groups.items index now) (rooms_of rooms class)) → ((class : Class) → room_of s.rooms class ≤ room_of rooms class) → IsKept after
+  pub IsKept-replaced : (index : ℕ) (group now : GroupState) → slice_get s.groups.items index ≡ Some group → AreAlike group now
+      → groups.items ≡ set s.groups.items index now → vec_capacity s.groups ≡ vec_capacity groups
+      → IsSound (record (state_of s) { groups = set s.groups.items index now })
+      → ((class : Class) → HasRooms class (set s.groups.items index now) (rooms_of rooms class))
+      → ((class : Class) → room_of s.rooms class ≤ room_of rooms class) → IsKept after
   IsKept-replaced index group now here ids same room sound has more = record {
     number_fits = kept.number_fits;
     pages_fit = kept.pages_fit;

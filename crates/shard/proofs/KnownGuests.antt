@@ -17,7 +17,8 @@ use Rattle.groups.proofs.Standing.{head_id}
 use Rattle.shard.proofs.AlikeGroups.{alike, bare}
 
 -- the guests from the place on are those that came
-pub entered-behind : (entries : Entries) (group : GroupState) (more : List SpanState) (head : SpanId) (first : ℕ) (guests : List SpanState) → guests ≡ group.guests ++ more → first ≡ length group.guests → group.head.id ≡ head
+pub entered-behind : (entries : Entries) (group : GroupState) (more : List SpanState) (head : SpanId) (first : ℕ) (guests : List SpanState)
+    → guests ≡ group.guests ++ more → first ≡ length group.guests → group.head.id ≡ head
     → entered entries (drop first guests) head (first + 1) ≡ entered entries more group.head.id (suc (length group.guests))
 entered-behind entries group more head first guests all is head_is =
     let next : first + 1 ≡ suc (length group.guests) = omega (arith, is) in
@@ -61,6 +62,8 @@ module _ (groups : List GroupState) (entries : Entries) (knows : KnowsGuests gro
       nobody place guest there = cc
 
   -- spans that become the last guests of a group
-  pub KnowsGuests-guests : (index : ℕ) (group : GroupState) (more : List SpanState) (words : Words) → slice_get groups index ≡ Some group → ((id : SpanId) → count_by (λ (s : SpanState). same_span s.id id) more ≤ 1)
-      → ((place : ℕ) (span : SpanState) → slice_get more place ≡ Some span → IsElsewhere groups span.id) → KnowsGuests (set groups index (with_guests group more words)) (entered entries more group.head.id (suc (length group.guests)))
+  pub KnowsGuests-guests : (index : ℕ) (group : GroupState) (more : List SpanState) (words : Words) → slice_get groups index ≡ Some group
+      → ((id : SpanId) → count_by (λ (s : SpanState). same_span s.id id) more ≤ 1)
+      → ((place : ℕ) (span : SpanState) → slice_get more place ≡ Some span → IsElsewhere groups span.id)
+      → KnowsGuests (set groups index (with_guests group more words)) (entered entries more group.head.id (suc (length group.guests)))
   KnowsGuests-guests index group more words here = IsDirectory-joined head_in guests_in groups entries knows index group (with_guests group more words) more here refl refl

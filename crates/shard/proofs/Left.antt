@@ -30,7 +30,8 @@ use Rattle.shard.proofs.Sparse.{after-filter, before-filter, filter-no, filter-y
 -- ---- a list without what fails a test
 
 -- an element that passes goes by one that fails
-filter-gone : {X : Type 0} (p : X → Bool) (xs : List X) (at : ℕ) (x y : X) → slice_get xs at ≡ Some x → p x ≡ true → p y ≡ false → (now : ℕ) × (slice_get (filter p xs) now ≡ Some x) × (filter p (set xs at y) ≡ remove (filter p xs) now)
+filter-gone : {X : Type 0} (p : X → Bool) (xs : List X) (at : ℕ) (x y : X) → slice_get xs at ≡ Some x → p x ≡ true → p y ≡ false
+    → (now : ℕ) × (slice_get (filter p xs) now ≡ Some x) × (filter p (set xs at y) ≡ remove (filter p xs) now)
 filter-gone p [] at x y here is no_y = absurd cc
 filter-gone p (z ∷ xs) zero x y here is no_y =
     let first = filter-yes p z xs (ap p (same_some here) ∙ is) in (
@@ -64,13 +65,16 @@ length-stayed groups = omega (arith, length-filter has_stayed groups, count_by-l
 
 not_any : (groups : List GroupState) → list_any (λ group. group.closed) groups ≡ false → (at : ℕ) (group : GroupState) → slice_get groups at ≡ Some group → group.closed ≡ false
 not_any groups none at group there =
-    false_from_ne_true group.closed (λ is. true≢false (sym (list_any_at (λ (g : GroupState). g.closed) groups at group (slice_get_within groups at group there) (ap (λ (g : GroupState). g.closed) (get_or_from_slice_get groups at group group there) ∙ is)) ∙ none))
+    false_from_ne_true group.closed
+    (λ is. true≢false (sym (list_any_at (λ (g : GroupState). g.closed) groups at group (slice_get_within groups at group there)
+    (ap (λ (g : GroupState). g.closed) (get_or_from_slice_get groups at group group there) ∙ is)) ∙ none))
 
 stayed-open : (group : GroupState) → group.closed ≡ false → has_stayed group ≡ true
 stayed-open group is = rw is refl
 
 pub swept-open : (shard : ShardState) → list_any (λ group. group.closed) shard.groups ≡ false → swept shard ≡ shard
-swept-open shard none = ap (λ (groups : List GroupState). record shard { groups = groups }) (filter-all has_stayed shard.groups (λ at group there. stayed-open group (not_any shard.groups none at group there)))
+swept-open shard none = ap (λ (groups : List GroupState). record shard { groups = groups })
+    (filter-all has_stayed shard.groups (λ at group there. stayed-open group (not_any shard.groups none at group there)))
 
 -- ---- the places go
 
@@ -80,7 +84,13 @@ times-stayed id (g ∷ groups) =
     let rest = times-stayed id groups in
     let all = count-append (λ (s : SpanState). same_span s.id id) (spans_of g) (spans_in groups) in
     elim (cases_Bool (has_stayed g)) [
-      | inl is ↦ omega (arith, rest, all, ap (λ gs. times id (spans_in gs)) (filter-yes has_stayed g groups is), count-append (λ (s : SpanState). same_span s.id id) (spans_of g) (spans_in (filter has_stayed groups)))
+      | inl is ↦ omega (
+        arith,
+        rest,
+        all,
+        ap (λ gs. times id (spans_in gs)) (filter-yes has_stayed g groups is),
+        count-append (λ (s : SpanState). same_span s.id id) (spans_of g) (spans_in (filter has_stayed groups)),
+      )
       | inr is ↦ omega (arith, rest, all, ap (λ gs. times id (spans_in gs)) (filter-no has_stayed g groups is))
     ]
 
@@ -121,7 +131,9 @@ KnowsGuests-swept groups entries knows = record {
     some_length (g ∷ guests) place guest there = ne_eqb (length (g ∷ guests)) 0 (λ e. absurd (omega (arith, e)))
 
     with_guest : (group : GroupState) (place : ℕ) (guest : SpanState) → slice_get group.guests place ≡ Some guest → has_stayed group ≡ true
-    with_guest group place guest there = rw (some_length group.guests place guest there) (elim group.closed as (λ b. not (b && (not (is_some group.page) && false)) ≡ true) [ true ↦ elim (is_some group.page) as (λ b. not (not b && false) ≡ true) [ true ↦ refl | false ↦ refl ] | false ↦ refl ])
+    with_guest group place guest there = rw (some_length group.guests place guest there)
+        (elim group.closed as (λ b. not (b && (not (is_some group.page) && false))
+        ≡ true) [ true ↦ elim (is_some group.page) as (λ b. not (not b && false) ≡ true) [ true ↦ refl | false ↦ refl ] | false ↦ refl ])
 
 pub HasGuestRoom-swept : (groups : List GroupState) (onto : Option SpanId) (more room : ℕ) → HasGuestRoom groups onto more room → HasGuestRoom (filter has_stayed groups) onto more room
 HasGuestRoom-swept groups onto more room has head is index group here =
@@ -198,7 +210,8 @@ module _ (old : ShardState) (sound : IsSound old) (index : ℕ) (group : GroupSt
       within_removed (g ∷ groups) (suc index) group here = let rest = within_removed groups index group here in omega arith
 
   -- without the places the group leaves the list
-  pub stayed-left : (head : SpanId) → group.head.id ≡ head → has_left group ≡ false → (now : ℕ) × IsHeadOf (filter has_stayed old.groups) head now group × (filter has_stayed groups_now ≡ remove (filter has_stayed old.groups) now)
+  pub stayed-left : (head : SpanId) → group.head.id ≡ head → has_left group ≡ false
+      → (now : ℕ) × IsHeadOf (filter has_stayed old.groups) head now group × (filter has_stayed groups_now ≡ remove (filter has_stayed old.groups) now)
   stayed-left head head_is stayed =
       let (now, there, after) = filter-gone has_stayed old.groups index group place here (ap not stayed) refl in (now, record { here = there; head_is = head_is }, after)
 

@@ -55,6 +55,8 @@ module _ (old : ShardState) (sound : IsSound old) (index : ℕ) (group : GroupSt
         (IsSoundGroup-free group (sound.groups index group here) place span key there holds)
 
     -- a set in the group
-    pub IsSound-set : (slot generation : ℕ) (value : Value) → IsSettable span slot generation value → IsSound (record old { groups = set old.groups index (set_group group place span slot generation value) })
-    IsSound-set slot generation value settable = IsSound-replaced (set_group group place span slot generation value) (AreAlike-with_span group place span (with_set_at span slot generation value) there refl)
+    pub IsSound-set : (slot generation : ℕ) (value : Value) → IsSettable span slot generation value
+        → IsSound (record old { groups = set old.groups index (set_group group place span slot generation value) })
+    IsSound-set slot generation value settable = IsSound-replaced (set_group group place span slot generation value)
+        (AreAlike-with_span group place span (with_set_at span slot generation value) there refl)
         (IsSoundGroup-set group (sound.groups index group here) place span there slot generation value settable)

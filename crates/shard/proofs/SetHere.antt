@@ -41,4 +41,6 @@ module _ (group : GroupState) (span : SpanState) (slot generation : ℕ) (value 
     pub HasNoRoom-set : (class : Class) → HasNoRoom class group → HasNoRoom class (after place)
     HasNoRoom-set class (inl closed) = inl (closed-set_group place ∙ closed)
     HasNoRoom-set class (inr (inl differs)) = inr (inl (λ same. differs (sym (class-set_group place here) ∙ same)))
-    HasNoRoom-set class (inr (inr full)) = inr (inr (subst (λ (c : Class). HasAllBelow (unusable (after place)) (slots_in c)) (sym (class-set_group place here)) (subst (λ (s : SlotSet). HasAllBelow s (slots_in group.head.class)) (sym unusable-set_group) full)))
+    HasNoRoom-set class (inr (inr full)) = inr
+        (inr (subst (λ (c : Class). HasAllBelow (unusable (after place)) (slots_in c)) (sym (class-set_group place here))
+        (subst (λ (s : SlotSet). HasAllBelow s (slots_in group.head.class)) (sym unusable-set_group) full)))

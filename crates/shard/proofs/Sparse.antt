@@ -60,7 +60,8 @@ before-filter p (y ∷ xs) at x there = elim (cases_Bool (p y)) [
   | inr is ↦ let rest = before-filter p xs at x (ap (λ zs. slice_get zs at) (sym (filter-no p y xs is)) ∙ there) in (suc rest.0, rest.1, rest.2)
 ]
   where
-    first_or_later : {X : Type 0} (p : X → Bool) (y : X) (xs : List X) (at : ℕ) (x : X) → p y ≡ true → ((at : ℕ) (x : X) → slice_get (filter p xs) at ≡ Some x → (was : ℕ) × (slice_get xs was ≡ Some x) × (p x ≡ true))
+    first_or_later : {X : Type 0} (p : X → Bool) (y : X) (xs : List X) (at : ℕ) (x : X) → p y ≡ true
+        → ((at : ℕ) (x : X) → slice_get (filter p xs) at ≡ Some x → (was : ℕ) × (slice_get xs was ≡ Some x) × (p x ≡ true))
         → slice_get (y ∷ filter p xs) at ≡ Some x → (was : ℕ) × (slice_get (y ∷ xs) was ≡ Some x) × (p x ≡ true)
     first_or_later p y xs zero x is rest here = (0, here, ap p (sym (same_some here)) ∙ is)
     first_or_later p y xs (suc at) x is rest here = let later = rest at x here in (suc later.0, later.1, later.2)
@@ -95,7 +96,8 @@ pairs-filter R p (x ∷ xs) pairs low high a b less at_low at_high =
           (ap (λ zs. slice_get zs high) (sym (filter-no p x xs is)) ∙ at_high)
     ]
   where
-    by_place : {X : Type 0} (R : X → X → Type 0) (p : X → Bool) (x : X) (xs : List X) (low high : ℕ) (a b : X) → ((b : X) (at : ℕ) → slice_get (filter p xs) at ≡ Some b → R x b) → Pairs R (filter p xs)
+    by_place : {X : Type 0} (R : X → X → Type 0) (p : X → Bool) (x : X) (xs : List X) (low high : ℕ) (a b : X)
+        → ((b : X) (at : ℕ) → slice_get (filter p xs) at ≡ Some b → R x b) → Pairs R (filter p xs)
         → low < high → slice_get (x ∷ filter p xs) low ≡ Some a → slice_get (x ∷ filter p xs) high ≡ Some b → R a b
     by_place R p x xs low zero a b first rest less at_low at_high = absurd (omega arith)
     by_place R p x xs zero (suc high) a b first rest less at_low at_high = subst (λ y. R y b) (same_some at_low) (first b high at_high)
@@ -140,7 +142,8 @@ apart-distinct told distinct low high a b less at_low at_high same =
     let apart = apart_from_distinct same_head told low high a distinct less (slice_get_within told high b at_high) in
     let is_a = get_or_from_slice_get told low a a at_low in
     let is_b = get_or_from_slice_get told high b a at_high in
-    true≢false (sym (eq-eqb (rank (get_or told low a).head) (rank (get_or told high a).head) (omega (arith, same, ap (λ (x : LiveGroup). rank x.head) is_a, ap (λ (x : LiveGroup). rank x.head) is_b))) ∙ apart)
+    true≢false (sym (eq-eqb (rank (get_or told low a).head) (rank (get_or told high a).head)
+    (omega (arith, same, ap (λ (x : LiveGroup). rank x.head) is_a, ap (λ (x : LiveGroup). rank x.head) is_b))) ∙ apart)
 
 moved : {X : Type 0} (xs ys : List X) (k : ℕ) (x : X) → IsPermutation xs ys → slice_get xs k ≡ Some x → (l : ℕ) × (slice_get ys l ≡ Some x)
 moved xs ys k x permutation at =
@@ -153,7 +156,8 @@ live_told group live = lt-ltb 0 (live_of group) live
 told_live : (group : GroupState) → is_live (told_of group) ≡ true → 1 ≤ live_of group
 told_live group is = ltb-true 0 (live_of group) is
 
-pub AreSparsestFirst-sorted : (groups : List GroupState) (live told : List LiveGroup) → Ascend groups → live ≡ filter is_live (map told_of groups) → IsPermutation live told → AreInOrder told → AreSparsestFirst groups told
+pub AreSparsestFirst-sorted : (groups : List GroupState) (live told : List LiveGroup) → Ascend groups → live ≡ filter is_live (map told_of groups)
+    → IsPermutation live told → AreInOrder told → AreSparsestFirst groups told
 AreSparsestFirst-sorted groups live told ascend live_is permutation order =
     let rises : Pairs Rises live = subst (Pairs Rises) (sym live_is) (pairs-filter Rises is_live (map told_of groups) (rises-told groups ascend)) in
     let distinct = IsDistinct-IsPermutation same_head same_head-flip live told permutation (distinct-rises live rises) in
@@ -168,7 +172,11 @@ AreSparsestFirst-sorted groups live told ascend live_is permutation order =
           (kept.0, of.0, of.1, told_live of.0 (ap is_live of.2 ∙ kept.2), of.2);
       order = λ low high a b less at_low at_high. elim (order low high a b less at_low at_high) [
         | inl fewer ↦ inl fewer
-        | inr same ↦ inr (same.0, (let differ = apart-distinct told distinct low high a b less at_low at_high in elim (cases_lt (rank a.head) (rank b.head)) [ inl lower ↦ lower | inr not_lower ↦ absurd (differ (omega (arith, same.1))) ]))
+        | inr same ↦ inr (
+          same.0,
+          (let differ = apart-distinct told distinct low high a b less at_low
+              at_high in elim (cases_lt (rank a.head) (rank b.head)) [ inl lower ↦ lower | inr not_lower ↦ absurd (differ (omega (arith, same.1))) ]),
+        )
       ];
     }
 
@@ -236,7 +244,8 @@ module _ (groups : List GroupState) (ascend : Ascend groups) where
       order = λ low high a b less at_low at_high. are.order (suc low) (suc high) a b (omega arith) at_low at_high;
     }
       where
-        later : (was : ℕ) (g : GroupState) → slice_get groups was ≡ Some g → (was ≡ index → ⊥) → (place : ℕ) → slice_get (one ∷ told) place ≡ Some (told_of g) → (place : ℕ) × (slice_get told place ≡ Some (told_of g))
+        later : (was : ℕ) (g : GroupState) → slice_get groups was ≡ Some g → (was ≡ index → ⊥) → (place : ℕ) → slice_get (one ∷ told) place ≡ Some (told_of g)
+            → (place : ℕ) × (slice_get told place ≡ Some (told_of g))
         later was g at apart zero found = absurd (apart (one_index was index g group at here (ap (λ (x : LiveGroup). rank x.head) (sym (same_some found) ∙ sym is))))
         later was g at apart (suc place) found = (place, found)
 

@@ -20,7 +20,8 @@ receipt_in-more words more stored within = λ i. record {
 
 receipts_in-more : (words more : List ℕ) (receipts : List StoredReceipt) → AreReceiptsWithin (length words) receipts → receipts_in (words ++ more) receipts ≡ receipts_in words receipts
 receipts_in-more words more [] within = refl
-receipts_in-more words more (stored ∷ receipts) within = λ i. receipt_in-more words more stored (within 0 stored refl) i ∷ receipts_in-more words more receipts (λ at other is. within (suc at) other is) i
+receipts_in-more words more (stored ∷ receipts) within = λ i. receipt_in-more words more stored (within 0 stored refl) i
+    ∷ receipts_in-more words more receipts (λ at other is. within (suc at) other is) i
 
 -- a receipt whose words stand last is the receipt of these words
 pub receipts_in-push : (words : List ℕ) (receipts : List StoredReceipt) (stored : StoredReceipt) (receipt : Receipt) → AreReceiptsWithin (length words) receipts

@@ -30,20 +30,27 @@ changes_in-more words more [] within = refl
 changes_in-more words more (stored ∷ changes) within = λ i. change_in-more words more stored (within 0 stored refl) i ∷ changes_in-more words more changes (λ at other is. within (suc at) other is) i
 
 -- a put whose words stand last is the put of these words
-pub changes_in-put : (words : List ℕ) (changes : List Stored) (object : List ℕ) (slot : ℕ) (class : Class) (generation first : ℕ) → first ≡ length words → AreWithin (length words) changes → length object ≡ width_of class
+pub changes_in-put : (words : List ℕ) (changes : List Stored) (object : List ℕ) (slot : ℕ) (class : Class) (generation first : ℕ) → first ≡ length words
+    → AreWithin (length words) changes → length object ≡ width_of class
     → changes_in (words ++ object) (changes ++ Put slot class generation first ∷ []) ≡ changes_in words changes ++ change.Put slot generation object ∷ []
 changes_in-put words changes object slot class generation first last within long =
     map-append (change_in (words ++ object)) changes (Put slot class generation first ∷ [])
-    ∙ (λ i. changes_in-more words object changes within i ++ change.Put slot generation ((ap (λ n. run_from (words ++ object) n (width_of class)) last ∙ run_from-last words object (width_of class) long) i) ∷ [])
+    ∙ (λ i. changes_in-more words object changes within i
+    ++ change.Put slot generation ((ap (λ n. run_from (words ++ object) n (width_of class)) last ∙ run_from-last words object (width_of class) long) i)
+    ∷ [])
 
 -- and so is a set
-pub changes_in-set : (words : List ℕ) (changes : List Stored) (object : List ℕ) (slot : ℕ) (class : Class) (generation first : ℕ) → first ≡ length words → AreWithin (length words) changes → length object ≡ width_of class
+pub changes_in-set : (words : List ℕ) (changes : List Stored) (object : List ℕ) (slot : ℕ) (class : Class) (generation first : ℕ) → first ≡ length words
+    → AreWithin (length words) changes → length object ≡ width_of class
     → changes_in (words ++ object) (changes ++ Set slot class generation first ∷ []) ≡ changes_in words changes ++ change.Set slot generation object ∷ []
 changes_in-set words changes object slot class generation first last within long =
     map-append (change_in (words ++ object)) changes (Set slot class generation first ∷ [])
-    ∙ (λ i. changes_in-more words object changes within i ++ change.Set slot generation ((ap (λ n. run_from (words ++ object) n (width_of class)) last ∙ run_from-last words object (width_of class) long) i) ∷ [])
+    ∙ (λ i. changes_in-more words object changes within i
+    ++ change.Set slot generation ((ap (λ n. run_from (words ++ object) n (width_of class)) last ∙ run_from-last words object (width_of class) long) i)
+    ∷ [])
 
-pub changes_in-free : (words : List ℕ) (changes : List Stored) (slot generation : ℕ) → changes_in words (changes ++ Free slot generation ∷ []) ≡ changes_in words changes ++ change.Free slot generation ∷ []
+pub changes_in-free : (words : List ℕ) (changes : List Stored) (slot generation : ℕ)
+    → changes_in words (changes ++ Free slot generation ∷ []) ≡ changes_in words changes ++ change.Free slot generation ∷ []
 changes_in-free words changes slot generation = map-append (change_in words) changes (Free slot generation ∷ [])
 
 pub AreWithin-push : (len more : ℕ) (changes : List Stored) (stored : Stored) → len ≤ more → AreWithin len changes → end_of stored ≤ more → AreWithin more (changes ++ stored ∷ [])
@@ -52,9 +59,11 @@ AreWithin-push len more changes stored low within next at other is = elim (slice
   | inr w ↦ rw (← w.0) next
 ]
 
-pub slice_get-changes_in : (words : List ℕ) (changes : List Stored) (place : ℕ) (stored : Stored) → slice_get changes place ≡ Some stored → slice_get (changes_in words changes) place ≡ Some (change_in words stored)
+pub slice_get-changes_in : (words : List ℕ) (changes : List Stored) (place : ℕ) (stored : Stored) → slice_get changes place ≡ Some stored
+    → slice_get (changes_in words changes) place ≡ Some (change_in words stored)
 slice_get-changes_in words changes place stored is = slice_get-map (change_in words) changes place ∙ ap (option_map (change_in words)) is
 
 -- the change that is read at a place
-pub stored_at : (words : List ℕ) (changes : List Stored) (place : ℕ) (stored : Stored) → place < length (changes_in words changes) → stored ≡ get_or changes place stored → slice_get changes place ≡ Some stored
+pub stored_at : (words : List ℕ) (changes : List Stored) (place : ℕ) (stored : Stored) → place < length (changes_in words changes)
+    → stored ≡ get_or changes place stored → slice_get changes place ≡ Some stored
 stored_at words changes place stored within is = slice_get_read changes (length changes) place stored refl (omega (arith, within, length-map changes (change_in words))) is

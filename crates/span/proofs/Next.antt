@@ -40,7 +40,8 @@ HoldsNoneFrom-members log from none slot generation above holds =
     let e : true ≡ false = sym (contains-Holds log slot generation holds) ∙ none slot above in cc
 
 -- the lowest live slot is the first that is live at a generation, of which it has one
-pub IsFirstHeld-lowest : (gens : ℕ) (log : List Change) (from : ℕ) (key : Key) → IsLegal gens log → IsLowestFrom (live_slots log) from key.slot → Holds log key.slot key.generation → IsFirstHeld log from key
+pub IsFirstHeld-lowest : (gens : ℕ) (log : List Change) (from : ℕ) (key : Key) → IsLegal gens log → IsLowestFrom (live_slots log) from key.slot
+    → Holds log key.slot key.generation → IsFirstHeld log from key
 IsFirstHeld-lowest gens log from key legal lowest holds = record {
   holds = holds;
   not_below = lowest.not_below;
@@ -83,6 +84,7 @@ module _ (map : PlainMap) (id : SpanId) (log : List Change) (from : ℕ) (shows 
   }
 
   -- what the span answers is what the map has
-  pub first-held : (o : Option Key) → MatchOption o (HoldsNoneFrom log from) (IsFirstHeld log from) → IfSome o (λ key. key.span ≡ id) → MatchOption o (HasNoneFrom map id from) (IsFirstFrom map id from)
+  pub first-held : (o : Option Key) → MatchOption o (HoldsNoneFrom log from) (IsFirstHeld log from) → IfSome o (λ key. key.span ≡ id)
+      → MatchOption o (HasNoneFrom map id from) (IsFirstFrom map id from)
   first-held None none same = HasNoneFrom-held none
   first-held (Some key) held same = IsFirstFrom-held key same held

@@ -23,11 +23,13 @@ Fits class contents = (slot : ℕ) (held : Held) → map.get contents slot ≡ S
 Fits-insert : (class : Class) (contents : Contents) (other generation : ℕ) (value : Value) → Fits class contents → (other < slots_in class) × (length value ≡ width_of class)
     → Fits class (map.insert contents other (record { generation = generation; value = value }))
 Fits-insert class contents other generation value fits next slot held is =
-    let found : map.get (map.insert contents other (record { generation = generation; value = value })) slot ≡ (if slot == other then Some (record { generation = generation; value = value }) else map.get contents slot) =
+    let found : map.get (map.insert contents other (record { generation = generation; value = value })) slot
+    ≡ (if slot == other then Some (record { generation = generation; value = value }) else map.get contents slot) =
     map.get-insert nat_cmp_total contents other (record { generation = generation; value = value }) slot ∙ rw (unsigned_tied slot other) refl in
     elim (cases_eq slot other) [
       | inl same ↦
-          let put : map.get (map.insert contents other (record { generation = generation; value = value })) slot ≡ Some (record { generation = generation; value = value }) = rw (eq-eqb slot other same) at found in
+          let put : map.get (map.insert contents other (record { generation = generation; value = value })) slot
+          ≡ Some (record { generation = generation; value = value }) = rw (eq-eqb slot other same) at found in
           let here : ◌≡◌ {A = Held} (record { generation = generation; value = value }) held = same_Some _ _ (sym put ∙ is) in
           (subst (λ q. q < slots_in class) (sym same) next.0, ap (λ (h : Held). length h.value) (sym here) ∙ next.1)
       | inr differ ↦
@@ -39,7 +41,8 @@ Fits-changed : (class : Class) (contents : Contents) (change : Change) → Fits 
 Fits-changed class contents (Put slot generation value) fits next other held is = Fits-insert class contents slot generation value fits next other held is
 Fits-changed class contents (Set slot generation value) fits next other held is = Fits-insert class contents slot generation value fits next other held is
 Fits-changed class contents (Free other generation) fits next slot held is =
-    let found : map.get (map.remove contents other) slot ≡ (if slot == other then None else map.get contents slot) = map.get-remove nat_cmp_total contents other slot ∙ rw (unsigned_tied slot other) refl in
+    let found : map.get (map.remove contents other) slot
+    ≡ (if slot == other then None else map.get contents slot) = map.get-remove nat_cmp_total contents other slot ∙ rw (unsigned_tied slot other) refl in
     elim (cases_eq slot other) [
       | inl same ↦
           let gone : map.get (map.remove contents other) slot ≡ None = rw (eq-eqb slot other same) at found in
@@ -54,7 +57,8 @@ Fits-fold class contents [] fits of_class = fits
 Fits-fold class contents (change ∷ log) fits of_class = Fits-fold class (changed contents change) log (Fits-changed class contents change fits of_class.0) of_class.1
 
 -- what is live after a log of the class
-pub Fits-replay : (class : Class) (log : List Change) → IsOfClass class log → (slot : ℕ) (held : Held) → map.get (replay log) slot ≡ Some held → (slot < slots_in class) × (length held.value ≡ width_of class)
+pub Fits-replay : (class : Class) (log : List Change) → IsOfClass class log → (slot : ℕ) (held : Held) → map.get (replay log) slot ≡ Some held
+    → (slot < slots_in class) × (length held.value ≡ width_of class)
 unfolding replay
 Fits-replay class log of_class = Fits-fold class map.empty log (λ slot held is. absurd (none-some _ (sym (map.get-empty nat_cmp slot) ∙ is))) of_class
 

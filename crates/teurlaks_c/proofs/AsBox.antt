@@ -55,7 +55,9 @@ module _ {M : Type 1} {𝓤 : Ura M} (𝓛 : Logic 𝓤) where
   tested at held =
       let memory = lone Content.the_row.mir in
       let owned : SProp 𝓤 = sem 𝓛 (box_owns right Content.the_row at held) in
-      fact_use 𝓤 (Testable at) (via 𝓤 (sem 𝓛 (right (raw memory) at)) (snd∗ 𝓤 (sem 𝓛 (lies_at Content.the_row full_share at held)) (sem 𝓛 (right (raw memory) at))) (dealloc_token-Testable 𝓛 system (raw memory) at)) (guard_i 𝓤 (Testable at) owned)
+      fact_use 𝓤 (Testable at) (via 𝓤 (sem 𝓛 (right (raw memory) at))
+      (snd∗ 𝓤 (sem 𝓛 (lies_at Content.the_row full_share at held)) (sem 𝓛 (right (raw memory) at))) (dealloc_token-Testable 𝓛 system (raw memory) at))
+      (guard_i 𝓤 (Testable at) owned)
 
 module _ {M : Type 1} {𝓤 : Ura M} {𝓛 : Logic 𝓤} {K : Type 0} {Γ : List (Item 𝓤)} {G : Goal 𝓤 𝓛.H} where
   -- what a handle owns makes the handle

@@ -12,7 +12,8 @@ use Rattle.teurlaks_c.specs.declared.share.SharedSteward.{SharedSteward}
 use Rattle.teurlaks_c.specs.StewardCalls.{HandsOutOf, HandsOutSeat, LeavesSeat}
 
 -- the seats of a new arena are of its numbers
-pub standing-limits : (limits : Limits) (n : ℕ) (seats : List SeatState) → map standing seats ≡ map (first_standing limits) (range_with_len 0 n) → (k : ℕ) (d : SeatState) → k < length seats → (get_or seats k d).limits ≡ limits
+pub standing-limits : (limits : Limits) (n : ℕ) (seats : List SeatState) → map standing seats ≡ map (first_standing limits) (range_with_len 0 n)
+    → (k : ℕ) (d : SeatState) → k < length seats → (get_or seats k d).limits ≡ limits
 standing-limits limits n seats is k d below =
     let numbers = range_with_len 0 n in
     let long = ap length is in
@@ -26,5 +27,15 @@ pub HandsOutSeat-of : {B : Type 0} (of : B → Share) (old : Option Share) (befo
     → after.arena ≡ before.arena → after.steward ≡ before.steward → after.last ≡ before.last
     → (r : Result B ℕ) → MatchResult r (λ b. HandsOutOf before 0 after (Some (of b))) (λ status. HandsOutOf before status after None)
     → MatchResult r (λ b. HandsOutSeat old 0 (Some (Steward after)) (Some (of b))) (λ status. LeavesSeat old None status (Some (Steward after)) None)
-HandsOutSeat-of of old before after is arena state last (Ok b) handed = record { before = before; after = after; before_is = is; after_is = refl; arena_is = arena; state = state; last = last; handed = handed }
-HandsOutSeat-of of old before after is arena state last (Err status) handed = inr (record { before = before; after = after; before_is = is; after_is = refl; arena_is = arena; state = state; last = last; handed = handed })
+HandsOutSeat-of of old before after is arena state last (Ok b) handed = record {
+  before = before;
+  after = after;
+  before_is = is;
+  after_is = refl;
+  arena_is = arena;
+  state = state;
+  last = last;
+  handed = handed;
+}
+HandsOutSeat-of of old before after is arena state last (Err status) handed = inr
+    (record { before = before; after = after; before_is = is; after_is = refl; arena_is = arena; state = state; last = last; handed = handed })

@@ -26,13 +26,15 @@ Carries-none before after same = record {
 }
 
 -- first some keys, and then others
-pub Carries-append : (sent more taken again : List Key) (before mid after : Carried) → Carries sent taken before mid → Carries more again mid after → Carries (sent ++ more) (taken ++ again) before after
+pub Carries-append : (sent more taken again : List Key) (before mid after : Carried) → Carries sent taken before mid → Carries more again mid after
+    → Carries (sent ++ more) (taken ++ again) before after
 Carries-append sent more taken again before mid after first second = record {
   sends = λ shard. second.sends shard ∙ ap (λ ks. ks ++ filter (is_of_shard shard) more) (first.sends shard)
       ∙ append_assoc (slice_index_or before.sent shard []) (filter (is_of_shard shard) sent) (filter (is_of_shard shard) more)
       ∙ ap (λ ks. slice_index_or before.sent shard [] ++ ks) (sym (filter-append (is_of_shard shard) sent more));
   takes = IsPermutation-trans _ _ _ second.takes
-      (subst (IsPermutation (joined mid.taken ++ again)) (append_assoc (joined before.taken) taken again) (IsPermutation-append_left again (joined mid.taken) (joined before.taken ++ taken) first.takes));
+      (subst (IsPermutation (joined mid.taken ++ again)) (append_assoc (joined before.taken) taken again)
+      (IsPermutation-append_left again (joined mid.taken) (joined before.taken ++ taken) first.takes));
 }
 
 -- a call of a seat that sends and takes no key
@@ -54,7 +56,8 @@ sent_at lists place shard key below =
     ]
 
 pub Carries-sent : (key : Key) (old new : SeatState) → key.span.shard < length old.outboxes
-    → sent_lists new ≡ slice_set (sent_lists old) key.span.shard (slice_index_or (sent_lists old) key.span.shard [] ++ key ∷ []) → new.inboxes ≡ old.inboxes → Carries (key ∷ []) [] (carried_by old) (carried_by new)
+    → sent_lists new ≡ slice_set (sent_lists old) key.span.shard (slice_index_or (sent_lists old) key.span.shard [] ++ key ∷ []) → new.inboxes ≡ old.inboxes
+    → Carries (key ∷ []) [] (carried_by old) (carried_by new)
 Carries-sent key old new below sent inboxes =
     let same : joined (taken_lists new.inboxes) ≡ joined (taken_lists old.inboxes) ++ [] = ap (λ l. joined (taken_lists l)) inboxes ∙ sym (append-nil (joined (taken_lists old.inboxes))) in
     let wide : length (sent_lists old) ≡ length old.outboxes = length-map old.outboxes (λ (o : Sending). o.sent) in
@@ -69,7 +72,8 @@ between a b c d =
     let left : (a ++ b) ++ (c ++ d) ≡ a ++ ((b ++ c) ++ d) = append_assoc a b (c ++ d) ∙ ap (λ l. a ++ l) (sym (append_assoc b c d)) in
     let right : (a ++ c) ++ (b ++ d) ≡ a ++ ((c ++ b) ++ d) = append_assoc a c (b ++ d) ∙ ap (λ l. a ++ l) (sym (append_assoc c b d)) in
     subst (λ l. IsPermutation l ((a ++ c) ++ (b ++ d))) (sym left)
-    (subst (IsPermutation (a ++ ((b ++ c) ++ d))) (sym right) (IsPermutation-append_right a ((b ++ c) ++ d) ((c ++ b) ++ d) (IsPermutation-append_left d (b ++ c) (c ++ b) (IsPermutation-append_comm b c))))
+    (subst (IsPermutation (a ++ ((b ++ c) ++ d))) (sym right)
+    (IsPermutation-append_right a ((b ++ c) ++ d) ((c ++ b) ++ d) (IsPermutation-append_left d (b ++ c) (c ++ b) (IsPermutation-append_comm b c))))
 
 -- each of some lists goes on by some keys
 joined-more : (after before keys : List (List Key)) → length after ≡ length before → length keys ≡ length before
@@ -97,7 +101,8 @@ Carries-tended most total old new before after tended ends sending =
     record {
       sends = λ shard. ap (λ (s : SendingSide). slice_index_or s.sent shard []) sending ∙ sym (append-nil (slice_index_or (sent_lists old) shard []));
       takes = subst (λ ks. IsPermutation (joined (taken_lists new.inboxes)) (joined (taken_lists old.inboxes) ++ ks)) (sym tended.freed.of_keys)
-          (joined-more (taken_lists new.inboxes) (taken_lists old.inboxes) tended.keys (omega (arith, long, wide_new, wide_old, rings_new, rings_old)) (omega (arith, tended.each_ring, wide_old)) tended.taken);
+          (joined-more (taken_lists new.inboxes) (taken_lists old.inboxes) tended.keys (omega (arith, long, wide_new, wide_old, rings_new, rings_old))
+          (omega (arith, tended.each_ring, wide_old)) tended.taken);
     }
 
 -- fresh rings carried nothing
@@ -110,7 +115,8 @@ none_taken : (inboxes : List Taking) → AreFreshInboxes inboxes → joined (tak
 none_taken [] all = refl
 none_taken (i ∷ inboxes) all = ap (λ l. l ++ joined (taken_lists inboxes)) (all 0 i (omega arith)) ∙ none_taken inboxes (λ k d within. all (suc k) d (omega arith))
 
-pub HaveNothing-fresh : (capacity : ℕ) (seats : List SeatState) → All (λ seat. AreFreshOutboxes capacity seat.outboxes × AreFreshInboxes seat.inboxes) seats → AllByRecursion (λ seat. HaveNothing (carried_by seat)) seats
+pub HaveNothing-fresh : (capacity : ℕ) (seats : List SeatState) → All (λ seat. AreFreshOutboxes capacity seat.outboxes × AreFreshInboxes seat.inboxes) seats
+    → AllByRecursion (λ seat. HaveNothing (carried_by seat)) seats
 HaveNothing-fresh capacity [] all = tt
 HaveNothing-fresh capacity (seat ∷ seats) all =
     let here = all 0 seat (omega arith) in

@@ -23,10 +23,12 @@ replies_by thread [] = 0
 replies_by thread (l ∷ lines) = (if is_line_of thread l then replies_at l else 0) + replies_by thread lines
 
 -- they are those at its places, for whatever counts those of the lines
-sum-places_from : (f : ℕ → ℕ) (thread from : ℕ) (lines : List Line) → ((k : ℕ) (l : Line) → slice_get lines k ≡ Some l → f (from + k) ≡ replies_at l) → sum_by f (places_from thread from lines) ≡ replies_by thread lines
+sum-places_from : (f : ℕ → ℕ) (thread from : ℕ) (lines : List Line) → ((k : ℕ) (l : Line) → slice_get lines k ≡ Some l → f (from + k) ≡ replies_at l)
+    → sum_by f (places_from thread from lines) ≡ replies_by thread lines
 unfolding replies_by
 sum-places_from f thread from [] counts = refl
-sum-places_from f thread from (l ∷ lines) counts = by_test (is_line_of thread l) (sum-places_from f thread (from + 1) lines (λ k m at. subst (λ p. f p ≡ replies_at m) (omega arith) (counts (suc k) m at)))
+sum-places_from f thread from (l ∷ lines) counts = by_test (is_line_of thread l)
+    (sum-places_from f thread (from + 1) lines (λ k m at. subst (λ p. f p ≡ replies_at m) (omega arith) (counts (suc k) m at)))
   where
     by_test : (b : Bool) → sum_by f (places_from thread (from + 1) lines) ≡ replies_by thread lines
         → sum_by f (if b then from ∷ places_from thread (from + 1) lines else places_from thread (from + 1) lines) ≡ (if b then replies_at l else 0) + replies_by thread lines
@@ -109,7 +111,8 @@ beside (x ∷ xs) [] at y same there = absurd (omega arith)
 beside (x ∷ xs) (z ∷ ys) zero y same there = (x, refl)
 beside (x ∷ xs) (z ∷ ys) (suc at) y same there = beside xs ys at y (omega arith) there
 
-diaries-below : (f : ℕ → ℕ) (diaries : List Diary) → ((thread : ℕ) (diary : Diary) → slice_get diaries thread ≡ Some diary → diary.calls ≡ f thread) → sum_by (λ (diary : Diary). diary.calls) diaries ≡ below f (length diaries)
+diaries-below : (f : ℕ → ℕ) (diaries : List Diary) → ((thread : ℕ) (diary : Diary) → slice_get diaries thread ≡ Some diary → diary.calls ≡ f thread)
+    → sum_by (λ (diary : Diary). diary.calls) diaries ≡ below f (length diaries)
 unfolding below
 diaries-below f [] each = refl
 diaries-below f (diary ∷ diaries) each =
@@ -123,20 +126,25 @@ AreBelow-sound header lines sound place thread call here =
     let e : nat_le header.shards thread ≡ false = (all_fine header (take place lines) (line.Call thread call) (sound place (line.Call thread call) here)).thread in grind (arith, nat_tests)
 
 -- the diaries of all threads count the replies of all lines
-pub AreDiaries-counted : (lines : List Line) (shown : Bool) (given : GivenKeys) (threads : ℕ) (seats : List SeatState) (diaries : List Diary) → AreBelow threads lines → AreDiaries lines shown given threads seats diaries → sum_by (λ (diary : Diary). diary.calls) diaries ≡ replies_in lines
+pub AreDiaries-counted : (lines : List Line) (shown : Bool) (given : GivenKeys) (threads : ℕ) (seats : List SeatState) (diaries : List Diary)
+    → AreBelow threads lines → AreDiaries lines shown given threads seats diaries → sum_by (λ (diary : Diary). diary.calls) diaries ≡ replies_in lines
 AreDiaries-counted lines shown given threads seats diaries of are =
-    diaries-below (λ thread. replies_by thread lines) diaries (λ thread diary at. let (seat, sits) = beside seats diaries thread diary (are.each_seat ∙ sym are.each_thread) at in (are.follow thread seat diary sits at).counted ∙ sum-places thread lines)
+    diaries-below (λ thread. replies_by thread lines) diaries
+    (λ thread diary at. let (seat, sits) = beside seats diaries thread diary (are.each_seat ∙ sym are.each_thread) at in
+    (are.follow thread seat diary sits at).counted ∙ sum-places thread lines)
     ∙ ap (below (λ thread. replies_by thread lines)) are.each_thread ∙ lines-below threads lines of
 
 -- all that stands in a list at its place, after one more of these
-pub each_at-push : {X : Type 0} (P : ℕ → X → Type 0) (xs : List X) (x : X) → ((at : ℕ) (y : X) → slice_get xs at ≡ Some y → P at y) → P (length xs) x → (at : ℕ) (y : X) → slice_get (xs ++ x ∷ []) at ≡ Some y → P at y
+pub each_at-push : {X : Type 0} (P : ℕ → X → Type 0) (xs : List X) (x : X) → ((at : ℕ) (y : X) → slice_get xs at ≡ Some y → P at y) → P (length xs) x
+    → (at : ℕ) (y : X) → slice_get (xs ++ x ∷ []) at ≡ Some y → P at y
 each_at-push P [] x each it zero y there = let same : x ≡ y = cc in subst (P 0) same it
 each_at-push P [] x each it (suc at) y there = absurd cc
 each_at-push P (z ∷ xs) x each it zero y there = each 0 y there
 each_at-push P (z ∷ xs) x each it (suc at) y there = each_at-push (λ k. P (suc k)) xs x (λ k w. each (suc k) w) it at y there
 
 -- all that stands in two lists at one place, after one more in each
-pub each_beside-push : {X Y : Type 0} (P : ℕ → X → Y → Type 0) (xs : List X) (ys : List Y) (x : X) (y : Y) → length xs ≡ length ys → ((at : ℕ) (u : X) (v : Y) → slice_get xs at ≡ Some u → slice_get ys at ≡ Some v → P at u v)
+pub each_beside-push : {X Y : Type 0} (P : ℕ → X → Y → Type 0) (xs : List X) (ys : List Y) (x : X) (y : Y) → length xs ≡ length ys
+    → ((at : ℕ) (u : X) (v : Y) → slice_get xs at ≡ Some u → slice_get ys at ≡ Some v → P at u v)
     → P (length xs) x y → (at : ℕ) (u : X) (v : Y) → slice_get (xs ++ x ∷ []) at ≡ Some u → slice_get (ys ++ y ∷ []) at ≡ Some v → P at u v
 each_beside-push P [] [] x y same each it zero u v there here = let left : x ≡ u = cc in let right : y ≡ v = cc in subst (λ z. P 0 z v) left (subst (P 0 x) right it)
 each_beside-push P [] [] x y same each it (suc at) u v there here = absurd cc
@@ -146,10 +154,12 @@ each_beside-push P (z ∷ xs) (w ∷ ys) x y same each it zero u v there here = 
 each_beside-push P (z ∷ xs) (w ∷ ys) x y same each it (suc at) u v there here = each_beside-push (λ k. P (suc k)) xs ys x y (omega arith) (λ k a b. each (suc k) a b) it at u v there here
 
 -- the seat and the diary of the next thread
-pub AreDiaries-push : (lines : List Line) (shown : Bool) (given : GivenKeys) (threads : ℕ) (seats : List SeatState) (diaries : List Diary) (seat : SeatState) (diary : Diary) → AreDiaries lines shown given threads seats diaries
+pub AreDiaries-push : (lines : List Line) (shown : Bool) (given : GivenKeys) (threads : ℕ) (seats : List SeatState) (diaries : List Diary) (seat : SeatState)
+    (diary : Diary) → AreDiaries lines shown given threads seats diaries
     → IsDiaryOf lines shown given threads diary (carried_by seat) → AreDiaries lines shown given (threads + 1) (seats ++ seat ∷ []) (diaries ++ diary ∷ [])
 AreDiaries-push lines shown given threads seats diaries seat diary are is = record {
   each_thread = length-append diaries (diary ∷ []) ∙ ap (λ n. n + 1) are.each_thread;
   each_seat = length-append seats (seat ∷ []) ∙ ap (λ n. n + 1) are.each_seat;
-  follow = each_beside-push (λ n s d. IsDiaryOf lines shown given n d (carried_by s)) seats diaries seat diary (are.each_seat ∙ sym are.each_thread) are.follow (subst (λ n. IsDiaryOf lines shown given n diary (carried_by seat)) (sym are.each_seat) is);
+  follow = each_beside-push (λ n s d. IsDiaryOf lines shown given n d (carried_by s)) seats diaries seat diary (are.each_seat ∙ sym are.each_thread) are.follow
+      (subst (λ n. IsDiaryOf lines shown given n diary (carried_by seat)) (sym are.each_seat) is);
 }

@@ -19,7 +19,8 @@ each-weaker P Q [] less each = tt
 each-weaker P Q (x ∷ xs) less each = (less x each.0, each-weaker P Q xs less each.1)
 
 -- seats that stand in the first section, each between what else holds of it
-pub each-first : (limits : Limits) (P Q : SeatState → Type 0) (seats : List SeatState) (ns : List ℕ) → map standing seats ≡ map (first_standing limits) ns → AllByRecursion P seats → AllByRecursion Q seats
+pub each-first : (limits : Limits) (P Q : SeatState → Type 0) (seats : List SeatState) (ns : List ℕ) → map standing seats ≡ map (first_standing limits) ns
+    → AllByRecursion P seats → AllByRecursion Q seats
     → AllByRecursion (λ seat. P seat × (seat.section ≡ 0) × Q seat) seats
 each-first limits P Q [] ns same each others = tt
 each-first limits P Q (seat ∷ seats) [] same each others = absurd cc

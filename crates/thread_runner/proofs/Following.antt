@@ -33,7 +33,8 @@ use Rattle.audit.proofs.Replies.{take_more}
 use Rattle.thread_runner.proofs.Carrying.{Carries-none}
 
 -- a thread that was told nothing
-pub FollowsLines-none : (lines : List Line) (given : GivenKeys) (thread : ℕ) (shown : Bool) (diary : Diary) (its : Carried) → IsEmptyDiary shown diary → HaveNothing its → FollowsLines lines given thread [] 0 shown (voice_of diary) its
+pub FollowsLines-none : (lines : List Line) (given : GivenKeys) (thread : ℕ) (shown : Bool) (diary : Diary) (its : Carried) → IsEmptyDiary shown diary
+    → HaveNothing its → FollowsLines lines given thread [] 0 shown (voice_of diary) its
 FollowsLines-none lines given thread shown diary its empty nothing = record {
   passages = [];
   in_order = refl;
@@ -45,13 +46,15 @@ FollowsLines-none lines given thread shown diary its empty nothing = record {
 }
 
 -- one passage more leads on from where the others led
-ArePassages-push : (lines : List Line) (given : GivenKeys) (thread from to : ℕ) (passages : List Passage) (passage : Passage) → ArePassages lines given thread from to passages → IsPassage lines given thread to passage
+ArePassages-push : (lines : List Line) (given : GivenKeys) (thread from to : ℕ) (passages : List Passage) (passage : Passage)
+    → ArePassages lines given thread from to passages → IsPassage lines given thread to passage
     → ArePassages lines given thread from (barriers_after to passage) (passages ++ passage ∷ [])
 ArePassages-push lines given thread from to [] passage are is = (subst (λ n. IsPassage lines given thread n passage) (sym are) is, ap (λ n. barriers_after n passage) are)
 ArePassages-push lines given thread from to (first ∷ passages) passage are is = (are.0, ArePassages-push lines given thread (barriers_after from first) to passages passage are.1 is)
 
 -- what came of a line that is no adoption
-AnswersLine-call : (lines : List Line) (given : GivenKeys) (thread section place : ℕ) (l : Line) (outcomes : List Outcome) → slice_get lines place ≡ Some l → is_line_of thread l ≡ true → is_adopt l ≡ false
+AnswersLine-call : (lines : List Line) (given : GivenKeys) (thread section place : ℕ) (l : Line) (outcomes : List Outcome) → slice_get lines place ≡ Some l
+    → is_line_of thread l ≡ true → is_adopt l ≡ false
     → section ≡ marks (take place lines) → AreAnswers given section thread (asked_at (take place lines) l) outcomes → AnswersLine lines given thread section place outcomes
 AnswersLine-call lines given thread section place line.Silent outcomes here own is its answered = absurd cc
 AnswersLine-call lines given thread section place (line.Call caller call) outcomes here own is its answered = record {
@@ -79,9 +82,11 @@ AnswersLine-adopt lines given thread section place (line.Adopt shard) what here 
 AnswersLine-adopt lines given thread section place line.Mark what here own is its answered = absurd cc
 
 -- one passage more
-module _ (lines : List Line) (given : GivenKeys) (thread : ℕ) (places : List ℕ) (barriers : ℕ) (shown : Bool) (old new : Diary) (was now_is : Carried) (before : FollowsLines lines given thread places barriers shown (voice_of old) was)
+module _ (lines : List Line) (given : GivenKeys) (thread : ℕ) (places : List ℕ) (barriers : ℕ) (shown : Bool) (old new : Diary) (was now_is : Carried)
+    (before : FollowsLines lines given thread places barriers shown (voice_of old) was)
     (keeps : old.replies ≡ shown) where
-  FollowsLines-passage : (passage : Passage) (replies : ℕ) → IsPassage lines given thread barriers passage → Grows (entries_in passage) (receipts_in passage) replies old new → Carries (sent_in passage) (taken_in passage) was now_is
+  FollowsLines-passage : (passage : Passage) (replies : ℕ) → IsPassage lines given thread barriers passage
+      → Grows (entries_in passage) (receipts_in passage) replies old new → Carries (sent_in passage) (taken_in passage) was now_is
       → FollowsLines lines given thread (places ++ places_in passage) (barriers_after barriers passage) shown (voice_of new) now_is
   FollowsLines-passage passage replies is grows carries = record {
     passages = before.passages ++ passage ∷ [];
@@ -89,13 +94,19 @@ module _ (lines : List Line) (given : GivenKeys) (thread : ℕ) (places : List �
     each = ArePassages-push lines given thread 0 barriers before.passages passage before.each is;
     receipts_are = grows.receipts_are ∙ ap (λ rs. rs ++ receipts_in passage) before.receipts_are ∙ ap (λ rs. flat_map receipts_in before.passages ++ rs) (sym (append-nil (receipts_in passage)))
         ∙ sym (flat_map-append receipts_in before.passages (passage ∷ []));
-    entries_are = λ is_shown. grows.entries_are (keeps ∙ is_shown) ∙ ap (λ es. es ++ entries_in passage) (before.entries_are is_shown) ∙ ap (λ es. flat_map entries_in before.passages ++ es) (sym (append-nil (entries_in passage)))
+    entries_are = λ is_shown. grows.entries_are (keeps ∙ is_shown) ∙ ap (λ es. es ++ entries_in passage) (before.entries_are is_shown)
+        ∙ ap (λ es. flat_map entries_in before.passages ++ es) (sym (append-nil (entries_in passage)))
         ∙ sym (flat_map-append entries_in before.passages (passage ∷ []));
-    sends = λ shard. carries.sends shard ∙ ap (λ (ks : List Key). ks ++ filter (is_of_shard shard) (sent_in passage)) (before.sends shard) ∙ sym (filter-append (is_of_shard shard) (flat_map sent_in before.passages) (sent_in passage))
-        ∙ ap (filter (is_of_shard shard)) (ap (λ (ks : List Key). flat_map sent_in before.passages ++ ks) (sym (append-nil (sent_in passage))) ∙ sym (flat_map-append sent_in before.passages (passage ∷ [])));
+    sends = λ shard. carries.sends shard ∙ ap (λ (ks : List Key). ks ++ filter (is_of_shard shard) (sent_in passage)) (before.sends shard)
+        ∙ sym (filter-append (is_of_shard shard) (flat_map sent_in before.passages) (sent_in passage))
+        ∙ ap (filter (is_of_shard shard))
+        (ap (λ (ks : List Key). flat_map sent_in before.passages ++ ks) (sym (append-nil (sent_in passage)))
+        ∙ sym (flat_map-append sent_in before.passages (passage ∷ [])));
     takes =
         let all = ap (λ (ks : List Key). flat_map taken_in before.passages ++ ks) (sym (append-nil (taken_in passage))) ∙ sym (flat_map-append taken_in before.passages (passage ∷ [])) in
-        subst (λ (ks : List Key). IsPermutation (joined now_is.taken) ks) all (IsPermutation-trans _ _ _ carries.takes (IsPermutation-append_left (taken_in passage) (joined was.taken) (flat_map taken_in before.passages) before.takes));
+        subst (λ (ks : List Key). IsPermutation (joined now_is.taken) ks) all
+        (IsPermutation-trans _ _ _ carries.takes
+        (IsPermutation-append_left (taken_in passage) (joined was.taken) (flat_map taken_in before.passages) before.takes));
   }
 
   -- a line of the thread
@@ -155,20 +166,27 @@ replies_at-adopt (line.Adopt shard) is = refl
 replies_at-adopt line.Mark is = refl
 
 -- the replies of a line are counted
-sum-place : (lines : List Line) (place : ℕ) (places : List ℕ) (l : Line) → slice_get lines place ≡ Some l → sum_by (replies_on lines) (places ++ place ∷ []) ≡ sum_by (replies_on lines) places + replies_at l
+sum-place : (lines : List Line) (place : ℕ) (places : List ℕ) (l : Line) → slice_get lines place ≡ Some l
+    → sum_by (replies_on lines) (places ++ place ∷ []) ≡ sum_by (replies_on lines) places + replies_at l
 sum-place lines place places l here = sum_by_push (replies_on lines) places place ∙ ap (λ o. sum_by (replies_on lines) places + option_map_or replies_at o 0) here
 
 -- the same number of the thread
-Tracks-same : (lines : List Line) (shown : Bool) (knows : GivenKeys → Type 0) (old new done barriers : ℕ) (diary : Diary) (its : Carried) → new ≡ old → Tracks lines shown knows old done barriers diary its → Tracks lines shown knows new done barriers diary its
+Tracks-same : (lines : List Line) (shown : Bool) (knows : GivenKeys → Type 0) (old new done barriers : ℕ) (diary : Diary) (its : Carried) → new ≡ old
+    → Tracks lines shown knows old done barriers diary its → Tracks lines shown knows new done barriers diary its
 Tracks-same lines shown knows old new done barriers diary its same tracks = subst (λ t. Tracks lines shown knows t done barriers diary its) (sym same) tracks
 
 -- no less is known of the keys
 pub Tracks-known : (lines : List Line) (shown : Bool) (knew knows : GivenKeys → Type 0) (thread done barriers : ℕ) (diary : Diary) (its : Carried) → ((given : GivenKeys) → knows given → knew given)
     → Tracks lines shown knew thread done barriers diary its → Tracks lines shown knows thread done barriers diary its
-Tracks-known lines shown knew knows thread done barriers diary its known tracks = record { shown_is = tracks.shown_is; follows = λ given is. tracks.follows given (known given is); counted = tracks.counted }
+Tracks-known lines shown knew knows thread done barriers diary its known tracks = record {
+  shown_is = tracks.shown_is;
+  follows = λ given is. tracks.follows given (known given is);
+  counted = tracks.counted;
+}
 
 -- a thread that has run no line
-pub Tracks-none : (lines : List Line) (shown : Bool) (knows : GivenKeys → Type 0) (thread : ℕ) (diary : Diary) (its : Carried) → IsEmptyDiary shown diary → HaveNothing its → Tracks lines shown knows thread 0 0 diary its
+pub Tracks-none : (lines : List Line) (shown : Bool) (knows : GivenKeys → Type 0) (thread : ℕ) (diary : Diary) (its : Carried) → IsEmptyDiary shown diary
+    → HaveNothing its → Tracks lines shown knows thread 0 0 diary its
 Tracks-none lines shown knows thread diary its empty nothing = record {
   shown_is = empty.shown_is;
   follows = λ given is. ∣ FollowsLines-none lines given thread shown diary its empty nothing ∣₁;
@@ -176,31 +194,42 @@ Tracks-none lines shown knows thread diary its empty nothing = record {
 }
 
 -- one that has run one line more, which is its next
-pub Tracks-line : (lines : List Line) (shown : Bool) (knew knows : GivenKeys → Type 0) (section thread same done place : ℕ) (l : Line) (old new : Diary) (before after : Carried) → same ≡ thread → section ≡ marks (take place lines)
+pub Tracks-line : (lines : List Line) (shown : Bool) (knew knows : GivenKeys
+    → Type 0) (section thread same done place : ℕ) (l : Line) (old new : Diary) (before after : Carried) → same ≡ thread → section ≡ marks (take place lines)
     → slice_get (places_of thread lines) done ≡ Some place → slice_get lines place ≡ Some l → is_line_of thread l ≡ true → is_adopt l ≡ false
-    → Tells section thread (place + 6) (asked_at (take place lines) l) knew knows old new before after → Tracks lines shown knew thread done section old before → Tracks lines shown knows same (done + 1) section new after
-Tracks-line lines shown knew knows section thread same done place l old new before after is its next here own call tells tracks = Tracks-same lines shown knows thread same (done + 1) section new after is (record {
-  shown_is = tells.grows.shown_is ∙ tracks.shown_is;
-  follows = λ given known. rw (take-place (places_of thread lines) done place next) (∥∥₁_map (tracks.follows given (tells.known given known)) (λ follows. FollowsLines-line lines given thread _ section shown old new before after follows tracks.shown_is
-      place tells.outcomes _ (AnswersLine-call lines given thread section place l tells.outcomes here own call its (tells.answered given known)) tells.grows tells.carries));
-  counted = rw (take-place (places_of thread lines) done place next, sum-place lines place (take done (places_of thread lines)) l here)
-      (tells.grows.calls_is ∙ ap (λ n. old.calls + n) (length-asked_at (take place lines) l call) ∙ ap (λ n. n + replies_at l) tracks.counted);
-})
+    → Tells section thread (place + 6) (asked_at (take place lines) l) knew knows old new before after → Tracks lines shown knew thread done section old before
+    → Tracks lines shown knows same (done + 1) section new after
+Tracks-line lines shown knew knows section thread same done place l old new before after is its next here own call tells tracks = Tracks-same lines shown knows
+    thread same (done + 1) section new after is (record {
+      shown_is = tells.grows.shown_is ∙ tracks.shown_is;
+      follows = λ given known. rw (take-place (places_of thread lines) done place next)
+          (∥∥₁_map (tracks.follows given (tells.known given known))
+          (λ follows. FollowsLines-line lines given thread _ section shown old new before after follows tracks.shown_is
+          place tells.outcomes _ (AnswersLine-call lines given thread section place l tells.outcomes here own call its (tells.answered given known)) tells.grows tells.carries));
+      counted = rw (take-place (places_of thread lines) done place next, sum-place lines place (take done (places_of thread lines)) l here)
+          (tells.grows.calls_is ∙ ap (λ n. old.calls + n) (length-asked_at (take place lines) l call) ∙ ap (λ n. n + replies_at l) tracks.counted);
+    })
 
 -- one whose shard was to adopt, as its next line asks, at the barrier that ends a section
-pub Tracks-adoption : (lines : List Line) (shown : Bool) (knows : GivenKeys → Type 0) (section thread same done place : ℕ) (l : Line) (old new : Diary) (before after : Carried) → same ≡ thread → after ≡ before → section ≡ marks (take place lines)
+pub Tracks-adoption : (lines : List Line) (shown : Bool) (knows : GivenKeys
+    → Type 0) (section thread same done place : ℕ) (l : Line) (old new : Diary) (before after : Carried) → same ≡ thread → after ≡ before
+    → section ≡ marks (take place lines)
     → slice_get (places_of thread lines) done ≡ Some place → slice_get lines place ≡ Some l → is_line_of thread l ≡ true → is_adopt l ≡ true → TellsAdoption (place + 6) old new
     → Tracks lines shown knows thread done (section + 1) old before → Tracks lines shown knows same (done + 1) (section + 1) new after
-Tracks-adoption lines shown knows section thread same done place l old new before after is carried its next here own adopts tells tracks = Tracks-same lines shown knows thread same (done + 1) (section + 1) new after is (record {
-  shown_is = tells.grows.shown_is ∙ tracks.shown_is;
-  follows = λ given known. rw (take-place (places_of thread lines) done place next) (∥∥₁_map (tracks.follows given known) (λ follows. FollowsLines-line lines given thread _ (section + 1) shown old new before after follows tracks.shown_is
-      place (Said tells.what ∷ []) 0 (AnswersLine-adopt lines given thread section place l tells.what here own adopts its tells.adoption) tells.grows (Carries-none before after carried)));
-  counted = rw (take-place (places_of thread lines) done place next, sum-place lines place (take done (places_of thread lines)) l here)
-      (tells.grows.calls_is ∙ ap (λ n. old.calls + n) (sym (replies_at-adopt l adopts)) ∙ ap (λ n. n + replies_at l) tracks.counted);
-})
+Tracks-adoption lines shown knows section thread same done place l old new before after is carried its next here own adopts tells tracks = Tracks-same lines
+    shown knows thread same (done + 1) (section + 1) new after is (record {
+      shown_is = tells.grows.shown_is ∙ tracks.shown_is;
+      follows = λ given known. rw (take-place (places_of thread lines) done place next)
+          (∥∥₁_map (tracks.follows given known) (λ follows. FollowsLines-line lines given thread _ (section + 1) shown old new before after follows tracks.shown_is
+          place (Said tells.what ∷ []) 0 (AnswersLine-adopt lines given thread section place l tells.what here own adopts its tells.adoption) tells.grows (Carries-none before after carried)));
+      counted = rw (take-place (places_of thread lines) done place next, sum-place lines place (take done (places_of thread lines)) l here)
+          (tells.grows.calls_is ∙ ap (λ n. old.calls + n) (sym (replies_at-adopt l adopts)) ∙ ap (λ n. n + replies_at l) tracks.counted);
+    })
 
 -- one at the barrier that ends a section
-pub Tracks-barrier : (lines : List Line) (shown : Bool) (knows : GivenKeys → Type 0) (section thread same done count : ℕ) (old new : Diary) (before after : Carried) → same ≡ thread → TellsTending section thread count old new before after
+pub Tracks-barrier : (lines : List Line) (shown : Bool) (knows : GivenKeys
+    → Type 0) (section thread same done count : ℕ) (old new : Diary) (before after : Carried) → same ≡ thread
+    → TellsTending section thread count old new before after
     → Tracks lines shown knows thread done section old before → Tracks lines shown knows same done (section + 1) new after
 Tracks-barrier lines shown knows section thread same done count old new before after is takes tracks = Tracks-same lines shown knows thread same done (section + 1) new after is (record {
   shown_is = takes.grows.shown_is ∙ tracks.shown_is;
@@ -209,7 +238,8 @@ Tracks-barrier lines shown knows section thread same done count old new before a
 })
 
 -- one that was told nothing
-pub Tracks-kept : (lines : List Line) (shown : Bool) (knows : GivenKeys → Type 0) (thread same done barriers : ℕ) (old new : Diary) (before after : Carried) → same ≡ thread → Grows [] [] 0 old new → after ≡ before
+pub Tracks-kept : (lines : List Line) (shown : Bool) (knows : GivenKeys → Type 0) (thread same done barriers : ℕ) (old new : Diary) (before after : Carried)
+    → same ≡ thread → Grows [] [] 0 old new → after ≡ before
     → Tracks lines shown knows thread done barriers old before → Tracks lines shown knows same done barriers new after
 Tracks-kept lines shown knows thread same done barriers old new before after is grows carried tracks = Tracks-same lines shown knows thread same done barriers new after is (record {
   shown_is = grows.shown_is ∙ tracks.shown_is;
@@ -218,7 +248,8 @@ Tracks-kept lines shown knows thread same done barriers old new before after is 
 })
 
 -- between two sections no less is known of the keys
-pub Rests-known : (lines : List Line) (shown : Bool) (table : Table) (knew knows : GivenKeys → Type 0) (section : ℕ) (seat : SeatState) (done : ℕ) (diary : Diary) → ((given : GivenKeys) → knows given → knew given)
+pub Rests-known : (lines : List Line) (shown : Bool) (table : Table) (knew knows : GivenKeys
+    → Type 0) (section : ℕ) (seat : SeatState) (done : ℕ) (diary : Diary) → ((given : GivenKeys) → knows given → knew given)
     → Rests lines shown table knew section seat done diary → Rests lines shown table knows section seat done diary
 Rests-known lines shown table knew knows section seat done diary known rests = record {
   rows_are = rests.rows_are;
@@ -228,7 +259,9 @@ Rests-known lines shown table knew knows section seat done diary known rests = r
 }
 
 -- one that has run all its lines and come to all barriers
-pub IsDiaryOf-tracked : (lines : List Line) (shown : Bool) (knows : GivenKeys → Type 0) (given : GivenKeys) (thread done section : ℕ) (diary : Diary) (carried : Carried) → length (places_of thread lines) ≤ done → section ≡ marks lines + 1
+pub IsDiaryOf-tracked : (lines : List Line) (shown : Bool) (knows : GivenKeys
+    → Type 0) (given : GivenKeys) (thread done section : ℕ) (diary : Diary) (carried : Carried) → length (places_of thread lines) ≤ done
+    → section ≡ marks lines + 1
     → knows given → Tracks lines shown knows thread done section diary carried → IsDiaryOf lines shown given thread diary carried
 IsDiaryOf-tracked lines shown knows given thread done section diary carried all last known tracks =
     let whole = take_all done (places_of thread lines) all in

@@ -31,7 +31,8 @@ module _ (first second : List Entry) (some more : List Receipt) (n m : ℕ) (old
     calls_is = omega (arith, before.calls_is, after.calls_is);
   }
 
-AreAnswers-append : (given : GivenKeys) (section thread : ℕ) (first second : List Asked) (some more : List Outcome) → AreAnswers given section thread first some → AreAnswers given section thread second more
+AreAnswers-append : (given : GivenKeys) (section thread : ℕ) (first second : List Asked) (some more : List Outcome) → AreAnswers given section thread first some
+    → AreAnswers given section thread second more
     → AreAnswers given section thread (first ++ second) (some ++ more)
 AreAnswers-append given section thread [] second [] more before after = after
 AreAnswers-append given section thread [] second (outcome ∷ some) more before after = absurd before
@@ -40,10 +41,17 @@ AreAnswers-append given section thread (asked ∷ first) second (outcome ∷ som
 
 -- nothing was asked
 pub Tells-none : (section thread number : ℕ) (knows : GivenKeys → Type 0) (diary : Diary) (carried : Carried) → Tells section thread number [] knows knows diary diary carried carried
-Tells-none section thread number knows diary carried = record { outcomes = []; answered = λ given known. tt; known = λ given known. known; grows = Grows-none diary; carries = Carries-none carried carried refl }
+Tells-none section thread number knows diary carried = record {
+  outcomes = [];
+  answered = λ given known. tt;
+  known = λ given known. known;
+  grows = Grows-none diary;
+  carries = Carries-none carried carried refl;
+}
 
 -- one thing was asked, and this came of it
-pub Tells-one : (section thread number : ℕ) (asked : Asked) (outcome : Outcome) (knew knows : GivenKeys → Type 0) (old new : Diary) (before after : Carried) → ((given : GivenKeys) → knows given → Answers given section thread asked outcome)
+pub Tells-one : (section thread number : ℕ) (asked : Asked) (outcome : Outcome) (knew knows : GivenKeys → Type 0) (old new : Diary) (before after : Carried)
+    → ((given : GivenKeys) → knows given → Answers given section thread asked outcome)
     → ((given : GivenKeys) → knows given → knew given) → Grows (entries_on number outcome) (receipts_from outcome) 1 old new → Carries (sent_by outcome) (taken_by outcome) before after
     → Tells section thread number (asked ∷ []) knew knows old new before after
 Tells-one section thread number asked outcome knew knows old new before after answers known grows carries = record {
@@ -57,7 +65,8 @@ Tells-one section thread number asked outcome knew knows old new before after an
 }
 
 -- first some things, and then others
-module _ (section thread number : ℕ) (first second : List Asked) (knew meanwhile knows : GivenKeys → Type 0) (old mid new : Diary) (was then_is now_is : Carried) (before : Tells section thread number first knew meanwhile old mid was then_is)
+module _ (section thread number : ℕ) (first second : List Asked) (knew meanwhile knows : GivenKeys
+    → Type 0) (old mid new : Diary) (was then_is now_is : Carried) (before : Tells section thread number first knew meanwhile old mid was then_is)
     (after : Tells section thread number second meanwhile knows mid new then_is now_is) where
   pub Tells-append : Tells section thread number (first ++ second) knew knows old new was now_is
   Tells-append =
@@ -81,4 +90,6 @@ pub Tells-tended : (section thread number count : ℕ) (knows : GivenKeys → Ty
 Tells-tended section thread number count knows old mid new before after takes grows =
     let both = Grows-append _ _ takes.receipts [] 0 1 old mid new takes.grows grows in
     Tells-one section thread number Tends (Took takes.receipts) knows knows old new before after (λ given is. takes.are_frees) (λ given is. is)
-    (rw (← takes.count_is) (subst (λ (r : List Receipt). Grows (entry.Incoming count ∷ entry.Said (record { line = number; other = other.Settled count }) ∷ []) r 1 old new) (append-nil takes.receipts) both)) takes.carries
+    (rw (← takes.count_is) (subst (λ (r : List Receipt). Grows
+    (entry.Incoming count ∷ entry.Said (record { line = number; other = other.Settled count }) ∷ []) r 1 old new) (append-nil takes.receipts) both))
+    takes.carries

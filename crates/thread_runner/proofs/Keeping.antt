@@ -16,7 +16,8 @@ use Rattle.thread_runner.proofs.Each.{All-each, each-All}
 -- ---- one put more of those that go on
 
 -- where the last of these has one put more, it was given too, and so was what that put gave
-pub AreFresh-more : (fresh : List Given) (at : ℕ) (old new : Given) (key : Option Key) (place : ℕ) (given : GivenKeys) → slice_get fresh at ≡ Some old → new.place ≡ old.place → new.times ≡ old.times + 1 → new.key ≡ old.key
+pub AreFresh-more : (fresh : List Given) (at : ℕ) (old new : Given) (key : Option Key) (place : ℕ) (given : GivenKeys) → slice_get fresh at ≡ Some old
+    → new.place ≡ old.place → new.times ≡ old.times + 1 → new.key ≡ old.key
     → place ≡ old.place + old.times → key ≡ key_from old.key old.times → AreFresh (set fresh at new) given → AreFresh fresh given × (given place ≡ key)
 AreFresh-more [] at old new key place given here same_place more same_key is_next is_key are = absurd cc
 AreFresh-more (one ∷ fresh) zero old new key place given here same_place more same_key is_next is_key are =

@@ -36,7 +36,8 @@ each-parts P (x ∷ xs) ys each = let (left, right) = each-parts P xs ys each.1 
 
 -- one thing was asked that changes nothing of what is known of keys
 pub Tells-still : (section thread number : ℕ) (asked : Asked) (outcome : Outcome) (kept : List Given) (fresh later : List Given) (old new : Diary) (before after : Carried) → later ≡ fresh
-    → ((given : GivenKeys) → AreKnown kept fresh given → Answers given section thread asked outcome) → Carries (sent_by outcome) (taken_by outcome) before after → Grows (entries_on number outcome) (receipts_from outcome) 1 old new
+    → ((given : GivenKeys) → AreKnown kept fresh given → Answers given section thread asked outcome) → Carries (sent_by outcome) (taken_by outcome) before after
+    → Grows (entries_on number outcome) (receipts_from outcome) 1 old new
     → Tells section thread number (asked ∷ []) (AreKnown kept fresh) (AreKnown kept later) old new before after
 Tells-still section thread number asked outcome kept fresh later old new before after same answers carries grows =
     let fits : (given : GivenKeys) → AreKnown kept later given → AreKnown kept fresh given = λ given known. subst (λ f. AreKnown kept f given) same known in
@@ -64,7 +65,8 @@ is_look_up-look_up None = refl
 is_look_up-look_up (Some value) = refl
 
 -- the receipt of a look-up
-pub Answers-get : (given : GivenKeys) (section thread place : ℕ) (value : Option Value) (key : Key) (receipt : Receipt) → receipt ≡ get_receipt thread section key value receipt.at → given place ≡ Some key
+pub Answers-get : (given : GivenKeys) (section thread place : ℕ) (value : Option Value) (key : Key) (receipt : Receipt)
+    → receipt ≡ get_receipt thread section key value receipt.at → given place ≡ Some key
     → Answers given section thread (Gets place) (Called receipt)
 Answers-get given section thread place value key receipt is known = (
   record { by = ap (λ (r : Receipt). r.worker) is; in_section = ap (λ (r : Receipt). r.section) is; of_key = known ∙ ap (λ (r : Receipt). Some r.key) (sym is) },
@@ -76,7 +78,8 @@ IsSetTo-set value true = refl
 IsSetTo-set value false = refl
 
 -- the receipt of a set
-pub Answers-set : (given : GivenKeys) (section thread place : ℕ) (value : Value) (done : Bool) (key : Key) (receipt : Receipt) → receipt ≡ set_receipt thread section key value done receipt.at → given place ≡ Some key
+pub Answers-set : (given : GivenKeys) (section thread place : ℕ) (value : Value) (done : Bool) (key : Key) (receipt : Receipt)
+    → receipt ≡ set_receipt thread section key value done receipt.at → given place ≡ Some key
     → Answers given section thread (Sets place value) (Called receipt)
 Answers-set given section thread place value done key receipt is known = (
   record { by = ap (λ (r : Receipt). r.worker) is; in_section = ap (λ (r : Receipt). r.section) is; of_key = known ∙ ap (λ (r : Receipt). Some r.key) (sym is) },

@@ -31,7 +31,8 @@ slice_get-drop (y ∷ xs) (suc first) i x here =
 pub lineless-more : (xs : List Receipt) (first i : ℕ) (x : Receipt) (base now later : List LineAnswer) → slice_get xs (first + i) ≡ Some x → now ≡ base ++ flat_map lineless (take i (drop first xs))
     → later ≡ now ++ lineless x → later ≡ base ++ flat_map lineless (take (i + 1) (drop first xs))
 lineless-more xs first i x base now later here before more =
-    let step = ap (flat_map lineless) (take_more (drop first xs) i x (slice_get-drop xs first i x here)) ∙ flat_map-append lineless (take i (drop first xs)) (x ∷ []) ∙ ap (λ l. flat_map lineless (take i (drop first xs)) ++ l) (append-nil (lineless x)) in
+    let step = ap (flat_map lineless) (take_more (drop first xs) i x (slice_get-drop xs first i x here))
+    ∙ flat_map-append lineless (take i (drop first xs)) (x ∷ []) ∙ ap (λ l. flat_map lineless (take i (drop first xs)) ++ l) (append-nil (lineless x)) in
     more ∙ ap (λ l. l ++ lineless x) before ∙ append_assoc base (flat_map lineless (take i (drop first xs))) (lineless x) ∙ ap (λ l. base ++ l) (sym step)
 
 -- the receipt of a place is the first from there on
@@ -48,7 +49,8 @@ drop-more xs place x here =
 pub live_count-more_log : (logs : List SpanLog) (i : ℕ) (log : SpanLog) → slice_get logs i ≡ Some log
     → live_count (map span_of_log (take (i + 1) logs)) ≡ live_count (map span_of_log (take i logs)) + len (live_slots (kept_changes log.log))
 live_count-more_log logs i log here =
-    let one : sum_by (λ (s : SpanState). len (live_slots s.log)) (span_of_log log ∷ []) ≡ len (live_slots (kept_changes log.log)) = sum_by-cons (λ (s : SpanState). len (live_slots s.log)) (span_of_log log) [] ∙ omega arith in
+    let one : sum_by (λ (s : SpanState). len (live_slots s.log)) (span_of_log log ∷ [])
+    ≡ len (live_slots (kept_changes log.log)) = sum_by-cons (λ (s : SpanState). len (live_slots s.log)) (span_of_log log) [] ∙ omega arith in
     ap (λ l. live_count (map span_of_log l)) (take_more logs i log here)
     ∙ ap live_count (map-append span_of_log (take i logs) (log ∷ []))
     ∙ sum_by-append (λ (s : SpanState). len (live_slots s.log)) (map span_of_log (take i logs)) (span_of_log log ∷ [])

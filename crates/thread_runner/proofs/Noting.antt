@@ -104,7 +104,8 @@ AreNotesTo-more lines place notes text plan are is carried =
     }
 
 -- the same marks stand above another place
-pub HaveCome-other : (lines : List Line) (above other : ℕ) (minutes : Minutes) → marks_above lines other ≡ marks_above lines above → HaveCome lines above None minutes → HaveCome lines other None minutes
+pub HaveCome-other : (lines : List Line) (above other : ℕ) (minutes : Minutes) → marks_above lines other ≡ marks_above lines above
+    → HaveCome lines above None minutes → HaveCome lines other None minutes
 HaveCome-other lines above other minutes same come = record {
   counted = come.counted ∙ ap length (sym same);
   noted = record {
@@ -157,7 +158,8 @@ HaveCome-refused lines place old new come is marks notes certificate = record {
 }
 
 -- the plan of the last mark is closed, after a step for each pair
-pub HaveCome-closed : (lines : List Line) (above barrier pages : ℕ) (pairs : List (SpanId × SpanId)) (steps : List TakenStep) (old new : Minutes) → HaveCome lines above (Some pairs) old → map taken_pair steps ≡ pairs
+pub HaveCome-closed : (lines : List Line) (above barrier pages : ℕ) (pairs : List (SpanId × SpanId)) (steps : List TakenStep) (old new : Minutes)
+    → HaveCome lines above (Some pairs) old → map taken_pair steps ≡ pairs
     → barrier ≡ barrier_from lines above → new.marks ≡ old.marks → new.notes.items ≡ old.notes.items ++ note_at barrier (Closed (record { mark = old.marks; steps = steps; pages = pages })) ∷ []
     → new.certificate ≡ old.certificate → HaveCome lines above None new
 HaveCome-closed lines above barrier pages pairs steps old new come taken begins marks notes certificate =
@@ -222,7 +224,8 @@ module _ (lines : List Line) (place : ℕ) (line : Line) (here : slice_get lines
 -- below the last line there is none
 pub barrier_from-end : (lines : List Line) → barrier_from lines (length lines) ≡ length lines
 barrier_from-end lines =
-    let none : length (take_while (λ l. not (is_barrier l)) (drop (length lines) lines)) ≡ 0 = ap (λ ls. length (take_while (λ l. not (is_barrier l)) ls)) (drop_all (length lines) lines (omega arith)) in
+    let none : length (take_while (λ l. not (is_barrier l)) (drop (length lines) lines))
+    ≡ 0 = ap (λ ls. length (take_while (λ l. not (is_barrier l)) ls)) (drop_all (length lines) lines (omega arith)) in
     omega arith
 
 -- where an element fails the test, no more than those before it are taken

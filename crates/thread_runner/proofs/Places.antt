@@ -19,7 +19,8 @@ pub places_of-push : (thread : ℕ) (above : List Line) (l : Line) → places_of
 places_of-push thread above l = grind (arith, places_from-append thread 0 above (l ∷ []))
 
 -- the thread's list has a line more
-pub AreLaid-own : (above : List Line) (place thread : ℕ) (l : Line) (old new : List (List ℕ)) → ((at : ℕ) → is_line_of at l ≡ (thread == at)) → length above ≡ place → AreLaid above old → AddsAt thread place old new
+pub AreLaid-own : (above : List Line) (place thread : ℕ) (l : Line) (old new : List (List ℕ)) → ((at : ℕ) → is_line_of at l ≡ (thread == at))
+    → length above ≡ place → AreLaid above old → AddsAt thread place old new
     → AreLaid (above ++ l ∷ []) new
 AreLaid-own above place thread l old new own long laid adds at listed is =
     let (before, was, now) = adds at listed is in
@@ -40,13 +41,15 @@ line_from-place thread from [] done place is = absurd cc
 line_from-place thread from (first ∷ lines) done place is = by_test (is_line_of thread first) refl done is (line_from-place thread (from + 1) lines)
   where
     by_test : (b : Bool) → is_line_of thread first ≡ b → (done : ℕ) → slice_get (if b then from ∷ places_from thread (from + 1) lines else places_from thread (from + 1) lines) done ≡ Some place
-        → ((done place : ℕ) → slice_get (places_from thread (from + 1) lines) done ≡ Some place → (k : ℕ) × (place ≡ from + 1 + k) × ((l : Line) × (slice_get lines k ≡ Some l) × (is_line_of thread l ≡ true)))
+        → ((done place : ℕ) → slice_get (places_from thread (from + 1) lines) done ≡ Some place
+        → (k : ℕ) × (place ≡ from + 1 + k) × ((l : Line) × (slice_get lines k ≡ Some l) × (is_line_of thread l ≡ true)))
         → (k : ℕ) × (place ≡ from + k) × ((l : Line) × (slice_get (first ∷ lines) k ≡ Some l) × (is_line_of thread l ≡ true))
     by_test true own zero is below = (0, let here : from ≡ place = cc in omega (arith, here), (first, refl, own))
     by_test true own (suc done) is below = let (k, at, there) = below done place is in (suc k, omega arith, there)
     by_test false other done is below = let (k, at, there) = below done place is in (suc k, omega arith, there)
 
-pub line_at-place : (thread : ℕ) (lines : List Line) (done place : ℕ) → slice_get (places_of thread lines) done ≡ Some place → (l : Line) × (slice_get lines place ≡ Some l) × (is_line_of thread l ≡ true)
+pub line_at-place : (thread : ℕ) (lines : List Line) (done place : ℕ) → slice_get (places_of thread lines) done ≡ Some place
+    → (l : Line) × (slice_get lines place ≡ Some l) × (is_line_of thread l ≡ true)
 line_at-place thread lines done place is =
     let (k, at, (l, there, own)) = line_from-place thread 0 lines done place is in
     (l, subst (λ p. slice_get lines p ≡ Some l) (let same : k ≡ place = omega arith in same) there, own)
@@ -57,9 +60,15 @@ AddsAt-set thread place old before now here is at listed there = elim (eqb_tells
   | inl (passes, same) ↦ (
     before,
     ap (slice_get old) (sym same) ∙ here,
-    (let written : Some listed ≡ Some now = sym there ∙ ap (slice_get (set old thread now)) (sym same) ∙ slice_get-set_same old thread before now here in let it : listed ≡ now = cc in it) ∙ is ∙ ap (λ (b : Bool). before ++ (if b then place ∷ [] else [])) (sym passes),
+    (let written : Some listed ≡ Some now = sym there ∙ ap (slice_get (set old thread now)) (sym same)
+        ∙ slice_get-set_same old thread before now here in let it : listed
+        ≡ now = cc in it) ∙ is ∙ ap (λ (b : Bool). before ++ (if b then place ∷ [] else [])) (sym passes),
   )
-  | inr (fails, differ) ↦ (listed, sym (slice_get-set_other old thread at now (λ e. differ (sym e))) ∙ there, sym (append-nil listed) ∙ ap (λ (b : Bool). listed ++ (if b then place ∷ [] else [])) (sym fails))
+  | inr (fails, differ) ↦ (
+    listed,
+    sym (slice_get-set_other old thread at now (λ e. differ (sym e))) ∙ there,
+    sym (append-nil listed) ∙ ap (λ (b : Bool). listed ++ (if b then place ∷ [] else [])) (sym fails),
+  )
 ]
 
 -- all that stands in a list after one more of these

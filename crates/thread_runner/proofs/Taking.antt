@@ -22,15 +22,21 @@ is_free-free false = refl
 
 -- the receipt of a free of a key is one of a free
 pub IsFreeBy-key : (worker section : ℕ) (receipt : Receipt) → IsKeyFreeBy worker section receipt.key receipt → IsFreeBy section worker receipt
-IsFreeBy-key worker section receipt is = record { by = ap (λ (r : Receipt). r.worker) is; in_section = ap (λ (r : Receipt). r.section) is; frees = ap (λ (r : Receipt). is_free r.call) is ∙ is_free-free (done_by receipt.call) }
+IsFreeBy-key worker section receipt is = record {
+  by = ap (λ (r : Receipt). r.worker) is;
+  in_section = ap (λ (r : Receipt). r.section) is;
+  frees = ap (λ (r : Receipt). is_free r.call) is ∙ is_free-free (done_by receipt.call);
+}
 
 frees-each : (worker section : ℕ) (receipts : List Receipt) → All (λ receipt. IsKeyFreeBy worker section receipt.key receipt) receipts → AllByRecursion (IsFreeBy section worker) receipts
 frees-each worker section [] all = tt
 frees-each worker section (receipt ∷ receipts) all = (IsFreeBy-key worker section receipt (all 0 receipt (omega arith)), frees-each worker section receipts (λ k d within. all (suc k) d (omega arith)))
 
 -- a diary goes on by what a seat took
-pub TellsTending-tended : (most count : ℕ) (before after : SeatState) (old mid new : Diary) → mid ≡ record old { receipts = mid.receipts } → IsTended most before after (kept_receipts old.receipts) (kept_receipts mid.receipts) count
-    → KeepsEnds before after → sending_side after ≡ sending_side before → Grows (entry.Incoming count ∷ []) [] 0 mid new → TellsTending before.section before.worker count old new (carried_by before) (carried_by after)
+pub TellsTending-tended : (most count : ℕ) (before after : SeatState) (old mid new : Diary) → mid ≡ record old { receipts = mid.receipts }
+    → IsTended most before after (kept_receipts old.receipts) (kept_receipts mid.receipts) count
+    → KeepsEnds before after → sending_side after ≡ sending_side before → Grows (entry.Incoming count ∷ []) [] 0 mid new
+    → TellsTending before.section before.worker count old new (carried_by before) (carried_by after)
 TellsTending-tended most count before after old mid new is tended ends sending grows = record {
   receipts = tended.freed.added;
   count_is = tended.total_is ∙ sym (ap length tended.freed.of_keys) ∙ length-map tended.freed.added (λ receipt. receipt.key);

@@ -62,7 +62,8 @@ map-voices (diary ∷ diaries) = ap (λ lists. (kept_receipts diary.receipts) �
 
 -- what stands in seats and diaries stands in what they have
 AreVoices-at : (lines : List Line) (shown : Bool) (given : GivenKeys) (thread : ℕ) (voice : Voice) (its : Carried) (seat : Option SeatState) (diary : Option Diary)
-    → ((s : SeatState) (d : Diary) → seat ≡ Some s → diary ≡ Some d → IsDiaryOf lines shown given thread d (carried_by s)) → option_map voice_of diary ≡ Some voice → option_map carried_by seat ≡ Some its
+    → ((s : SeatState) (d : Diary) → seat ≡ Some s → diary ≡ Some d → IsDiaryOf lines shown given thread d (carried_by s))
+    → option_map voice_of diary ≡ Some voice → option_map carried_by seat ≡ Some its
     → ∥ FollowsLines lines given thread (places_of thread lines) (marks lines + 1) shown voice its ∥₁
 AreVoices-at lines shown given thread voice its seat None each at sits = absurd cc
 AreVoices-at lines shown given thread voice its None (Some diary) each at sits = absurd cc

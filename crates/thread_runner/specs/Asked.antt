@@ -171,7 +171,8 @@ abbrev pub IsKeptBack : Option Key → Other → Type 0
 IsKeptBack None what = what ≡ other.Unbound
 IsKeptBack (Some key) what = what ≡ other.RingFull
 
--- this may come of what a line asks the thread for in that section, where those keys were given: the receipt of that call, on the key of that place; of a put that no page was left; of a free that is left for later
+-- this may come of what a line asks the thread for in that section, where those keys were given: the receipt of that call, on the key of that place; of a put
+-- that no page was left; of a free that is left for later
 -- that the key of that place was sent off, or that its ring had no room; and of a call on a key that it was never given out
 abbrev pub Answers : GivenKeys → (section thread : ℕ) → Asked → Outcome → Type 0
 Answers given section thread (Puts place value) (Called receipt) = IsCallOn given section thread place receipt × (receipt.call ≡ call.Put value)

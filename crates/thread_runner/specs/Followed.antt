@@ -116,7 +116,8 @@ abbrev pub ArePassages : List Line → GivenKeys → (thread from to : ℕ) → 
 ArePassages lines given thread from to [] = from ≡ to
 ArePassages lines given thread from to (passage ∷ passages) = IsPassage lines given thread from passage × ArePassages lines given thread (barriers_after from passage) to passages
 
--- passage by passage the voice tells what came of the thread's lines at these places, in this order, where those keys were given, and what it took at each of so many barriers, and nothing else; it has entries where they are shown.
+-- passage by passage the voice tells what came of the thread's lines at these places, in this order, where those keys were given, and what it took at each of
+-- so many barriers, and nothing else; it has entries where they are shown.
 -- Its rings carried to each shard the keys of that shard that it sent off, in order, and no others; and the keys that it took are those that they carried to it
 pub record FollowsLines (lines : List Line) (given : GivenKeys) (thread : ℕ) (places : List ℕ) (barriers : ℕ) (shown : Bool) (voice : Voice) (carried : Carried) : Type 0 where
   pub passages : List Passage
@@ -133,7 +134,8 @@ pub record AreDelivered (threads : ℕ) (carried : List Carried) : Type 0 where
   pub each_ring : (thread : ℕ) (its : Carried) → slice_get carried thread ≡ Some its → (length its.sent ≡ threads) × (length its.taken ≡ threads)
   pub whole : (from to : ℕ) (sender taker : Carried) → slice_get carried from ≡ Some sender → slice_get carried to ≡ Some taker → slice_index_or taker.taken from [] ≡ slice_index_or sender.sent to []
 
--- one voice a thread, in order; each follows all lines of its thread, each once, and all barriers: those of the marks, and the end of the text. One table has the key that each put gave, and each call on a name is on the key which that has for it.
+-- one voice a thread, in order; each follows all lines of its thread, each once, and all barriers: those of the marks, and the end of the text. One table has
+-- the key that each put gave, and each call on a name is on the key which that has for it.
 -- And each key that was sent off was taken by the thread of its shard, once, and freed
 pub record AreVoices (trace : Trace) (shown : Bool) (voices : List Voice) : Type 0 where
   pub given : GivenKeys

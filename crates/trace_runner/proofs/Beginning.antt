@@ -9,7 +9,8 @@ use Rattle.trace_text.specs.declared.line.Call.TheVariants.{Put, Fill, Get, Set,
 use Rattle.trace_text.specs.declared.line.Line.{Line}
 
 -- it asks for one event
-pub asked_by_call-begins : (shards : ℕ) (lines : List Line) (done : List Did) (thread : ℕ) (call : Call) → begins_again call ≡ true → asked_by_call shards lines done thread call ≡ Calls (event.Begin thread) ∷ []
+pub asked_by_call-begins : (shards : ℕ) (lines : List Line) (done : List Did) (thread : ℕ) (call : Call) → begins_again call ≡ true
+    → asked_by_call shards lines done thread call ≡ Calls (event.Begin thread) ∷ []
 asked_by_call-begins shards lines done thread (Put name class v) again = cc
 asked_by_call-begins shards lines done thread (Fill name class n v) again = cc
 asked_by_call-begins shards lines done thread (Get key) again = cc

@@ -35,7 +35,8 @@ fewer-SettlesNext worker shard old new (key, steps) =
     let ring = settles.ring in
     let rings = with_ring_at old.rings worker shard (with_keys ring settles.left) in
     let same : new.rings ≡ rings = rings-FreesKey (with_rings old rings) new key settles.freed settles.frees in
-    let after : pending_at new.rings worker shard ≡ settles.left = ap (λ r. pending_at r worker shard) same ∙ ap keys_of (here-with old.rings worker shard ring (with_keys ring settles.left) settles.here) in
+    let after : pending_at new.rings worker shard ≡ settles.left = ap (λ r. pending_at r worker shard) same
+    ∙ ap keys_of (here-with old.rings worker shard ring (with_keys ring settles.left) settles.here) in
     let before : pending_at old.rings worker shard ≡ key ∷ settles.left = ap keys_of settles.here ∙ settles.oldest in
     rw (after, before) (omega arith)
 
@@ -90,11 +91,13 @@ module _ (worker shard : ℕ) (old mid new : CoreState) (count : ℕ) (drains : 
 pub Drains-none : (core : CoreState) → Drains [] core core 0
 Drains-none core = record { called = []; asked = tt; steps = AreSteps-none core; count_is = refl }
 
-AreAsRequested-append : (requests more : List Request) (first second : List CalledEvent) → AreAsRequested requests first → AreAsRequested more second → AreAsRequested (requests ++ more) (first ++ second)
+AreAsRequested-append : (requests more : List Request) (first second : List CalledEvent) → AreAsRequested requests first → AreAsRequested more second
+    → AreAsRequested (requests ++ more) (first ++ second)
 AreAsRequested-append [] more [] second before after = after
 AreAsRequested-append (Once event ∷ requests) more (Called done reply core ∷ first) second before after = (before.0, AreAsRequested-append requests more first second before.1 after)
 AreAsRequested-append (UntilNone event ∷ requests) more (Called done (Settled None) core ∷ first) second before after = (before.0, AreAsRequested-append requests more first second before.1 after)
-AreAsRequested-append (UntilNone event ∷ requests) more (Called done (Settled (Some key)) core ∷ first) second before after = (before.0, AreAsRequested-append (UntilNone event ∷ requests) more first second before.1 after)
+AreAsRequested-append (UntilNone event ∷ requests) more (Called done (Settled (Some key)) core ∷ first) second before after =
+    (before.0, AreAsRequested-append (UntilNone event ∷ requests) more first second before.1 after)
 AreAsRequested-append requests more first second before after = absurd before
 
 pub Drains-append : (requests more : List Request) (a b c : CoreState) (m n : ℕ) → Drains requests a b m → Drains more b c n → Drains (requests ++ more) a c (m + n)
@@ -121,7 +124,8 @@ module _ (workers shard : ℕ) (old new : CoreState) (count : ℕ) (drains : Dra
   Makes-tended number before after kept = (tended ∷ [], refl, IsAnswered-tended, kept)
 
 -- settlings tell nothing of plans
-untold : (shard : ℕ) (workers : List ℕ) (called : List CalledEvent) (news : News) → AreAsRequested (map (λ worker. UntilNone (Settle worker shard)) workers) called → fold with_called news called ≡ news
+untold : (shard : ℕ) (workers : List ℕ) (called : List CalledEvent) (news : News)
+    → AreAsRequested (map (λ worker. UntilNone (Settle worker shard)) workers) called → fold with_called news called ≡ news
 untold shard [] [] news asked = refl
 untold shard (worker ∷ workers) (Called done (Settled None) core ∷ called) news asked =
     subst (λ event. fold with_called (with_called news (Called event (Settled None) core)) called ≡ news) (sym asked.0) (untold shard workers called news asked.1)
@@ -129,6 +133,7 @@ untold shard (worker ∷ workers) (Called done (Settled (Some key)) core ∷ cal
     subst (λ event. fold with_called (with_called news (Called event (Settled (Some key)) core)) called ≡ news) (sym asked.0) (untold shard (worker ∷ workers) called news asked.1)
 untold shard workers called news asked = absurd asked
 
-pub Carries-tended : (workers shard : ℕ) (old new : CoreState) (count : ℕ) (news : News) → Drains (requests_of (Tends workers shard)) old new count → Carries (Tends workers shard ∷ []) old news new news
+pub Carries-tended : (workers shard : ℕ) (old new : CoreState) (count : ℕ) (news : News) → Drains (requests_of (Tends workers shard)) old new count
+    → Carries (Tends workers shard ∷ []) old news new news
 Carries-tended workers shard old new count news drains =
     (tended workers shard old new count drains ∷ [], refl, IsAnswered-tended workers shard old new count drains, sym (untold shard (range_with_len 0 workers) drains.called news drains.asked))

@@ -41,16 +41,19 @@ row_from [] place above end last index one row here = absurd cc
 row_from (stretch ∷ more) place above end last zero one row here =
     let same : stretch ≡ one = cc in
     omega (arith, row.0, ap (λ (s : Stretch). s.place) same)
-row_from (stretch ∷ more) place above end last (suc index) one row here = omega (arith, row_from more (place + (stretch.given + stretch.refused)) (above + stretch.given) end last index one row.1.1 here)
+row_from (stretch ∷ more) place above end last (suc index) one row here = omega
+    (arith, row_from more (place + (stretch.given + stretch.refused)) (above + stretch.given) end last index one row.1.1 here)
 
 length-given_in : (keys : List Key) (stretch : Stretch) → stretch.above + stretch.given ≤ length keys → length (given_in keys stretch) ≡ stretch.given + stretch.refused
 length-given_in keys stretch within =
     let enough : stretch.given ≤ length (drop stretch.above keys) = omega (arith, within, length-drop stretch.above keys) in
     length-append (map Some (take stretch.given (drop stretch.above keys))) (replicate stretch.refused None)
-    ∙ (λ i. (length-map (take stretch.given (drop stretch.above keys)) Some ∙ length-take-le stretch.given (drop stretch.above keys) enough) i + length-replicate {A = Option Key} stretch.refused None i)
+    ∙ (λ i. (length-map (take stretch.given (drop stretch.above keys)) Some ∙ length-take-le stretch.given (drop stretch.above keys) enough) i
+    + length-replicate {A = Option Key} stretch.refused None i)
 
 -- the puts of closed stretches are those above the last one
-pub length-row : (keys : List Key) (closed : List Stretch) (place above end last : ℕ) → AreInRow place above closed end last → last ≤ length keys → place + length (flat_map (given_in keys) closed) ≡ end
+pub length-row : (keys : List Key) (closed : List Stretch) (place above end last : ℕ) → AreInRow place above closed end last → last ≤ length keys
+    → place + length (flat_map (given_in keys) closed) ≡ end
 length-row keys [] place above end last row few = omega (arith, row.0)
 length-row keys (stretch ∷ more) place above end last row few =
     let later = length-row keys more (place + (stretch.given + stretch.refused)) (above + stretch.given) end last row.1.1 few in
@@ -67,18 +70,21 @@ get_or-row keys (stretch ∷ more) at below end last zero place one row few here
     let ends = row_ends more (at + (stretch.given + stretch.refused)) (below + stretch.given) end last row.1.1 in
     let within : stretch.above + stretch.given ≤ length keys = omega (arith, ends.1, few, row.1.0) in
     let inside : place - at < length (given_in keys stretch) = omega (arith, length-given_in keys stretch within, before stretch more row next, from, ap (λ (s : Stretch). s.place) same, row.0) in
-    let first : get_or (given_in keys stretch ++ flat_map (given_in keys) more) (place - at) None ≡ get_or (given_in keys stretch) (place - at) None = get_or-append (given_in keys stretch) (flat_map (given_in keys) more) None (place - at) inside in (
+    let first : get_or (given_in keys stretch ++ flat_map (given_in keys) more) (place - at) None
+    ≡ get_or (given_in keys stretch) (place - at) None = get_or-append (given_in keys stretch) (flat_map (given_in keys) more) None (place - at) inside in (
       omega (arith, row.0, ap (λ (s : Stretch). s.place) same),
       (
         omega (arith, within, ap (λ (s : Stretch). s.above) same, ap (λ (s : Stretch). s.given) same),
         first ∙ (λ i. get_or (given_in keys (same i)) (place - (sym row.0 ∙ ap (λ (s : Stretch). s.place) same) i) None),
       ),
     ) where
-      before : (s : Stretch) (rest : List Stretch) → AreInRow at below (s ∷ rest) end last → ((other : ℕ) (after : Stretch) → 0 < other → slice_get (s ∷ rest) other ≡ Some after → place < after.place) → place < at + (s.given + s.refused)
+      before : (s : Stretch) (rest : List Stretch) → AreInRow at below (s ∷ rest) end last
+          → ((other : ℕ) (after : Stretch) → 0 < other → slice_get (s ∷ rest) other ≡ Some after → place < after.place) → place < at + (s.given + s.refused)
       before s [] r after = omega (arith, r.1.1.0, less)
       before s (t ∷ rest) r after = omega (arith, after 1 t (omega arith) refl, r.1.1.0)
 get_or-row keys (stretch ∷ more) at below end last (suc index) place one row few here from less next =
-    let later = get_or-row keys more (at + (stretch.given + stretch.refused)) (below + stretch.given) end last index place one row.1.1 few here from less (λ other after above there. next (suc other) after (omega (arith, above)) there) in
+    let later = get_or-row keys more (at + (stretch.given + stretch.refused)) (below + stretch.given) end last index place one row.1.1 few here from less
+    (λ other after above there. next (suc other) after (omega (arith, above)) there) in
     let ends = row_ends more (at + (stretch.given + stretch.refused)) (below + stretch.given) end last row.1.1 in
     let long : length (given_in keys stretch) ≡ stretch.given + stretch.refused = length-given_in keys stretch (omega (arith, ends.1, few, row.1.0)) in
     let past : length (given_in keys stretch) ≤ place - at = omega (arith, long, later.0, from) in
@@ -100,22 +106,27 @@ row_last (stretch ∷ more) place above end last zero one row here =
 row_last (stretch ∷ more) place above end last (suc index) one row here = row_last more (place + (stretch.given + stretch.refused)) (above + stretch.given) end last index one row.1.1 here
 
 -- they begin one below another
-pub row_ascends : (closed : List Stretch) (place above end last low high : ℕ) (a b : Stretch) → AreInRow place above closed end last → low < high → slice_get closed low ≡ Some a → slice_get closed high ≡ Some b → a.place ≤ b.place
+pub row_ascends : (closed : List Stretch) (place above end last low high : ℕ) (a b : Stretch) → AreInRow place above closed end last → low < high
+    → slice_get closed low ≡ Some a → slice_get closed high ≡ Some b → a.place ≤ b.place
 row_ascends [] place above end last low high a b row less first second = absurd cc
 row_ascends (stretch ∷ more) place above end last low zero a b row less first second = absurd (omega (arith, less))
 row_ascends (stretch ∷ more) place above end last zero (suc high) a b row less first second =
     let same : stretch ≡ a = cc in
     omega (arith, row.0, ap (λ (s : Stretch). s.place) same, row_from more (place + (stretch.given + stretch.refused)) (above + stretch.given) end last high b row.1.1 second)
-row_ascends (stretch ∷ more) place above end last (suc low) (suc high) a b row less first second = row_ascends more (place + (stretch.given + stretch.refused)) (above + stretch.given) end last low high a b row.1.1 (omega (arith, less)) first second
+row_ascends (stretch ∷ more) place above end last (suc low) (suc high) a b row less first second = row_ascends more (place + (stretch.given + stretch.refused))
+    (above + stretch.given) end last low high a b row.1.1 (omega (arith, less)) first second
 
 -- some stretch begins at a place above the end, or above it
-pub row_begins : (closed : List Stretch) (end last place : ℕ) → AreInRow 0 0 closed end last → place < end → ((other : ℕ) (one : Stretch) → 0 ≤ other → slice_get closed other ≡ Some one → place < one.place) → ⊥
+pub row_begins : (closed : List Stretch) (end last place : ℕ) → AreInRow 0 0 closed end last → place < end
+    → ((other : ℕ) (one : Stretch) → 0 ≤ other → slice_get closed other ≡ Some one → place < one.place) → ⊥
 row_begins [] end last place row less none = omega (arith, row.0, less)
 row_begins (stretch ∷ more) end last place row less none = omega (arith, none 0 stretch (omega arith) refl, row.0)
 
 -- so the put at a place above the end is one of the last stretch that begins at that place or above it
-pub get_or-found : (keys : List Key) (closed : List Stretch) (end last count place : ℕ) (one : Stretch) → AreInRow 0 0 closed end last → place < end → last ≤ length keys → slice_get closed (count - 1) ≡ Some one → 0 < count
-    → ((other : ℕ) (next : Stretch) → other < count → slice_get closed other ≡ Some next → next.place ≤ place) → ((other : ℕ) (next : Stretch) → count ≤ other → slice_get closed other ≡ Some next → place < next.place)
+pub get_or-found : (keys : List Key) (closed : List Stretch) (end last count place : ℕ) (one : Stretch) → AreInRow 0 0 closed end last → place < end
+    → last ≤ length keys → slice_get closed (count - 1) ≡ Some one → 0 < count
+    → ((other : ℕ) (next : Stretch) → other < count → slice_get closed other ≡ Some next → next.place ≤ place)
+    → ((other : ℕ) (next : Stretch) → count ≤ other → slice_get closed other ≡ Some next → place < next.place)
     → (one.place ≤ place) × ((one.above + one.given ≤ length keys) × (get_or (flat_map (given_in keys) closed) place None ≡ get_or (given_in keys one) (place - one.place) None))
 get_or-found keys closed end last count place one row less few here some above others =
     let from : one.place ≤ place = above (count - 1) one (omega (arith, some)) here in
@@ -142,7 +153,8 @@ get_or-all_closed keys closed place above refused at row within less =
     get_or-append (flat_map (given_in keys) closed) (map Some (drop above keys) ++ replicate refused None) None at inside
 
 -- a put of a stretch that gave a key out, and one that was refused
-pub get_or-given : (keys : List Key) (stretch : Stretch) (at : ℕ) → stretch.above + stretch.given ≤ length keys → at < stretch.given → get_or (given_in keys stretch) at None ≡ slice_get keys (stretch.above + at)
+pub get_or-given : (keys : List Key) (stretch : Stretch) (at : ℕ) → stretch.above + stretch.given ≤ length keys → at < stretch.given
+    → get_or (given_in keys stretch) at None ≡ slice_get keys (stretch.above + at)
 get_or-given keys stretch at within less =
     get_or-last (take stretch.given (drop stretch.above keys)) stretch.refused at ∙ (slice_get-take stretch.given at (drop stretch.above keys) less ∙ slice_get-drop stretch.above at keys) where
       slice_get-take : {X : Type 0} (n i : ℕ) (xs : List X) → i < n → slice_get (take n xs) i ≡ slice_get xs i
@@ -181,7 +193,8 @@ row_apart [] place above end last row = omega (arith, row.0, row.1)
 row_apart (stretch ∷ more) place above end last row = omega (arith, row_apart more (place + (stretch.given + stretch.refused)) (above + stretch.given) end last row.1.1)
 
 -- no put stands at a place that no number counts
-pub get_or-beyond : (keys : List Key) (closed : List Stretch) (place above refused at : ℕ) → AreInRow 0 0 closed place above → above ≤ length keys → place + refused ≤ above + 2 ^ 63 → length keys < 2 ^ 63 → 2 ^ 64 ≤ at
+pub get_or-beyond : (keys : List Key) (closed : List Stretch) (place above refused at : ℕ) → AreInRow 0 0 closed place above → above ≤ length keys
+    → place + refused ≤ above + 2 ^ 63 → length keys < 2 ^ 63 → 2 ^ 64 ≤ at
     → get_or (all_given keys closed above refused).items at None ≡ None
 get_or-beyond keys closed place above refused at row within few small beyond =
     get_or-eq_default (all_given keys closed above refused).items None (omega (arith, length-all keys closed place above refused row within, within, few, small, beyond))
@@ -215,7 +228,9 @@ pub all_given-key : (keys : List Key) (key : Key) (closed : List Stretch) (place
 all_given-key keys key closed place above row within =
     let dropped : drop above (keys ++ key ∷ []) ≡ drop above keys ++ key ∷ [] = drop-append-le above keys (key ∷ []) within in
     let last : map Some (drop above (keys ++ key ∷ [])) ++ [] ≡ (map Some (drop above keys) ++ []) ++ Some key ∷ [] =
-    append-nil (map Some (drop above (keys ++ key ∷ []))) ∙ (ap (map Some) dropped ∙ (map-append Some (drop above keys) (key ∷ []) ∙ ap (λ l. l ++ Some key ∷ []) (sym (append-nil (map Some (drop above keys)))))) in
+    append-nil (map Some (drop above (keys ++ key ∷ [])))
+    ∙ (ap (map Some) dropped ∙ (map-append Some (drop above keys) (key ∷ [])
+    ∙ ap (λ l. l ++ Some key ∷ []) (sym (append-nil (map Some (drop above keys)))))) in
     (λ i. row-key keys key closed 0 0 place above row within i ++ last i) ∙ sym (append_assoc (flat_map (given_in keys) closed) (map Some (drop above keys) ++ []) (Some key ∷ []))
 
 -- ---- a stretch that is closed
@@ -245,16 +260,24 @@ AreInRow-closed keys closed new place above refused count next below row within 
     let pushed : AreInRow 0 0 (closed ++ one ∷ []) (place + (count - above + refused)) (above + (count - above)) = AreInRow-push closed 0 0 place above one row refl refl in
     let end : place + (count - above + refused) ≡ next = omega (arith, to) in
     let last : above + (count - above) ≡ below = omega (arith, within, counted, all) in
-    subst (λ l. AreInRow 0 0 l next below) (sym is) (subst (λ n. AreInRow 0 0 (closed ++ one ∷ []) n below) end (subst (λ n. AreInRow 0 0 (closed ++ one ∷ []) (place + (count - above + refused)) n) last pushed))
+    subst (λ l. AreInRow 0 0 l next below) (sym is)
+    (subst (λ n. AreInRow 0 0 (closed ++ one ∷ []) n below) end
+    (subst (λ n. AreInRow 0 0 (closed ++ one ∷ []) (place + (count - above + refused)) n) last pushed))
 
 -- and a key was given out then
-pub all_given-next : (keys later : List Key) (key : Key) (closed new : List Stretch) (place above refused count next below : ℕ) → AreInRow 0 0 closed place above → above ≤ length keys → count ≡ length keys
+pub all_given-next : (keys later : List Key) (key : Key) (closed new : List Stretch) (place above refused count next below : ℕ)
+    → AreInRow 0 0 closed place above → above ≤ length keys → count ≡ length keys
     → new ≡ closed ++ record { place = place; above = above; given = count - above; refused = refused } ∷ [] → next ≡ place + (count - above) + refused → below ≡ count → later ≡ keys ++ key ∷ []
     → (all_given later new below 0).items ≡ (all_given keys closed above refused).items ++ Some key ∷ []
 all_given-next keys later key closed new place above refused count next below row within counted is to all more =
     let whole : below ≡ length keys = all ∙ counted in
     let in_row : AreInRow 0 0 new next below = AreInRow-closed keys closed new place above refused count next below row within counted is to all in
-    let one : new ≡ closed ++ record { place = place; above = above; given = length keys - above; refused = refused } ∷ [] = is ∙ ap (λ n. closed ++ record { place = place; above = above; given = n - above; refused = refused } ∷ []) counted in
+    let one : new ≡ closed ++ record {
+      place = place;
+      above = above;
+      given = length keys - above;
+      refused = refused;
+    } ∷ [] = is ∙ ap (λ n. closed ++ record { place = place; above = above; given = n - above; refused = refused } ∷ []) counted in
     let same : (all_given keys new below 0).items ≡ (all_given keys closed above refused).items =
     (λ i. (all_given keys (one i) (whole i) 0).items) ∙ all_given-closed keys closed place above refused within in
     ap (λ l. (all_given l new below 0).items) more ∙ (all_given-key keys key new next below in_row (omega (arith, whole)) ∙ ap (λ l. l ++ Some key ∷ []) same)

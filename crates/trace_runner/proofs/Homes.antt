@@ -53,7 +53,8 @@ IsGivenHome shards (Called event (Issued key) core) = key.span.shard < shards
 IsGivenHome shards called = Unit {0}
 
 given_home : (old mid : CoreState) (event : Event) (reply : Reply) (core : CoreState) → CoreStep old event reply mid → IsSound mid → IsGivenHome old.limits.shards (Called event reply core)
-given_home old mid event (Issued key) core step sound = subst (λ (limits : Limits). key.span.shard < limits.shards) (limits-CoreStep old mid event (Issued key) step) (home-Issued old mid event key step sound)
+given_home old mid event (Issued key) core step sound = subst (λ (limits : Limits). key.span.shard < limits.shards)
+    (limits-CoreStep old mid event (Issued key) step) (home-Issued old mid event key step sound)
 given_home old mid event reply core step sound = tt
 
 each-given : (old new : CoreState) (called : List CalledEvent) → CoreRun old (events_of called) (replies_of called) new → AllByRecursion (IsGivenHome old.limits.shards) called

@@ -86,7 +86,13 @@ AreSteps-none core = record { each = tt; last = refl; core = refl; plain = refl;
 
 pub AreSteps-one : (event : Event) (reply : Reply) (old new : CoreState) → CoreStep old event reply new → IsSound new → ErasedStep old.limits (shown old) event reply (shown new) → IsTold event reply
     → AreSteps old (Called event reply new ∷ []) new
-AreSteps-one event reply old new step sound plain told = record { each = (step, tt); last = refl; core = (new, step, sound, refl); plain = erased-one old.limits (shown old) (shown new) event reply plain; told = (told, tt) }
+AreSteps-one event reply old new step sound plain told = record {
+  each = (step, tt);
+  last = refl;
+  core = (new, step, sound, refl);
+  plain = erased-one old.limits (shown old) (shown new) event reply plain;
+  told = (told, tt);
+}
 
 pub AreSteps-append : (a b c : CoreState) (first second : List CalledEvent) → AreSteps a first b → AreSteps b second c → AreSteps a (first ++ second) c
 AreSteps-append a b c first second before after =
@@ -96,7 +102,9 @@ AreSteps-append a b c first second before after =
       each = Happens-append a first second before.each (subst (λ (core : CoreState). Happens core second) before.last after.each);
       last = after.last ∙ ap (λ core. core_called core second) before.last ∙ sym (core_called-append a first second);
       core = rw (events, replies) (CoreRun-append a b c (events_of first) (events_of second) (replies_of first) (replies_of second) before.core after.core);
-      plain = rw (events, replies, erased-append (events_of first) (events_of second) (replies_of first) (replies_of second) (replies-length first)) (PlainRun-append a.limits (shown a) (shown b) (shown c) (erased (events_of first) (replies_of first)) (erased (events_of second) (replies_of second)) before.plain
+      plain = rw (events, replies, erased-append (events_of first) (events_of second) (replies_of first) (replies_of second) (replies-length first))
+          (PlainRun-append a.limits (shown a) (shown b) (shown c) (erased (events_of first) (replies_of first))
+          (erased (events_of second) (replies_of second)) before.plain
           (subst (λ limits. PlainRun limits (shown b) (erased (events_of second) (replies_of second)) (shown c)) (limits-CoreRun a b (events_of first) (replies_of first) before.core) after.plain));
       told = each-append IsCallTold first second before.told after.told;
     }
@@ -151,7 +159,8 @@ pub Carries-none : (core : CoreState) (news : News) → Carries [] core news cor
 Carries-none core news = ([], refl, IsAnswered-none core, refl)
 
 -- one event, and the news with what it tells
-pub Carries-one : (event : Event) (reply : Reply) (old new : CoreState) (before after : News) → CoreStep old event reply new → IsSound new → ErasedStep old.limits (shown old) event reply (shown new) → IsTold event reply
+pub Carries-one : (event : Event) (reply : Reply) (old new : CoreState) (before after : News) → CoreStep old event reply new → IsSound new
+    → ErasedStep old.limits (shown old) event reply (shown new) → IsTold event reply
     → after ≡ with_called before (Called event reply new) → Carries (Calls event ∷ []) old before new after
 Carries-one event reply old new before after step sound plain told news = (one_call event reply new ∷ [], refl, IsAnswered-one event reply old new step sound plain told, news)
 
@@ -197,7 +206,8 @@ module _ (number shards : ℕ) (threads : List ℕ) (old : CoreState) (before : 
     rest = refl;
   }
 
-  module _ (mid : CoreState) (middle : Kept) (settled : Plans) (settles : Carries (finishing old.plan ++ (ends_asked threads ++ rings_asked shards)) old (news_at before plans) mid (news_at middle settled))
+  module _ (mid : CoreState) (middle : Kept) (settled : Plans)
+      (settles : Carries (finishing old.plan ++ (ends_asked threads ++ rings_asked shards)) old (news_at before plans) mid (news_at middle settled))
       (told : middle ≡ record before { text = middle.text }) where
     pub MakesLine-adopt : (shard : ℕ) (asked : List Asked) (new : CoreState) (after : Kept) → Makes number asked mid middle new after
         → MakesLine number (settling_with shards threads old (line.Adopt shard)) asked (line.Adopt shard) old before (news_at before plans) new after (news_at after settled)
@@ -212,7 +222,8 @@ module _ (number shards : ℕ) (threads : List ℕ) (old : CoreState) (before : 
       rest = refl;
     }
 
-    pub MakesLine-mark : (new : CoreState) (after : Kept) (plans_after : Plans) → after ≡ record middle { text = after.text } → Carries (Calls Mark ∷ []) mid (news_at middle settled) new (news_at after plans_after)
+    pub MakesLine-mark : (new : CoreState) (after : Kept) (plans_after : Plans) → after ≡ record middle { text = after.text }
+        → Carries (Calls Mark ∷ []) mid (news_at middle settled) new (news_at after plans_after)
         → MakesLine number (settling_with shards threads old line.Mark) [] line.Mark old before (news_at before plans) new after (news_at after plans_after)
     MakesLine-mark new after plans_after rest marks = record {
       settled_core = mid;

@@ -29,7 +29,8 @@ use Rattle.trace_runner.proofs.Serving.{KeepsShards-with_shard, ended_in}
 ended-Folds : (pool pool_new : PoolState) (old new : ShardState) (abandoned owned : SpanId) → Folds pool old abandoned owned pool_new new → new.ended ≡ old.ended
 ended-Folds pool pool_new old new abandoned owned folds = ap (λ (s : ShardState). s.ended) folds.grafts.after
 
-ended_in-map : (f : ShardState → ShardState) → ((shard : ShardState) → (f shard).ended ≡ shard.ended) → (shards : List ShardState) (number : ℕ) → ended_in (map f shards) number ≡ ended_in shards number
+ended_in-map : (f : ShardState → ShardState) → ((shard : ShardState) → (f shard).ended ≡ shard.ended) → (shards : List ShardState) (number : ℕ)
+    → ended_in (map f shards) number ≡ ended_in shards number
 ended_in-map f same shards number = ap (λ o. option_map_or (λ (shard : ShardState). shard.ended) o false) (slice_get-map f shards number) ∙ at (slice_get shards number)
   where
     at : (o : Option ShardState) → option_map_or (λ (shard : ShardState). shard.ended) (option_map f o) false ≡ option_map_or (λ (shard : ShardState). shard.ended) o false
@@ -53,9 +54,11 @@ KeepsShards-marked old new c step = subst (KeepsShards old) (sym step.after) (re
 -- ---- what was asked and done
 
 -- one step more
-pub Carries-next : (taken : ℕ) (a b c : CoreState) (x y z : News) → Carries (replicate taken (Calls event.Step)) a x b y → Carries (Calls event.Step ∷ []) b y c z → Carries (replicate (taken + 1) (Calls event.Step)) a x c z
+pub Carries-next : (taken : ℕ) (a b c : CoreState) (x y z : News) → Carries (replicate taken (Calls event.Step)) a x b y
+    → Carries (Calls event.Step ∷ []) b y c z → Carries (replicate (taken + 1) (Calls event.Step)) a x c z
 Carries-next taken a b c x y z before more =
-    subst (λ (asked : List Asked). Carries asked a x c z) (sym (replicate_next taken (Calls event.Step))) (Carries-append (replicate taken (Calls event.Step)) (Calls event.Step ∷ []) a b c x y z before more)
+    subst (λ (asked : List Asked). Carries asked a x c z) (sym (replicate_next taken (Calls event.Step)))
+    (Carries-append (replicate taken (Calls event.Step)) (Calls event.Step ∷ []) a b c x y z before more)
 
 -- ---- the open plan, of which the run knows how many pairs are left
 

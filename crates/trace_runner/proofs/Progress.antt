@@ -35,7 +35,8 @@ use Rattle.trace_runner.proofs.Homes.{AreHome-answered}
 use Rattle.trace_runner.proofs.Told.{news_of-push, replies-all_made}
 use Rattle.trace_runner.proofs.Recalling.{FindsAt-fine, Keyed-asked, Recalls-none, Recalls-push, kept_of-none, kept_of-push, length-Keyed, take_line}
 
-DoLines-push : (shards : ℕ) (all : List Line) (start : CoreState) (lines : List Line) (line : Line) (done after : List Did) (did : Did) → DoLines shards all start lines done after → Does shards all start after line did
+DoLines-push : (shards : ℕ) (all : List Line) (start : CoreState) (lines : List Line) (line : Line) (done after : List Did) (did : Did)
+    → DoLines shards all start lines done after → Does shards all start after line did
     → DoLines shards all start (lines ++ line ∷ []) done (after ++ did ∷ [])
 DoLines-push shards all start [] line done after did is does = (did, subst (λ (d : List Did). Does shards all start d line did) is does, ap (λ d. d ++ did ∷ []) is)
 DoLines-push shards all start (first ∷ lines) line done after did (here, does_here, later) does = (here, does_here, DoLines-push shards all start lines line (done ++ here ∷ []) after did later does)
@@ -166,7 +167,8 @@ begins-thread (line.Adopt s) t e = cc
 begins-thread line.Mark t e = cc
 
 -- the answers of a line, as many as it is a thread's and one more for an adoption
-calls_of_line : (shards : ℕ) (all : List Line) (start : CoreState) (done : List Did) (l : Line) (did : Did) → Does shards all start done l did → length did.calls ≡ calls_at l did + length (filter is_adopt (l ∷ []))
+calls_of_line : (shards : ℕ) (all : List Line) (start : CoreState) (done : List Did) (l : Line) (did : Did) → Does shards all start done l did
+    → length did.calls ≡ calls_at l did + length (filter is_adopt (l ∷ []))
 calls_of_line shards all start done l did does = by_line l (sym (length-map did.calls asked_of) ∙ ap length does.calls)
   where
     by_line : (l : Line) → length did.calls ≡ length (asked_by shards all done l) → length did.calls ≡ calls_at l did + length (filter is_adopt (l ∷ []))
@@ -188,7 +190,8 @@ DoLines-rest shards all start (l ∷ ls) done after (did, does, later) =
       length-append did.calls (flat_map (λ (d : Did). d.calls) more.0) ∙ omega (arith, more.2, calls_of_line shards all start done l did does, adopts-cons l ls),
     )
 
-module _ (h : Header) (replies : Bool) (lines : List Line) (count : ℕ) (old core : CoreState) (kept : Kept) (leaving : ℕ → Bool) (plans : Plans) (come : HasCome replies h.shards lines count old core kept leaving plans) where
+module _ (h : Header) (replies : Bool) (lines : List Line) (count : ℕ) (old core : CoreState) (kept : Kept) (leaving : ℕ
+    → Bool) (plans : Plans) (come : HasCome replies h.shards lines count old core kept leaving plans) where
   -- the next line finds its keys
   pub HasCome-finds : (l : Line) → first_cause h (take count lines) l ≡ None → FindsAt lines come.done kept.keys (place_at (take count lines) l) l
   HasCome-finds = FindsAt-fine h lines count come.done kept.keys come.recalls
@@ -237,7 +240,8 @@ module _ (h : Header) (replies : Bool) (lines : List Line) (count : ℕ) (old co
 
   -- once the next line was run
   pub HasCome-more : (l : Line) (new : CoreState) (after : Kept) (now : ℕ → Bool) (plans_now : Plans) → slice_get lines count ≡ Some l → first_cause h (take count lines) l ≡ None
-      → MakesLine (count + 6) (settling_with h.shards (filter leaving (range_with_len 0 h.shards)) core l) (asked_by h.shards lines come.done l) l core kept (news_at kept plans) new after (news_at after plans_now)
+      → MakesLine (count + 6) (settling_with h.shards (filter leaving (range_with_len 0 h.shards)) core l) (asked_by h.shards lines come.done l) l core kept
+      (news_at kept plans) new after (news_at after plans_now)
       → TurnsBelow core h.shards (λ t. is_barrier l && leaving t) (λ t. begins t l) new → ((t : ℕ) → now t ≡ (not (is_barrier l) && (ends t l || leaving t)))
       → KnowsPlan plans_now new → plans_now.marks ≤ plans.marks + 1
       → HasCome replies h.shards lines (count + 1) old new after now plans_now
@@ -272,10 +276,12 @@ module _ (h : Header) (replies : Bool) (lines : List Line) (count : ℕ) (old co
       record {
         done = come.done ++ did ∷ [];
         count_is = length_push come.done did ∙ ap (λ n. n + 1) come.count_is;
-        lines_do = subst (λ (some : List Line). DoLines h.shards lines old some [] (come.done ++ did ∷ [])) (sym next.0) (DoLines-push h.shards lines old (take count lines) l [] come.done did come.lines_do does);
+        lines_do = subst (λ (some : List Line). DoLines h.shards lines old some [] (come.done ++ did ∷ [])) (sym next.0)
+            (DoLines-push h.shards lines old (take count lines) l [] come.done did come.lines_do does);
         answered = rw all_made-push (IsAnswered-append old core new (all_made come.done) (made_by did) come.answered
             (IsAnswered-append core makes.called_core new (settled ++ made) planned called answered_planned));
-        kept_is = kept_of-push replies come.done did (count + 6) makes.news.text makes.called after (more ∙ ap (λ (k : Kept). keeping (count + 6) (record k { text = makes.news.text }) made) come.kept_is) makes.rest
+        kept_is = kept_of-push replies come.done did (count + 6) makes.news.text makes.called after
+            (more ∙ ap (λ (k : Kept). keeping (count + 6) (record k { text = makes.news.text }) made) come.kept_is) makes.rest
             (ap (λ (n : News). n.text) news);
         recalls = rw (next.0, keys) (Recalls-push (take count lines) l come.done did kept.keys come.recalls (come.count_is ∙ sym next.1) come.long keyed);
         long = rw next.0 (ap length keys ∙ length-append kept.keys (keys_of made) ∙ ap₂ (λ a b. a + b) come.long (length-Keyed l made keyed) ∙ sym (keys_in-push (take count lines) l));
@@ -284,7 +290,8 @@ module _ (h : Header) (replies : Bool) (lines : List Line) (count : ℕ) (old co
         marks = omega (arith, marks, come.marks);
         enough = rw ended.limits come.enough;
         home = rw (ended.limits, keys) (each-append (IsHome core.limits.shards) kept.keys (keys_of made) come.home
-            (subst (λ (limits : Limits). AreHome limits.shards (keys_of made)) (limits-CoreRun core makes.settled_core _ _ answered_settled.steps.core) (AreHome-answered makes.settled_core makes.called_core made answered)));
+            (subst (λ (limits : Limits). AreHome limits.shards (keys_of made)) (limits-CoreRun core makes.settled_core _ _ answered_settled.steps.core)
+            (AreHome-answered makes.settled_core makes.called_core made answered)));
         leaving_are = λ t. left t ∙ ap (λ b. not (is_barrier l) && (ends t l || b)) (come.leaving_are t)
             ∙ ap (λ b. not (is_barrier l) && b) (waits_turned (has_ended (open_lines (take count lines)) t) (ends t l) (begins t l) (begins-ending t l)
             (λ again. let of = begins-thread l t again in resting_waits l fine t of.0 of.1))
@@ -305,14 +312,17 @@ module _ (h : Header) (replies : Bool) (lines : List Line) (count : ℕ) (old co
       ap (λ (k : Kept). k.count) come.kept_is ∙ subst (λ (d : List Did). length (flat_map (λ (did : Did). did.calls) d) ≡ calls_in lines d + length (filter is_adopt lines)) (sym rest.1) rest.2
 
   -- once the last section is settled, the run is whole
-  pub HasCome-IsRun : (new : CoreState) (calls : ℕ) (news : News) → count ≡ length lines → Carries (finishing core.plan ++ (ends_asked (filter leaving (range_with_len 0 h.shards)) ++ rings_asked h.shards)) core (news_at kept plans) new news → calls ≡ calls_in lines come.done
+  pub HasCome-IsRun : (new : CoreState) (calls : ℕ) (news : News) → count ≡ length lines
+      → Carries (finishing core.plan ++ (ends_asked (filter leaving (range_with_len 0 h.shards)) ++ rings_asked h.shards)) core (news_at kept plans) new news
+      → calls ≡ calls_in lines come.done
       → IsRun h.shards replies lines old new calls news
   HasCome-IsRun new calls news all (made, asks, answered, told) calls_are =
       let whole : take count lines ≡ lines = ap (λ n. take n lines) all ∙ take-length lines in record {
         done = come.done;
         last = made;
         lines_do = subst (λ (some : List Line). DoLines h.shards lines old some [] come.done) whole come.lines_do;
-        settled = asks ∙ ap (λ (f : ℕ → Bool). finishing core.plan ++ (ends_asked (filter f (range_with_len 0 h.shards)) ++ rings_asked h.shards)) leaving_is ∙ ap (λ ls. finishing core.plan ++ (ends_asked (leavers h.shards ls) ++ rings_asked h.shards)) whole
+        settled = asks ∙ ap (λ (f : ℕ → Bool). finishing core.plan ++ (ends_asked (filter f (range_with_len 0 h.shards)) ++ rings_asked h.shards)) leaving_is
+            ∙ ap (λ ls. finishing core.plan ++ (ends_asked (leavers h.shards ls) ++ rings_asked h.shards)) whole
             ∙ ap (λ (c : CoreState). finishing c.plan ++ (ends_asked (leavers h.shards lines) ++ rings_asked h.shards)) come.answered.steps.last;
         answered = IsAnswered-append old core new (all_made come.done) made come.answered answered;
         calls_are = calls_are;
@@ -320,7 +330,9 @@ module _ (h : Header) (replies : Bool) (lines : List Line) (count : ℕ) (old co
       }
 
 -- before the first line
-pub HasCome-start : (h : Header) (replies : Bool) (lines : List Line) (core : CoreState) (leaving : ℕ → Bool) (plans : Plans) → Serves h.shards core → ((t : ℕ) → leaving t ≡ false) → news_at (kept_none replies) plans ≡ no_news replies → plans.left ≡ None → HasCome replies h.shards lines 0 core core (kept_none replies) leaving plans
+pub HasCome-start : (h : Header) (replies : Bool) (lines : List Line) (core : CoreState) (leaving : ℕ → Bool) (plans : Plans) → Serves h.shards core
+    → ((t : ℕ) → leaving t ≡ false) → news_at (kept_none replies) plans ≡ no_news replies → plans.left ≡ None
+    → HasCome replies h.shards lines 0 core core (kept_none replies) leaving plans
 HasCome-start h replies lines core leaving plans serves none news left = record {
   done = [];
   count_is = refl;

@@ -57,7 +57,9 @@ keys_of-append first second =
     ∙ map-append key_made (filter (λ m. is_put (asked_of m)) first) (filter (λ m. is_put (asked_of m)) second)
 
 told_of-append : (asked : Bool) (number : ℕ) (first second : List Made) → told_of asked number first ++ told_of asked number second ≡ told_of asked number (first ++ second)
-told_of-append true number first second = sym (ap (flat_map answer_line) (map-append (on_line number) first second) ∙ flat_map-append answer_line (map (on_line number) first) (map (on_line number) second))
+told_of-append true number first second = sym
+    (ap (flat_map answer_line) (map-append (on_line number) first second)
+    ∙ flat_map-append answer_line (map (on_line number) first) (map (on_line number) second))
 told_of-append false number first second = refl
 
 told_of-none : (asked : Bool) (number : ℕ) → told_of asked number [] ≡ []
@@ -89,7 +91,8 @@ keys_of-put : (m : Made) → is_put (asked_of m) ≡ true → keys_of (m ∷ [])
 keys_of-put m e = rw e refl
 
 -- once one answer is told
-module _ (number : ℕ) (before after : Kept) (m : Made) (count : after.count ≡ before.count + 1) (asked : after.asked ≡ before.asked) (told : after.text ≡ before.text ++ cond before.asked (answer_line (on_line number m)) []) where
+module _ (number : ℕ) (before after : Kept) (m : Made) (count : after.count ≡ before.count + 1) (asked : after.asked ≡ before.asked)
+    (told : after.text ≡ before.text ++ cond before.asked (answer_line (on_line number m)) []) where
   text : after.text ≡ before.text ++ told_of before.asked number (m ∷ [])
   text = told ∙ ap (λ l. before.text ++ l) (sym (told_of-one before.asked number m))
 
@@ -139,7 +142,8 @@ calls-push done did =
     ∙ length-append (flat_map (λ (d : Did). d.calls) done) did.calls
 
 -- one line more: what its calls leave, and the report with what stands around them
-pub kept_of-push : (replies : Bool) (done : List Did) (did : Did) (number : ℕ) (settled : List ℕ) (called after : Kept) → called ≡ keeping number (record (kept_of replies done) { text = settled }) did.calls
+pub kept_of-push : (replies : Bool) (done : List Did) (did : Did) (number : ℕ) (settled : List ℕ) (called after : Kept)
+    → called ≡ keeping number (record (kept_of replies done) { text = settled }) did.calls
     → after ≡ record called { text = after.text } → after.text ≡ (news_of replies (done ++ did ∷ [])).text → after ≡ kept_of replies (done ++ did ∷ [])
 kept_of-push replies done did number settled called after calls rest told =
     let keys : called.keys ≡ flat_map (λ (d : Did). keys_of d.calls) (done ++ did ∷ []) = ap (λ (k : Kept). k.keys) calls ∙ sym (keys_of-push done did) in
@@ -272,7 +276,8 @@ record IsBound (place first : ℕ) (made : List Made) (b : Binding) : Type 0 whe
   count_is : key_count b.keys ≡ length made
   keys_are : keys_of made ≡ map key_made made
 
-by_record : (place section first thread n : ℕ) (class : Class) (keys : Keys) (made : List Made) (b : Binding) → Some (record { keys = keys; class = class; thread = thread; section = section; line = place; first = first }) ≡ Some b
+by_record : (place section first thread n : ℕ) (class : Class) (keys : Keys) (made : List Made) (b : Binding)
+    → Some (record { keys = keys; class = class; thread = thread; section = section; line = place; first = first }) ≡ Some b
     → key_count keys ≡ n → (keys_of made ≡ map key_made made) × (length made ≡ n) → IsBound place first made b
 by_record place section first thread n class keys made b is count keyed =
     let line_is : place ≡ b.line = ap (λ o. option_map_or (λ (x : Binding). x.line) o place) is in
@@ -306,11 +311,14 @@ IsBound-at place section first name (line.Call t Begin) made b keyed e = cc
 pub Recalls-none : (keys : List (Option Key)) → Recalls [] [] keys
 Recalls-none keys name b place is less = cc
 
-module _ (above : List Line) (l : Line) (done : List Did) (did : Did) (keys : List (Option Key)) (recalls : Recalls above done keys) (count : length done ≡ length above) (long : length keys ≡ keys_in above) (keyed : Keyed l did.calls) where
+module _ (above : List Line) (l : Line) (done : List Did) (did : Did) (keys : List (Option Key)) (recalls : Recalls above done keys)
+    (count : length done ≡ length above) (long : length keys ≡ keys_in above) (keyed : Keyed l did.calls) where
   earlier : (b : Binding) (place : ℕ) → (b.line < length done) × (slice_get keys (b.first + place) ≡ Some (key_bound done place b))
       → (b.line < length (done ++ did ∷ [])) × (slice_get (keys ++ keys_of did.calls) (b.first + place) ≡ Some (key_bound (done ++ did ∷ []) place b))
   earlier b place known =
-      let same : key_bound (done ++ did ∷ []) place b ≡ key_bound done place b = ap (λ o. option_and_then (λ (d : Did). option_and_then key_made (slice_get d.calls place)) o) (get_left done (did ∷ []) b.line known.0) in
+      let same : key_bound (done ++ did ∷ []) place b
+      ≡ key_bound done place b = ap (λ o. option_and_then (λ (d : Did). option_and_then key_made (slice_get d.calls place)) o)
+      (get_left done (did ∷ []) b.line known.0) in
       (omega (arith, known.0, length-append done (did ∷ [])), get_left keys (keys_of did.calls) (b.first + place) (got_within keys (b.first + place) _ known.1) ∙ known.1 ∙ ap Some (sym same))
 
   latest : (b : Binding) (place : ℕ) → place < key_count b.keys → IsBound (length above) (keys_in above) did.calls b
@@ -320,7 +328,8 @@ module _ (above : List Line) (l : Line) (done : List Did) (did : Did) (keys : Li
       let here : b.first + place ≡ length keys + place = omega (arith, bound.first_is, long) in
       let (made, is) = got did.calls place (omega (arith, less, bound.count_is)) in
       let found : slice_get (keys ++ keys_of did.calls) (b.first + place) ≡ Some (key_made made) =
-      ap (slice_get (keys ++ keys_of did.calls)) here ∙ get_right keys (keys_of did.calls) place ∙ ap (λ ks. slice_get ks place) bound.keys_are ∙ slice_get-map key_made did.calls place ∙ ap (option_map key_made) is in
+      ap (slice_get (keys ++ keys_of did.calls)) here ∙ get_right keys (keys_of did.calls) place ∙ ap (λ ks. slice_get ks place) bound.keys_are
+      ∙ slice_get-map key_made did.calls place ∙ ap (option_map key_made) is in
       let its : slice_get (done ++ did ∷ []) b.line ≡ Some did = ap (slice_get (done ++ did ∷ [])) at ∙ get_right done (did ∷ []) 0 in
       let same : key_bound (done ++ did ∷ []) place b ≡ key_made made =
       ap (λ o. option_and_then (λ (d : Did). option_and_then key_made (slice_get d.calls place)) o) its ∙ ap (option_and_then key_made) is in
@@ -339,15 +348,18 @@ either_left : {X : Type 0} (o p : Option X) (x : X) → o ≡ Some x → option_
 either_left None p x e = cc
 either_left (Some y) p x e = e
 
-binding_from-front : (place section first : ℕ) (name : List ℕ) (front back : List Line) (b : Binding) → binding_from place section first name front ≡ Some b → binding_from place section first name (front ++ back) ≡ Some b
+binding_from-front : (place section first : ℕ) (name : List ℕ) (front back : List Line) (b : Binding) → binding_from place section first name front ≡ Some b
+    → binding_from place section first name (front ++ back) ≡ Some b
 binding_from-front place section first name [] back b e = cc
-binding_from-front place section first name (l ∷ front) back b e = elim (of_either (binding_at place section first name l) (binding_from (place + 1) (section + marks_at l) (first + keys_at l) name front) b e) [
-  | inl here ↦ either_left _ _ b here
-  | inr later ↦ later_on (binding_at place section first name l) e (binding_from-front (place + 1) (section + marks_at l) (first + keys_at l) name front back b later)
-]
+binding_from-front place section first name (l ∷ front) back b e = elim
+    (of_either (binding_at place section first name l) (binding_from (place + 1) (section + marks_at l) (first + keys_at l) name front) b e) [
+      | inl here ↦ either_left _ _ b here
+      | inr later ↦ later_on (binding_at place section first name l) e (binding_from-front (place + 1) (section + marks_at l) (first + keys_at l) name front back b later)
+    ]
   where
     later_on : (o : Option Binding) → option_or o (binding_from (place + 1) (section + marks_at l) (first + keys_at l) name front) ≡ Some b
-        → binding_from (place + 1) (section + marks_at l) (first + keys_at l) name (front ++ back) ≡ Some b → option_or o (binding_from (place + 1) (section + marks_at l) (first + keys_at l) name (front ++ back)) ≡ Some b
+        → binding_from (place + 1) (section + marks_at l) (first + keys_at l) name (front ++ back) ≡ Some b
+        → option_or o (binding_from (place + 1) (section + marks_at l) (first + keys_at l) name (front ++ back)) ≡ Some b
     later_on None is more = more
     later_on (Some x) is more = is
 

@@ -34,7 +34,8 @@ zero_other other = grind (arith, nat_tests)
 other_zero : (number : ℕ) → (suc number == zero) ≡ false
 other_zero number = grind (arith, nat_tests)
 
-ended_in-set : (shards : List ShardState) (number : ℕ) (before after : ShardState) → slice_get shards number ≡ Some before → (other : ℕ) → ended_in (set shards number after) other ≡ cond (number == other) after.ended (ended_in shards other)
+ended_in-set : (shards : List ShardState) (number : ℕ) (before after : ShardState) → slice_get shards number ≡ Some before → (other : ℕ)
+    → ended_in (set shards number after) other ≡ cond (number == other) after.ended (ended_in shards other)
 ended_in-set [] number before after here other = cc here
 ended_in-set (shard ∷ shards) zero before after here zero = refl
 ended_in-set (shard ∷ shards) zero before after here (suc other) = ap (λ b. cond b after.ended (ended_in shards other)) (sym (zero_other other))
@@ -94,17 +95,30 @@ reply_to_put-each P (Err refusal) is = is
 
 -- a call of a line ends no shard, and leaves the plan
 pub KeepsPlan-step : (old new : CoreState) (event : Event) (reply : Reply) → MayCall old event → CoreStep old event reply new → KeepsPlan old new
-KeepsPlan-step old new (Put shard value) (Issued key) may step = subst (KeepsPlan old) (sym step.rest) (record { shards = KeepsShards-with_shard old shard step.before step.after step.here (ended-Puts step.before step.after (class_of value) value key step.at step.puts); plan = refl })
+KeepsPlan-step old new (Put shard value) (Issued key) may step = subst (KeepsPlan old) (sym step.rest)
+    (record {
+      shards = KeepsShards-with_shard old shard step.before step.after step.here
+          (ended-Puts step.before step.after (class_of value) value key step.at step.puts);
+      plan = refl;
+    })
 KeepsPlan-step old new (Put shard value) (Refused Config) may step = KeepsPlan-same old new step.1
 KeepsPlan-step old new (Put shard value) (Refused Ended) may step = KeepsPlan-same old new step.1
 KeepsPlan-step old new (Put shard value) (Refused PagesSpent) may step = KeepsPlan-same old new step.1
 KeepsPlan-step old new (Put shard value) (Refused OutOfMemory) may step = KeepsPlan-same old new step.1
 KeepsPlan-step old new (Get key) (Found value) may step = KeepsPlan-same old new step.1
-KeepsPlan-step old new (Set key value) (Replaced true) may (inl step) = subst (KeepsPlan old) (sym step.rest) (record { shards = KeepsShards-with_shard old step.number step.before step.after step.here (ended-Sets step.before step.after key value step.at step.sets); plan = refl })
+KeepsPlan-step old new (Set key value) (Replaced true) may (inl step) = subst (KeepsPlan old) (sym step.rest)
+    (record {
+      shards = KeepsShards-with_shard old step.number step.before step.after step.here (ended-Sets step.before step.after key value step.at step.sets);
+      plan = refl;
+    })
 KeepsPlan-step old new (Set key value) (Replaced true) may (inr step) = subst (KeepsPlan old) (sym step.rest) (record { shards = record { limits = refl; ended = λ number. refl }; plan = refl })
 KeepsPlan-step old new (Set key value) (Replaced false) may step = KeepsPlan-same old new step.1
 KeepsPlan-step old new (Set key value) (Refused OutOfMemory) may step = KeepsPlan-same old new step.1
-KeepsPlan-step old new (Free key) (Freed true) may (inl step) = subst (KeepsPlan old) (sym step.rest) (record { shards = KeepsShards-with_shard old step.number step.before step.after step.here (ended-Frees step.before step.after key step.at step.frees); plan = refl })
+KeepsPlan-step old new (Free key) (Freed true) may (inl step) = subst (KeepsPlan old) (sym step.rest)
+    (record {
+      shards = KeepsShards-with_shard old step.number step.before step.after step.here (ended-Frees step.before step.after key step.at step.frees);
+      plan = refl;
+    })
 KeepsPlan-step old new (Free key) (Freed true) may (inr step) = subst (KeepsPlan old) (sym step.rest) (record { shards = record { limits = refl; ended = λ number. refl }; plan = refl })
 KeepsPlan-step old new (Free key) (Freed false) may step = KeepsPlan-same old new step.1
 KeepsPlan-step old new (Later worker key) Sent may step = subst (KeepsPlan old) (sym step.rest) (record { shards = record { limits = refl; ended = λ number. refl }; plan = refl })
@@ -120,7 +134,8 @@ KeepsPlan-step old new (Retire shard most) (Refused Config) may step = KeepsPlan
 KeepsPlan-step old new (Retire shard most) (Refused Ended) may step = KeepsPlan-same old new step.1
 KeepsPlan-step old new (Retire shard most) (Refused PlanOpen) may step = KeepsPlan-same old new step.2
 KeepsPlan-step old new (Retire shard most) (Refused OutOfMemory) may step = KeepsPlan-same old new step.1
-KeepsPlan-step old new (Trim shard) (Trimmed count) may step = subst (KeepsPlan old) (sym step.rest) (record { shards = KeepsShards-with_shard old shard step.before step.after step.here (ap (λ (s : ShardState). s.ended) step.trims.after); plan = refl })
+KeepsPlan-step old new (Trim shard) (Trimmed count) may step = subst (KeepsPlan old) (sym step.rest)
+    (record { shards = KeepsShards-with_shard old shard step.before step.after step.here (ap (λ (s : ShardState). s.ended) step.trims.after); plan = refl })
 KeepsPlan-step old new (Trim shard) (Refused Config) may step = KeepsPlan-same old new step.1
 KeepsPlan-step old new (Adopt shard) (Adopted head) may step =
     let adopted = ap (λ (s : ShardState). s.ended) step.adopts.takes_in.after in

@@ -36,7 +36,10 @@ pub CanLeave-kept : (shards : ℕ) (old new : CoreState) (leaving : ℕ → Bool
 CanLeave-kept shards old new leaving keeps can thread below leaves = IsOpen-kept old new thread keeps (can thread below leaves)
 
 pub EndsBelow-after : (old mid new : CoreState) (bound : ℕ) (test : ℕ → Bool) → KeepsShards old mid → EndsBelow mid bound test new → EndsBelow old bound test new
-EndsBelow-after old mid new bound test keeps ended = record { limits = ended.limits ∙ keeps.limits; ended = λ number. ended.ended number ∙ ap (λ b. (nat_lt number bound && test number) || b) (keeps.ended number) }
+EndsBelow-after old mid new bound test keeps ended = record {
+  limits = ended.limits ∙ keeps.limits;
+  ended = λ number. ended.ended number ∙ ap (λ b. (nat_lt number bound && test number) || b) (keeps.ended number);
+}
 
 pub EndsBelow-before : (old mid new : CoreState) (bound : ℕ) (test : ℕ → Bool) → EndsBelow old bound test mid → KeepsShards mid new → EndsBelow old bound test new
 EndsBelow-before old mid new bound test ended keeps = record { limits = keeps.limits ∙ ended.limits; ended = λ number. keeps.ended number ∙ ended.ended number }
@@ -111,10 +114,13 @@ filter-range_with_len_more test n =
 
 module _ (old mid : CoreState) (bound : ℕ) (test : ℕ → Bool) (news : News) (ends : Carries (ends_asked (filter test (range_with_len 0 bound))) old news mid news) where
   pub Carries-skip : test bound ≡ false → Carries (ends_asked (filter test (range_with_len 0 (bound + 1)))) old news mid news
-  Carries-skip fails = subst (λ (ts : List ℕ). Carries (ends_asked ts) old news mid news) (sym (filter-range_with_len_more test bound ∙ ap (λ b. filter test (range_with_len 0 bound) ++ cond b (bound ∷ []) []) fails ∙ append-nil (filter test (range_with_len 0 bound)))) ends
+  Carries-skip fails = subst (λ (ts : List ℕ). Carries (ends_asked ts) old news mid news)
+      (sym (filter-range_with_len_more test bound ∙ ap (λ b. filter test (range_with_len 0 bound) ++ cond b (bound ∷ []) []) fails
+      ∙ append-nil (filter test (range_with_len 0 bound)))) ends
 
   pub Carries-more : (new : CoreState) → test bound ≡ true → Carries (ends_asked (bound ∷ [])) mid news new news → Carries (ends_asked (filter test (range_with_len 0 (bound + 1)))) old news new news
   Carries-more new passes more =
       let both = map-append (λ thread. Calls (End thread)) (filter test (range_with_len 0 bound)) (bound ∷ []) in
       subst (λ (ts : List ℕ). Carries (ends_asked ts) old news new news) (sym (filter-range_with_len_more test bound ∙ ap (λ b. filter test (range_with_len 0 bound) ++ cond b (bound ∷ []) []) passes))
-      (subst (λ (asked : List Asked). Carries asked old news new news) (sym both) (Carries-append (ends_asked (filter test (range_with_len 0 bound))) (ends_asked (bound ∷ [])) old mid new news news news ends more))
+      (subst (λ (asked : List Asked). Carries asked old news new news) (sym both)
+      (Carries-append (ends_asked (filter test (range_with_len 0 bound))) (ends_asked (bound ∷ [])) old mid new news news news ends more))

@@ -104,7 +104,8 @@ pub record TurnsBelow (old : CoreState) (bound : ℕ) (ends begins : ℕ → Boo
   pub limits : new.limits ≡ old.limits
   pub ended : (number : ℕ) → ended_at new number ≡ (not (begins number) && ((nat_lt number bound && ends number) || ended_at old number))
 
--- the event may be called for a line and leaves what has ended: its shard is open, or its worker and shard are there, and no plan is where it would be in the way of an adoption; the barrier alone ends shards, steps and closes
+-- the event may be called for a line and leaves what has ended: its shard is open, or its worker and shard are there, and no plan is where it would be in the
+-- way of an adoption; the barrier alone ends shards, steps and closes
 abbrev pub MayCall : CoreState → Event → Type 0
 MayCall core (Put shard value) = IsOpen core shard
 MayCall core (Trim shard) = IsOpen core shard

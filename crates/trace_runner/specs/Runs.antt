@@ -120,7 +120,9 @@ abbrev pub MayMeetPlan : Event → Type 0
 MayMeetPlan (event.Retire shard most) = Unit {0}
 MayMeetPlan event = ⊥
 
--- no refused allocation, no shard that is not there, has ended where it is to run or runs where it is to begin, and no plan that is missed or in the way of more than a retirement: of the refusals, only those of a page, of an adoption that finds nothing, of a mark that sees too much, of a ring that is full and of a retirement while a plan is open come
+-- no refused allocation, no shard that is not there, has ended where it is to run or runs where it is to begin, and no plan that is missed or in the way of
+-- more than a retirement: of the refusals, only those of a page, of an adoption that finds nothing, of a mark that sees too much, of a ring that is full and of
+-- a retirement while a plan is open come
 abbrev pub IsTold : Event → Reply → Type 0
 IsTold event (Refused PagesSpent) = Unit {0}
 IsTold event (Refused TooMany) = Unit {0}

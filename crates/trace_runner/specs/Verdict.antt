@@ -12,7 +12,8 @@ use Rattle.trace_runner.specs.declared.fault.CheckError.TheVariants.{OutOfMemory
 
 -- `accepted folds F short K partners Q`, or `rejected`
 abbrev pub verdict_line : Certificate → Bool → List ℕ
-verdict_line c true = codes "accepted folds " ++ decimal (length c.plan) ++ codes " short " ++ decimal (length c.short) ++ codes " partners " ++ decimal (length (partners_of c.snapshot c.short)) ++ codes "\n"
+verdict_line c true = codes "accepted folds " ++ decimal (length c.plan) ++ codes " short " ++ decimal (length c.short) ++ codes " partners "
+    ++ decimal (length (partners_of c.snapshot c.short)) ++ codes "\n"
 verdict_line c false = codes "rejected\n"
 
 -- the text says this certificate, and it is accepted exactly where it shows that no plan has more pairs, which is then so
@@ -29,7 +30,8 @@ WritesVerdict text old new accepted = (c : Certificate) × IsVerdictOn text c ac
 abbrev pub WritesVerdictFront : List ℕ → Option (List ℕ) → Option (List ℕ) → Type 0
 WritesVerdictFront text old new = (c : Certificate) × (accepted : Bool) × IsVerdictOn text c accepted × AppendsFront old new (verdict_line c accepted)
 
--- where a check stopped: where an allocation was refused, or at the first line at fault of a text that is no certificate, with nothing taken; or at a sink that failed, once, with a prefix of the line taken
+-- where a check stopped: where an allocation was refused, or at the first line at fault of a text that is no certificate, with nothing taken; or at a sink that
+-- failed, once, with a prefix of the line taken
 abbrev pub StopsCheck : List ℕ → (failures_old failures_new : ℕ) → (old new : Option (List ℕ)) → CheckError → Type 0
 StopsCheck text failures_old failures_new old new OutOfMemory = (failures_new ≡ failures_old) × (new ≡ old)
 StopsCheck text failures_old failures_new old new (BadCertificate line cause) = (certificate_in text ≡ Err (read_error.BadCertificate line cause)) × (failures_new ≡ failures_old) × (new ≡ old)

@@ -49,7 +49,8 @@ none_from None e = refl
 none_from (Some x) e = cc
 
 -- a call that is not refused binds a name that was not bound
-fresh_name : (ls : List Line) (place section first thread : ℕ) (name : List ℕ) (c : Call) (b : Binding) → binds_again ls c ≡ false → call_binding place section first name thread c ≡ Some b → binding_of name ls ≡ None
+fresh_name : (ls : List Line) (place section first thread : ℕ) (name : List ℕ) (c : Call) (b : Binding) → binds_again ls c ≡ false
+    → call_binding place section first name thread c ≡ Some b → binding_of name ls ≡ None
 fresh_name ls place section first thread name (Put bound class v) b free e = elim (chosen (bytes_eq bound name) _ _ (Some b) e) [
   | inl p ↦ let same = same_bytes bound name p.0 in none_from (binding_of name ls) (rw same at free)
   | inr p ↦ cc p.1
@@ -70,7 +71,8 @@ fresh_name ls place section first thread name End b free e = cc
 fresh_name ls place section first thread name Begin b free e = cc
 
 -- so does a line
-pub fresh : (h : Header) (ls : List Line) (place section first : ℕ) (name : List ℕ) (l : Line) (b : Binding) → first_cause h ls l ≡ None → binding_at place section first name l ≡ Some b → binding_of name ls ≡ None
+pub fresh : (h : Header) (ls : List Line) (place section first : ℕ) (name : List ℕ) (l : Line) (b : Binding) → first_cause h ls l ≡ None
+    → binding_at place section first name l ≡ Some b → binding_of name ls ≡ None
 fresh h ls place section first name line.Silent b fine e = cc
 fresh h ls place section first name line.Mark b fine e = cc
 fresh h ls place section first name (line.Adopt s) b fine e = cc
@@ -80,7 +82,8 @@ pub either_first : {X : Type 0} (o p : Option X) → ((x : X) → p ≡ Some x �
 either_first o None free = sym (or_none o)
 either_first o (Some x) free = rw (free x refl) refl
 
-few_call : (before : List Line) (place section first thread : ℕ) (name : List ℕ) (c : Call) (b : Binding) → is_call_over before c ≡ false → call_binding place section first name thread c ≡ Some b → IsFew b.keys
+few_call : (before : List Line) (place section first thread : ℕ) (name : List ℕ) (c : Call) (b : Binding) → is_call_over before c ≡ false
+    → call_binding place section first name thread c ≡ Some b → IsFew b.keys
 few_call before place section first thread name (Put bound class v) b within e = elim (chosen (bytes_eq bound name) _ _ (Some b) e) [
   | inl p ↦ let is : One ≡ b.keys = ap (λ o. option_map_or (λ (x : Binding). x.keys) o One) p.1 in subst IsFew is (omega arith)
   | inr p ↦ cc p.1
@@ -101,7 +104,8 @@ few_call before place section first thread name (Retire most) b within e = cc
 few_call before place section first thread name End b within e = cc
 few_call before place section first thread name Begin b within e = cc
 
-few_at : (before : List Line) (place section first : ℕ) (name : List ℕ) (l : Line) (b : Binding) → is_call (is_call_over before) l ≡ false → binding_at place section first name l ≡ Some b → IsFew b.keys
+few_at : (before : List Line) (place section first : ℕ) (name : List ℕ) (l : Line) (b : Binding) → is_call (is_call_over before) l ≡ false
+    → binding_at place section first name l ≡ Some b → IsFew b.keys
 few_at before place section first name line.Silent b within e = cc
 few_at before place section first name line.Mark b within e = cc
 few_at before place section first name (line.Adopt s) b within e = cc

@@ -97,7 +97,9 @@ is_of_kind-clip None (Many n) = refl
 is_of_kind-clip (Some i) One = refl
 is_of_kind-clip (Some i) (Many n) = refl
 
-same_class : (i : Option ℕ) (o : Option Binding) → option_map_or (λ (b : Binding). cond (is_of_kind (option_map clip i) b.keys) b.class C16) o C16 ≡ option_map_or (λ (b : Binding). cond (is_of_kind i b.keys) b.class C16) o C16
+same_class : (i : Option ℕ) (o : Option Binding)
+    → option_map_or (λ (b : Binding). cond (is_of_kind (option_map clip i) b.keys) b.class C16) o C16
+    ≡ option_map_or (λ (b : Binding). cond (is_of_kind i b.keys) b.class C16) o C16
 same_class i None = refl
 same_class i (Some b) = ap (λ of_kind. cond of_kind b.class C16) (is_of_kind-clip i b.keys)
 

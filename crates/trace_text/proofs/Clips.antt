@@ -193,7 +193,9 @@ same_keys : (c : Call) (o : Option Binding) → ((b : Binding) → o ≡ Some b 
 same_keys c None few = refl
 same_keys c (Some b) few = has_keys-clip c b.keys (few b refl)
 
-same_unknown : (before : List Line) (c : Call) (o : Option (List ℕ)) → Few before → option_map_or (λ name. not (option_map_or (λ b. has_keys (clip_call c) b.keys) (binding_of name before) false)) o false ≡ option_map_or (λ name. not (option_map_or (λ b. has_keys c b.keys) (binding_of name before) false)) o false
+same_unknown : (before : List Line) (c : Call) (o : Option (List ℕ)) → Few before
+    → option_map_or (λ name. not (option_map_or (λ b. has_keys (clip_call c) b.keys) (binding_of name before) false)) o false
+    ≡ option_map_or (λ name. not (option_map_or (λ b. has_keys c b.keys) (binding_of name before) false)) o false
 same_unknown before c None few = refl
 same_unknown before c (Some name) few = ap not (same_keys c (binding_of name before) (few name))
 
@@ -222,7 +224,9 @@ first_cause-clip h before (line.Adopt s) within few = elim (cases_Bool (nat_le h
 ]
 first_cause-clip h before (line.Call t c) within few = elim (cases_Bool (nat_le h.shards t)) [
   | inl far ↦ rw (over-clip before c, clip-thread h.shards t within.shards, far) refl
-  | inr near ↦ rw (clip-near h.shards t within.shards near) (find_same (holds h before (line.Call t (clip_call c))) (holds h before (line.Call t c)) (holds-clip h before t c few) (cause.Limit ∷ cause.Thread ∷ cause.Ended ∷ cause.Adopt ∷ cause.Bound ∷ cause.Unknown ∷ cause.Early ∷ []))
+  | inr near ↦ rw (clip-near h.shards t within.shards near)
+      (find_same (holds h before (line.Call t (clip_call c))) (holds h before (line.Call t c)) (holds-clip h before t c few)
+      (cause.Limit ∷ cause.Thread ∷ cause.Ended ∷ cause.Adopt ∷ cause.Bound ∷ cause.Unknown ∷ cause.Early ∷ []))
 ]
 
 -- ---- a line that is not refused was not clipped
@@ -271,7 +275,8 @@ range_near : (from to : ℕ) (keys : Keys) → IsFew keys → has_range (clip fr
 range_near from to One few has = cc
 range_near from to (Many n) few has = let parts = and_parts (nat_le (clip from) (clip to)) (nat_le (clip to) n) has in clip-range_near from to n few parts.0 parts.1
 
-range_known : (from to : ℕ) (o : Option Binding) → ((b : Binding) → o ≡ Some b → IsFew b.keys) → not (option_map_or (λ b. has_range (clip from) (clip to) b.keys) o false) ≡ false → (clip from ≡ from) × (clip to ≡ to)
+range_known : (from to : ℕ) (o : Option Binding) → ((b : Binding) → o ≡ Some b → IsFew b.keys)
+    → not (option_map_or (λ b. has_range (clip from) (clip to) b.keys) o false) ≡ false → (clip from ≡ from) × (clip to ≡ to)
 range_known from to None few known = cc
 range_known from to (Some b) few known = elim (cases_Bool (has_range (clip from) (clip to) b.keys)) [
   | inl has ↦ range_near from to b.keys (few b refl) has

@@ -18,7 +18,8 @@ form_of_words-four version (a ∷ b ∷ c ∷ d ∷ []) p q r s four = refl
 form_of_words-four version (a ∷ b ∷ c ∷ d ∷ e ∷ more) p q r s four = absurd (omega arith)
 
 pub form_of_words-five : (version : Version) (words : List (Bor (List ℕ))) (p q r s t : Bor (List ℕ)) → length words ≡ 5
-    → thread_line version (get_or words 0 p).now (get_or words 1 q).now (counted_call (get_or words 1 q).now (get_or words 2 r).now (get_or words 3 s).now (get_or words 4 t).now) ≡ form_of_words version (contents_of words)
+    → thread_line version (get_or words 0 p).now (get_or words 1 q).now
+    (counted_call (get_or words 1 q).now (get_or words 2 r).now (get_or words 3 s).now (get_or words 4 t).now) ≡ form_of_words version (contents_of words)
 form_of_words-five version [] p q r s t five = absurd (omega arith)
 form_of_words-five version (a ∷ []) p q r s t five = absurd (omega arith)
 form_of_words-five version (a ∷ b ∷ []) p q r s t five = absurd (omega arith)

@@ -20,7 +20,8 @@ use Rattle.trace_text.specs.declared.cause.ParseError.TheVariants.{BadTrace, Out
 use Rattle.trace_text.proofs.Lines.{chosen, same_bytes}
 
 -- one line of the header more
-pub BeginWith-more : (above : List Field) (numbers : List ℕ) (field : Field) (n : ℕ) (lines rest below : List (List ℕ)) → BeginWith above numbers lines rest → BeginWith (field ∷ []) (n ∷ []) rest below → BeginWith (above ++ field ∷ []) (numbers ++ n ∷ []) lines below
+pub BeginWith-more : (above : List Field) (numbers : List ℕ) (field : Field) (n : ℕ) (lines rest below : List (List ℕ)) → BeginWith above numbers lines rest
+    → BeginWith (field ∷ []) (n ∷ []) rest below → BeginWith (above ++ field ∷ []) (numbers ++ n ∷ []) lines below
 BeginWith-more [] [] field n lines rest below begin next = subst (λ ls. BeginWith (field ∷ []) (n ∷ []) ls below) (sym begin) next
 BeginWith-more [] (m ∷ ms) field n lines rest below begin next = absurd begin
 BeginWith-more (f ∷ fs) [] field n lines rest below begin next = absurd begin
@@ -28,7 +29,8 @@ BeginWith-more (f ∷ fs) (m ∷ ms) field n [] rest below begin next = absurd b
 BeginWith-more (f ∷ fs) (m ∷ ms) field n (line ∷ lines) rest below begin next = (begin.0, BeginWith-more fs ms field n lines rest below begin.1 next)
 
 -- the line below those that begin a header is at fault
-pub FailsHeader-below : (above more : List Field) (field : Field) (numbers : List ℕ) (number : ℕ) (lines rest : List (List ℕ)) (e : ParseError) → fields ≡ above ++ field ∷ more → number ≡ length above + 1 → BeginWith above numbers lines rest → FailsField field number rest e → FailsHeader lines e
+pub FailsHeader-below : (above more : List Field) (field : Field) (numbers : List ℕ) (number : ℕ) (lines rest : List (List ℕ)) (e : ParseError)
+    → fields ≡ above ++ field ∷ more → number ≡ length above + 1 → BeginWith above numbers lines rest → FailsField field number rest e → FailsHeader lines e
 FailsHeader-below above more field numbers number lines rest OutOfMemory split place fine fails = absurd fails
 FailsHeader-below above more field numbers number lines rest (BadTrace line c) split place fine fails = record {
   above = above;
@@ -60,8 +62,10 @@ field_in-found word (a ∷ b ∷ []) n e = elim (chosen (bytes_eq a word) (numbe
 field_in-found word (a ∷ b ∷ c ∷ more) n e = cc
 
 -- its number is outside the range
-pub size_outside : (word bytes : List ℕ) (most : ℕ) (number : Number) (lines rest : List (List ℕ)) → lines ≡ bytes ∷ rest → KeepsNumber (Some number) (field_in word (words_of bytes)) → IsOutside most number → IsAtFault (Size word most) lines cause.Limit
-size_outside word bytes most number lines rest split says out = subst (λ ls. IsAtFault (Size word most) ls cause.Limit) (sym split) (let found = go (field_in word (words_of bytes)) refl says in inr (refl, found.0, found.1, found.2))
+pub size_outside : (word bytes : List ℕ) (most : ℕ) (number : Number) (lines rest : List (List ℕ)) → lines ≡ bytes ∷ rest
+    → KeepsNumber (Some number) (field_in word (words_of bytes)) → IsOutside most number → IsAtFault (Size word most) lines cause.Limit
+size_outside word bytes most number lines rest split says out = subst (λ ls. IsAtFault (Size word most) ls cause.Limit) (sym split)
+    (let found = go (field_in word (words_of bytes)) refl says in inr (refl, found.0, found.1, found.2))
   where
     go : (o : Option ℕ) → field_in word (words_of bytes) ≡ o → KeepsNumber (Some number) o → (n : ℕ) × AreWords (words_of bytes) (Verb word ∷ form.Number n ∷ []) × (IsInRange 1 most n → ⊥)
     go None e says = absurd says
@@ -131,10 +135,12 @@ of_numbers_of h = ap (λ version. record h { version = version }) (of_number_of 
 
 -- lines have one header
 pub HasHeader-same : (h g : Header) (lines below other : List (List ℕ)) → HasHeader h lines below → HasHeader g lines other → (h ≡ g) × (below ≡ other)
-HasHeader-same h g lines below other a b = let same = BeginWith-same fields (numbers_of h) (numbers_of g) lines below other a b in (sym (of_numbers_of h) ∙ ap of_numbers same.0 ∙ of_numbers_of g, same.1)
+HasHeader-same h g lines below other a b = let same = BeginWith-same fields (numbers_of h) (numbers_of g) lines below other a b in
+    (sym (of_numbers_of h) ∙ ap of_numbers same.0 ∙ of_numbers_of g, same.1)
 
 -- lines that begin with fields are not at fault in one of them
-fine_or_fault : (above more : List Field) (field : Field) (ns ms : List ℕ) (lines below rest : List (List ℕ)) (c : Cause) → BeginWith (above ++ field ∷ more) ns lines below → BeginWith above ms lines rest → IsAtFault field rest c → ⊥
+fine_or_fault : (above more : List Field) (field : Field) (ns ms : List ℕ) (lines below rest : List (List ℕ)) (c : Cause)
+    → BeginWith (above ++ field ∷ more) ns lines below → BeginWith above ms lines rest → IsAtFault field rest c → ⊥
 fine_or_fault [] more field [] ms lines below rest c all fine fault = all
 fine_or_fault [] more field (n ∷ ns) (m ∷ ms) lines below rest c all fine fault = fine
 fine_or_fault [] more field (n ∷ ns) [] [] below rest c all fine fault = all
@@ -151,4 +157,5 @@ fine_or_fault (f ∷ fs) more field (n ∷ ns) (m ∷ ms) (line ∷ lines) below
 -- so a header is not at fault
 pub HasHeader-fine : (h : Header) (lines below : List (List ℕ)) (number : ℕ) (c : Cause) → HasHeader h lines below → IsHeaderFault lines number c → ⊥
 HasHeader-fine h lines below number c head fault =
-    fine_or_fault fault.above fault.more fault.field (numbers_of h) fault.numbers lines below fault.rest c (subst (λ fs. BeginWith fs (numbers_of h) lines below) fault.split head) fault.fine fault.fault
+    fine_or_fault fault.above fault.more fault.field (numbers_of h) fault.numbers lines below fault.rest c
+    (subst (λ fs. BeginWith fs (numbers_of h) lines below) fault.split head) fault.fine fault.fault

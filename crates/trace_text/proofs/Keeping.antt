@@ -129,10 +129,12 @@ find-new kept count new is order =
 -- a line more, of which something is kept
 module _ {X : Type 0} (d : X) (f : KeptLine → X) where
   pub map-kept-push : (kept : List KeptLine) (count : ℕ) (new : KeptLine) → new.place ≡ count → AreInOrder kept count
-      → map (λ place. option_map_or f (find (is_at place) (kept ++ new ∷ [])) d) (range_with_len 0 (count + 1)) ≡ map (λ place. option_map_or f (find (is_at place) kept) d) (range_with_len 0 count) ++ f new ∷ []
+      → map (λ place. option_map_or f (find (is_at place) (kept ++ new ∷ [])) d) (range_with_len 0 (count + 1))
+      ≡ map (λ place. option_map_or f (find (is_at place) kept) d) (range_with_len 0 count) ++ f new ∷ []
   map-kept-push kept count new is order =
       map-range_with_len_more (λ place. option_map_or f (find (is_at place) (kept ++ new ∷ [])) d) 0 count count (omega arith)
-      ∙ ap (λ xs. xs ++ option_map_or f (find (is_at count) (kept ++ new ∷ [])) d ∷ []) (map-range-same d _ _ count (λ i less. ap (λ o. option_map_or f o d) (find-old kept new i (λ same. omega (arith, same, is, less)))))
+      ∙ ap (λ xs. xs ++ option_map_or f (find (is_at count) (kept ++ new ∷ [])) d ∷ [])
+      (map-range-same d _ _ count (λ i less. ap (λ o. option_map_or f o d) (find-old kept new i (λ same. omega (arith, same, is, less)))))
       ∙ ap (λ o. map (λ place. option_map_or f (find (is_at place) kept) d) (range_with_len 0 count) ++ option_map_or f o d ∷ []) (find-new kept count new is order)
 
   -- and one of which nothing is
@@ -146,7 +148,8 @@ module _ {X : Type 0} (d : X) (f : KeptLine → X) where
 pub kept_line : (kept : List KeptLine) (count place : ℕ) (one : KeptLine) → place < length (map (line_kept kept) (range_with_len 0 count)) → find (is_at place) kept ≡ Some one
     → slice_get (map (line_kept kept) (range_with_len 0 count)) place ≡ Some one.line
 kept_line kept count place one less found =
-    slice_get-map-range (line_kept kept) count place (omega (arith, less, length-map-range_with_len (line_kept kept) 0 count)) ∙ ap (λ o. Some (option_map_or (λ (k : KeptLine). k.line) o Silent)) found
+    slice_get-map-range (line_kept kept) count place (omega (arith, less, length-map-range_with_len (line_kept kept) 0 count))
+    ∙ ap (λ o. Some (option_map_or (λ (k : KeptLine). k.line) o Silent)) found
 
 pub kept_line-none : (kept : List KeptLine) (count place : ℕ) → place < length (map (line_kept kept) (range_with_len 0 count)) → find (is_at place) kept ≡ None
     → slice_get (map (line_kept kept) (range_with_len 0 count)) place ≡ Some Silent

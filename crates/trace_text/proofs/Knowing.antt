@@ -36,7 +36,8 @@ awaits_mark-push ls line.Mark = rw (reverse-append ls (line.Mark ∷ [])) refl
 
 -- one line more is known, where it is not refused
 pub Knows-push : (h : Header) (ls : List Line) (l : Line) (old new : Earlier) → Knows ls old → first_cause h ls l ≡ None
-    → NotesNames old new (length ls) l → NotesEnd old new l → NotesLeaving old new l → new.section ≡ old.section + marks_at l → new.keys ≡ old.keys + keys_at l → new.awaits_mark ≡ awaits_after old.awaits_mark l
+    → NotesNames old new (length ls) l → NotesEnd old new l → NotesLeaving old new l → new.section ≡ old.section + marks_at l → new.keys ≡ old.keys + keys_at l
+    → new.awaits_mark ≡ awaits_after old.awaits_mark l
     → Knows (ls ++ l ∷ []) new
 Knows-push h ls l old new knows fine names ended leaving section keys awaits = record {
   names = λ name. names name

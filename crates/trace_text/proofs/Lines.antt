@@ -58,7 +58,8 @@ bare_found verb w e = elim (chosen (bytes_eq verb (codes "end")) _ _ (Some w) e)
 ]
 
 -- a call on a key, by its verb
-one_key : (call : Reference → Call) (verb key text : List ℕ) (w : Call) → ((k : Reference) → words_of_call (call k) ≡ Verb text ∷ Refers k ∷ []) → verb ≡ text → option_map call (reference_in key) ≡ Some w → SaysCall (verb ∷ key ∷ []) w
+one_key : (call : Reference → Call) (verb key text : List ℕ) (w : Call) → ((k : Reference) → words_of_call (call k) ≡ Verb text ∷ Refers k ∷ []) → verb ≡ text
+    → option_map call (reference_in key) ≡ Some w → SaysCall (verb ∷ key ∷ []) w
 one_key call verb key text w says is e = let parts = mapped call (reference_in key) w e in
     subst (SaysCall (verb ∷ key ∷ [])) parts.2 (subst (AreWords (verb ∷ key ∷ [])) (sym (says parts.0)) (is, (parts.1, tt)))
 
@@ -127,7 +128,9 @@ valued_found verb target value w e = elim (chosen (bytes_eq verb set_verb) _ _ (
 ]
 
 -- a call with a name and two numbers, by its verb
-two_found : (call : List ℕ → ℕ → ℕ → Call) (verb name first second text : List ℕ) (w : Call) → ((n : List ℕ) (a b : ℕ) → words_of_call (call n a b) ≡ Verb text ∷ Named n ∷ Number a ∷ Number b ∷ []) → verb ≡ text → with_two call name first second ≡ Some w → SaysCall (verb ∷ name ∷ first ∷ second ∷ []) w
+two_found : (call : List ℕ → ℕ → ℕ → Call) (verb name first second text : List ℕ) (w : Call)
+    → ((n : List ℕ) (a b : ℕ) → words_of_call (call n a b) ≡ Verb text ∷ Named n ∷ Number a ∷ Number b ∷ []) → verb ≡ text
+    → with_two call name first second ≡ Some w → SaysCall (verb ∷ name ∷ first ∷ second ∷ []) w
 two_found call verb name first second text w says is e =
     option_and_then_some (λ a. option_and_then (λ b. with_name (λ n. call n a b) name) (number_in second)) (number_in first) w e
     (λ a first_is then. option_and_then_some (λ b. with_name (λ n. call n a b) name) (number_in second) w then
@@ -142,7 +145,8 @@ counted_found verb name first second w e = elim (chosen (bytes_eq verb (codes "s
 ]
 
 -- what the words of a thread's line say, where the version has the verb
-thread_found : (version : Version) (thread verb : List ℕ) (call : Option Call) (more : List (List ℕ)) (w : Line) → thread_line version thread verb call ≡ Some w → ((c : Call) → call ≡ Some c → SaysCall (verb ∷ more) c) → SaysLine version w (thread ∷ verb ∷ more)
+thread_found : (version : Version) (thread verb : List ℕ) (call : Option Call) (more : List (List ℕ)) (w : Line) → thread_line version thread verb call ≡ Some w
+    → ((c : Call) → call ≡ Some c → SaysCall (verb ∷ more) c) → SaysLine version w (thread ∷ verb ∷ more)
 thread_found version thread verb call more w e found = elim (chosen (has_verb version verb) _ None (Some w) e) [
   | inl p ↦ option_and_then_some (λ t. option_map (λ c. line.Call t c) call) (number_in thread) w p.1
       (λ t is then. let parts = mapped (λ c. line.Call t c) call w then in
@@ -204,7 +208,8 @@ plain (line.Call thread call) = line.Call thread (plain_call call)
 plain w = w
 
 -- the words, by their number
-four : (words : List (List ℕ)) (p q r s : Word) → AreWords words (p ∷ q ∷ r ∷ s ∷ []) → (a : List ℕ) × (b : List ℕ) × (c : List ℕ) × (d : List ℕ) × (words ≡ a ∷ b ∷ c ∷ d ∷ []) × IsWord a p × IsWord b q × IsWord c r × IsWord d s
+four : (words : List (List ℕ)) (p q r s : Word) → AreWords words (p ∷ q ∷ r ∷ s ∷ [])
+    → (a : List ℕ) × (b : List ℕ) × (c : List ℕ) × (d : List ℕ) × (words ≡ a ∷ b ∷ c ∷ d ∷ []) × IsWord a p × IsWord b q × IsWord c r × IsWord d s
 four [] p q r s says = absurd says
 four (a ∷ []) p q r s says = absurd says.1
 four (a ∷ b ∷ []) p q r s says = absurd says.1.1
@@ -255,7 +260,8 @@ not_adopt word n is = elim (cases_Bool (bytes_eq word (codes "adopt"))) [
   | inr other ↦ other
 ]
 
-thread_again : (version : Version) (thread verb : List ℕ) (t : ℕ) (call : Option Call) (c : Call) → has_verb version (verb_of c) ≡ true → verb ≡ verb_of c → number_in thread ≡ Some t → call ≡ Some c → thread_line version thread verb call ≡ Some (line.Call t c)
+thread_again : (version : Version) (thread verb : List ℕ) (t : ℕ) (call : Option Call) (c : Call) → has_verb version (verb_of c) ≡ true → verb ≡ verb_of c
+    → number_in thread ≡ Some t → call ≡ Some c → thread_line version thread verb call ≡ Some (line.Call t c)
 thread_again version thread verb t call c has its is said = rw (its, has, is, said) refl
 
 named_again : (name bytes : List ℕ) (call : List ℕ → Call) → (bytes ≡ name) × (is_name name ≡ true) → with_name call bytes ≡ Some (call name)
@@ -266,10 +272,12 @@ class_put-again C16 = refl
 class_put-again C64 = refl
 class_put-again C256 = refl
 
-value_again : (class : Class) (name value : List ℕ) (v : ℕ) (bytes : List ℕ) → (bytes ≡ name) × (is_name name ≡ true) → number_in value ≡ Some v → value_call (put_verb class) bytes value ≡ Some (Put name class v)
+value_again : (class : Class) (name value : List ℕ) (v : ℕ) (bytes : List ℕ) → (bytes ≡ name) × (is_name name ≡ true) → number_in value ≡ Some v
+    → value_call (put_verb class) bytes value ≡ Some (Put name class v)
 value_again class name value v bytes named is = rw (class_put-again class, is) (named_again name bytes (λ n. Put n class v) named)
 
-valued_again : (class : Class) (name value : List ℕ) (v : ℕ) (bytes : List ℕ) → (bytes ≡ name) × (is_name name ≡ true) → number_in value ≡ Some v → valued_call (put_verb class) bytes value ≡ Some (Put name class v)
+valued_again : (class : Class) (name value : List ℕ) (v : ℕ) (bytes : List ℕ) → (bytes ≡ name) × (is_name name ≡ true) → number_in value ≡ Some v
+    → valued_call (put_verb class) bytes value ≡ Some (Put name class v)
 valued_again C16 name value v bytes named is = value_again C16 name value v bytes named is
 valued_again C64 name value v bytes named is = value_again C64 name value v bytes named is
 valued_again C256 name value v bytes named is = value_again C256 name value v bytes named is
@@ -277,10 +285,12 @@ valued_again C256 name value v bytes named is = value_again C256 name value v by
 set_again : (key : Reference) (bytes value : List ℕ) (v : ℕ) → reference_in bytes ≡ Some key → number_in value ≡ Some v → valued_call set_verb bytes value ≡ Some (Set key C16 v)
 set_again key bytes value v refers is = rw (is, refers) refl
 
-two_again : (call : List ℕ → ℕ → ℕ → Call) (name bytes first second : List ℕ) (a b : ℕ) → (bytes ≡ name) × (is_name name ≡ true) → number_in first ≡ Some a → number_in second ≡ Some b → with_two call bytes first second ≡ Some (call name a b)
+two_again : (call : List ℕ → ℕ → ℕ → Call) (name bytes first second : List ℕ) (a b : ℕ) → (bytes ≡ name) × (is_name name ≡ true) → number_in first ≡ Some a
+    → number_in second ≡ Some b → with_two call bytes first second ≡ Some (call name a b)
 two_again call name bytes first second a b named fst snd = rw (fst, snd) (named_again name bytes (λ n. call n a b) named)
 
-fill_again : (class : Class) (name bytes first second : List ℕ) (n v : ℕ) → (bytes ≡ name) × (is_name name ≡ true) → number_in first ≡ Some n → number_in second ≡ Some v → counted_call (fill_verb class) bytes first second ≡ Some (Fill name class n v)
+fill_again : (class : Class) (name bytes first second : List ℕ) (n v : ℕ) → (bytes ≡ name) × (is_name name ≡ true) → number_in first ≡ Some n
+    → number_in second ≡ Some v → counted_call (fill_verb class) bytes first second ≡ Some (Fill name class n v)
 fill_again C16 name bytes first second n v named fst snd = two_again (λ m a b. Fill m C16 a b) name bytes first second n v named fst snd
 fill_again C64 name bytes first second n v named fst snd = two_again (λ m a b. Fill m C64 a b) name bytes first second n v named fst snd
 fill_again C256 name bytes first second n v named fst snd = two_again (λ m a b. Fill m C256 a b) name bytes first second n v named fst snd
@@ -319,7 +329,9 @@ mark_again : (version : Version) (words : List (List ℕ)) (a : List ℕ) → wo
 mark_again version words a split is = rw (split, is) refl
 
 -- the first byte of a line of words is no `#`
-words_again : (version : Version) (words : List (List ℕ)) (w : Line) → SaysLine version w words → (form_of_words version words ≡ Some (plain w)) × (first : List ℕ) × (more : List (List ℕ)) × (words ≡ first ∷ more) × (0 < length first) × (35 < slice_index first 0)
+words_again : (version : Version) (words : List (List ℕ)) (w : Line) → SaysLine version w words
+    → (form_of_words version words ≡ Some (plain w)) × (first : List ℕ) × (more : List (List ℕ)) × (words ≡ first ∷ more) × (0 < length first)
+    × (35 < slice_index first 0)
 words_again version words line.Silent says = absurd says
 words_again version words (line.Adopt s) says = let u = two words _ _ says in
     (adopt_again version words u.0 u.1 s u.2 u.3 u.4, u.0, u.1 ∷ [], u.2, rw u.3 (omega arith), rw u.3 (omega arith))

@@ -15,7 +15,8 @@ use Rattle.trace_text.proofs.Clips.{first_cause-clip, clip_line-fine, over-value
 use Rattle.trace_text.proofs.Classed.{HasForm-classed, classed-again, classed-clip, value_over-classed}
 
 -- one line more
-AreReadAs-push : (h : Header) (before : List Line) (texts : List (List ℕ)) (lines : List Line) (bytes : List ℕ) (l : Line) → AreReadAs h before texts lines → IsNextLine h (before ++ lines) bytes l → AreReadAs h before (texts ++ bytes ∷ []) (lines ++ l ∷ [])
+AreReadAs-push : (h : Header) (before : List Line) (texts : List (List ℕ)) (lines : List Line) (bytes : List ℕ) (l : Line) → AreReadAs h before texts lines
+    → IsNextLine h (before ++ lines) bytes l → AreReadAs h before (texts ++ bytes ∷ []) (lines ++ l ∷ [])
 AreReadAs-push h before [] [] bytes l all next = (subst (λ b. IsNextLine h b bytes l) (append-nil before) next, tt)
 AreReadAs-push h before (b ∷ bs) (m ∷ ms) bytes l (first, rest) next = (first, AreReadAs-push h (before ++ m ∷ []) bs ms bytes l rest (rw append_assoc next))
 AreReadAs-push h before [] (m ∷ ms) bytes l all next = absurd all
@@ -41,7 +42,8 @@ says_classed : (h : Header) (before : List Line) (bytes : List ℕ) (w : Line) �
 says_classed h before bytes w read = (HasForm-classed h.version before bytes w (form_found h.version bytes w read), sym (classed-again before w))
 
 -- a line that is read, given its class and not refused is a line of the trace
-pub fine_line : (h : Header) (before : List Line) (bytes : List ℕ) (l given : Line) → IsWithinLimits h → Few before → within (form_of h.version bytes) ≡ Ok l → given ≡ classed before l → first_cause h before given ≡ None → IsNextLine h before bytes given
+pub fine_line : (h : Header) (before : List Line) (bytes : List ℕ) (l given : Line) → IsWithinLimits h → Few before → within (form_of h.version bytes) ≡ Ok l
+    → given ≡ classed before l → first_cause h before given ≡ None → IsNextLine h before bytes given
 fine_line h before bytes l given within few read is fine =
     let w = within_ok (form_of h.version bytes) l read in
     let clipped : clip_line (classed before w.0) ≡ given = sym (classed-clip before w.0) ∙ ap (classed before) w.2 ∙ sym is in
@@ -51,7 +53,8 @@ fine_line h before bytes l given within few read is fine =
     subst P same (says_classed h before bytes w.0 w.1, sym (first_cause-clip h before (classed before w.0) within few) ∙ ap (first_cause h before) clipped ∙ fine)
 
 -- a line that is read, given its class and refused is at fault
-pub refused_line : (h : Header) (before : List Line) (bytes : List ℕ) (l given : Line) (c : Cause) → IsWithinLimits h → Few before → within (form_of h.version bytes) ≡ Ok l → given ≡ classed before l → first_cause h before given ≡ Some c → HasCause h before bytes c
+pub refused_line : (h : Header) (before : List Line) (bytes : List ℕ) (l given : Line) (c : Cause) → IsWithinLimits h → Few before
+    → within (form_of h.version bytes) ≡ Ok l → given ≡ classed before l → first_cause h before given ≡ Some c → HasCause h before bytes c
 refused_line h before bytes l given c within few read is fault =
     let w = within_ok (form_of h.version bytes) l read in
     let clipped : clip_line (classed before w.0) ≡ given = sym (classed-clip before w.0) ∙ ap (classed before) w.2 ∙ sym is in
@@ -82,7 +85,8 @@ pub SoFar-start : (h : Header) (texts : List (List ℕ)) → SoFar h texts texts
 SoFar-start h texts = record { above = []; split = refl; fine = tt }
 
 -- one line more
-pub SoFar-more : (h : Header) (texts rest more : List (List ℕ)) (lines : List Line) (bytes : List ℕ) (l : Line) → SoFar h texts rest lines → rest ≡ bytes ∷ more → IsNextLine h lines bytes l → SoFar h texts more (lines ++ l ∷ [])
+pub SoFar-more : (h : Header) (texts rest more : List (List ℕ)) (lines : List Line) (bytes : List ℕ) (l : Line) → SoFar h texts rest lines → rest ≡ bytes ∷ more
+    → IsNextLine h lines bytes l → SoFar h texts more (lines ++ l ∷ [])
 SoFar-more h texts rest more lines bytes l far next fine = record {
   above = far.above ++ bytes ∷ [];
   split = rw append_assoc (far.split ∙ ap (λ ls. far.above ++ ls) next);
@@ -94,7 +98,8 @@ pub SoFar-all : (h : Header) (texts rest : List (List ℕ)) (lines : List Line) 
 SoFar-all h texts rest lines far end = subst (λ ts. AreReadAs h [] ts lines) (sym (far.split ∙ ap (λ ls. far.above ++ ls) end ∙ append-nil far.above)) far.fine
 
 -- the first line of the rest is at fault
-pub SoFar-fault : (h : Header) (texts rest more : List (List ℕ)) (lines : List Line) (bytes : List ℕ) (n : ℕ) (c : Cause) → SoFar h texts rest lines → rest ≡ bytes ∷ more → HasCause h lines bytes c → n ≡ length lines + 6 → IsFirstFault h texts n c
+pub SoFar-fault : (h : Header) (texts rest more : List (List ℕ)) (lines : List Line) (bytes : List ℕ) (n : ℕ) (c : Cause) → SoFar h texts rest lines
+    → rest ≡ bytes ∷ more → HasCause h lines bytes c → n ≡ length lines + 6 → IsFirstFault h texts n c
 SoFar-fault h texts rest more lines bytes n c far next fault place = record {
   above = far.above;
   rest = bytes ∷ more;
@@ -118,7 +123,8 @@ end_fault h texts lines n fine awaits place = record {
 }
 
 -- no cause holds of a line that was read after those lines and the ones above it
-AreReadAs-fine : (h : Header) (before : List Line) (texts : List (List ℕ)) (lines : List Line) (place : ℕ) (l : Line) → AreReadAs h before texts lines → slice_get lines place ≡ Some l → first_cause h (before ++ take place lines) l ≡ None
+AreReadAs-fine : (h : Header) (before : List Line) (texts : List (List ℕ)) (lines : List Line) (place : ℕ) (l : Line) → AreReadAs h before texts lines
+    → slice_get lines place ≡ Some l → first_cause h (before ++ take place lines) l ≡ None
 AreReadAs-fine h before [] [] place l all at = cc
 AreReadAs-fine h before [] (m ∷ ms) place l all at = absurd all
 AreReadAs-fine h before (b ∷ bs) [] place l all at = absurd all

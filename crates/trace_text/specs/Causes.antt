@@ -95,8 +95,10 @@ keys_in (line ∷ lines) = keys_at line + keys_in lines
 
 -- what a thread's call on the line at that place, in that section and after that many keys binds the name to
 abbrev pub call_binding : (place section first : ℕ) → List ℕ → ℕ → Call → Option Binding
-call_binding place section first name thread (Put bound class value) = if bytes_eq bound name then Some (record { keys = One; class = class; thread = thread; section = section; line = place; first = first }) else None
-call_binding place section first name thread (Fill bound class count value) = if bytes_eq bound name then Some (record { keys = Many count; class = class; thread = thread; section = section; line = place; first = first }) else None
+call_binding place section first name thread (Put bound class value) = if bytes_eq bound name then Some
+    (record { keys = One; class = class; thread = thread; section = section; line = place; first = first }) else None
+call_binding place section first name thread (Fill bound class count value) = if bytes_eq bound name then Some
+    (record { keys = Many count; class = class; thread = thread; section = section; line = place; first = first }) else None
 call_binding place section first name thread _ = None
 
 -- what the line at that place, in that section and after that many keys binds the name to

@@ -71,7 +71,8 @@ bare_verbs = codes "tend" ∷ codes "end" ∷ []
 abbrev pub is_common_verb : List ℕ → Bool
 is_common_verb verb = list_any (bytes_eq verb) binding_verbs || (list_any (bytes_eq verb) reading_verbs || list_any (bytes_eq verb) bare_verbs)
 
--- a thread's call may have the verb, in a trace of each version; the second adds the verbs of objects of more words, the third that of sets, the fourth that of trims, and the fifth those of retirements and of begins
+-- a thread's call may have the verb, in a trace of each version; the second adds the verbs of objects of more words, the third that of sets, the fourth that of
+-- trims, and the fifth those of retirements and of begins
 abbrev pub has_verb : Version → List ℕ → Bool
 has_verb One verb = is_common_verb verb
 has_verb Two verb = is_common_verb verb || list_any (bytes_eq verb) wide_verbs
@@ -133,7 +134,8 @@ SaysLine version (line.Call thread call) words = (has_verb version (verb_of call
 SaysLine version (line.Adopt shard) words = AreWords words (Verb (codes "adopt") ∷ Number shard ∷ [])
 SaysLine version line.Mark words = AreWords words (Verb (codes "mark") ∷ [])
 
--- in a trace of that version the bytes have the form of this line, whose numbers may be of any size, and a set may be of any class: nothing, a `#` and any bytes, or the words of a thread's call, of an adoption or of a mark
+-- in a trace of that version the bytes have the form of this line, whose numbers may be of any size, and a set may be of any class: nothing, a `#` and any
+-- bytes, or the words of a thread's call, of an adoption or of a mark
 abbrev pub HasForm : Version → Line → List ℕ → Type 0
 HasForm version line.Silent bytes = (bytes ≡ []) ⊎ ((remark : List ℕ) × (bytes ≡ codes "#" ++ remark))
 HasForm version line bytes = SaysLine version line (words_of bytes)

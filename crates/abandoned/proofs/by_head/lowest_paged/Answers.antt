@@ -5,7 +5,8 @@ use Rattle.abandoned.proofs.by_head.lowest_paged.Goals as goal
 
 pub returns-in-Some-paged_head-clause-lowest : goal.returns-in-Some-paged_head-clause-lowest
 returns-in-Some-paged_head-clause-lowest g c =
-    IsHeadOfFirstPaged-least c.args.places.now.groups c.loop-rank.paged.ranks c.loop-rank.invariant.noted c.paged_head.ensures.ascending c.in-Some.rank c.in-Some.ensures c.in-Some-paged_head.head c.in-Some-paged_head.ensures.head
+    IsHeadOfFirstPaged-least c.args.places.now.groups c.loop-rank.paged.ranks c.loop-rank.invariant.noted c.paged_head.ensures.ascending c.in-Some.rank
+    c.in-Some.ensures c.in-Some-paged_head.head c.in-Some-paged_head.ensures.head
 
 pub loop-rank-smaller : goal.loop-rank-smaller
 loop-rank-smaller g c =

@@ -7,7 +7,8 @@ use Rattle.abandoned.proofs.NotedRanks.{Contains-more, Contains-put}
 use Rattle.abandoned.proofs.by_head.note.Goals as goal
 
 pub returns-then-is_paged-clause-noted : goal.returns-then-is_paged-clause-noted
-returns-then-is_paged-clause-noted g c paged = subst (Contains c.put.new.self.ranks) (c.rank.ensures.value ∙ ap rank c.head_id.ensures) (Contains-put c.args.paged.now.ranks c.put.new.self.ranks c.rank.result c.put.ensures.more)
+returns-then-is_paged-clause-noted g c paged = subst (Contains c.put.new.self.ranks) (c.rank.ensures.value ∙ ap rank c.head_id.ensures)
+    (Contains-put c.args.paged.now.ranks c.put.new.self.ranks c.rank.result c.put.ensures.more)
 
 pub returns-then-is_paged-clause-more : goal.returns-then-is_paged-clause-more
 returns-then-is_paged-clause-more g c number among = Contains-more c.args.paged.now.ranks c.put.new.self.ranks c.rank.result number c.put.ensures.more among

@@ -7,7 +7,8 @@ pub loop-group-preserved : goal.loop-group-preserved
 loop-group-preserved g c =
     let here = slice_get_read c.args.groups.now (length c.args.groups.now) c.loop-group.group-index c.group-item.result refl c.loop-group-test.true c.group-item.is in
     record {
-      noted = AreNoted-more c.args.groups.now c.loop-group.group-index c.group-item.result here c.loop-group.paged.ranks c.note.new.paged.ranks c.note.ensures.more c.note.ensures.noted c.loop-group.invariant.noted;
+      noted = AreNoted-more c.args.groups.now c.loop-group.group-index c.group-item.result here c.loop-group.paged.ranks c.note.new.paged.ranks
+          c.note.ensures.more c.note.ensures.noted c.loop-group.invariant.noted;
       few = omega (arith, c.note.ensures.few, c.loop-group.invariant.few);
       capacity = omega (arith, c.note.ensures.capacity, c.loop-group.invariant.capacity);
     }

@@ -14,4 +14,11 @@ loop-group-preserved g c =
 pub overflow_add-count : goal.overflow_add-count
 overflow_add-count g c =
     let here = slice_get_read c.args.groups.now (length c.args.groups.now) c.loop-group.group-index c.group-item.result refl c.loop-group-test.true c.group-item.is in
-    omega (arith, c.loop-group.invariant, spans-more c.args.groups.now c.loop-group.group-index c.group-item.result here, length-take_spans spans_of c.args.groups.now (c.loop-group.group-index + 1), c.len-count.ensures, c.requires)
+    omega (
+      arith,
+      c.loop-group.invariant,
+      spans-more c.args.groups.now c.loop-group.group-index c.group-item.result here,
+      length-take_spans spans_of c.args.groups.now (c.loop-group.group-index + 1),
+      c.len-count.ensures,
+      c.requires,
+    )

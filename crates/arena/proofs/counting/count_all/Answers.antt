@@ -28,7 +28,8 @@ loop-shard-preserved c =
       same = AreSameSeats-more a b e inv.same c.count_shard.ensures.same;
       counted = λ s d h. rw pushed (elim (cases_eq s n) [
         | inl here ↦
-            let at : get_or (rows ++ c.in_ok-row.row ∷ []) s d ≡ c.in_ok-row.row = ap (λ k. get_or (rows ++ c.in_ok-row.row ∷ []) k d) (here ∙ sym long) ∙ get_or-append_seam rows c.in_ok-row.row [] d in
+            let at : get_or (rows ++ c.in_ok-row.row ∷ []) s d ≡ c.in_ok-row.row = ap (λ k. get_or (rows ++ c.in_ok-row.row ∷ []) k d) (here ∙ sym long)
+            ∙ get_or-append_seam rows c.in_ok-row.row [] d in
             rw (at, here) (AreCounted-same a b e e n c.in_ok-row.row.items inv.same refl c.in_ok-row.ensures.counted)
         | inr other ↦
             let below : s < n = omega arith in

@@ -10,7 +10,9 @@ use Rattle.arena.proofs.counting.count_rings.Goals as goal
 pub count_left-requires : goal.count_left-requires
 count_left-requires c =
     let inv = c.loop-from.invariant in
-    ring_here c.loop-from.seats c.args.seats.now c.loop-from.inboxes.items c.args.inboxes.now.items c.loop-from.from c.args.shard (get_or c.loop-from.seats c.loop-from.from c.index-seats-from.result) c.index-seats-from.result c.index_mut.result.now (search rules) (omega (arith, inv.wide, c.loop-from.inboxes.ok.0))
+    ring_here c.loop-from.seats c.args.seats.now c.loop-from.inboxes.items c.args.inboxes.now.items c.loop-from.from c.args.shard
+    (get_or c.loop-from.seats c.loop-from.from c.index-seats-from.result) c.index-seats-from.result c.index_mut.result.now (search rules)
+    (omega (arith, inv.wide, c.loop-from.inboxes.ok.0))
     refl c.index_mut.ensures.value inv.sending inv.taking c.requires.linked
 
 pub loop-from-preserved : goal.loop-from-preserved
@@ -40,14 +42,17 @@ loop-from-preserved c =
       counted = rw pushed (counted_more inboxes w after inside c.loop-from.counts.items c.count_left.result long one.left inv.counted);
       few = rw pushed (few_more inboxes w after inside c.loop-from.counts.items c.count_left.result MOST_RING_KEYS long one.few inv.few);
       whole =
-          whole_more inboxes w after inside (λ k. slice_index_or (slice_index_or (map sent_lists c.args.seats.now) k []) c.args.shard []) (λ k. slice_index_or (taken_lists c.args.inboxes.now.items) k [])
-          (whole_here seats c.args.seats.now inboxes c.args.inboxes.now.items w c.args.shard x d before after below inside refl c.index_mut.ensures.value inv.sending inv.taking one.inbox.1 one.whole) inv.whole;
+          whole_more inboxes w after inside (λ k. slice_index_or (slice_index_or (map sent_lists c.args.seats.now) k []) c.args.shard [])
+          (λ k. slice_index_or (taken_lists c.args.inboxes.now.items) k [])
+          (whole_here seats c.args.seats.now inboxes c.args.inboxes.now.items w c.args.shard x d before after below inside refl c.index_mut.ensures.value
+          inv.sending inv.taking one.inbox.1 one.whole) inv.whole;
     }
 
 pub returns-clause-counted : goal.returns-clause-counted
 returns-clause-counted c =
     let inv = c.loop-from.invariant in
-    all_counted c.loop-from.counts.items c.loop-from.inboxes.items (omega (arith, inv.len, inv.wide, c.loop-from.inboxes.ok.0, c.loop-from.counts.ok.0)) (λ k h. inv.counted k (omega (arith, inv.wide, c.loop-from.inboxes.ok.0)))
+    all_counted c.loop-from.counts.items c.loop-from.inboxes.items (omega (arith, inv.len, inv.wide, c.loop-from.inboxes.ok.0, c.loop-from.counts.ok.0))
+    (λ k h. inv.counted k (omega (arith, inv.wide, c.loop-from.inboxes.ok.0)))
 
 pub returns-clause-few : goal.returns-clause-few
 returns-clause-few c =

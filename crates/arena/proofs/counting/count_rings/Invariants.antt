@@ -16,5 +16,6 @@ invariant-loop-from l = record {
   taking : taking_side l.inboxes.items ≡ taking_side l.fn.inboxes.items;
   counted : (k : ℕ) → k < l.from → slice_index_or l.counts.items k 0 ≡ length (slice_index_or (known_lists l.inboxes.items) k []);
   few : (k : ℕ) → k < l.from → slice_index_or l.counts.items k 0 ≤ MOST_RING_KEYS;
-  whole : (k : ℕ) → k < l.from → slice_index_or (slice_index_or (map sent_lists l.fn.seats) k []) l.shard [] ≡ slice_index_or (taken_lists l.fn.inboxes.items) k [] ++ slice_index_or (known_lists l.inboxes.items) k [];
+  whole : (k : ℕ) → k < l.from → slice_index_or (slice_index_or (map sent_lists l.fn.seats) k []) l.shard []
+      ≡ slice_index_or (taken_lists l.fn.inboxes.items) k [] ++ slice_index_or (known_lists l.inboxes.items) k [];
 }

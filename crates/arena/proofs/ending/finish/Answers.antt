@@ -15,7 +15,8 @@ pub returns-in-Err-clause-seats : goal.returns-in-Err-clause-seats
 returns-in-Err-clause-seats g c =
     let same = rw c.as_mut_slice.ensures.value at c.in-Err.ensures.err in
     let long = same_length sending_side c.args.seats.items c.settled.new.seats same.0.sending in
-    rw (c.in-Err.ensures.arena.0, c.in-Err.ensures.arena.1) (subst (AreSeatsOf c.args.arena.limits c.args.arena.table) (sym (written_back c.args.seats.len c.settled.new.seats _ (c.args.seats.ok.0 ∙ sym long)))
+    rw (c.in-Err.ensures.arena.0, c.in-Err.ensures.arena.1)
+    (subst (AreSeatsOf c.args.arena.limits c.args.arena.table) (sym (written_back c.args.seats.len c.settled.new.seats _ (c.args.seats.ok.0 ∙ sym long)))
     (AreSeatsOf-same c.args.arena.limits c.args.arena.table c.args.seats.items c.settled.new.seats same.0.sending same.0.tables c.requires.seats))
 
 pub returns-in-Err-clause-same : goal.returns-in-Err-clause-same

@@ -4,7 +4,8 @@ use Rattle.arena.proofs.Linking.{room_more}
 use Rattle.arena.proofs.settling.reserve_all.Goals as goal
 
 pub returns-in_err-make_room-clause-told : goal.returns-in_err-make_room-clause-told
-returns-in_err-make_room-clause-told g c = map-set_same g.K.Receipts.told c.loop-shard.receipts c.loop-shard.shard c.make_room.new.self c.index-receipts-shard.result c.make_room.ensures.told ∙ c.loop-shard.invariant.told
+returns-in_err-make_room-clause-told g c = map-set_same g.K.Receipts.told c.loop-shard.receipts c.loop-shard.shard c.make_room.new.self
+    c.index-receipts-shard.result c.make_room.ensures.told ∙ c.loop-shard.invariant.told
 
 pub loop-shard-preserved : goal.loop-shard-preserved
 loop-shard-preserved g c =

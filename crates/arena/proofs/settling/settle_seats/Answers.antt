@@ -30,10 +30,13 @@ loop-shard-preserved g c =
           (one.taken ∙ ap (λ (seat : SeatState). taken_with_known seat.inboxes) seat) inv.taken;
       done =
           frees_more g.K.Receipts.told c.args.section c.args.seats.now c.args.receipts.now c.loop-shard.receipts s x c.index-receipts-shard.result c.settle.new.receipts below listed (search rules)
-          (frees_of g.K.Receipts.told _ s c.args.section _ _ _ _ c.settle.new.receipts seat (ap (λ x. x.worker) seat ∙ c.requires.in_order s x below) (inv.lists_left s c.index-receipts-shard.result (omega arith)) one.freed) inv.done;
+          (frees_of g.K.Receipts.told _ s c.args.section _ _ _ _ c.settle.new.receipts seat (ap (λ x. x.worker) seat ∙ c.requires.in_order s x below)
+          (inv.lists_left s c.index-receipts-shard.result (omega arith)) one.freed) inv.done;
     }
 
 pub returns-clause-taken : goal.returns-clause-taken
 returns-clause-taken g c =
     let inv = c.loop-shard.invariant in
-    same_both (λ (seat : SeatState). taken_lists seat.inboxes) (λ (seat : SeatState). taken_with_known seat.inboxes) c.loop-shard.seats c.args.seats.now inv.wide (λ k d e h. inv.taken k d e (omega (arith, inv.wide)))
+    same_both (λ (seat : SeatState). taken_lists seat.inboxes)
+    (λ (seat : SeatState). taken_with_known seat.inboxes) c.loop-shard.seats c.args.seats.now inv.wide
+    (λ k d e h. inv.taken k d e (omega (arith, inv.wide)))

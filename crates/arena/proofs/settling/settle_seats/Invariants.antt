@@ -14,5 +14,7 @@ invariant-loop-shard g l = record {
   outboxes : map (λ seat. seat.outboxes) l.seats ≡ map (λ seat. seat.outboxes) l.fn.seats;
   rings : map in_rings l.seats ≡ map in_rings l.fn.seats;
   taken : (k : ℕ) (d e : _) → k < l.shard → taken_lists (slice_index_or l.seats k d).inboxes ≡ taken_with_known (slice_index_or l.fn.seats k e).inboxes;
-  done : (k : ℕ) (x d e : _) → k < l.shard → AddsFrees k l.section (joined (known_lists (slice_index_or l.fn.seats k x).inboxes)) (g.K.Receipts.told (slice_index_or l.fn.receipts k d)) (g.K.Receipts.told (slice_index_or l.receipts k e));
+  done : (k : ℕ) (x d e : _) → k < l.shard
+      → AddsFrees k l.section (joined (known_lists (slice_index_or l.fn.seats k x).inboxes)) (g.K.Receipts.told (slice_index_or l.fn.receipts k d))
+      (g.K.Receipts.told (slice_index_or l.receipts k e));
 }

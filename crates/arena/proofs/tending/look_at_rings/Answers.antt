@@ -25,7 +25,10 @@ loop-from-preserved c =
       seen = λ k d e h. elim (cases_eq k n) [
         | inl here ↦
             let at : get_or (slice_set items n after) k e ≡ after = get_or-set_at items n k after e here below in
-            let old : get_or c.args.inboxes.now.items k d ≡ c.index_mut.result.now = ap (λ k. get_or c.args.inboxes.now.items k d) here ∙ get_or_default c.args.inboxes.now.items n d c.index_mut.result.now (omega (arith, below, inv.wide, c.args.inboxes.now.ok.0, c.loop-from.inboxes.ok.0)) ∙ sym (c.index_mut.ensures.value ∙ inv.rest n c.index_mut.result.now (omega arith)) in
+            let old : get_or c.args.inboxes.now.items k d ≡ c.index_mut.result.now = ap (λ k. get_or c.args.inboxes.now.items k d) here
+            ∙ get_or_default c.args.inboxes.now.items n d c.index_mut.result.now
+            (omega (arith, below, inv.wide, c.args.inboxes.now.ok.0, c.loop-from.inboxes.ok.0))
+            ∙ sym (c.index_mut.ensures.value ∙ inv.rest n c.index_mut.result.now (omega arith)) in
             rw (at, old) c.look.ensures.known
         | inr other ↦ subst (λ i. IsPrefix (get_or c.args.inboxes.now.items k d).known i.known) (sym (get_or-set_other items n k after e other)) (inv.seen k d e (omega arith))
       ];

@@ -13,5 +13,6 @@ loop-preserved g c =
     record {
       few = omega (arith, was.few, some.few);
       room = omega (arith, was.room, freed.room, c.split_at.ensures.front_len);
-      tended = ring_more c.args.inbox.now c.loop.inbox c.take_some-taken.new.inbox c.loop.count c.take_some-taken.result c.take_some-taken.new.block _ _ _ was.tended some.ring some.taken some.few.1 (rw c.split_at.ensures.front at freed.freed);
+      tended = ring_more c.args.inbox.now c.loop.inbox c.take_some-taken.new.inbox c.loop.count c.take_some-taken.result c.take_some-taken.new.block _ _ _
+          was.tended some.ring some.taken some.few.1 (rw c.split_at.ensures.front at freed.freed);
     }

@@ -29,5 +29,6 @@ loop-from-preserved g c =
       few = omega (arith, inv.few, one.few);
       rest = λ k d past. let other : k ≢ n = omega arith in rw get_or-set_other (inv.rest k d (omega arith));
       room = omega (arith, inv.room, one.room, sum_by-drop_more (known_count c.args.most) c.args.inboxes.now.items n d (search rules), here);
-      tended = tended_more c.args.inboxes.now.items c.loop-from.inboxes.items c.tend_ring-total.new.inbox _ c.loop-from.from c.loop-from.total c.tend_ring-total.result _ _ _ (search rules) inv.tended fits (rw c.index_mut.ensures.value at one.tended);
+      tended = tended_more c.args.inboxes.now.items c.loop-from.inboxes.items c.tend_ring-total.new.inbox _ c.loop-from.from c.loop-from.total
+          c.tend_ring-total.result _ _ _ (search rules) inv.tended fits (rw c.index_mut.ensures.value at one.tended);
     }

@@ -30,5 +30,6 @@ loop-from-preserved g c =
       few = omega (arith, inv.few, fits);
       rest = λ k d past. let other : k ≢ n = omega arith in rw get_or-set_other (inv.rest k d (omega arith));
       room = omega (arith, inv.room, one.room, one.few, here, sum_by-drop_more (known_count c.args.most) c.args.inboxes.now.items n d (search rules), same);
-      tended = tended_more c.args.inboxes.now.items c.loop-from.inboxes.items c.try_tend_ring-tended.new.inbox _ c.loop-from.from c.loop-from.total c.try_tend_ring-tended.result.count _ _ _ (search rules) inv.tended fits (rw c.index_mut.ensures.value at one.tended);
+      tended = tended_more c.args.inboxes.now.items c.loop-from.inboxes.items c.try_tend_ring-tended.new.inbox _ c.loop-from.from c.loop-from.total
+          c.try_tend_ring-tended.result.count _ _ _ (search rules) inv.tended fits (rw c.index_mut.ensures.value at one.tended);
     }

@@ -15,6 +15,7 @@ loop-number-preserved g c =
       items = c.push_reserved.ensures.items ∙ ap (λ shards. shards ++ c.in-Ok.shard ∷ []) c.loop-number.invariant.items
           ∙ ap (λ (shard : ShardState). map (new_shard c.args.limits.page_limit c.args.limits.span_limit c.args.limits.gens) (range_with_len 0 c.loop-number.number) ++ shard ∷ []) made
           ∙ sym (map-range_with_len_more (new_shard c.args.limits.page_limit c.args.limits.span_limit c.args.limits.gens) 0 c.loop-number.number c.loop-number.number next);
-      sound = below_more (λ number. IsSound (new_shard c.args.limits.page_limit c.args.limits.span_limit c.args.limits.gens number)) c.loop-number.number c.loop-number.invariant.sound (subst IsSound made c.in-Ok.ensures.sound);
+      sound = below_more (λ number. IsSound (new_shard c.args.limits.page_limit c.args.limits.span_limit c.args.limits.gens number)) c.loop-number.number
+          c.loop-number.invariant.sound (subst IsSound made c.in-Ok.ensures.sound);
       room = omega arith;
     }

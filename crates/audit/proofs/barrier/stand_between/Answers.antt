@@ -14,7 +14,8 @@ returns-then-not-stands_between c = (
 )
 
 pub loop-i-preserved : goal.loop-i-preserved
-loop-i-preserved c = each_more (StandsBetween c.args.logs.now (map vec_items c.args.rows.now)) (kept_receipts c.args.list.now) c.loop-i.i (receipt_viewed c.view.result) c.loop-i.invariant c.view.ensures
+loop-i-preserved c = each_more (StandsBetween c.args.logs.now (map vec_items c.args.rows.now)) (kept_receipts c.args.list.now) c.loop-i.i
+    (receipt_viewed c.view.result) c.loop-i.invariant c.view.ensures
     (c.stands_between.ensures.0 c.if-not-stands_between.false)
 
 pub returns : goal.returns

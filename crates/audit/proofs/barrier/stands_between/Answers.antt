@@ -14,7 +14,8 @@ returns-in-Some c =
     let row = c.index-rows-j.result in
     let found = (c.in-Some.ensures {u = tt}).found in
     let at : slice_get rows c.in-Some.j ≡ Some row.items = row_at vec_items c.args.rows.now c.in-Some.j row (omega (arith, (c.in-Some.ensures {u = tt}).within, c.requires.len)) c.index-rows-j.is in (
-      λ so. stands-to logs rows r c.in-Some.j row.items (table_one logs c.args.table.now c.requires.table) found at (subst (λ (l : List (Option ℕ)). IsBetween l r.at r.section) c.as_slice.ensures.value (c.is_between.ensures.0 so)),
+      λ so. stands-to logs rows r c.in-Some.j row.items (table_one logs c.args.table.now c.requires.table) found at
+          (subst (λ (l : List (Option ℕ)). IsBetween l r.at r.section) c.as_slice.ensures.value (c.is_between.ensures.0 so)),
       λ stands. c.is_between.ensures.1 (subst (λ (l : List (Option ℕ)). IsBetween l r.at r.section) (sym c.as_slice.ensures.value) (stands c.in-Some.j found.0 row.items found.1 found.2 at)),
     )
 

@@ -25,4 +25,5 @@ returns g c =
     let first = c.in_ok-cause.ensures {u = tt} in
     let are_all = rw c.as_slice-sections.ensures.value at are in
     let is_first = rw c.as_slice.ensures.value at first in
-    judged kept_receipts c.args.receipts.now c.args.logs.now (map vec_items c.in-Some-2.sections.items) c.in_ok-verdicts.verdicts.items are_all legal.0 sections.0 sections.1 sections.2 c.in_ok-cause.cause is_first
+    judged kept_receipts c.args.receipts.now c.args.logs.now
+    (map vec_items c.in-Some-2.sections.items) c.in_ok-verdicts.verdicts.items are_all legal.0 sections.0 sections.1 sections.2 c.in_ok-cause.cause is_first

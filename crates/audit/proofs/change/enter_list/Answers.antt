@@ -8,7 +8,8 @@ use Rattle.audit.proofs.change.enter_list.Goals as goal
 
 pub returns-then-not-enter-clause-entered : goal.returns-then-not-enter-clause-entered
 returns-then-not-enter-clause-entered c before are =
-    front_unknown c.args.logs.now before (kept_receipts c.args.list.now) c.loop-i.i (receipt_viewed c.view.result) c.view.ensures ((c.if-not-enter.ensures {u = tt}).entered _ (c.loop-i.invariant.entered before are))
+    front_unknown c.args.logs.now before (kept_receipts c.args.list.now) c.loop-i.i (receipt_viewed c.view.result) c.view.ensures
+    ((c.if-not-enter.ensures {u = tt}).entered _ (c.loop-i.invariant.entered before are))
 
 pub loop-i-preserved : goal.loop-i-preserved
 loop-i-preserved c = record {

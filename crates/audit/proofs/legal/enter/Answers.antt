@@ -13,4 +13,5 @@ pub returns-clause-issued : goal.returns-clause-issued
 returns-clause-issued c before gens issued legal =
     let long : length c.args.issued.now ≡ 256 = omega (arith, c.told-issued) in
     let is_slot : c.from-slot.result ≡ slot_of (viewed c.args.change) = c.from-slot.ensures ∙ c.slot_of.ensures in
-    AreIssued-more gens before (viewed c.args.change) c.args.issued.now c.from-slot.result _ c.issued_by.result long (omega (arith, c.from-slot.ensures, c.slot_of.type_inv)) is_slot refl c.issued_by.ensures issued legal
+    AreIssued-more gens before (viewed c.args.change) c.args.issued.now c.from-slot.result _ c.issued_by.result long
+    (omega (arith, c.from-slot.ensures, c.slot_of.type_inv)) is_slot refl c.issued_by.ensures issued legal

@@ -18,7 +18,8 @@ pub returns-then-not-is_of_class : goal.returns-then-not-is_of_class
 returns-then-not-is_of_class c =
     let changes = kept_changes c.args.log.now in (
       λ so. absurd cc,
-      λ legal. absurd (let e : false ≡ true = sym c.if-not-is_of_class.true ∙ c.is_of_class.ensures.1 (IsOfClass-at c.args.class changes c.loop-i.i (viewed c.view-change.result) legal.1 c.view-change.ensures) in cc),
+      λ legal. absurd (let e : false ≡ true = sym c.if-not-is_of_class.true
+          ∙ c.is_of_class.ensures.1 (IsOfClass-at c.args.class changes c.loop-i.i (viewed c.view-change.result) legal.1 c.view-change.ensures) in cc),
     )
 
 pub returns-then-not-may_follow : goal.returns-then-not-may_follow

@@ -13,5 +13,6 @@ returns-then-is_same-clause-yes c = λ found.
       λ d.
           let first = read_at places (k - 1) c.index-places-k.result d (omega (arith, c.loop-k.auto.k, c.loop-k.auto.k-end, c.loop-k-test.true)) c.index-places-k.is in
           let second = read_at places k c.index-places-k-in-loop-k.result d (omega (arith, c.loop-k.auto.k-end, c.loop-k-test.true)) c.index-places-k-in-loop-k.is in
-          (λ t. same_span ((sym first ∙ c.index-places-k.is) t).span ((ap (λ n. get_or places n d) back ∙ sym second ∙ c.index-places-k-in-loop-k.is) t).span) ∙ sym c.is_same.ensures ∙ c.if-is_same.true,
+          (λ t. same_span ((sym first ∙ c.index-places-k.is) t).span ((ap (λ n. get_or places n d) back ∙ sym second ∙ c.index-places-k-in-loop-k.is) t).span)
+          ∙ sym c.is_same.ensures ∙ c.if-is_same.true,
     )

@@ -7,7 +7,8 @@ use Rattle.audit.proofs.log.table_of.Goals as goal
 
 pub returns-then-has_twice : goal.returns-then-has_twice
 returns-then-has_twice c =
-    twice_refuted c.args.logs.now c.sort.new.places.items (ArePlaces-moved c.args.logs.now c.in_ok-by_rank.by_rank.items c.sort.new.places.items c.sort.ensures.permutation (c.in_ok-by_rank.ensures {u = tt}))
+    twice_refuted c.args.logs.now c.sort.new.places.items
+    (ArePlaces-moved c.args.logs.now c.in_ok-by_rank.by_rank.items c.sort.new.places.items c.sort.ensures.permutation (c.in_ok-by_rank.ensures {u = tt}))
     (subst HasTwice c.as_slice.ensures.value (c.has_twice.ensures.yes c.if-has_twice.true))
 
 pub returns : goal.returns

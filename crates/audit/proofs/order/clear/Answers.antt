@@ -9,7 +9,9 @@ loop-i-preserved c =
     let call = receipt_viewed c.view.result in
     let place = c.place_of-place.ensures.place in
     record {
-      left = rw place (IsLeftFrom-more c.args.logs.now (kept_receipts c.args.list.now) c.loop-i.i c.loop-i.left.items call c.loop-i.invariant.left c.view.ensures (omega (arith, place, c.loop-i.left.ok.0, c.loop-i.invariant.len, c.place_of-place.ensures.in_range)));
+      left = rw place (IsLeftFrom-more c.args.logs.now
+          (kept_receipts c.args.list.now) c.loop-i.i c.loop-i.left.items call c.loop-i.invariant.left c.view.ensures
+          (omega (arith, place, c.loop-i.left.ok.0, c.loop-i.invariant.len, c.place_of-place.ensures.in_range)));
       len = c.loop-i.invariant.len;
     }
 

@@ -14,7 +14,9 @@ returns-then-receipt-index-clause-exact c =
     let read : c.index.result.now ≡ get_or c.loop-i.left.items c.place_of-place.result 0 = read_at c.loop-i.left.items c.place_of-place.result c.index.result.now 0 inside c.index.ensures in
     let there : c.index.result.now ≡ get_or c.loop-i.left.items (place_in c.args.logs.now call.key.span) 0 = read ∙ ap (λ q. get_or c.loop-i.left.items q 0) c.place_of-place.ensures.place in (
       λ so. absurd cc,
-      λ order. absurd (too_early c.args.logs.now (kept_receipts c.args.list.now) c.loop-i.i c.loop-i.left.items call c.requires.nothing c.loop-i.invariant.left at (omega (arith, c.if-receipt-index.true)) order),
+      λ order. absurd (too_early c.args.logs.now
+          (kept_receipts c.args.list.now) c.loop-i.i c.loop-i.left.items call c.requires.nothing c.loop-i.invariant.left at
+          (omega (arith, c.if-receipt-index.true)) order),
     )
 
 pub loop-i-preserved : goal.loop-i-preserved
@@ -30,7 +32,10 @@ loop-i-preserved c =
     record {
       below = IsInOrderBelow-more c.args.logs.now list c.loop-i.i left call c.loop-i.invariant.left at late c.loop-i.invariant.below
           (λ back. let e : false ≡ true = sym c.if-goes_back.false ∙ c.goes_back.ensures.1 back in cc);
-      left = rw c.place_of-place.ensures.place (IsLeftBelow-more c.args.logs.now list c.loop-i.i left call c.loop-i.invariant.left at (rw (← c.place_of-place.ensures.place) inside) c.changes_after.result c.changes_after.ensures (omega (arith, late, changes_after-low call, c.changes_after.ensures)));
+      left = rw c.place_of-place.ensures.place
+          (IsLeftBelow-more c.args.logs.now list c.loop-i.i left call c.loop-i.invariant.left at
+          (rw (← c.place_of-place.ensures.place) inside) c.changes_after.result c.changes_after.ensures
+          (omega (arith, late, changes_after-low call, c.changes_after.ensures)));
       len = c.loop-i.invariant.len;
     }
 

@@ -15,7 +15,9 @@ pub returns-then-not-is_in_order : goal.returns-then-not-is_in_order
 returns-then-not-is_in_order c = (
   λ so. absurd cc,
   λ order.
-      let here : IsInOrder (kept_receipts c.list-item.result) = subst IsInOrder (list_at kept_receipts IsInOrder c.args.lists.now c.loop-list.list-index c.list-item.result c.loop-list-test.true c.list-item.is) (order c.loop-list.list-index) in
+      let here : IsInOrder (kept_receipts c.list-item.result) = subst IsInOrder
+      (list_at kept_receipts IsInOrder c.args.lists.now c.loop-list.list-index c.list-item.result c.loop-list-test.true c.list-item.is)
+      (order c.loop-list.list-index) in
       let e : false ≡ true = sym c.if-not-is_in_order.true ∙ c.is_in_order.ensures.exact.1 here in
       absurd cc,
 )

@@ -34,7 +34,8 @@ is_answered_after-requires-clause-order c =
     let within = (c.in-Some.ensures {u = tt}).within in
     let order = c.index-orders-j.result in
     let items = log_items c.args.logs.now c.in-Some.j c.index-logs-j.result there.0 there.1 in
-    let by : IsBySlot (kept_changes there.0.log) order.items = c.requires.orders c.in-Some.j there.0 order.items there.1 (row_at vec_items c.args.orders.now c.in-Some.j order (omega (arith, within, c.requires.len)) c.index-orders-j.is) in
+    let by : IsBySlot (kept_changes there.0.log) order.items = c.requires.orders c.in-Some.j there.0 order.items there.1
+    (row_at vec_items c.args.orders.now c.in-Some.j order (omega (arith, within, c.requires.len)) c.index-orders-j.is) in
     rw c.as_slice.ensures.value (subst (λ (l : List Change). IsBySlot l order.items) (sym items) by)
 
 pub returns : goal.returns

@@ -24,6 +24,8 @@ loop-row-preserved c =
 
 pub returns : goal.returns
 returns c = (
-  λ so. each_all IsFull (map vec_items c.args.rows.now) c.loop-row.row-index c.loop-row.invariant (let long : length (map vec_items c.args.rows.now) ≡ length c.args.rows.now = length-map c.args.rows.now vec_items in omega (arith, c.loop-row-test.false)),
+  λ so. each_all IsFull (map vec_items c.args.rows.now) c.loop-row.row-index c.loop-row.invariant
+      (let long : length (map vec_items c.args.rows.now)
+      ≡ length c.args.rows.now = length-map c.args.rows.now vec_items in omega (arith, c.loop-row-test.false)),
   λ full. refl,
 )

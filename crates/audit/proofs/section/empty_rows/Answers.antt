@@ -15,5 +15,6 @@ loop-log-preserved c =
       len = omega (arith, c.in_ok-push.ensures.len, c.loop-log.invariant.len);
       each = rows_more vec_items (λ (x : SpanLog) (l : List (Option ℕ)). IsRowOf [] x l) logs c.loop-log.rows.items log row c.loop-log.log-index
           (slice_get_read logs (length logs) c.loop-log.log-index log refl c.loop-log-test.true c.log-item.is) (omega (arith, c.loop-log.rows.ok.0, c.loop-log.invariant.len))
-          c.loop-log.invariant.each (IsRowOf-none log row.items (omega (arith, row.ok.0, c.in_ok-empty_row.ensures.len)) c.in_ok-empty_row.ensures.none) c.push.new.self.items c.in_ok-push.ensures.items;
+          c.loop-log.invariant.each (IsRowOf-none log row.items (omega (arith, row.ok.0, c.in_ok-empty_row.ensures.len)) c.in_ok-empty_row.ensures.none)
+          c.push.new.self.items c.in_ok-push.ensures.items;
     }

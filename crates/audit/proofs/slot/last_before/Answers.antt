@@ -5,7 +5,8 @@ use Rattle.audit.proofs.BySlot.{last_split, quiet_split, quiet_split_other}
 use Rattle.audit.proofs.slot.last_before.Goals as goal
 
 pub returns-then-n-eq0 : goal.returns-then-n-eq0
-returns-then-n-eq0 c changes by inside = quiet_split changes c.args.found.now by c.args.slot c.args.at c.count_before-n.result c.slot_rank-rank.result (omega (arith, c.ranges.at)) c.slot_rank-rank.ensures c.count_before-n.ensures c.if-n-eq0.true
+returns-then-n-eq0 c changes by inside = quiet_split changes c.args.found.now by c.args.slot c.args.at c.count_before-n.result c.slot_rank-rank.result
+    (omega (arith, c.ranges.at)) c.slot_rank-rank.ensures c.count_before-n.ensures c.if-n-eq0.true
 
 pub returns-then-last-slot : goal.returns-then-last-slot
 returns-then-last-slot c changes by inside =
@@ -20,5 +21,6 @@ returns-else-last-slot c changes by inside =
     let found = c.args.found.now in
     let n = c.count_before-n.result in
     let x : SlotChange = get_or found (n - 1) (record { slot = 0; place = 0 }) in
-    quiet_split_other changes found by c.args.slot c.args.at n c.slot_rank-rank.result (omega (arith, c.ranges.at)) c.slot_rank-rank.ensures c.count_before-n.ensures x (omega (arith, c.if-n-eq0.false))
+    quiet_split_other changes found by c.args.slot c.args.at n c.slot_rank-rank.result
+    (omega (arith, c.ranges.at)) c.slot_rank-rank.ensures c.count_before-n.ensures x (omega (arith, c.if-n-eq0.false))
     (slice_get-get_or found (n - 1) (record { slot = 0; place = 0 }) (omega (arith, c.if-n-eq0.false, c.count_before-n.ensures.bound))) c.if-last-slot.false

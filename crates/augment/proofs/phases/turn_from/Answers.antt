@@ -15,13 +15,17 @@ path-preserved c =
     let same_long : length c.path.used.marked.items ≡ length c.args.used.now.marked.items = c.path.invariant.marks in
     let owned_in : c.in-Some.owned < length c.path.used.marked.items = omega arith in
     let planned_long : length c.path.mates.planned.items ≡ length c.args.graph.now.owned = ap length c.path.invariant.planned ∙ c.requires.owned in
-    let at_group : group c.path.path.items (c.len-at.result - 1) ≡ c.index.result.now.group = ap (λ e. e.group) (get_or_default c.path.path.items (c.len-at.result - 1) (record { group = 0; before = 0 }) c.index.result.now path_in ∙ sym c.index.ensures) in
+    let at_group : group c.path.path.items (c.len-at.result - 1)
+    ≡ c.index.result.now.group = ap (λ e. e.group)
+    (get_or_default c.path.path.items (c.len-at.result - 1) (record { group = 0; before = 0 }) c.index.result.now path_in ∙ sym c.index.ensures) in
     let planned : mate c.path.mates.planned.items c.in-Some.owned ≡ Some c.in-Some-index.next = grind (arith, get_or_default) in
     record {
       onto = c.path.invariant.onto;
       planned = c.path.invariant.planned;
       walk = rw (c.in_ok-push-in-Some-index.ensures.items, c.mark.ensures)
-          (walk_more c.args.graph.now c.path.mates.onto.items c.path.path.items c.path.used.marked.items c.in-Some-index.next c.in-Some.owned (c.len-at.result - 1) c.path.invariant.walk path_in owned_in
-          (ap (λ x. compatible_at c.args.graph.now x c.in-Some.owned) at_group ∙ c.in-Some.ensures.joined_to) c.in-Some.ensures.unused (c.path.mates.paired.back c.in-Some-index.next c.in-Some.owned planned));
+          (walk_more c.args.graph.now c.path.mates.onto.items c.path.path.items c.path.used.marked.items c.in-Some-index.next c.in-Some.owned
+          (c.len-at.result - 1) c.path.invariant.walk path_in owned_in
+          (ap (λ x. compatible_at c.args.graph.now x c.in-Some.owned) at_group ∙ c.in-Some.ensures.joined_to) c.in-Some.ensures.unused
+          (c.path.mates.paired.back c.in-Some-index.next c.in-Some.owned planned));
       marks = ap length c.mark.ensures ∙ length-set c.path.used.marked.items c.in-Some.owned true ∙ c.path.invariant.marks;
     }

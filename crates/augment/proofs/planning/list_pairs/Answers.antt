@@ -32,7 +32,9 @@ loop-i-preserved c =
           let j_in : w.in-Some.j < length c.args.mates.now.planned.items = mate_in onto c.args.mates.now.planned.items c.loop-i.i w.in-Some.j c.args.mates.now.paired planned in
           let j_owned : w.in-Some.j < length right = omega arith in
           rw (w.pairs-is, w.in_ok-push.ensures.items)
-          (pairs_push right left onto c.loop-i.pairs.items _ c.loop-i.i w.in-Some.j w.abandoned_id.result w.owned_id.result i_in i_onto j_owned planned (read_at left c.loop-i.i w.abandoned_id.result w.abandoned_id.ensures) (read_at right w.in-Some.j w.owned_id.result w.owned_id.ensures) c.loop-i.invariant)
+          (pairs_push right left onto c.loop-i.pairs.items _ c.loop-i.i w.in-Some.j w.abandoned_id.result w.owned_id.result i_in i_onto j_owned planned
+          (read_at left c.loop-i.i w.abandoned_id.result w.abandoned_id.ensures)
+          (read_at right w.in-Some.j w.owned_id.result w.owned_id.ensures) c.loop-i.invariant)
       | in_default w ↦
           let none : mate onto c.loop-i.i ≡ None = grind (arith, get_or_default) in
           rw w.pairs-is

@@ -36,7 +36,8 @@ loop-i-preserved c =
     elim c.if-is_short.branch [
       | then-is_short+in_ok-push w ↦
           rw (w.short-is, w.in_ok-push.ensures.items)
-          (short_push c.args.reached.now left onto c.loop-i.short.items _ c.loop-i.i w.abandoned_id.result i_in i_onto (means ∙ w.if-is_short.true) (read_at left c.loop-i.i w.abandoned_id.result w.abandoned_id.ensures) c.loop-i.invariant)
+          (short_push c.args.reached.now left onto c.loop-i.short.items _ c.loop-i.i w.abandoned_id.result i_in i_onto (means ∙ w.if-is_short.true)
+          (read_at left c.loop-i.i w.abandoned_id.result w.abandoned_id.ensures) c.loop-i.invariant)
       | else-is_short w ↦
           rw w.short-is
           (short_skip c.args.reached.now left onto c.loop-i.short.items _ c.loop-i.i (a_member left c.loop-i.i i_in) i_in i_onto (means ∙ w.if-is_short.false) c.loop-i.invariant)

@@ -16,7 +16,8 @@ use Rattle.augment.proofs.planning.plan_counted.Goals as goal
 its_outcome : (c : goal.After-drop-mates-in-Some-2) → IsOutcome same_span (sides_of c.args.graph.now) c.turn_phase.new.mates.onto.items c.in-Some.reached.items
 its_outcome c =
     let g = c.args.graph.now in
-    outcome g c.turn_phase.new.mates.onto.items c.turn_phase.new.mates.planned.items c.in-Some.reached.items c.abandoned.ensures.ascending c.owned.ensures.ascending c.turn_phase.ensures.groups c.turn_phase.ensures.owned c.turn_phase.ensures.joins c.turn_phase.new.mates.paired
+    outcome g c.turn_phase.new.mates.onto.items c.turn_phase.new.mates.planned.items c.in-Some.reached.items c.abandoned.ensures.ascending
+    c.owned.ensures.ascending c.turn_phase.ensures.groups c.turn_phase.ensures.owned c.turn_phase.ensures.joins c.turn_phase.new.mates.paired
     (rw c.in-Some.is at c.in_ok-reached.ensures.searched)
 
 -- the plan and the short set that are answered
@@ -41,16 +42,22 @@ returns-in-Some-clause-certificate c = rw (planned c, left c) (certificate_from_
 pub returns-in-Some-clause-ascending : goal.returns-in-Some-clause-ascending
 returns-in-Some-clause-ascending c =
     let g = c.args.graph.now in
-    rw (planned c) (ascending-from_late _ (left_distinct is_late (ids g.owned) (ids g.abandoned) c.turn_phase.new.mates.onto.items (late-from_ascending (ids g.abandoned) c.abandoned.ensures.ascending)))
+    rw (planned c) (ascending-from_late _
+    (left_distinct is_late (ids g.owned) (ids g.abandoned) c.turn_phase.new.mates.onto.items
+    (late-from_ascending (ids g.abandoned) c.abandoned.ensures.ascending)))
 
 pub returns-in-Some-clause-short_ascending : goal.returns-in-Some-clause-short_ascending
 returns-in-Some-clause-short_ascending c =
     let g = c.args.graph.now in
-    rw (left c) (ascending-from_late _ (short_distinct is_late c.in-Some.reached.items (ids g.abandoned) c.turn_phase.new.mates.onto.items (late-from_ascending (ids g.abandoned) c.abandoned.ensures.ascending)))
+    rw (left c) (ascending-from_late _
+    (short_distinct is_late c.in-Some.reached.items (ids g.abandoned) c.turn_phase.new.mates.onto.items
+    (late-from_ascending (ids g.abandoned) c.abandoned.ensures.ascending)))
 
 pub returns-in-Some-clause-phases : goal.returns-in-Some-clause-phases
 returns-in-Some-clause-phases c =
     let same : c.turn_phase.new.mates.onto.items ≡ c.phases.mates.onto.items = rw c.in-Some.is at c.in_ok-reached.ensures.unchanged in
-    let count : length c.new-in-Some.result ≡ pair_count c.turn_phase.new.mates.onto.items = ap length (planned c) ∙ length-pairs_of (ids c.args.graph.now.owned) (ids c.args.graph.now.abandoned) c.turn_phase.new.mates.onto.items (c.turn_phase.ensures.groups ∙ sym (length-map c.args.graph.now.abandoned (λ x. x.id))) in
+    let count : length c.new-in-Some.result ≡ pair_count c.turn_phase.new.mates.onto.items = ap length (planned c)
+    ∙ length-pairs_of (ids c.args.graph.now.owned) (ids c.args.graph.now.abandoned) c.turn_phase.new.mates.onto.items
+    (c.turn_phase.ensures.groups ∙ sym (length-map c.args.graph.now.abandoned (λ x. x.id))) in
     let kept : pair_count c.turn_phase.new.mates.onto.items ≡ pair_count c.phases.mates.onto.items = ap pair_count same in
     omega arith

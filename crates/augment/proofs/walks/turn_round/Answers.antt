@@ -11,7 +11,8 @@ mark-requires-2 c = omega (arith, c.walk.invariant.0.free_in, c.walk.invariant.0
 pub walk-preserved : goal.walk-preserved
 walk-preserved c = (
   rw c.pair_up.ensures.onto
-      (turning_more c.args.graph.now c.args.entries.now c.args.mates.now.onto.items c.args.mates.now.planned.items c.walk.mates.onto.items c.walk.mates.planned.items c.pair_up.new.self.planned.items c.walk.last c.walk.free c.in-Some.left
+      (turning_more c.args.graph.now c.args.entries.now c.args.mates.now.onto.items c.args.mates.now.planned.items c.walk.mates.onto.items
+      c.walk.mates.planned.items c.pair_up.new.self.planned.items c.walk.last c.walk.free c.in-Some.left
       c.requires.linked c.walk.mates.paired c.walk.invariant.0 (sym c.in-Some.ensures.left) c.pair_up.ensures.owned c.in-Some.ensures.freed),
   ap length c.mark.ensures ∙ length-set c.walk.used.marked.items c.walk.free true ∙ c.walk.invariant.1,
 )

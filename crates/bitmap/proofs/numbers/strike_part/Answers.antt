@@ -6,4 +6,6 @@ pub returns-then-is_some-clause-top : goal.returns-then-is_some-clause-top
 returns-then-is_some-clause-top c = IsSummary-left _ _ c.requires.top c.args.part _ c.remove_in.ensures.numbers c.lowest_in.result c.lowest_in.ensures (sym c.is_some.ensures ∙ c.if-is_some.true)
 
 pub returns-clause-top : goal.returns-clause-top
-returns-clause-top c = rw c.remove.ensures (IsSummary-left_none _ _ c.requires.top c.args.part _ c.remove_in.ensures.numbers c.lowest_in.result c.lowest_in.ensures (sym c.is_some.ensures ∙ c.if-is_some.false))
+returns-clause-top c = rw c.remove.ensures
+    (IsSummary-left_none _ _ c.requires.top c.args.part _ c.remove_in.ensures.numbers c.lowest_in.result c.lowest_in.ensures
+    (sym c.is_some.ensures ∙ c.if-is_some.false))

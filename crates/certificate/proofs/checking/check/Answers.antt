@@ -13,10 +13,13 @@ returns-then-not-is_choice-clause-exact c = (
   λ shown. absurd (both_ways c.is_choice.result c.if-not-is_choice.true (c.is_choice.ensures.1 (rw c.ids.ensures shown.chosen))),
 )
 
-sums : (c : goal.After-partner_count) → length c.pairs-2.result.now + length c.ids-2.result.now ≡ length c.abandoned.result.now + c.partner_count.result → length c.args.plan.now + length c.args.short.now ≡ length c.args.snapshot.now.abandoned + length (partners_of c.args.snapshot.now c.args.short.now)
+sums : (c : goal.After-partner_count) → length c.pairs-2.result.now + length c.ids-2.result.now ≡ length c.abandoned.result.now + c.partner_count.result
+    → length c.args.plan.now + length c.args.short.now ≡ length c.args.snapshot.now.abandoned + length (partners_of c.args.snapshot.now c.args.short.now)
 sums c equal = rw (c.pairs-2.ensures, c.ids-2.ensures, c.abandoned.ensures.entries, c.partner_count.ensures.count, c.ids-3.ensures) at equal
 
-holds : (c : goal.After-partner_count) → IsTrue (eqb (length c.pairs-2.result.now + length c.ids-2.result.now) (length c.abandoned.result.now + c.partner_count.result)) → IsCertificateOf c.args.snapshot.now c.args.plan.now c.args.short.now
+holds : (c : goal.After-partner_count)
+    → IsTrue (eqb (length c.pairs-2.result.now + length c.ids-2.result.now) (length c.abandoned.result.now + c.partner_count.result))
+    → IsCertificateOf c.args.snapshot.now c.args.plan.now c.args.short.now
 holds c equal =
     certificate-from_tests c.args.snapshot.now c.args.plan.now c.args.short.now
     (rw c.pairs.ensures at (c.is_plan.ensures.0 c.if-not-is_plan.false)) (rw c.ids.ensures at (c.is_choice.ensures.0 c.if-not-is_choice.false))
@@ -26,7 +29,8 @@ pub returns-clause-exact : goal.returns-clause-exact
 returns-clause-exact c = (
   holds c,
   λ shown. eq-eqb (length c.pairs-2.result.now + length c.ids-2.result.now) (length c.abandoned.result.now + c.partner_count.result)
-      (rw (c.pairs-2.ensures, c.ids-2.ensures, c.abandoned.ensures.entries, c.partner_count.ensures.count, c.ids-3.ensures) (equation-from_certificate c.args.snapshot.now c.args.plan.now c.args.short.now shown)),
+      (rw (c.pairs-2.ensures, c.ids-2.ensures, c.abandoned.ensures.entries, c.partner_count.ensures.count, c.ids-3.ensures)
+      (equation-from_certificate c.args.snapshot.now c.args.plan.now c.args.short.now shown)),
 )
 
 pub returns-clause-best : goal.returns-clause-best

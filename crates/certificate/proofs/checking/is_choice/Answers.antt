@@ -14,6 +14,8 @@ pub returns : goal.returns
 returns c =
     let entries = c.args.snapshot.now.abandoned in
     let all = sym c.are_abandoned.ensures ∙ c.if-not-are_abandoned.false in (
-      λ found. choice-from_tests entries c.args.chosen.now all (IsDistinct-from_once entries c.args.chosen.now (each_has_id entries c.args.chosen.now all) (rw c.abandoned.ensures.entries at (c.are_once.ensures.0 found))),
+      λ found. choice-from_tests entries c.args.chosen.now all
+          (IsDistinct-from_once entries c.args.chosen.now (each_has_id entries c.args.chosen.now all)
+          (rw c.abandoned.ensures.entries at (c.are_once.ensures.0 found))),
       λ choice. c.are_once.ensures.1 (once-from_distinct c.abandoned.result.now c.args.chosen.now choice.distinct),
     )

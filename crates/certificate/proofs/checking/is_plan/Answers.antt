@@ -24,7 +24,11 @@ returns c =
     let s = c.args.snapshot.now in
     let pairs = c.args.pairs.now in
     let all : list_all (λ p. any_compatible s p.0 p.1) pairs ≡ true = sym c.are_compatible.ensures ∙ c.if-not-are_compatible.false in
-    let left : IsDistinct same_span (map (λ p. p.0) pairs) = IsDistinct-from_once s.abandoned (map (λ p. p.0) pairs) (each_has_id s.abandoned (map (λ p. p.0) pairs) (left_have_ids s pairs all)) (rw c.abandoned.ensures.entries at (c.are_once.ensures.0 c.if-not-are_once.false)) in (
-      λ found. plan-from_tests s pairs all left (IsDistinct-from_once s.owned (map (λ p. p.1) pairs) (each_has_id s.owned (map (λ p. p.1) pairs) (right_have_ids s pairs all)) (rw c.owned.ensures.entries at (c.are_once-2.ensures.0 found))),
+    let left : IsDistinct same_span (map (λ p. p.0) pairs) = IsDistinct-from_once s.abandoned (map (λ p. p.0) pairs)
+    (each_has_id s.abandoned (map (λ p. p.0) pairs) (left_have_ids s pairs all))
+    (rw c.abandoned.ensures.entries at (c.are_once.ensures.0 c.if-not-are_once.false)) in (
+      λ found. plan-from_tests s pairs all left
+          (IsDistinct-from_once s.owned (map (λ p. p.1) pairs) (each_has_id s.owned (map (λ p. p.1) pairs) (right_have_ids s pairs all))
+          (rw c.owned.ensures.entries at (c.are_once-2.ensures.0 found))),
       λ plan. c.are_once-2.ensures.1 (once-from_distinct c.owned.result.now (map (λ p. p.1) pairs) plan.right.distinct),
     )

@@ -17,7 +17,8 @@ returns-then-not-is_new c =
     let low : k < length ids = omega (arith, c.loop-k-test.true, c.len-k-end.ensures) in (
       λ found. absurd (both_ways false refl found),
       λ once. absurd (AreOnce-refuted c.args.entries.now ids k c.at.result low c.at.ensures
-          (old-from_not c.is_new.result (has_id c.args.entries.now c.at.result && list_any (same_span c.at.result) (take k ids)) (c.is_new.ensures.new (take k ids) c.loop-k.invariant.seen) c.if-not-is_new.true) once),
+          (old-from_not c.is_new.result (has_id c.args.entries.now c.at.result && list_any (same_span c.at.result) (take k ids))
+          (c.is_new.ensures.new (take k ids) c.loop-k.invariant.seen) c.if-not-is_new.true) once),
     )
 
 pub loop-k-preserved : goal.loop-k-preserved
@@ -28,7 +29,8 @@ loop-k-preserved c =
     record {
       seen = HasSeen-next c.args.entries.now ids k c.at.result low c.at.ensures c.is_new.new.seen.words (c.is_new.ensures.seen (take k ids) c.loop-k.invariant.seen);
       once = AreOnce-more c.args.entries.now ids k c.at.result low c.at.ensures c.loop-k.invariant.once
-          (new-from_not c.is_new.result (has_id c.args.entries.now c.at.result && list_any (same_span c.at.result) (take k ids)) (c.is_new.ensures.new (take k ids) c.loop-k.invariant.seen) c.if-not-is_new.false);
+          (new-from_not c.is_new.result (has_id c.args.entries.now c.at.result && list_any (same_span c.at.result) (take k ids))
+          (c.is_new.ensures.new (take k ids) c.loop-k.invariant.seen) c.if-not-is_new.false);
     }
 
 pub returns : goal.returns

@@ -8,4 +8,5 @@ returns-in-Some-clause-new c = λ before seen.
 
 pub returns-in-Some-clause-seen : goal.returns-in-Some-clause-seen
 returns-in-Some-clause-seen c = λ before seen.
-    HasSeen-more c.args.entries.now before c.args.id c.args.seen.now.words seen c.in-Some.place c.requires.ascending c.in-Some.ensures.within c.in-Some.ensures.found c.insert.new.self.words c.insert.ensures.bits
+    HasSeen-more c.args.entries.now before c.args.id c.args.seen.now.words seen c.in-Some.place c.requires.ascending c.in-Some.ensures.within
+    c.in-Some.ensures.found c.insert.new.self.words c.insert.ensures.bits

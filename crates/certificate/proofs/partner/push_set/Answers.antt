@@ -11,7 +11,8 @@ returns-in_ok-push c =
     let x = c.index-abandoned-place.result in
     c.in_ok-push.ensures.ok
     ∙ ap (λ sets. c.args.planes.now ++ sets) (sym (
-    sets_of-at c.args.abandoned.now c.args.class c.args.id c.in-Some.place x c.requires c.in-Some.ensures.within c.index-abandoned-place.is (rw (← c.index-abandoned-place.is) at (c.in-Some.ensures.found x))
+    sets_of-at c.args.abandoned.now c.args.class c.args.id c.in-Some.place x c.requires c.in-Some.ensures.within c.index-abandoned-place.is
+    (rw (← c.index-abandoned-place.is) at (c.in-Some.ensures.found x))
     ∙ ap (λ b. cond b (x.occupied ∷ []) []) (sym c.is_of.ensures ∙ c.if-is_of.true)))
 
 pub returns-else-is_of : goal.returns-else-is_of
@@ -19,5 +20,6 @@ returns-else-is_of c =
     let x = c.index-abandoned-place.result in
     sym (append-nil c.args.planes.now)
     ∙ ap (λ sets. c.args.planes.now ++ sets) (sym (
-    sets_of-at c.args.abandoned.now c.args.class c.args.id c.in-Some.place x c.requires c.in-Some.ensures.within c.index-abandoned-place.is (rw (← c.index-abandoned-place.is) at (c.in-Some.ensures.found x))
+    sets_of-at c.args.abandoned.now c.args.class c.args.id c.in-Some.place x c.requires c.in-Some.ensures.within c.index-abandoned-place.is
+    (rw (← c.index-abandoned-place.is) at (c.in-Some.ensures.found x))
     ∙ ap (λ b. cond b (x.occupied ∷ []) []) (sym c.is_of.ensures ∙ c.if-is_of.false)))

@@ -13,10 +13,12 @@ loop-at-preserved c =
       t.ensures.len ∙ l.invariant.0,
       omega (arith, l.invariant.1),
       omega (arith, l.invariant.0, l.invariant.1, t.ensures.len, c.loop-at-test.true),
-      take_off-step a.set.now c.words-words.result a.rows.now c.block_of-block.result a.row.now l.row t.new.row W l.at l.invariant.1 within c.requires c.words-words.ensures.bits (rw (c.padded-width.ensures) at c.block_of-block.ensures.bits)
+      take_off-step a.set.now c.words-words.result a.rows.now c.block_of-block.result a.row.now l.row t.new.row W l.at l.invariant.1 within c.requires
+          c.words-words.ensures.bits (rw (c.padded-width.ensures) at c.block_of-block.ensures.bits)
           l.invariant.0 t.ensures.len t.ensures.block t.ensures.before l.invariant.3 l.invariant.4,
       λ w from. t.ensures.after w from ∙ l.invariant.4 w (omega (arith, from)),
     )
 
 pub returns-clause-bits : goal.returns-clause-bits
-returns-clause-bits c = past-row c.args.set.now c.args.rows.now c.args.row.now c.loop-at.row (padded (length c.args.row.now)) c.loop-at.at c.loop-at.invariant.0 (omega (arith, c.loop-at-test.false)) c.loop-at.invariant.3
+returns-clause-bits c = past-row c.args.set.now c.args.rows.now c.args.row.now c.loop-at.row (padded (length c.args.row.now)) c.loop-at.at c.loop-at.invariant.0
+    (omega (arith, c.loop-at-test.false)) c.loop-at.invariant.3

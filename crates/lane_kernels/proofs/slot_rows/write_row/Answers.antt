@@ -14,5 +14,6 @@ returns-clause-bits c =
     let a = c.args in
     let copy = c.copy_from_slice.new.self in
     let is = c.copy_from_slice.ensures.after in
-    left_fits a.set.now a.planes.now a.rows.now a.full.now c.take_off_all.new.row (padded (length copy)) c.count-count.ensures.below c.requires.rows c.requires.full (ap (λ l. padded (length l)) is ∙ ap padded c.requires.full.width)
+    left_fits a.set.now a.planes.now a.rows.now a.full.now c.take_off_all.new.row
+    (padded (length copy)) c.count-count.ensures.below c.requires.rows c.requires.full (ap (λ l. padded (length l)) is ∙ ap padded c.requires.full.width)
     (λ j. c.take_off_all.ensures.bits j ∙ ap (λ l. has_bit l j && survives (padded (length copy)) a.rows.now j (ascending a.set.now)) is)

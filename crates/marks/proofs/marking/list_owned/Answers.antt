@@ -18,4 +18,5 @@ loop-shard-preserved g c =
 
 pub returns-clause-sound : goal.returns-clause-sound
 returns-clause-sound g c =
-    subst (λ (shards : List g.row.H.Denot). AreSound (map g.H.LendsShard.lent shards)) (take_all c.loop-shard.shard-index c.args.shards.now (omega (arith, c.loop-shard-test.false))) c.loop-shard.invariant.sound
+    subst (λ (shards : List g.row.H.Denot). AreSound (map g.H.LendsShard.lent shards))
+    (take_all c.loop-shard.shard-index c.args.shards.now (omega (arith, c.loop-shard-test.false))) c.loop-shard.invariant.sound

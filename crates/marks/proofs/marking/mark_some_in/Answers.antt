@@ -16,7 +16,9 @@ fit g c =
     let shards = map g.H.LendsShard.lent c.args.shards.now in
     let told = c.in_ok-snapshot.ensures {u = tt} in
     fit_in_part pool shards c.sparsest.result
-    (IsSeenInPart-sparsest pool shards c.in-Ok.snapshot c.sparsest.result (IfOk-at_ok (IsSeen pool shards) c.in-Ok.is told.seen) c.sparsest.ensures.abandoned c.sparsest.ensures.owned c.sparsest.ensures.abandoned_ascending c.sparsest.ensures.owned_ascending)
+    (IsSeenInPart-sparsest pool shards c.in-Ok.snapshot c.sparsest.result
+    (IfOk-at_ok (IsSeen pool shards) c.in-Ok.is told.seen) c.sparsest.ensures.abandoned c.sparsest.ensures.owned c.sparsest.ensures.abandoned_ascending
+    c.sparsest.ensures.owned_ascending)
     told.sound_pool told.sound
 
 pub largest_plan-requires-clause-abandoned_fit : goal.largest_plan-requires-clause-abandoned_fit
@@ -32,7 +34,9 @@ returns-clause-largest g c =
     let told = c.in_ok-found.ensures {u = tt} in
     record {
       seen = subst (IsSeenInPart pool shards) (sym told.snapshot)
-          (IsSeenInPart-sparsest pool shards c.in-Ok.snapshot c.sparsest.result (IfOk-at_ok (IsSeen pool shards) c.in-Ok.is (c.in_ok-snapshot.ensures {u = tt}).seen) c.sparsest.ensures.abandoned c.sparsest.ensures.owned c.sparsest.ensures.abandoned_ascending c.sparsest.ensures.owned_ascending);
+          (IsSeenInPart-sparsest pool shards c.in-Ok.snapshot c.sparsest.result
+          (IfOk-at_ok (IsSeen pool shards) c.in-Ok.is (c.in_ok-snapshot.ensures {u = tt}).seen) c.sparsest.ensures.abandoned c.sparsest.ensures.owned
+          c.sparsest.ensures.abandoned_ascending c.sparsest.ensures.owned_ascending);
       best = subst (λ (groups : Groups). IsBestPlanOf groups c.in_ok-found.found.plan) (sym told.snapshot) told.best;
       short = subst (λ (groups : Groups). IsShortOf groups c.in_ok-found.found.plan c.in_ok-found.found.short) (sym told.snapshot) told.short;
       certificate = subst (λ (groups : Groups). IsCertificateOf groups c.in_ok-found.found.plan c.in_ok-found.found.short) (sym told.snapshot) told.certificate;

@@ -14,5 +14,6 @@ loop-entry-preserved c =
     let pushed = c.in_ok-extend_from_slice.ensures.items ∙ ap (λ l. c.loop-entry.rows.items ++ l) (c.deref.ensures.value ∙ back) in (
       ap length back ∙ wide,
       subst (λ l. HaveRows c.args.abandoned.now c.args.sets.now c.args.masks.now (c.loop-entry.entry-index + 1) l) (sym pushed)
-          (rows-more c.args.abandoned.now c.args.sets.now c.args.masks.now c.loop-entry.entry-index c.entry-item.result c.loop-entry.rows.items row c.loop-entry.invariant.1 c.loop-entry-test.true c.entry-item.is wide c.write_row.ensures.bits),
+          (rows-more c.args.abandoned.now c.args.sets.now c.args.masks.now c.loop-entry.entry-index c.entry-item.result c.loop-entry.rows.items row
+          c.loop-entry.invariant.1 c.loop-entry-test.true c.entry-item.is wide c.write_row.ensures.bits),
     )

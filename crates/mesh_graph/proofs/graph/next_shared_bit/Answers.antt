@@ -36,7 +36,8 @@ returns-then-left-ne0-clause-among c =
 pub returns-then-left-ne0-clause-least : goal.returns-then-left-ne0-clause-least
 returns-then-left-ne0-clause-least c = λ k late less there.
     let a = c.args in
-    not-in-words a.words.now a.among.now c.requires.same k (least a.words.now a.among.now a.from c.requires.same (c.type_inv.words (a.from / 64)).fits (omega (arith, c.if-left-ne0.true)) k late less) there
+    not-in-words a.words.now a.among.now c.requires.same k
+    (least a.words.now a.among.now a.from c.requires.same (c.type_inv.words (a.from / 64)).fits (omega (arith, c.if-left-ne0.true)) k late less) there
 
 pub loop-k-init : goal.loop-k-init
 loop-k-init c =
@@ -44,11 +45,14 @@ loop-k-init c =
     let first : ℕ = get_or a.words.now (a.from / 64) 0 in
     let other : ℕ = get_or a.among.now (a.from / 64) 0 in
     clear-run (both a.words.now a.among.now) a.from (a.from / 64 + 1) c.past_apart-k.result
-    (clear-first (both a.words.now a.among.now) a.from (bit_and first other) (bit_and first other / 2 ^ (a.from % 64)) (both-word a.words.now a.among.now (a.from / 64) c.requires.same) (both-fits first other (c.type_inv.words (a.from / 64)).fits) refl c.if-left-ne0.false)
+    (clear-first (both a.words.now a.among.now) a.from (bit_and first other) (bit_and first other / 2 ^ (a.from % 64))
+    (both-word a.words.now a.among.now (a.from / 64) c.requires.same)
+    (both-fits first other (c.type_inv.words (a.from / 64)).fits) refl c.if-left-ne0.false)
     (λ q late less. sym (both-word a.words.now a.among.now q c.requires.same) ∙ c.past_apart-k.ensures.apart q late less)
 
 -- a later word
-module _ (words among : List ℕ) (from k : ℕ) (same : length among ≡ length words) (fits : get_or words k 0 < 2 ^ 64) (clear : IsClear (both words among) from (64 * k)) (some : 0 < bit_and (get_or words k 0) (get_or among k 0)) where
+module _ (words among : List ℕ) (from k : ℕ) (same : length among ≡ length words) (fits : get_or words k 0 < 2 ^ 64)
+    (clear : IsClear (both words among) from (64 * k)) (some : 0 < bit_and (get_or words k 0) (get_or among k 0)) where
   abbrev later : ℕ
   later = bit_and (get_or words k 0) (get_or among k 0)
 
@@ -61,17 +65,23 @@ module _ (words among : List ℕ) (from k : ℕ) (same : length among ≡ length
 pub returns-then-word-ne0-clause-set : goal.returns-then-word-ne0-clause-set
 returns-then-word-ne0-clause-set c =
     let a = c.args in
-    in-words a.words.now a.among.now c.requires.same _ (later-found a.words.now a.among.now a.from c.loop-k.k c.requires.same (c.type_inv.words c.loop-k.k).fits c.loop-k.invariant (omega (arith, c.if-word-ne0.true)))
+    in-words a.words.now a.among.now c.requires.same _
+    (later-found a.words.now a.among.now a.from c.loop-k.k c.requires.same (c.type_inv.words c.loop-k.k).fits c.loop-k.invariant
+    (omega (arith, c.if-word-ne0.true)))
 
 pub returns-then-word-ne0-clause-among : goal.returns-then-word-ne0-clause-among
 returns-then-word-ne0-clause-among c =
     let a = c.args in
-    in-among a.words.now a.among.now c.requires.same _ (later-found a.words.now a.among.now a.from c.loop-k.k c.requires.same (c.type_inv.words c.loop-k.k).fits c.loop-k.invariant (omega (arith, c.if-word-ne0.true)))
+    in-among a.words.now a.among.now c.requires.same _
+    (later-found a.words.now a.among.now a.from c.loop-k.k c.requires.same (c.type_inv.words c.loop-k.k).fits c.loop-k.invariant
+    (omega (arith, c.if-word-ne0.true)))
 
 pub returns-then-word-ne0-clause-least : goal.returns-then-word-ne0-clause-least
 returns-then-word-ne0-clause-least c = λ k late less there.
     let a = c.args in
-    not-in-words a.words.now a.among.now c.requires.same k (later-least a.words.now a.among.now a.from c.loop-k.k c.requires.same (c.type_inv.words c.loop-k.k).fits c.loop-k.invariant (omega (arith, c.if-word-ne0.true)) k late less) there
+    not-in-words a.words.now a.among.now c.requires.same k
+    (later-least a.words.now a.among.now a.from c.loop-k.k c.requires.same (c.type_inv.words c.loop-k.k).fits c.loop-k.invariant
+    (omega (arith, c.if-word-ne0.true)) k late less) there
 
 pub loop-k-preserved : goal.loop-k-preserved
 loop-k-preserved c =

@@ -15,7 +15,8 @@ pub unreachable-requires : goal.unreachable-requires
 unreachable-requires c =
     let by_count = c.sort_unstable_by_key.new.self.items in
     let some : c.args.most ≤ length by_count = omega (arith, c.len.ensures, c.if-len-most.false, length_permutation c.args.entries.items by_count c.sort_unstable_by_key.ensures.permutation) in
-    let distinct : IsDistinct same_span (ids by_count) = distinct-after c.args.entries.items by_count c.sort_unstable_by_key.ensures.permutation (distinct-from_ascending (ids c.args.entries.items) c.requires) in
+    let distinct : IsDistinct same_span (ids by_count) = distinct-after c.args.entries.items by_count c.sort_unstable_by_key.ensures.permutation
+    (distinct-from_ascending (ids c.args.entries.items) c.requires) in
     (c.in_default.ensures {u = tt}).doubled (subst (λ (list : List Entry). IsDistinct same_span (ids list)) (sym c.truncate.ensures.items) (distinct-take c.args.most by_count some distinct))
 
 pub returns-clause-sparsest : goal.returns-clause-sparsest

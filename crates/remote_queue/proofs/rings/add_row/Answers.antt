@@ -26,7 +26,9 @@ loop-shard-preserved c =
       len = search rules;
       room = search rules;
       wide = search rules;
-      rings = row_step (inbox_rings c.args.columns.now.items) _ _ _ _ c.loop-shard.shard _ _ inv.rings (omega (arith, length-map c.loop-shard.row.items (λ o. o.ring))) (omega (arith, length-map c.args.columns.now.items (λ c. map (λ i. i.ring) c.items))) (search rules) c.in_ok-push_to.ensures.rings more;
+      rings = row_step (inbox_rings c.args.columns.now.items) _ _ _ _ c.loop-shard.shard _ _ inv.rings
+          (omega (arith, length-map c.loop-shard.row.items (λ o. o.ring))) (omega (arith, length-map c.args.columns.now.items (λ c. map (λ i. i.ring) c.items)))
+          (search rules) c.in_ok-push_to.ensures.rings more;
       untaken = c.in_ok-push_to.ensures.untaken;
       unsent =
           let p = λ (o : Sending). (o.sent ≡ []) × (o.free ≡ c.args.capacity) × (o.waiting ≡ 0) × (o.ring.capacity ≡ c.args.capacity) in

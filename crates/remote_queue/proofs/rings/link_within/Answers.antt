@@ -22,7 +22,8 @@ loop-preserved c =
     let inv = c.loop.invariant in
     let more = mapped_more (λ v. map (λ o. o.ring) v.items) _ _ _ c.push_reserved.ensures.items in
     let step = link_step _ _ _ _ _ c.loop.counter more c.in_ok-row.ensures.rings
-    (omega (arith, length-map c.in_ok-row.row.items (λ o. o.ring), length-map c.loop.inboxes.items (λ c. map (λ i. i.ring) c.items), c.in_ok-row.ensures.len)) (omega (arith, length-map c.loop.outboxes.items (λ v. map (λ o. o.ring) v.items))) inv.long inv.rings in
+    (omega (arith, length-map c.in_ok-row.row.items (λ o. o.ring), length-map c.loop.inboxes.items (λ c. map (λ i. i.ring) c.items), c.in_ok-row.ensures.len))
+    (omega (arith, length-map c.loop.outboxes.items (λ v. map (λ o. o.ring) v.items))) inv.long inv.rings in
     record {
       len = search rules;
       room = search rules;

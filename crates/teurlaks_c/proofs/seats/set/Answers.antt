@@ -6,4 +6,5 @@ pub returns : goal.returns
 returns c =
     let words = c.args.words.now in
     let says = c.set_reply.result in
-    Asks-told (set_told c.args.key words) (Sets c.args.key words) (SaysSet says) (SaysSet says) (λ none. none) (SaysSet-told c.args.key words says) c.args.handle.now.share c.at_seat.new.handle.share c.at_seat.result c.at_seat.ensures c.set_reply.ensures
+    Asks-told (set_told c.args.key words) (Sets c.args.key words) (SaysSet says) (SaysSet says) (λ none. none)
+    (SaysSet-told c.args.key words says) c.args.handle.now.share c.at_seat.new.handle.share c.at_seat.result c.at_seat.ensures c.set_reply.ensures

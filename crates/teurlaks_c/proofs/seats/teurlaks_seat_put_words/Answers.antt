@@ -8,4 +8,8 @@ pub returns : goal.returns
 returns c =
     let words = words_of c.args.words.now in
     let says = c.put_reply.result in
-    inl (c.in-Some.ensures.class.0, Asks-told (put_told words) (Puts words) (SaysPut says) (SaysPut says) (λ none. none) (SaysPut-told words says) c.args.handle.now.share c.put.new.handle.share c.put.result c.put.ensures c.put_reply.ensures)
+    inl (
+      c.in-Some.ensures.class.0,
+      Asks-told (put_told words) (Puts words) (SaysPut says) (SaysPut says) (λ none. none)
+          (SaysPut-told words says) c.args.handle.now.share c.put.new.handle.share c.put.result c.put.ensures c.put_reply.ensures,
+    )

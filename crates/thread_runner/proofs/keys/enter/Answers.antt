@@ -10,7 +10,9 @@ pub returns-then-goes_on : goal.returns-then-goes_on
 returns-then-goes_on c given are =
     let fresh = c.args.fresh.now in
     let last = c.index.result.now in
-    AreFresh-more fresh.items (c.len-count.result - 1) last _ c.args.key c.args.place given (slice_get_read fresh.items _ (c.len-count.result - 1) last fresh.ok.0 (omega (arith, fresh.ok.0, c.len-count.ensures, c.if-count-gt0.true)) c.index.ensures) refl refl refl
+    AreFresh-more fresh.items (c.len-count.result - 1) last _ c.args.key c.args.place given
+    (slice_get_read fresh.items _ (c.len-count.result - 1) last fresh.ok.0
+    (omega (arith, fresh.ok.0, c.len-count.ensures, c.if-count-gt0.true)) c.index.ensures) refl refl refl
     (c.if-goes_on.ensures.place refl) (c.if-goes_on.ensures.key refl) are
 
 pub returns : goal.returns

@@ -6,4 +6,6 @@ use Rattle.thread_runner.proofs.layout.enter_first.Goals as goal
 
 pub returns : goal.returns
 returns c = λ lines are is.
-    rw (c.in_ok-push.ensures.items) (each_at-push (λ index (one : LineFirst). one.first ≡ keys_in (take one.place lines)) c.args.firsts.now.items (record { place = c.args.place; first = c.args.first }) are is)
+    rw (c.in_ok-push.ensures.items)
+    (each_at-push (λ index (one : LineFirst). one.first ≡ keys_in (take one.place lines)) c.args.firsts.now.items
+    (record { place = c.args.place; first = c.args.first }) are is)

@@ -11,13 +11,15 @@ use Rattle.thread_runner.proofs.layout.enter_place.Goals as goal
 pub returns-in-Call : goal.returns-in-Call
 returns-in-Call c above long laid =
     on_ok_weaker c.push_at.result
-    (λ adds. rw c.in-Call.is (AreLaid-own above c.args.place c.in-Call.thread (line.Call c.in-Call.thread c.in-Call.call) (map vec_items c.args.places.now) (map vec_items c.push_at.new.lists) (λ at. refl) long laid adds))
+    (λ adds. rw c.in-Call.is (AreLaid-own above c.args.place c.in-Call.thread (line.Call c.in-Call.thread c.in-Call.call) (map vec_items c.args.places.now)
+    (map vec_items c.push_at.new.lists) (λ at. refl) long laid adds))
     c.push_at.ensures
 
 pub returns-in-Adopt : goal.returns-in-Adopt
 returns-in-Adopt c above long laid =
     on_ok_weaker c.push_at-in-Adopt.result
-    (λ adds. rw c.in-Adopt.is (AreLaid-own above c.args.place c.in-Adopt.shard (line.Adopt c.in-Adopt.shard) (map vec_items c.args.places.now) (map vec_items c.push_at-in-Adopt.new.lists) (λ at. refl) long laid adds))
+    (λ adds. rw c.in-Adopt.is (AreLaid-own above c.args.place c.in-Adopt.shard (line.Adopt c.in-Adopt.shard) (map vec_items c.args.places.now)
+    (map vec_items c.push_at-in-Adopt.new.lists) (λ at. refl) long laid adds))
     c.push_at-in-Adopt.ensures
 
 -- a line that is nobody's

@@ -14,7 +14,8 @@ returns-in-Put c before live =
 pub returns-in-Set : goal.returns-in-Set
 returns-in-Set c before live =
     let put = c.in-Set in
-    c.insert-in-Set.ensures ∙ ap (λ s. set.insert s put.slot) live ∙ sym (live_slots-set before put.slot put.generation put.words.now) ∙ ap (λ change. live_slots (before ++ viewed change ∷ [])) (sym put.is)
+    c.insert-in-Set.ensures ∙ ap (λ s. set.insert s put.slot) live ∙ sym (live_slots-set before put.slot put.generation put.words.now)
+    ∙ ap (λ change. live_slots (before ++ viewed change ∷ [])) (sym put.is)
 
 pub returns-in-Free : goal.returns-in-Free
 returns-in-Free c before live =

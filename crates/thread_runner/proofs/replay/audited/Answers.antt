@@ -8,7 +8,8 @@ pub returns-in_err-held_against-clause-err : goal.returns-in_err-held_against-cl
 returns-in_err-held_against-clause-err g c =
     let gives = err_from_is_err_and c.from_residual-in_err-held_against.result c.from_residual-in_err-held_against.ensures.1 in
     rw (gives.1, gives.2)
-    (IsRunStop-audit c.args.trace.now c.args.shown c.args.logs.now c.args.told.diaries.items (map kept_receipts c.in_ok-receipts.receipts.items) c.in_err-held_against.field-0.0 c.in_ok-receipts.ensures c.requires.voices
+    (IsRunStop-audit c.args.trace.now c.args.shown c.args.logs.now c.args.told.diaries.items
+    (map kept_receipts c.in_ok-receipts.receipts.items) c.in_err-held_against.field-0.0 c.in_ok-receipts.ensures c.requires.voices
     (rw c.as_slice.ensures.value at c.in_err-held_against.ensures.err))
 
 pub returns-clause-ok : goal.returns-clause-ok

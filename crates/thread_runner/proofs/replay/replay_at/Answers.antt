@@ -20,4 +20,5 @@ audited-requires-clause-calls g c κs within =
     let trace = c.args.trace.now in
     let (given, all) = c.in_ok-seats.ensures.diaries in
     let are = subst (λ ls. AreDiaries ls g.J.Reading.shown given trace.header.shards seats diaries) (sym c.requires.lines) all in
-    (rw c.as_slice-2.ensures.value at c.in_ok-calls_of.ensures) ∙ AreDiaries-counted trace.lines.items g.J.Reading.shown given trace.header.shards seats diaries (AreBelow-sound trace.header trace.lines.items trace.sound) are
+    (rw c.as_slice-2.ensures.value at c.in_ok-calls_of.ensures) ∙ AreDiaries-counted trace.lines.items g.J.Reading.shown given trace.header.shards seats diaries
+    (AreBelow-sound trace.header trace.lines.items trace.sound) are

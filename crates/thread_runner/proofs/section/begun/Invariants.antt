@@ -6,4 +6,6 @@ use Rattle.thread_runner.proofs.section.begun.Given as goal
 
 -- the threads that are left
 abbrev pub invariant-loop-one : goal.invariant-loop-one
-invariant-loop-one g l = AllByRecursion (λ one. Rests g.J.Reading.lines g.J.Reading.shown g.J.Reading.table (AreKept g.K.Known.kept) g.K.Known.section one.caller.seat one.done one.caller.diary) (into_iter_items l.one-iterator)
+invariant-loop-one g l = AllByRecursion
+    (λ one. Rests g.J.Reading.lines g.J.Reading.shown g.J.Reading.table (AreKept g.K.Known.kept) g.K.Known.section one.caller.seat one.done one.caller.diary)
+    (into_iter_items l.one-iterator)

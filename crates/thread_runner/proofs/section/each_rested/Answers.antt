@@ -20,5 +20,6 @@ loop-worker-preserved g c =
     (each-append (λ (r : Resting g.row.G.Denot). Rests lines shown table (AreKnown kept new) next r.caller.seat r.done r.caller.diary) c.loop-worker.threads.items (c.in_ok-rested.field-0 ∷ [])
     (each-weaker (λ (r : Resting g.row.G.Denot). Rests lines shown table (AreKnown kept old) next r.caller.seat r.done r.caller.diary)
     (λ (r : Resting g.row.G.Denot). Rests lines shown table (AreKnown kept new) next r.caller.seat r.done r.caller.diary) c.loop-worker.threads.items
-    (λ r rests. Rests-known lines shown table (AreKnown kept old) (AreKnown kept new) next r.caller.seat r.done r.caller.diary (λ given known. (known.0, c.in_ok-rested.ensures.before given known.1)) rests) c.loop-worker.invariant)
+    (λ r rests. Rests-known lines shown table (AreKnown kept old) (AreKnown kept new) next r.caller.seat r.done r.caller.diary
+    (λ given known. (known.0, c.in_ok-rested.ensures.before given known.1)) rests) c.loop-worker.invariant)
     (c.in_ok-rested.ensures.rests, tt))

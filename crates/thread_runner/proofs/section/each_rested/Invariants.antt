@@ -7,4 +7,5 @@ use Rattle.thread_runner.proofs.section.each_rested.Given as goal
 -- the threads so far
 abbrev pub invariant-loop-worker : goal.invariant-loop-worker
 invariant-loop-worker g l =
-    AllByRecursion (λ one. Rests g.J.Reading.lines g.J.Reading.shown g.J.Reading.table (AreKnown g.K.Known.kept l.latest.items) (g.K.Known.section + 1) one.caller.seat one.done one.caller.diary) l.threads.items
+    AllByRecursion (λ one. Rests g.J.Reading.lines g.J.Reading.shown g.J.Reading.table (AreKnown g.K.Known.kept l.latest.items)
+    (g.K.Known.section + 1) one.caller.seat one.done one.caller.diary) l.threads.items

@@ -9,10 +9,15 @@ use Rattle.thread_runner.proofs.section.seats_and_diaries.Goals as goal
 pub loop-thread-preserved : goal.loop-thread-preserved
 loop-thread-preserved g c = record {
   diaries = λ given kept.
-      let of_thread = subst (λ n. IsDiaryOf g.J.Reading.lines g.J.Reading.shown given n c.in_ok-seat.diary (carried_by c.in_ok-seat.seat)) c.in_ok-worker.ensures (c.in_ok-seat.ensures.diary given kept) in
-      rw (c.in_ok-push.ensures.items, c.in_ok-push-2.ensures.items) (AreDiaries-push g.J.Reading.lines g.J.Reading.shown given c.loop-thread.thread c.loop-thread.seats.items c.loop-thread.diaries.items c.in_ok-seat.seat c.in_ok-seat.diary
+      let of_thread = subst (λ n. IsDiaryOf g.J.Reading.lines g.J.Reading.shown given n c.in_ok-seat.diary (carried_by c.in_ok-seat.seat))
+      c.in_ok-worker.ensures (c.in_ok-seat.ensures.diary given kept) in
+      rw (c.in_ok-push.ensures.items, c.in_ok-push-2.ensures.items)
+      (AreDiaries-push g.J.Reading.lines g.J.Reading.shown given c.loop-thread.thread c.loop-thread.seats.items c.loop-thread.diaries.items
+      c.in_ok-seat.seat c.in_ok-seat.diary
       (c.loop-thread.invariant.diaries given kept) of_thread);
-  seats = rw c.in_ok-push.ensures.items (each-append (λ (seat : SeatState). seat.table ≡ g.J.Reading.table) c.loop-thread.seats.items (c.in_ok-seat.seat ∷ []) c.loop-thread.invariant.seats (c.in_ok-seat.ensures.seat, tt));
+  seats = rw c.in_ok-push.ensures.items
+      (each-append (λ (seat : SeatState). seat.table ≡ g.J.Reading.table) c.loop-thread.seats.items (c.in_ok-seat.seat ∷ []) c.loop-thread.invariant.seats
+      (c.in_ok-seat.ensures.seat, tt));
 }
 
 pub returns-clause-diaries : goal.returns-clause-diaries

@@ -21,5 +21,6 @@ loop-seat-preserved-in-Continue-branch-2 g c =
           let of_shown = subst (λ b. Rests lines b c.in-Some.seat.table (AreKept kept) 0 one.caller.seat one.done one.caller.diary) c.requires.shown of_lines in
           let of_table = subst (λ t. Rests lines shown t (AreKept kept) 0 one.caller.seat one.done one.caller.diary) here.0 of_shown in
           rw c.in_ok-push.ensures.items
-          (each-append (λ (r : Resting g.row.G.Denot). Rests lines shown table (AreKept kept) 0 r.caller.seat r.done r.caller.diary) c.loop-seat.threads.items (one ∷ []) (c.loop-seat.invariant.threads kept) (of_table, tt));
+          (each-append (λ (r : Resting g.row.G.Denot). Rests lines shown table (AreKept kept) 0 r.caller.seat r.done r.caller.diary) c.loop-seat.threads.items
+          (one ∷ []) (c.loop-seat.invariant.threads kept) (of_table, tt));
     }

@@ -14,8 +14,15 @@ returns-in-Ok-clause-ok g c = let written = c.in-Ok.ensures.whole in let value =
     (c.in_ok-replayed.replayed.report.items, (c.in_ok-trace.trace, c.in_ok-trace.ensures.trace, c.in_ok-replayed.ensures), rw value at written)
 
 pub returns-clause-err : goal.returns-clause-err
-returns-clause-err g c = let written = c.in-Err.ensures.front in let value = c.as_slice.ensures.value in
-    (c.in-Err.ensures.failed, (c.in_ok-replayed.replayed.report.items, c.in_ok-replayed.replayed.certificate.items, (c.in_ok-trace.trace, c.in_ok-trace.ensures.trace, c.in_ok-replayed.ensures), rw value at written))
+returns-clause-err g c = let written = c.in-Err.ensures.front in let value = c.as_slice.ensures.value in (
+  c.in-Err.ensures.failed,
+  (
+    c.in_ok-replayed.replayed.report.items,
+    c.in_ok-replayed.replayed.certificate.items,
+    (c.in_ok-trace.trace, c.in_ok-trace.ensures.trace, c.in_ok-replayed.ensures),
+    rw value at written,
+  ),
+)
 
 -- a text that is a trace is at no fault
 no_fault : (error : ParseError) (header : Header) (lines : List Line) → IsReadAs (Err error) header lines → IsNoFault (stop_of_parse error)

@@ -11,4 +11,5 @@ loop-count-preserved c = record {
 }
 
 pub returns-clause-drained : goal.returns-clause-drained
-returns-clause-drained c = Drains-last c.args.worker c.args.shard c.args.core.now c.loop-count.core c.settle_next.new.core c.loop-count.count c.loop-count.invariant.drains c.loop-count-test.ensures.settled
+returns-clause-drained c = Drains-last c.args.worker c.args.shard c.args.core.now c.loop-count.core c.settle_next.new.core c.loop-count.count
+    c.loop-count.invariant.drains c.loop-count-test.ensures.settled

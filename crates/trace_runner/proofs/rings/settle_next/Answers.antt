@@ -17,7 +17,8 @@ pub returns-in-Settled-Some-clause-settled : goal.returns-in-Settled-Some-clause
 returns-in-Settled-Some-clause-settled c = (
   c.in-Settled-Some.field-0-0,
   AreSteps-one (Settle c.args.worker c.args.shard) (Settled (Some c.in-Settled-Some.field-0-0)) c.args.core.now c.step.new.self (stepped c) c.in-Settled-Some.ensures.sound
-      (subst (λ (found : Option Key). ErasedStep c.args.core.now.limits (shown c.args.core.now) (Settle c.args.worker c.args.shard) (Settled found) (shown c.step.new.self)) c.in-Settled-Some.field-0-is c.in-Settled-Some.ensures.plain) tt,
+      (subst (λ (found : Option Key). ErasedStep c.args.core.now.limits (shown c.args.core.now) (Settle c.args.worker c.args.shard) (Settled found)
+      (shown c.step.new.self)) c.in-Settled-Some.field-0-is c.in-Settled-Some.ensures.plain) tt,
 )
 
 pub returns-in-Settled-Some-clause-shards : goal.returns-in-Settled-Some-clause-shards
@@ -26,5 +27,7 @@ returns-in-Settled-Some-clause-shards c = KeepsPlan-settled c.args.worker c.args
 pub returns-in-Settled-None-clause-settled : goal.returns-in-Settled-None-clause-settled
 returns-in-Settled-None-clause-settled c =
     AreSteps-one (Settle c.args.worker c.args.shard) (Settled None) c.args.core.now c.step.new.self
-    (subst (λ (found : Option Key). CoreStep c.args.core.now (Settle c.args.worker c.args.shard) (Settled found) c.step.new.self) c.in-Settled-None.field-0-is c.in-Settled-None.ensures.exact) c.in-Settled-None.ensures.sound
-    (subst (λ (found : Option Key). ErasedStep c.args.core.now.limits (shown c.args.core.now) (Settle c.args.worker c.args.shard) (Settled found) (shown c.step.new.self)) c.in-Settled-None.field-0-is c.in-Settled-None.ensures.plain) tt
+    (subst (λ (found : Option Key). CoreStep c.args.core.now (Settle c.args.worker c.args.shard) (Settled found) c.step.new.self) c.in-Settled-None.field-0-is
+    c.in-Settled-None.ensures.exact) c.in-Settled-None.ensures.sound
+    (subst (λ (found : Option Key). ErasedStep c.args.core.now.limits (shown c.args.core.now) (Settle c.args.worker c.args.shard) (Settled found)
+    (shown c.step.new.self)) c.in-Settled-None.field-0-is c.in-Settled-None.ensures.plain) tt

@@ -14,7 +14,8 @@ loop-shard-preserved c =
     let more = map-range_with_len_more tends 0 c.loop-shard.shard c.loop-shard.shard (zero-add c.loop-shard.shard) in
     record {
       made = λ news. subst (λ (asked : List Asked). Carries asked c.args.core.now news c.settle_shard.new.core news) (sym more)
-          (Carries-append (map tends (range_with_len 0 c.loop-shard.shard)) (tends c.loop-shard.shard ∷ []) c.args.core.now c.loop-shard.core c.settle_shard.new.core news news news (c.loop-shard.invariant.made news)
+          (Carries-append (map tends (range_with_len 0 c.loop-shard.shard))
+          (tends c.loop-shard.shard ∷ []) c.args.core.now c.loop-shard.core c.settle_shard.new.core news news news (c.loop-shard.invariant.made news)
           (Carries-tended c.args.shards c.loop-shard.shard c.loop-shard.core c.settle_shard.new.core _ news c.in_ok-settle_shard.ensures.tended));
       shards = KeepsPlan-trans _ _ _ c.loop-shard.invariant.shards c.settle_shard.ensures.shards;
     }

@@ -15,7 +15,8 @@ loop-worker-preserved c =
     record {
       drains = subst (λ (requests : List Request). Drains requests c.args.core.now c.drain.new.core c.in_ok-count.count) (sym more)
           (subst (λ (count : ℕ). Drains (map ring (range_with_len 0 c.loop-worker.worker) ++ ring c.loop-worker.worker ∷ []) c.args.core.now c.drain.new.core count) (sym c.in_ok-count.ensures)
-          (Drains-append (map ring (range_with_len 0 c.loop-worker.worker)) (ring c.loop-worker.worker ∷ []) c.args.core.now c.loop-worker.core c.drain.new.core c.loop-worker.count c.in_ok-drained.drained
+          (Drains-append (map ring (range_with_len 0 c.loop-worker.worker))
+          (ring c.loop-worker.worker ∷ []) c.args.core.now c.loop-worker.core c.drain.new.core c.loop-worker.count c.in_ok-drained.drained
           c.loop-worker.invariant.drains c.in_ok-drained.ensures.drained));
       shards = KeepsPlan-trans _ _ _ c.loop-worker.invariant.shards c.drain.ensures.shards;
     }

@@ -28,7 +28,14 @@ at_most_one true = omega arith
 at_most_one false = omega arith
 
 pub overflow_add-count : goal.overflow_add-count
-overflow_add-count c = omega (arith, c.loop-place.invariant, c.adoptions_by-count.ensures, at_most_one (is_adopt c.line_at.result.now), few c.args.lines.now.items c.loop-place.place (omega (arith, c.len-place-end.ensures.len)), c.len-place-end.ensures.few)
+overflow_add-count c = omega (
+  arith,
+  c.loop-place.invariant,
+  c.adoptions_by-count.ensures,
+  at_most_one (is_adopt c.line_at.result.now),
+  few c.args.lines.now.items c.loop-place.place (omega (arith, c.len-place-end.ensures.len)),
+  c.len-place-end.ensures.few,
+)
 
 pub loop-place-preserved : goal.loop-place-preserved
 loop-place-preserved c = omega (arith, c.loop-place.invariant, c.adoptions_by-count.ensures, next c.args.lines.now.items c.loop-place.place c.line_at.result.now c.line_at.ensures)

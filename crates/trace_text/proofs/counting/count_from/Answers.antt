@@ -8,7 +8,8 @@ use Rattle.trace_text.proofs.counting.count_from.Goals as goal
 pub loop-place-preserved : goal.loop-place-preserved
 loop-place-preserved g c = record {
   long = simp length-set c.loop-place.invariant.long;
-  counted = λ k d below. fill_by_more (λ j. c.args.base + j) c.loop-place.words c.loop-place.place d (omega (arith, c.loop-place.invariant.long)) (λ j low. c.loop-place.invariant.counted j d low) k below;
+  counted = λ k d below. fill_by_more (λ j. c.args.base + j) c.loop-place.words c.loop-place.place d (omega (arith, c.loop-place.invariant.long))
+      (λ j low. c.loop-place.invariant.counted j d low) k below;
 }
 
 pub returns : goal.returns

@@ -11,19 +11,25 @@ returns-in_err-version-clause-err c = let p = err_from_is_err_and c.from_residua
 
 pub returns-in_err-shards-clause-err : goal.returns-in_err-shards-clause-err
 returns-in_err-shards-clause-err c = let p = err_from_is_err_and c.from_residual-in_err-shards.result c.from_residual-in_err-shards.ensures.1 in
-    rw (p.1, p.2) (FailsHeader-below (Opening ∷ []) _ _ (number_of c.in_ok-version.version ∷ []) 2 (lines_of c.args.text.now) (lines_of c.in_ok-version.below.now) _ refl refl (search rules) c.in_err-shards.ensures.err)
+    rw (p.1, p.2) (FailsHeader-below (Opening ∷ []) _ _ (number_of c.in_ok-version.version ∷ []) 2 (lines_of c.args.text.now)
+    (lines_of c.in_ok-version.below.now) _ refl refl (search rules) c.in_err-shards.ensures.err)
 
 pub returns-in_err-pages-clause-err : goal.returns-in_err-pages-clause-err
 returns-in_err-pages-clause-err c = let p = err_from_is_err_and c.from_residual-in_err-pages.result c.from_residual-in_err-pages.ensures.1 in
-    rw (p.1, p.2) (FailsHeader-below (Opening ∷ Size (codes "shards") 64 ∷ []) _ _ (number_of c.in_ok-version.version ∷ c.in_ok-shards.shards ∷ []) 3 (lines_of c.args.text.now) (lines_of c.in_ok-shards.below.now) _ refl refl (search rules) c.in_err-pages.ensures.err)
+    rw (p.1, p.2) (FailsHeader-below (Opening ∷ Size (codes "shards") 64 ∷ []) _ _ (number_of c.in_ok-version.version ∷ c.in_ok-shards.shards ∷ []) 3
+    (lines_of c.args.text.now) (lines_of c.in_ok-shards.below.now) _ refl refl (search rules) c.in_err-pages.ensures.err)
 
 pub returns-in_err-ring-clause-err : goal.returns-in_err-ring-clause-err
 returns-in_err-ring-clause-err c = let p = err_from_is_err_and c.from_residual-in_err-ring.result c.from_residual-in_err-ring.ensures.1 in
-    rw (p.1, p.2) (FailsHeader-below (Opening ∷ Size (codes "shards") 64 ∷ Size (codes "pages") 1024 ∷ []) _ _ (number_of c.in_ok-version.version ∷ c.in_ok-shards.shards ∷ c.in_ok-pages.pages ∷ []) 4 (lines_of c.args.text.now) (lines_of c.in_ok-pages.below.now) _ refl refl (search rules) c.in_err-ring.ensures.err)
+    rw (p.1, p.2) (FailsHeader-below (Opening ∷ Size (codes "shards") 64 ∷ Size (codes "pages") 1024 ∷ []) _ _
+    (number_of c.in_ok-version.version ∷ c.in_ok-shards.shards ∷ c.in_ok-pages.pages ∷ []) 4 (lines_of c.args.text.now)
+    (lines_of c.in_ok-pages.below.now) _ refl refl (search rules) c.in_err-ring.ensures.err)
 
 pub returns-in_err-gens-clause-err : goal.returns-in_err-gens-clause-err
 returns-in_err-gens-clause-err c = let p = err_from_is_err_and c.from_residual-in_err-gens.result c.from_residual-in_err-gens.ensures.1 in
-    rw (p.1, p.2) (FailsHeader-below (Opening ∷ Size (codes "shards") 64 ∷ Size (codes "pages") 1024 ∷ Size (codes "ring") 1024 ∷ []) _ _ (number_of c.in_ok-version.version ∷ c.in_ok-shards.shards ∷ c.in_ok-pages.pages ∷ c.in_ok-ring.ring ∷ []) 5 (lines_of c.args.text.now) (lines_of c.in_ok-ring.below.now) _ refl refl (search rules) c.in_err-gens.ensures.err)
+    rw (p.1, p.2) (FailsHeader-below (Opening ∷ Size (codes "shards") 64 ∷ Size (codes "pages") 1024 ∷ Size (codes "ring") 1024 ∷ []) _ _
+    (number_of c.in_ok-version.version ∷ c.in_ok-shards.shards ∷ c.in_ok-pages.pages ∷ c.in_ok-ring.ring ∷ []) 5 (lines_of c.args.text.now)
+    (lines_of c.in_ok-ring.below.now) _ refl refl (search rules) c.in_err-gens.ensures.err)
 
 pub returns-clause-within : goal.returns-clause-within
 returns-clause-within c = record {

@@ -14,11 +14,17 @@ is_above place one = nat_lt one.place place
 IsPartitionedBy-places : (kept : List KeptLine) (count place : ℕ) → AreInOrder kept count → IsPartitionedBy (is_above place) kept
 IsPartitionedBy-places kept count place order low high d below within is = elim (cases_eq low high) [
   | inl same ↦ ap (λ at. is_above place (get_or kept at d)) same ∙ is
-  | inr apart ↦ lt-ltb _ _ (omega (arith, order.ascend low high (get_or kept low d) (get_or kept high d) (omega arith) (slice_get-get_or kept low d (omega arith)) (slice_get-get_or kept high d within), ltb-true _ _ is))
+  | inr apart ↦ lt-ltb _ _ (omega (
+    arith,
+    order.ascend low high (get_or kept low d) (get_or kept high d) (omega arith) (slice_get-get_or kept low d (omega arith))
+        (slice_get-get_or kept high d within),
+    ltb-true _ _ is,
+  ))
 ]
 
 point : (c : goal.After-partition_point) → IsPartitionPoint (λ one. is_above c.args.place one ≡ true) (λ one. is_above c.args.place one ≡ false) c.args.kept.now c.partition_point.result
-point c = c.partition_point.ensures.partitioned (is_above c.args.place) (always_returns_same _ _ _ (λ a r f k. search (rules, of_calls))) (IsPartitionedBy-places c.args.kept.now c.requires.0 c.args.place c.requires.1)
+point c = c.partition_point.ensures.partitioned (is_above c.args.place) (always_returns_same _ _ _ (λ a r f k. search (rules, of_calls)))
+    (IsPartitionedBy-places c.args.kept.now c.requires.0 c.args.place c.requires.1)
 
 pub returns-clause-above : goal.returns-clause-above
 returns-clause-above c other one below here =

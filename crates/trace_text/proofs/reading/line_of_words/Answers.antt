@@ -17,5 +17,6 @@ pub returns-in_default : goal.returns-in_default
 returns-in_default c =
     elim c.in_default.branch [
       | in_default-via-then-words-lt1 w ↦ sym (ap within (form_of_words-none c.args.version (contents_of c.args.words.now) (rw length-map (omega (arith, ltb-true)))))
-      | in_default-via-else-words-lt1+else-words-lt2+else-words-lt3+else-words-lt4+else-words-lt5+else-words-lt6 w ↦ sym (ap within (form_of_words-many c.args.version (contents_of c.args.words.now) (rw length-map (omega (arith, ltb-false)))))
+      | in_default-via-else-words-lt1+else-words-lt2+else-words-lt3+else-words-lt4+else-words-lt5+else-words-lt6 w ↦ sym
+          (ap within (form_of_words-many c.args.version (contents_of c.args.words.now) (rw length-map (omega (arith, ltb-false)))))
     ]

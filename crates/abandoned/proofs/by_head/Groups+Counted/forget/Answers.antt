@@ -29,7 +29,8 @@ pub invariant_of-self : goal.invariant_of-self
 invariant_of-self c = record { noted = c.tidy.ensures.noted; few = c.tidy.ensures.few; room = c.tidy.ensures.room; room_for_all = c.tidy.ensures.groups }
 
 pub returns-clause-groups : goal.returns-clause-groups
-returns-clause-groups c = groups-left c.self.inside.places c.forget_guests.new.self c.keep_paged.new.self c.forget_guests.ensures.groups c.keep_paged.ensures ∙ ap (λ (s : GroupsState). record s { groups = left_in s.groups }) c.self.view_is
+returns-clause-groups c = groups-left c.self.inside.places c.forget_guests.new.self c.keep_paged.new.self c.forget_guests.ensures.groups c.keep_paged.ensures
+    ∙ ap (λ (s : GroupsState). record s { groups = left_in s.groups }) c.self.view_is
 
 pub returns-clause-known : goal.returns-clause-known
 returns-clause-known c =

@@ -14,7 +14,8 @@ invariant_of-self g c =
     let long = length_insert c.self.inside.places.groups came.0 c.args.group in
     record {
       noted = subst (λ (s : GroupsState). AreNoted s.groups c.note.new.paged.ranks) (sym came.2)
-          (AreNoted-insert c.self.inside.places.groups came.0 c.args.group came.1.within c.self.inside.paged.ranks c.note.new.paged.ranks c.note.ensures.more c.note.ensures.noted c.self.invariant.noted);
+          (AreNoted-insert c.self.inside.places.groups came.0 c.args.group came.1.within c.self.inside.paged.ranks c.note.new.paged.ranks c.note.ensures.more
+          c.note.ensures.noted c.self.invariant.noted);
       few = omega (arith, groups, long, c.note.ensures.few, c.self.invariant.few);
       room = omega (arith, room, some, c.note.ensures.few, c.note.ensures.capacity, c.self.invariant.room);
       room_for_all = omega (arith, groups, long, room, some, c.note.ensures.capacity, c.self.invariant.room_for_all);

@@ -5,4 +5,5 @@ use Rattle.abandoned.proofs.Walked.{paged, pages-in_order}
 use Rattle.abandoned.proofs.by_head.Groups.pages.Goals as goal
 
 pub returns : goal.returns
-returns g c = c.pages.ensures ∙ sym (pages-in_order c.as_slice.result.now) ∙ ap (λ gs. length (filter paged gs)) c.as_slice.ensures.order ∙ ap (λ (s : GroupsState). length (filter paged s.groups)) c.self.view_is
+returns g c = c.pages.ensures ∙ sym (pages-in_order c.as_slice.result.now) ∙ ap (λ gs. length (filter paged gs)) c.as_slice.ensures.order
+    ∙ ap (λ (s : GroupsState). length (filter paged s.groups)) c.self.view_is

@@ -7,7 +7,8 @@ use Rattle.abandoned.proofs.NotedRanks.{AreNoted-of_old}
 use Rattle.abandoned.proofs.by_head.Groups.set.Goals as goal
 
 pub set-requires : goal.set-requires
-set-requires g c = subst (λ (s : GroupsState). (group : PooledState) × HasHeadAt s.groups c.args.head group × (c.args.place < length (spans_of group)) × IsSoundGroup group) (sym c.self.view_is) c.requires
+set-requires g c = subst (λ (s : GroupsState). (group : PooledState) × HasHeadAt s.groups c.args.head group × (c.args.place < length (spans_of group))
+    × IsSoundGroup group) (sym c.self.view_is) c.requires
 
 pub invariant_of-self : goal.invariant_of-self
 invariant_of-self g c =

@@ -10,7 +10,8 @@ use Rattle.abandoned.proofs.by_rank.ByRank.get.Goals as goal
 pub returns-in_default-clause-found : goal.returns-in_default-clause-found
 returns-in_default-clause-found g c =
     let none : hash.get nat_eq c.self.inside.places c.args.rank ≡ None = sym c.get.ensures.value ∙ sym c.copied.ensures ∙ c.in_default.is in
-    subst (λ (s : GroupsState). HasNoRank s.groups c.args.rank) c.self.view_is (HasNoRank-found c.self.inside.groups.items (hash.get nat_eq c.self.inside.places) c.self.invariant.found c.args.rank none)
+    subst (λ (s : GroupsState). HasNoRank s.groups c.args.rank) c.self.view_is
+    (HasNoRank-found c.self.inside.groups.items (hash.get nat_eq c.self.inside.places) c.self.invariant.found c.args.rank none)
 
 pub index-requires : goal.index-requires
 index-requires g c =
@@ -26,7 +27,8 @@ returns-clause-found g c =
     (HasRankAt-found c.self.inside.groups.items (hash.get nat_eq c.self.inside.places) c.self.invariant.found c.args.rank c.in-Some.place c.index.result.now is there)
 
 pub returns-in_default-clause-ascending : goal.returns-in_default-clause-ascending
-returns-in_default-clause-ascending g c = subst (λ (s : GroupsState). Ascend s.groups) c.self.view_is (AreUp-found c.self.inside.groups.items (hash.get nat_eq c.self.inside.places) c.self.invariant.found)
+returns-in_default-clause-ascending g c = subst (λ (s : GroupsState). Ascend s.groups) c.self.view_is
+    (AreUp-found c.self.inside.groups.items (hash.get nat_eq c.self.inside.places) c.self.invariant.found)
 
 pub returns-clause-ascending : goal.returns-clause-ascending
 returns-clause-ascending g c = subst (λ (s : GroupsState). Ascend s.groups) c.self.view_is (AreUp-found c.self.inside.groups.items (hash.get nat_eq c.self.inside.places) c.self.invariant.found)

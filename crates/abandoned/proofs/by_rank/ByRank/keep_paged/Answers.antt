@@ -20,5 +20,6 @@ pub returns : goal.returns
 returns g c =
     ap (λ (gs : List PooledState). record { groups = in_order gs; room = c.self.inside.room }) c.give_back.ensures.same
     ∙ ap (λ (gs : List PooledState). record { groups = gs; room = c.self.inside.room })
-    (in_order-paged c.self.inside.groups.items (hash.get nat_eq c.self.inside.places) c.self.invariant.found c.drop_unpaged.new.groups.items (hash.get nat_eq c.drop_unpaged.new.places) c.drop_unpaged.ensures.found c.drop_unpaged.ensures.left)
+    (in_order-paged c.self.inside.groups.items (hash.get nat_eq c.self.inside.places) c.self.invariant.found c.drop_unpaged.new.groups.items
+    (hash.get nat_eq c.drop_unpaged.new.places) c.drop_unpaged.ensures.found c.drop_unpaged.ensures.left)
     ∙ ap (λ (s : GroupsState). record { groups = paged_in s.groups; room = s.room }) c.self.view_is

@@ -11,12 +11,18 @@ use Rattle.abandoned.proofs.by_rank.ByRank.remove.Goals as goal
 
 pub returns-in_default : goal.returns-in_default
 returns-in_default g c =
-    let none : hash.get nat_eq c.self.inside.places (rank c.args.head) ≡ None = ap (hash.get nat_eq c.self.inside.places) (sym c.rank.ensures.value) ∙ sym c.get.ensures.value ∙ sym c.copied.ensures ∙ c.in_default.is in
-    (subst (λ (s : GroupsState). HasNoHead s.groups c.args.head) c.self.view_is (HasNoHead-found c.self.inside.groups.items (hash.get nat_eq c.self.inside.places) c.self.invariant.found c.args.head none), refl)
+    let none : hash.get nat_eq c.self.inside.places (rank c.args.head) ≡ None = ap (hash.get nat_eq c.self.inside.places) (sym c.rank.ensures.value)
+    ∙ sym c.get.ensures.value ∙ sym c.copied.ensures ∙ c.in_default.is in (
+      subst (λ (s : GroupsState). HasNoHead s.groups c.args.head) c.self.view_is
+          (HasNoHead-found c.self.inside.groups.items (hash.get nat_eq c.self.inside.places) c.self.invariant.found c.args.head none),
+      refl,
+    )
 
 pub let_go-group-requires-clause-within : goal.let_go-group-requires-clause-within
 let_go-group-requires-clause-within g c =
-    let is : hash.get nat_eq c.self.inside.places (rank c.args.head) ≡ Some c.in-Some.place = ap (hash.get nat_eq c.self.inside.places) (sym c.rank.ensures.value) ∙ sym c.get.ensures.value ∙ sym c.copied.ensures ∙ c.in-Some.is in
+    let is : hash.get nat_eq c.self.inside.places (rank c.args.head)
+    ≡ Some c.in-Some.place = ap (hash.get nat_eq c.self.inside.places) (sym c.rank.ensures.value) ∙ sym c.get.ensures.value ∙ sym c.copied.ensures
+    ∙ c.in-Some.is in
     found_within c.self.inside.groups.items (hash.get nat_eq c.self.inside.places) c.self.invariant.found (rank c.args.head) c.in-Some.place is
 
 pub give_back-requires-clause-room : goal.give_back-requires-clause-room
@@ -32,8 +38,12 @@ invariant_of-self g c = record {
 
 pub returns : goal.returns
 returns g c =
-    let is : hash.get nat_eq c.self.inside.places (rank c.args.head) ≡ Some c.in-Some.place = ap (hash.get nat_eq c.self.inside.places) (sym c.rank.ensures.value) ∙ sym c.get.ensures.value ∙ sym c.copied.ensures ∙ c.in-Some.is in
-    let left = in_order-left c.self.inside.groups.items (hash.get nat_eq c.self.inside.places) c.self.invariant.found c.in-Some.place c.let_go-group.result c.let_go-group.ensures.gone c.let_go-group.new.groups.items c.let_go-group.ensures.left (hash.get nat_eq c.let_go-group.new.places) c.let_go-group.ensures.found in
+    let is : hash.get nat_eq c.self.inside.places (rank c.args.head)
+    ≡ Some c.in-Some.place = ap (hash.get nat_eq c.self.inside.places) (sym c.rank.ensures.value) ∙ sym c.get.ensures.value ∙ sym c.copied.ensures
+    ∙ c.in-Some.is in
+    let left = in_order-left c.self.inside.groups.items
+    (hash.get nat_eq c.self.inside.places) c.self.invariant.found c.in-Some.place c.let_go-group.result c.let_go-group.ensures.gone
+    c.let_go-group.new.groups.items c.let_go-group.ensures.left (hash.get nat_eq c.let_go-group.new.places) c.let_go-group.ensures.found in
     let head = head_found c.self.inside.groups.items (hash.get nat_eq c.self.inside.places) c.self.invariant.found c.args.head c.in-Some.place is c.let_go-group.result c.let_go-group.ensures.gone in
     subst (λ (s : GroupsState). Removes s c.args.head (Some c.let_go-group.result) (record { groups = in_order c.give_back.new.groups.items; room = c.self.inside.room })) c.self.view_is (
       left.0,

@@ -16,39 +16,63 @@ use Rattle.abandoned.proofs.by_rank.ByRank.set.Goals as goal
 
 pub unreachable-requires : goal.unreachable-requires
 unreachable-requires g c =
-    let is = head_inside c.self.inside.groups.items (hash.get nat_eq c.self.inside.places) c.self.invariant.found c.args.head c.self.inside.room c.args.self.now c.self.view_is c.requires.1.0 c.requires.0 c.requires.1.1 in
+    let is = head_inside c.self.inside.groups.items
+    (hash.get nat_eq c.self.inside.places) c.self.invariant.found c.args.head c.self.inside.room c.args.self.now c.self.view_is c.requires.1.0 c.requires.0
+    c.requires.1.1 in
     let known = place-IsHeadOf c.self.inside.groups.items (hash.get nat_eq c.self.inside.places) c.self.invariant.found c.args.head c.requires.1.0 c.requires.0 is in
-    let none : hash.get nat_eq c.self.inside.places (rank c.args.head) ≡ None = ap (hash.get nat_eq c.self.inside.places) (sym c.rank.ensures.value) ∙ sym c.get.ensures.value ∙ sym c.copied.ensures ∙ c.in_default.is in
+    let none : hash.get nat_eq c.self.inside.places (rank c.args.head) ≡ None = ap (hash.get nat_eq c.self.inside.places) (sym c.rank.ensures.value)
+    ∙ sym c.get.ensures.value ∙ sym c.copied.ensures ∙ c.in_default.is in
     let e = sym none ∙ known.1 in
     cc
 
 pub index_mut-requires : goal.index_mut-requires
 index_mut-requires g c =
-    let is_at : hash.get nat_eq c.self.inside.places (rank c.args.head) ≡ Some c.in-Some.at = ap (hash.get nat_eq c.self.inside.places) (sym c.rank.ensures.value) ∙ sym c.get.ensures.value ∙ sym c.copied.ensures ∙ c.in-Some.is in
+    let is_at : hash.get nat_eq c.self.inside.places (rank c.args.head)
+    ≡ Some c.in-Some.at = ap (hash.get nat_eq c.self.inside.places) (sym c.rank.ensures.value) ∙ sym c.get.ensures.value ∙ sym c.copied.ensures
+    ∙ c.in-Some.is in
     omega (arith, found_within c.self.inside.groups.items (hash.get nat_eq c.self.inside.places) c.self.invariant.found (rank c.args.head) c.in-Some.at is_at, c.self.inside.groups.ok.0)
 
 pub set-requires-clause-place : goal.set-requires-clause-place
 set-requires-clause-place g c =
-    let is_at : hash.get nat_eq c.self.inside.places (rank c.args.head) ≡ Some c.in-Some.at = ap (hash.get nat_eq c.self.inside.places) (sym c.rank.ensures.value) ∙ sym c.get.ensures.value ∙ sym c.copied.ensures ∙ c.in-Some.is in
-    let is = head_inside c.self.inside.groups.items (hash.get nat_eq c.self.inside.places) c.self.invariant.found c.args.head c.self.inside.room c.args.self.now c.self.view_is c.requires.1.0 c.requires.0 c.requires.1.1 in
-    let one = one_group c.self.inside.groups.items (hash.get nat_eq c.self.inside.places) c.self.invariant.found c.args.head c.in-Some.at is_at c.index_mut.result.now c.index_mut.ensures.value c.requires.1.0 c.requires.0 is in
+    let is_at : hash.get nat_eq c.self.inside.places (rank c.args.head)
+    ≡ Some c.in-Some.at = ap (hash.get nat_eq c.self.inside.places) (sym c.rank.ensures.value) ∙ sym c.get.ensures.value ∙ sym c.copied.ensures
+    ∙ c.in-Some.is in
+    let is = head_inside c.self.inside.groups.items
+    (hash.get nat_eq c.self.inside.places) c.self.invariant.found c.args.head c.self.inside.room c.args.self.now c.self.view_is c.requires.1.0 c.requires.0
+    c.requires.1.1 in
+    let one = one_group c.self.inside.groups.items
+    (hash.get nat_eq c.self.inside.places) c.self.invariant.found c.args.head c.in-Some.at is_at c.index_mut.result.now c.index_mut.ensures.value
+    c.requires.1.0 c.requires.0 is in
     subst (λ (x : PooledState). c.args.place < length (spans_of x)) one c.requires.2
 
 pub set-requires-clause-sound : goal.set-requires-clause-sound
 set-requires-clause-sound g c =
-    let is_at : hash.get nat_eq c.self.inside.places (rank c.args.head) ≡ Some c.in-Some.at = ap (hash.get nat_eq c.self.inside.places) (sym c.rank.ensures.value) ∙ sym c.get.ensures.value ∙ sym c.copied.ensures ∙ c.in-Some.is in
-    let is = head_inside c.self.inside.groups.items (hash.get nat_eq c.self.inside.places) c.self.invariant.found c.args.head c.self.inside.room c.args.self.now c.self.view_is c.requires.1.0 c.requires.0 c.requires.1.1 in
-    let one = one_group c.self.inside.groups.items (hash.get nat_eq c.self.inside.places) c.self.invariant.found c.args.head c.in-Some.at is_at c.index_mut.result.now c.index_mut.ensures.value c.requires.1.0 c.requires.0 is in
+    let is_at : hash.get nat_eq c.self.inside.places (rank c.args.head)
+    ≡ Some c.in-Some.at = ap (hash.get nat_eq c.self.inside.places) (sym c.rank.ensures.value) ∙ sym c.get.ensures.value ∙ sym c.copied.ensures
+    ∙ c.in-Some.is in
+    let is = head_inside c.self.inside.groups.items
+    (hash.get nat_eq c.self.inside.places) c.self.invariant.found c.args.head c.self.inside.room c.args.self.now c.self.view_is c.requires.1.0 c.requires.0
+    c.requires.1.1 in
+    let one = one_group c.self.inside.groups.items
+    (hash.get nat_eq c.self.inside.places) c.self.invariant.found c.args.head c.in-Some.at is_at c.index_mut.result.now c.index_mut.ensures.value
+    c.requires.1.0 c.requires.0 is in
     subst IsSoundGroup one c.requires.3
 
 pub invariant_of-self : goal.invariant_of-self
 invariant_of-self g c =
-    let is_at : hash.get nat_eq c.self.inside.places (rank c.args.head) ≡ Some c.in-Some.at = ap (hash.get nat_eq c.self.inside.places) (sym c.rank.ensures.value) ∙ sym c.get.ensures.value ∙ sym c.copied.ensures ∙ c.in-Some.is in
-    let is = head_inside c.self.inside.groups.items (hash.get nat_eq c.self.inside.places) c.self.invariant.found c.args.head c.self.inside.room c.args.self.now c.self.view_is c.requires.1.0 c.requires.0 c.requires.1.1 in
-    let one = one_group c.self.inside.groups.items (hash.get nat_eq c.self.inside.places) c.self.invariant.found c.args.head c.in-Some.at is_at c.index_mut.result.now c.index_mut.ensures.value c.requires.1.0 c.requires.0 is in
+    let is_at : hash.get nat_eq c.self.inside.places (rank c.args.head)
+    ≡ Some c.in-Some.at = ap (hash.get nat_eq c.self.inside.places) (sym c.rank.ensures.value) ∙ sym c.get.ensures.value ∙ sym c.copied.ensures
+    ∙ c.in-Some.is in
+    let is = head_inside c.self.inside.groups.items
+    (hash.get nat_eq c.self.inside.places) c.self.invariant.found c.args.head c.self.inside.room c.args.self.now c.self.view_is c.requires.1.0 c.requires.0
+    c.requires.1.1 in
+    let one = one_group c.self.inside.groups.items
+    (hash.get nat_eq c.self.inside.places) c.self.invariant.found c.args.head c.in-Some.at is_at c.index_mut.result.now c.index_mut.ensures.value
+    c.requires.1.0 c.requires.0 is in
     let here = read_there c.self.inside.groups.items (hash.get nat_eq c.self.inside.places) c.self.invariant.found c.args.head c.in-Some.at is_at c.index_mut.result.now c.index_mut.ensures.value in
     let span = there_at (spans_of c.index_mut.result.now) c.args.place (subst (λ (x : PooledState). c.args.place < length (spans_of x)) one c.requires.2) in
-    let head = head-set c.index_mut.result.now c.args.place span.0 span.1 c.args.slot c.args.generation c.args.words.now c.set.result c.set.new.self (c.set.ensures.set span.0 span.1) c.set.ensures.unknown c.set.ensures.err in
+    let head = head-set c.index_mut.result.now c.args.place span.0 span.1 c.args.slot c.args.generation c.args.words.now c.set.result c.set.new.self
+    (c.set.ensures.set span.0 span.1) c.set.ensures.unknown c.set.ensures.err in
     record {
       found = AreFound-set c.self.inside.groups.items (hash.get nat_eq c.self.inside.places) c.self.invariant.found c.in-Some.at c.index_mut.result.now c.set.new.self here head;
       reserved = omega (arith, c.self.invariant.reserved, length-set c.self.inside.groups.items c.in-Some.at c.set.new.self);
@@ -57,59 +81,94 @@ invariant_of-self g c =
 
 pub returns-clause-found : goal.returns-clause-found
 returns-clause-found g c index group span is at_place =
-    let is_at : hash.get nat_eq c.self.inside.places (rank c.args.head) ≡ Some c.in-Some.at = ap (hash.get nat_eq c.self.inside.places) (sym c.rank.ensures.value) ∙ sym c.get.ensures.value ∙ sym c.copied.ensures ∙ c.in-Some.is in
+    let is_at : hash.get nat_eq c.self.inside.places (rank c.args.head)
+    ≡ Some c.in-Some.at = ap (hash.get nat_eq c.self.inside.places) (sym c.rank.ensures.value) ∙ sym c.get.ensures.value ∙ sym c.copied.ensures
+    ∙ c.in-Some.is in
     let inside = head_inside c.self.inside.groups.items (hash.get nat_eq c.self.inside.places) c.self.invariant.found c.args.head c.self.inside.room c.args.self.now c.self.view_is index group is in
-    let one = one_group c.self.inside.groups.items (hash.get nat_eq c.self.inside.places) c.self.invariant.found c.args.head c.in-Some.at is_at c.index_mut.result.now c.index_mut.ensures.value index group inside in
+    let one = one_group c.self.inside.groups.items
+    (hash.get nat_eq c.self.inside.places) c.self.invariant.found c.args.head c.in-Some.at is_at c.index_mut.result.now c.index_mut.ensures.value index
+    group inside in
     let at_read = subst (λ (x : PooledState). slice_get (spans_of x) c.args.place ≡ Some span) one at_place in
     c.set.ensures.found span at_read
 
 pub returns-clause-refused : goal.returns-clause-refused
 returns-clause-refused g c index group span is at_place =
-    let is_at : hash.get nat_eq c.self.inside.places (rank c.args.head) ≡ Some c.in-Some.at = ap (hash.get nat_eq c.self.inside.places) (sym c.rank.ensures.value) ∙ sym c.get.ensures.value ∙ sym c.copied.ensures ∙ c.in-Some.is in
+    let is_at : hash.get nat_eq c.self.inside.places (rank c.args.head)
+    ≡ Some c.in-Some.at = ap (hash.get nat_eq c.self.inside.places) (sym c.rank.ensures.value) ∙ sym c.get.ensures.value ∙ sym c.copied.ensures
+    ∙ c.in-Some.is in
     let inside = head_inside c.self.inside.groups.items (hash.get nat_eq c.self.inside.places) c.self.invariant.found c.args.head c.self.inside.room c.args.self.now c.self.view_is index group is in
-    let one = one_group c.self.inside.groups.items (hash.get nat_eq c.self.inside.places) c.self.invariant.found c.args.head c.in-Some.at is_at c.index_mut.result.now c.index_mut.ensures.value index group inside in
+    let one = one_group c.self.inside.groups.items
+    (hash.get nat_eq c.self.inside.places) c.self.invariant.found c.args.head c.in-Some.at is_at c.index_mut.result.now c.index_mut.ensures.value index
+    group inside in
     let at_read = subst (λ (x : PooledState). slice_get (spans_of x) c.args.place ≡ Some span) one at_place in
     c.set.ensures.refused span at_read
 
 pub returns-clause-set : goal.returns-clause-set
 returns-clause-set g c index group span is at_place =
-    let is_at : hash.get nat_eq c.self.inside.places (rank c.args.head) ≡ Some c.in-Some.at = ap (hash.get nat_eq c.self.inside.places) (sym c.rank.ensures.value) ∙ sym c.get.ensures.value ∙ sym c.copied.ensures ∙ c.in-Some.is in
+    let is_at : hash.get nat_eq c.self.inside.places (rank c.args.head)
+    ≡ Some c.in-Some.at = ap (hash.get nat_eq c.self.inside.places) (sym c.rank.ensures.value) ∙ sym c.get.ensures.value ∙ sym c.copied.ensures
+    ∙ c.in-Some.is in
     let inside = head_inside c.self.inside.groups.items (hash.get nat_eq c.self.inside.places) c.self.invariant.found c.args.head c.self.inside.room c.args.self.now c.self.view_is index group is in
-    let one = one_group c.self.inside.groups.items (hash.get nat_eq c.self.inside.places) c.self.invariant.found c.args.head c.in-Some.at is_at c.index_mut.result.now c.index_mut.ensures.value index group inside in
+    let one = one_group c.self.inside.groups.items
+    (hash.get nat_eq c.self.inside.places) c.self.invariant.found c.args.head c.in-Some.at is_at c.index_mut.result.now c.index_mut.ensures.value index
+    group inside in
     let at_read = subst (λ (x : PooledState). slice_get (spans_of x) c.args.place ≡ Some span) one at_place in
     let here = read_there c.self.inside.groups.items (hash.get nat_eq c.self.inside.places) c.self.invariant.found c.args.head c.in-Some.at is_at c.index_mut.result.now c.index_mut.ensures.value in
-    let head = head-set c.index_mut.result.now c.args.place span at_read c.args.slot c.args.generation c.args.words.now c.set.result c.set.new.self (c.set.ensures.set span at_read) c.set.ensures.unknown c.set.ensures.err in
+    let head = head-set c.index_mut.result.now c.args.place span at_read c.args.slot c.args.generation c.args.words.now c.set.result c.set.new.self
+    (c.set.ensures.set span at_read) c.set.ensures.unknown c.set.ensures.err in
     on_ok c.set.result (λ done. on_true done (λ is_set.
     ap (λ gs. record { groups = gs; room = c.self.inside.room })
-    (in_order-set c.self.inside.groups.items (hash.get nat_eq c.self.inside.places) c.self.invariant.found c.in-Some.at c.index_mut.result.now c.set.new.self here head c.args.head index (read_head c.self.inside.groups.items (hash.get nat_eq c.self.inside.places) c.self.invariant.found c.args.head c.in-Some.at is_at c.index_mut.result.now c.index_mut.ensures.value index group inside)
+    (in_order-set c.self.inside.groups.items
+    (hash.get nat_eq c.self.inside.places) c.self.invariant.found c.in-Some.at c.index_mut.result.now c.set.new.self here head c.args.head index
+    (read_head c.self.inside.groups.items
+    (hash.get nat_eq c.self.inside.places) c.self.invariant.found c.args.head c.in-Some.at is_at c.index_mut.result.now c.index_mut.ensures.value index
+    group inside)
     ∙ ap (set (in_order c.self.inside.groups.items) index) (is_set ∙ ap (λ (x : PooledState). set_group x c.args.place span c.args.slot c.args.generation c.args.words.now) (sym one)))
     ∙ ap (λ (s : GroupsState). record { groups = set s.groups index (set_group group c.args.place span c.args.slot c.args.generation c.args.words.now); room = s.room }) c.self.view_is))
     (c.set.ensures.set span at_read)
 
 pub returns-clause-unknown : goal.returns-clause-unknown
 returns-clause-unknown g c =
-    let is_at : hash.get nat_eq c.self.inside.places (rank c.args.head) ≡ Some c.in-Some.at = ap (hash.get nat_eq c.self.inside.places) (sym c.rank.ensures.value) ∙ sym c.get.ensures.value ∙ sym c.copied.ensures ∙ c.in-Some.is in
+    let is_at : hash.get nat_eq c.self.inside.places (rank c.args.head)
+    ≡ Some c.in-Some.at = ap (hash.get nat_eq c.self.inside.places) (sym c.rank.ensures.value) ∙ sym c.get.ensures.value ∙ sym c.copied.ensures
+    ∙ c.in-Some.is in
     let here = read_there c.self.inside.groups.items (hash.get nat_eq c.self.inside.places) c.self.invariant.found c.args.head c.in-Some.at is_at c.index_mut.result.now c.index_mut.ensures.value in
     on_ok c.set.result (λ done. on_false done (λ stays.
-    ap (λ (gs : List PooledState). record { groups = in_order gs; room = c.self.inside.room }) (ap (set c.self.inside.groups.items c.in-Some.at) stays ∙ set-same c.self.inside.groups.items c.in-Some.at c.index_mut.result.now here) ∙ c.self.view_is))
+    ap (λ (gs : List PooledState). record { groups = in_order gs; room = c.self.inside.room })
+    (ap (set c.self.inside.groups.items c.in-Some.at) stays ∙ set-same c.self.inside.groups.items c.in-Some.at c.index_mut.result.now here)
+    ∙ c.self.view_is))
     c.set.ensures.unknown
 
 pub returns-clause-err : goal.returns-clause-err
 returns-clause-err g c =
-    let is_at : hash.get nat_eq c.self.inside.places (rank c.args.head) ≡ Some c.in-Some.at = ap (hash.get nat_eq c.self.inside.places) (sym c.rank.ensures.value) ∙ sym c.get.ensures.value ∙ sym c.copied.ensures ∙ c.in-Some.is in
+    let is_at : hash.get nat_eq c.self.inside.places (rank c.args.head)
+    ≡ Some c.in-Some.at = ap (hash.get nat_eq c.self.inside.places) (sym c.rank.ensures.value) ∙ sym c.get.ensures.value ∙ sym c.copied.ensures
+    ∙ c.in-Some.is in
     let here = read_there c.self.inside.groups.items (hash.get nat_eq c.self.inside.places) c.self.invariant.found c.args.head c.in-Some.at is_at c.index_mut.result.now c.index_mut.ensures.value in
     on_err c.set.result (λ stays.
-    ap (λ (gs : List PooledState). record { groups = in_order gs; room = c.self.inside.room }) (ap (set c.self.inside.groups.items c.in-Some.at) stays ∙ set-same c.self.inside.groups.items c.in-Some.at c.index_mut.result.now here) ∙ c.self.view_is)
+    ap (λ (gs : List PooledState). record { groups = in_order gs; room = c.self.inside.room })
+    (ap (set c.self.inside.groups.items c.in-Some.at) stays ∙ set-same c.self.inside.groups.items c.in-Some.at c.index_mut.result.now here)
+    ∙ c.self.view_is)
     c.set.ensures.err
 
 pub returns-clause-paged : goal.returns-clause-paged
 returns-clause-paged g c =
-    let is_at : hash.get nat_eq c.self.inside.places (rank c.args.head) ≡ Some c.in-Some.at = ap (hash.get nat_eq c.self.inside.places) (sym c.rank.ensures.value) ∙ sym c.get.ensures.value ∙ sym c.copied.ensures ∙ c.in-Some.is in
-    let is = head_inside c.self.inside.groups.items (hash.get nat_eq c.self.inside.places) c.self.invariant.found c.args.head c.self.inside.room c.args.self.now c.self.view_is c.requires.1.0 c.requires.0 c.requires.1.1 in
-    let one = one_group c.self.inside.groups.items (hash.get nat_eq c.self.inside.places) c.self.invariant.found c.args.head c.in-Some.at is_at c.index_mut.result.now c.index_mut.ensures.value c.requires.1.0 c.requires.0 is in
+    let is_at : hash.get nat_eq c.self.inside.places (rank c.args.head)
+    ≡ Some c.in-Some.at = ap (hash.get nat_eq c.self.inside.places) (sym c.rank.ensures.value) ∙ sym c.get.ensures.value ∙ sym c.copied.ensures
+    ∙ c.in-Some.is in
+    let is = head_inside c.self.inside.groups.items
+    (hash.get nat_eq c.self.inside.places) c.self.invariant.found c.args.head c.self.inside.room c.args.self.now c.self.view_is c.requires.1.0 c.requires.0
+    c.requires.1.1 in
+    let one = one_group c.self.inside.groups.items
+    (hash.get nat_eq c.self.inside.places) c.self.invariant.found c.args.head c.in-Some.at is_at c.index_mut.result.now c.index_mut.ensures.value
+    c.requires.1.0 c.requires.0 is in
     let here = read_there c.self.inside.groups.items (hash.get nat_eq c.self.inside.places) c.self.invariant.found c.args.head c.in-Some.at is_at c.index_mut.result.now c.index_mut.ensures.value in
     let sound = subst IsSoundGroup one c.requires.3 in
     let span = there_at (spans_of c.index_mut.result.now) c.args.place (subst (λ (x : PooledState). c.args.place < length (spans_of x)) one c.requires.2) in
-    let head = head-set c.index_mut.result.now c.args.place span.0 span.1 c.args.slot c.args.generation c.args.words.now c.set.result c.set.new.self (c.set.ensures.set span.0 span.1) c.set.ensures.unknown c.set.ensures.err in
+    let head = head-set c.index_mut.result.now c.args.place span.0 span.1 c.args.slot c.args.generation c.args.words.now c.set.result c.set.new.self
+    (c.set.ensures.set span.0 span.1) c.set.ensures.unknown c.set.ensures.err in
     subst (λ (s : GroupsState). AreOfOld s (record { groups = in_order (set c.self.inside.groups.items c.in-Some.at c.set.new.self); room = c.self.inside.room })) c.self.view_is
-    (AreOfOld-set c.self.inside.groups.items (hash.get nat_eq c.self.inside.places) c.self.invariant.found c.in-Some.at c.index_mut.result.now c.set.new.self here head (paged-set c.index_mut.result.now sound c.args.place span.0 span.1 c.args.slot c.args.generation c.args.words.now c.set.result c.set.new.self (c.set.ensures.found span.0 span.1) c.set.ensures.unknown c.set.ensures.err) c.self.inside.room)
+    (AreOfOld-set c.self.inside.groups.items
+    (hash.get nat_eq c.self.inside.places) c.self.invariant.found c.in-Some.at c.index_mut.result.now c.set.new.self here head
+    (paged-set c.index_mut.result.now sound c.args.place span.0 span.1 c.args.slot c.args.generation c.args.words.now c.set.result c.set.new.self
+    (c.set.ensures.found span.0 span.1) c.set.ensures.unknown c.set.ensures.err) c.self.inside.room)

@@ -17,7 +17,8 @@ loop-place-preserved-then-is_paged g c =
     let low : c.loop-place.place < length c.loop-place.groups.items = omega (arith, c.loop-place-test.true, c.len.ensures, c.loop-place.groups.ok.0) in
     let here = slice_get_read c.loop-place.groups.items _ c.loop-place.place c.index.result.now refl low c.index.ensures in
     record {
-      dropping = IsDropping-paged c.args.groups.now.items c.loop-place.groups.items c.loop-place.place c.loop-place.invariant.dropping c.index.result.now here (sym c.is_paged.ensures ∙ c.if-is_paged.true);
+      dropping = IsDropping-paged c.args.groups.now.items c.loop-place.groups.items c.loop-place.place c.loop-place.invariant.dropping c.index.result.now here
+          (sym c.is_paged.ensures ∙ c.if-is_paged.true);
       found = c.loop-place.invariant.found;
       fewer = c.loop-place.invariant.fewer;
       capacity = c.loop-place.invariant.capacity;
@@ -35,7 +36,8 @@ loop-place-preserved g c =
     let low : c.loop-place.place < length c.loop-place.groups.items = omega (arith, c.loop-place-test.true, c.len.ensures, c.loop-place.groups.ok.0) in
     let here = slice_get_read c.loop-place.groups.items _ c.loop-place.place c.index.result.now refl low c.index.ensures in
     record {
-      dropping = IsDropping-gone c.args.groups.now.items c.loop-place.groups.items c.loop-place.place c.loop-place.invariant.dropping c.index.result.now here (sym c.is_paged.ensures ∙ c.if-is_paged.false) c.drop_at.new.groups.items c.drop_at.ensures.left c.drop_at.ensures.lower;
+      dropping = IsDropping-gone c.args.groups.now.items c.loop-place.groups.items c.loop-place.place c.loop-place.invariant.dropping c.index.result.now here
+          (sym c.is_paged.ensures ∙ c.if-is_paged.false) c.drop_at.new.groups.items c.drop_at.ensures.left c.drop_at.ensures.lower;
       found = c.drop_at.ensures.found;
       fewer = omega (arith, c.loop-place.invariant.fewer, c.drop_at.ensures.fewer);
       capacity = c.drop_at.ensures.capacity ∙ c.loop-place.invariant.capacity;
@@ -43,4 +45,5 @@ loop-place-preserved g c =
     }
 
 pub returns-clause-left : goal.returns-clause-left
-returns-clause-left g c = KeepsPaged-all c.args.groups.now.items c.loop-place.groups.items c.loop-place.place c.loop-place.invariant.dropping (omega (arith, c.loop-place-test.false, c.len.ensures, c.loop-place.groups.ok.0))
+returns-clause-left g c = KeepsPaged-all c.args.groups.now.items c.loop-place.groups.items c.loop-place.place c.loop-place.invariant.dropping
+    (omega (arith, c.loop-place-test.false, c.len.ensures, c.loop-place.groups.ok.0))

@@ -14,7 +14,14 @@ forget_in-requires c =
     let at = c.loop-index.index in
     let group = c.index_mut.result.now in
     let here : slice_get now at ≡ Some group =
-    slice_get_read now _ at group refl (omega (arith, ap length c.loop-index.invariant.items, length-changed_below without_dead at c.args.groups.now.items, c.len-index-end.ensures, c.args.groups.now.ok.0)) c.index_mut.ensures.value in
+    slice_get_read now _ at group refl
+    (omega (
+      arith,
+      ap length c.loop-index.invariant.items,
+      length-changed_below without_dead at c.args.groups.now.items,
+      c.len-index-end.ensures,
+      c.args.groups.now.ok.0,
+    )) c.index_mut.ensures.value in
     AreEntered-forgotten now c.loop-index.directory.entries c.loop-index.invariant.known at group here
 
 pub loop-index-preserved : goal.loop-index-preserved

@@ -41,7 +41,11 @@ returns-then-self-clause-plan_open g c = (
 
 pub returns-then-lowest_would_double-clause-doubled : goal.returns-then-lowest_would_double-clause-doubled
 returns-then-lowest_would_double-clause-doubled g c = (
-  (λ said. ((λ full. absurd (false≢true (c.if-is_full.ensures.1 full))), sym c.if-ended.ensures.ended, subst (λ (p : PoolState). IsDoubled p c.args.shard.now) c.lowest_paged-lowest.ensures.same (c.if-lowest_would_double.ensures.0 refl))),
+  (λ said. (
+    (λ full. absurd (false≢true (c.if-is_full.ensures.1 full))),
+    sym c.if-ended.ensures.ended,
+    subst (λ (p : PoolState). IsDoubled p c.args.shard.now) c.lowest_paged-lowest.ensures.same (c.if-lowest_would_double.ensures.0 refl),
+  )),
   (λ causes. refl),
 )
 

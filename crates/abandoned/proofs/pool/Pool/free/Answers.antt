@@ -62,7 +62,10 @@ invariant_of-self-2 g c =
       sound = IsSound-Leaves (state_of c.self.inside) c.self.invariant.sound at.0 c.in-Some.place c.in-Some.group.now c.span_at.result.now c.args.key.now head.here here.span_is holds _
           (Leaves-FreesIn c.self.inside.groups c.free.new.self at.0 c.in-Some.place c.in-Some.group.now _ freed (state_of c.self.inside) refl);
       room_for_groups = omega (arith, c.self.invariant.room_for_groups, ap (λ (s : GroupsState). s.room) freed.2);
-      guests_known = rw groups_are (KnowsGuests-replaced c.self.inside.groups.groups c.self.inside.directory.entries c.self.invariant.guests_known at.0 c.in-Some.group.now freed.0 head.here (AreAlike-GivesUp c.in-Some.group.now freed.0 c.in-Some.place c.span_at.result.now (with_free c.span_at.result.now c.args.key.now) here.span_is refl freed.1));
+      guests_known = rw groups_are (KnowsGuests-replaced c.self.inside.groups.groups c.self.inside.directory.entries c.self.invariant.guests_known at.0
+          c.in-Some.group.now freed.0 head.here
+          (AreAlike-GivesUp c.in-Some.group.now freed.0 c.in-Some.place c.span_at.result.now
+          (with_free c.span_at.result.now c.args.key.now) here.span_is refl freed.1));
       room_for_entries = c.self.invariant.room_for_entries;
     }
 
@@ -81,7 +84,8 @@ returns-clause-step g c =
       here,
       holds,
       c.changes-at.ensures,
-      subst (λ (p : PoolState). Leaves p at.0 (with_span c.in-Some.group.now c.in-Some.place (with_free c.span_at.result.now c.args.key.now)) (record (state_of c.self.inside) { groups = c.free.new.self.groups })) c.self.view_is
+      subst (λ (p : PoolState). Leaves p at.0 (with_span c.in-Some.group.now c.in-Some.place (with_free c.span_at.result.now c.args.key.now))
+          (record (state_of c.self.inside) { groups = c.free.new.self.groups })) c.self.view_is
           (Leaves-FreesIn c.self.inside.groups c.free.new.self at.0 c.in-Some.place c.in-Some.group.now _ freed (state_of c.self.inside) refl),
     )
 

@@ -30,7 +30,9 @@ returns-then-not-holds-clause-plain g c = value_found-Gets c.args.self.now c.fin
 pub value_at-words-requires-clause-paged : goal.value_at-words-requires-clause-paged
 value_at-words-requires-clause-paged g c =
     let at = c.in-Some.ensures.place in
-    paged_if_held c.in-Some.group.now (c.find.ensures.sound.groups at.0 c.in-Some.group.now at.2.group_is) c.in-Some.place c.span_at-span.result.now c.args.key.now.slot c.args.key.now.generation c.span_at-span.ensures
+    paged_if_held c.in-Some.group.now
+    (c.find.ensures.sound.groups at.0 c.in-Some.group.now at.2.group_is) c.in-Some.place c.span_at-span.result.now c.args.key.now.slot
+    c.args.key.now.generation c.span_at-span.ensures
     (c.if-not-holds.ensures.live.0 refl)
 
 pub returns-clause-found : goal.returns-clause-found

@@ -8,4 +8,5 @@ use Rattle.abandoned.proofs.pool.Pool.groups.Goals as goal
 
 pub returns-clause-ascending : goal.returns-clause-ascending
 returns-clause-ascending g c =
-    rw (← c.self.view_is) (IsStrictlyIncreasing-heads head_id (paged_groups (state_of c.self.inside)) (Ascend-filter (λ (g : PooledState). is_some g.page) c.self.inside.groups.groups c.self.invariant.sound.ascending))
+    rw (← c.self.view_is) (IsStrictlyIncreasing-heads head_id (paged_groups (state_of c.self.inside))
+    (Ascend-filter (λ (g : PooledState). is_some g.page) c.self.inside.groups.groups c.self.invariant.sound.ascending))

@@ -6,7 +6,8 @@ use Rattle.abandoned.specs.State.{PooledState}
 use Rattle.groups.specs.Group.{IsElsewhere, IsHere}
 use Rattle.abandoned.proofs.pool.Pool.has.Goals as goal
 
-has_span : (groups : List PooledState) (id : SpanId) (o : Option (Bor PooledState × ℕ)) → MatchOption o (IsElsewhere groups id) (λ at. (index : ℕ) × (span : SpanState) × IsHere groups id index at.1 at.0.now span)
+has_span : (groups : List PooledState) (id : SpanId) (o : Option (Bor PooledState × ℕ))
+    → MatchOption o (IsElsewhere groups id) (λ at. (index : ℕ) × (span : SpanState) × IsHere groups id index at.1 at.0.now span)
     → (b : Bool) → b ≡ is_some o → IsTrue b ↔ (IsElsewhere groups id → ⊥)
 has_span groups id None elsewhere b is = ((λ t. let e : false ≡ true = sym is ∙ t in cc), (λ here. absurd (here elsewhere)))
 has_span groups id (Some at) found b is = ((λ t elsewhere. elsewhere found.0 at.0.now found.2.group_is at.1 (found.1, found.2.span_is, found.2.id_is)), (λ here. is))

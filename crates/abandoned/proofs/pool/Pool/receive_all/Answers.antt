@@ -11,7 +11,8 @@ use Rattle.abandoned.proofs.pool.Pool.receive_all.Goals as goal
 
 pub take_all-requires-clause-apart : goal.take_all-requires-clause-apart
 take_all-requires-clause-apart g c =
-    subst (λ (p : PoolState). AreApart p c.args.shard.now) (sym (c.in_ok-reserve.ensures {u = tt}).ok) (AreApart-receiving c.args.self.now c.args.shard.now c.requires.sound c.requires.sound_shard c.requires.apart)
+    subst (λ (p : PoolState). AreApart p c.args.shard.now) (sym (c.in_ok-reserve.ensures {u = tt}).ok)
+    (AreApart-receiving c.args.self.now c.args.shard.now c.requires.sound c.requires.sound_shard c.requires.apart)
 
 pub returns-clause-ok : goal.returns-clause-ok
 returns-clause-ok g c = record {

@@ -14,19 +14,24 @@ use Rattle.abandoned.proofs.Retiring.{AreReady-going, HasNoLive-fewer, HasRetire
 use Rattle.abandoned.proofs.pool.Pool.retire_some.Goals as goal
 
 pub span_count-requires : goal.span_count-requires
-span_count-requires g c = span_count-going c.args.shard.now c.in_ok-going.going.items c.as_slice.result.now c.args.most c.requires.sound_shard c.in_ok-going.ensures (c.as_slice.ensures.value ∙ c.truncate.ensures.items)
+span_count-requires g c = span_count-going c.args.shard.now c.in_ok-going.going.items c.as_slice.result.now c.args.most c.requires.sound_shard
+    c.in_ok-going.ensures (c.as_slice.ensures.value ∙ c.truncate.ensures.items)
 
 -- those that are to go are ready, and nothing has left before
 ready_with : (pool made : PoolState) (shard : ShardState) (going rest : List LiveGroup) → made ≡ pool → swept shard ≡ shard → AreReady pool shard going rest → AreReady made (swept shard) going rest
-ready_with pool made shard going rest made_is same ready = subst (λ (p : PoolState). AreReady p (swept shard) going rest) (sym made_is) (subst (λ (s : ShardState). AreReady pool s going rest) (sym same) ready)
+ready_with pool made shard going rest made_is same ready = subst (λ (p : PoolState). AreReady p (swept shard) going rest) (sym made_is)
+    (subst (λ (s : ShardState). AreReady pool s going rest) (sym same) ready)
 
 pub take_going-requires : goal.take_going-requires
 take_going-requires g c = record {
   ready = (
     drop c.args.most c.in_ok-going.going.items,
-    ready_with (with_rooms c.args.self.now c.len.result c.span_count.result) _ c.args.shard.now c.as_slice-2.result.now (drop c.args.most c.in_ok-going.going.items) (c.in_ok-reserve.ensures {u = tt}).ok (swept-open c.args.shard.now c.requires.open)
-        (AreReady-going c.args.self.now c.args.shard.now c.in_ok-going.going.items c.as_slice-2.result.now c.args.most c.len.result c.span_count.result c.requires.sound c.requires.sound_shard c.requires.apart c.in_ok-going.ensures
-        (c.as_slice-2.ensures.value ∙ c.truncate.ensures.items) (omega (arith, c.len.ensures, c.as_slice-2.ensures.len)) (c.span_count.ensures ∙ ap span_count (c.as_slice.ensures.value ∙ sym c.as_slice-2.ensures.value))),
+    ready_with (with_rooms c.args.self.now c.len.result c.span_count.result) _ c.args.shard.now c.as_slice-2.result.now
+        (drop c.args.most c.in_ok-going.going.items) (c.in_ok-reserve.ensures {u = tt}).ok (swept-open c.args.shard.now c.requires.open)
+        (AreReady-going c.args.self.now c.args.shard.now c.in_ok-going.going.items c.as_slice-2.result.now c.args.most c.len.result c.span_count.result
+        c.requires.sound c.requires.sound_shard c.requires.apart c.in_ok-going.ensures
+        (c.as_slice-2.ensures.value ∙ c.truncate.ensures.items) (omega (arith, c.len.ensures, c.as_slice-2.ensures.len))
+        (c.span_count.ensures ∙ ap span_count (c.as_slice.ensures.value ∙ sym c.as_slice-2.ensures.value))),
   );
 }
 
@@ -46,7 +51,8 @@ returns-clause-ok g c =
       moved = subst (λ n. MovesSparse n made c.args.shard.now c.take_going.new.self c.sweep.new.self) count
           (subst (λ (s : ShardState). MovesSparse (length going) made s c.take_going.new.self c.sweep.new.self) same
           (subst (λ (s : ShardState). MovesSparse (length going) made (swept c.args.shard.now) c.take_going.new.self s) (sym c.sweep.ensures.swept)
-          (subst (λ (p : PoolState). MovesSparse (length going) p (swept c.args.shard.now) c.take_going.new.self (swept c.take_going.new.shard)) (c.in_ok-reserve.ensures {u = tt}).ok c.take_going.ensures.moved)));
+          (subst (λ (p : PoolState). MovesSparse (length going) p (swept c.args.shard.now) c.take_going.new.self (swept c.take_going.new.shard))
+          (c.in_ok-reserve.ensures {u = tt}).ok c.take_going.ensures.moved)));
       at_most = omega arith;
       all = λ fewer. HasNoLive-fewer c.sweep.new.self.groups told going c.args.most is
           (subst (λ (s : ShardState). AreSparsestFirst s.groups (drop c.args.most told)) (sym c.sweep.ensures.swept)
@@ -65,7 +71,8 @@ returns-clause-whole g c =
     (HasRetired-with_rooms c.args.self.now c.len.result c.span_count.result c.args.shard.now (length going) c.take_going.new.self c.sweep.new.self
     (subst (λ (s : ShardState). HasRetired made s (length going) c.take_going.new.self c.sweep.new.self) (swept-open c.args.shard.now c.requires.open)
     (subst (λ (s : ShardState). HasRetired made (swept c.args.shard.now) (length going) c.take_going.new.self s) (sym c.sweep.ensures.swept)
-    (subst (λ (p : PoolState). HasRetired p (swept c.args.shard.now) (length going) c.take_going.new.self (swept c.take_going.new.shard)) (c.in_ok-reserve.ensures {u = tt}).ok c.take_going.ensures.whole))))
+    (subst (λ (p : PoolState). HasRetired p (swept c.args.shard.now) (length going) c.take_going.new.self (swept c.take_going.new.shard))
+    (c.in_ok-reserve.ensures {u = tt}).ok c.take_going.ensures.whole))))
 
 pub returns-clause-kept : goal.returns-clause-kept
 returns-clause-kept g c =

@@ -35,7 +35,9 @@ returns-in_err-set-clause-refused g c =
     let at = c.in-Some.ensures.place in
     let here = IsHere-read _ _ _ _ _ _ at.2 c.span_at-span.result.now c.span_at-span.ensures in
     let head = IsHeadOf-here _ _ _ _ _ _ at.2 c.self.inside.groups.groups c.head_id-head.result (ap (λ (p : PoolState). p.groups) c.self.view_is) c.head_id-head.ensures in
-    where_err c.from_residual.result (may_set-settable c.args.self.now.groups c.find.ensures.sound.groups c.find.ensures.sound.once c.args.key.now at.0 c.in-Some.place c.in-Some.group.now c.span_at-span.result.now here c.args.words.now
+    where_err c.from_residual.result
+    (may_set-settable c.args.self.now.groups c.find.ensures.sound.groups c.find.ensures.sound.once c.args.key.now at.0 c.in-Some.place c.in-Some.group.now
+    c.span_at-span.result.now here c.args.words.now
     (c.in_err-set.ensures.refused at.0 c.in-Some.group.now c.span_at-span.result.now head c.span_at-span.ensures))
 
 pub returns-then-not-branch-clause-step : goal.returns-then-not-branch-clause-step
@@ -66,9 +68,12 @@ invariant_of-self-2 g c =
     let settable = (c.in_ok-set.ensures.found at.0 group span head c.span_at-span.ensures).0 c.if-not-branch.false in
     let groups_now = where_true c.in_ok-set.field-0 c.if-not-branch.false (c.in_ok-set.ensures.set at.0 group span head c.span_at-span.ensures) in
     rw groups_now (record {
-      sound = IsSound-set (state_of c.self.inside) c.self.invariant.sound at.0 group head.here c.in-Some.place span c.span_at-span.ensures c.args.key.now.slot c.args.key.now.generation c.args.words.now settable;
+      sound = IsSound-set (state_of c.self.inside) c.self.invariant.sound at.0 group head.here c.in-Some.place span c.span_at-span.ensures c.args.key.now.slot
+          c.args.key.now.generation c.args.words.now settable;
       room_for_groups = c.self.invariant.room_for_groups;
-      guests_known = KnowsGuests-replaced c.self.inside.groups.groups c.self.inside.directory.entries c.self.invariant.guests_known at.0 group (set_group group c.in-Some.place span c.args.key.now.slot c.args.key.now.generation c.args.words.now) head.here (AreAlike-with_span group c.in-Some.place span (with_set span c.args.key.now c.args.words.now) c.span_at-span.ensures refl);
+      guests_known = KnowsGuests-replaced c.self.inside.groups.groups c.self.inside.directory.entries c.self.invariant.guests_known at.0 group
+          (set_group group c.in-Some.place span c.args.key.now.slot c.args.key.now.generation c.args.words.now) head.here
+          (AreAlike-with_span group c.in-Some.place span (with_set span c.args.key.now c.args.words.now) c.span_at-span.ensures refl);
       room_for_entries = c.self.invariant.room_for_entries;
     })
 

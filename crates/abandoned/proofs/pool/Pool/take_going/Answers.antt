@@ -20,5 +20,6 @@ pub loop-one-preserved : goal.loop-one-preserved
 loop-one-preserved g c =
     let going = c.args.going.now in
     let here : slice_get going c.loop-one.one-index ≡ Some c.one-item.result = slice_get_read going (length going) c.loop-one.one-index c.one-item.result refl c.loop-one-test.true c.one-item.is in
-    IsRetiring-next c.args.self.now (swept c.args.shard.now) going c.requires.ready.0 c.loop-one.one-index c.loop-one.self (swept c.loop-one.shard) c.take_one.new.self (swept c.take_one.new.shard) c.one-item.result here c.requires.ready.1 c.loop-one.invariant
+    IsRetiring-next c.args.self.now (swept c.args.shard.now) going c.requires.ready.0 c.loop-one.one-index c.loop-one.self
+    (swept c.loop-one.shard) c.take_one.new.self (swept c.take_one.new.shard) c.one-item.result here c.requires.ready.1 c.loop-one.invariant
     c.take_one.ensures.moves c.take_one.ensures.ready c.take_one.ensures.kept

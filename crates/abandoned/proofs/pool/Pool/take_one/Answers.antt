@@ -17,13 +17,18 @@ take_in-requires g c =
 pub returns-clause-moves : goal.returns-clause-moves
 returns-clause-moves g c =
     let (more, rest, ready) = c.requires in
-    MovesSparsest-lifted c.args.self.now c.take_in.new.self (swept c.args.shard.now) (swept c.lift_aside.new.self) c.args.one.now more rest c.in-Some.whole ready c.in-Some.ensures.lifts c.take_in.ensures.takes
+    MovesSparsest-lifted c.args.self.now c.take_in.new.self (swept c.args.shard.now)
+    (swept c.lift_aside.new.self) c.args.one.now more rest c.in-Some.whole ready c.in-Some.ensures.lifts c.take_in.ensures.takes
 
 pub returns-clause-kept : goal.returns-clause-kept
 returns-clause-kept g c =
     let (more, rest, ready) = c.requires in
-    together-taken c.args.self.now c.take_in.new.self (swept c.args.shard.now) (swept c.lift_aside.new.self) c.args.one.now more rest c.in-Some.whole ready c.in-Some.ensures.lifts c.take_in.ensures.takes c.take_in.ensures.sound (IsSound-swept c.lift_aside.new.self c.lift_aside.ensures.sound)
+    together-taken c.args.self.now c.take_in.new.self (swept c.args.shard.now)
+    (swept c.lift_aside.new.self) c.args.one.now more rest c.in-Some.whole ready c.in-Some.ensures.lifts c.take_in.ensures.takes c.take_in.ensures.sound
+    (IsSound-swept c.lift_aside.new.self c.lift_aside.ensures.sound)
 
 pub returns-clause-ready : goal.returns-clause-ready
 returns-clause-ready g c more rest ready =
-    AreReady-taken c.args.self.now c.take_in.new.self (swept c.args.shard.now) (swept c.lift_aside.new.self) c.args.one.now more rest c.in-Some.whole ready c.in-Some.ensures.lifts c.take_in.ensures.takes c.take_in.ensures.sound (IsSound-swept c.lift_aside.new.self c.lift_aside.ensures.sound)
+    AreReady-taken c.args.self.now c.take_in.new.self (swept c.args.shard.now)
+    (swept c.lift_aside.new.self) c.args.one.now more rest c.in-Some.whole ready c.in-Some.ensures.lifts c.take_in.ensures.takes c.take_in.ensures.sound
+    (IsSound-swept c.lift_aside.new.self c.lift_aside.ensures.sound)

@@ -22,7 +22,8 @@ returns-then-has g c = (
 
 pub loop-place-preserved : goal.loop-place-preserved
 loop-place-preserved g c =
-    below_next (λ (s : SpanState). MayOpen c.args.shard.now s.id ⊎ (IsElsewhere c.args.shard.now.groups s.id → ⊥)) (all_spans c.args.spans.now) c.loop-place.place c.span_at.result.now c.span_at.ensures
+    below_next (λ (s : SpanState). MayOpen c.args.shard.now s.id ⊎ (IsElsewhere c.args.shard.now.groups s.id → ⊥))
+    (all_spans c.args.spans.now) c.loop-place.place c.span_at.result.now c.span_at.ensures
     (λ either. elim either [
       | inl own ↦ false≢true (c.if-may_open.ensures.1 (subst (MayOpen c.args.shard.now) (sym c.id-id.ensures) own))
       | inr here ↦ false≢true (c.if-has.ensures.1 (subst (λ (id : SpanId). IsElsewhere c.args.shard.now.groups id → ⊥) (sym c.id-id.ensures) here))
@@ -31,5 +32,6 @@ loop-place-preserved g c =
 pub returns : goal.returns
 returns g c = (
   (λ t. absurd (false≢true t)),
-  (λ found. absurd (not_there (λ (s : SpanState). MayOpen c.args.shard.now s.id ⊎ (IsElsewhere c.args.shard.now.groups s.id → ⊥)) (all_spans c.args.spans.now) c.loop-place.place (omega arith) c.loop-place.invariant found)),
+  (λ found. absurd (not_there (λ (s : SpanState). MayOpen c.args.shard.now s.id ⊎ (IsElsewhere c.args.shard.now.groups s.id → ⊥))
+      (all_spans c.args.spans.now) c.loop-place.place (omega arith) c.loop-place.invariant found)),
 )

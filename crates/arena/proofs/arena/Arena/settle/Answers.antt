@@ -14,25 +14,43 @@ returns-in_err-counts-clause-seats g c =
 
 pub returns-clause-seats : goal.returns-clause-seats
 returns-clause-seats g c =
-    AreSeatsOf-same c.args.self.now.limits c.args.self.now.table c.args.seats.now c.settle_seats.new.seats (c.settle_seats.ensures.sending ∙ c.make_room.ensures.same.sending) (c.settle_seats.ensures.tables ∙ c.make_room.ensures.same.tables) c.requires.seats
+    AreSeatsOf-same c.args.self.now.limits c.args.self.now.table c.args.seats.now c.settle_seats.new.seats
+    (c.settle_seats.ensures.sending ∙ c.make_room.ensures.same.sending) (c.settle_seats.ensures.tables ∙ c.make_room.ensures.same.tables) c.requires.seats
 
 pub returns-in_err-counts-clause-linked : goal.returns-in_err-counts-clause-linked
-returns-in_err-counts-clause-linked g c = AreLinked-same c.args.seats.now c.make_room.new.seats c.make_room.ensures.same (AreLinked-seats c.args.self.now.limits c.args.self.now.table c.args.seats.now c.requires.seats c.args.self.now.rings_are c.know_rings.ensures)
+returns-in_err-counts-clause-linked g c = AreLinked-same c.args.seats.now c.make_room.new.seats c.make_room.ensures.same
+    (AreLinked-seats c.args.self.now.limits c.args.self.now.table c.args.seats.now c.requires.seats c.args.self.now.rings_are c.know_rings.ensures)
 
 pub settle_seats-requires-clause-in_order : goal.settle_seats-requires-clause-in_order
-settle_seats-requires-clause-in_order g c = still_in_order c.args.seats.now c.make_room.new.seats (AreLinked-seats c.args.self.now.limits c.args.self.now.table c.args.seats.now c.requires.seats c.args.self.now.rings_are c.know_rings.ensures) c.make_room.ensures.same
+settle_seats-requires-clause-in_order g c = still_in_order c.args.seats.now c.make_room.new.seats
+    (AreLinked-seats c.args.self.now.limits c.args.self.now.table c.args.seats.now c.requires.seats c.args.self.now.rings_are c.know_rings.ensures)
+    c.make_room.ensures.same
 
 pub returns-clause-settled : goal.returns-clause-settled
 returns-clause-settled g c =
-    all_settled g.K.Receipts.told vec_items c.args.seats.now c.make_room.new.seats c.greatest-section.result c.in_ok-counts.counts.items c.args.receipts.now c.make_room.new.receipts c.settle_seats.new.receipts
-    (record { worker = 0; section = 0; limits = c.args.self.now.limits; table = c.args.self.now.table; delay = None; outboxes = []; inboxes = [] }) c.greatest-section.ensures c.make_room.ensures.same c.make_room.ensures.told c.requires.lists c.in_ok-counts.ensures.counted c.settle_seats.ensures.freed
+    all_settled g.K.Receipts.told vec_items c.args.seats.now c.make_room.new.seats c.greatest-section.result c.in_ok-counts.counts.items c.args.receipts.now
+    c.make_room.new.receipts c.settle_seats.new.receipts
+    (record {
+      worker = 0;
+      section = 0;
+      limits = c.args.self.now.limits;
+      table = c.args.self.now.table;
+      delay = None;
+      outboxes = [];
+      inboxes = [];
+    }) c.greatest-section.ensures c.make_room.ensures.same c.make_room.ensures.told c.requires.lists c.in_ok-counts.ensures.counted
+    c.settle_seats.ensures.freed
 
 pub returns-clause-emptied : goal.returns-clause-emptied
 returns-clause-emptied g c =
-    emptied_from vec_items c.args.seats.now c.make_room.new.seats c.settle_seats.new.seats c.in_ok-counts.counts.items (omega (arith, c.in_ok-counts.ensures.len, c.in_ok-counts.counts.ok.0)) c.make_room.ensures.same c.in_ok-counts.ensures.counted
+    emptied_from vec_items c.args.seats.now c.make_room.new.seats c.settle_seats.new.seats c.in_ok-counts.counts.items
+    (omega (arith, c.in_ok-counts.ensures.len, c.in_ok-counts.counts.ok.0)) c.make_room.ensures.same c.in_ok-counts.ensures.counted
     c.settle_seats.ensures.sending c.settle_seats.ensures.tables c.settle_seats.ensures.outboxes c.settle_seats.ensures.rings c.settle_seats.ensures.taken
 
 pub returns-clause-linked : goal.returns-clause-linked
 returns-clause-linked g c =
-    AreLinked-emptied c.args.seats.now c.settle_seats.new.seats (emptied_from vec_items c.args.seats.now c.make_room.new.seats c.settle_seats.new.seats c.in_ok-counts.counts.items (omega (arith, c.in_ok-counts.ensures.len, c.in_ok-counts.counts.ok.0)) c.make_room.ensures.same c.in_ok-counts.ensures.counted
-    c.settle_seats.ensures.sending c.settle_seats.ensures.tables c.settle_seats.ensures.outboxes c.settle_seats.ensures.rings c.settle_seats.ensures.taken) (AreLinked-seats c.args.self.now.limits c.args.self.now.table c.args.seats.now c.requires.seats c.args.self.now.rings_are c.know_rings.ensures)
+    AreLinked-emptied c.args.seats.now c.settle_seats.new.seats
+    (emptied_from vec_items c.args.seats.now c.make_room.new.seats c.settle_seats.new.seats c.in_ok-counts.counts.items
+    (omega (arith, c.in_ok-counts.ensures.len, c.in_ok-counts.counts.ok.0)) c.make_room.ensures.same c.in_ok-counts.ensures.counted
+    c.settle_seats.ensures.sending c.settle_seats.ensures.tables c.settle_seats.ensures.outboxes c.settle_seats.ensures.rings c.settle_seats.ensures.taken)
+    (AreLinked-seats c.args.self.now.limits c.args.self.now.table c.args.seats.now c.requires.seats c.args.self.now.rings_are c.know_rings.ensures)

@@ -31,13 +31,18 @@ adopt_refusal-requires g c = λ e.
 
 pub returns-in-Err-clause-exact : goal.returns-in-Err-clause-exact
 returns-in-Err-clause-exact g c =
-    subst (λ old. CoreStep old (Adopt c.args.number) (Refused c.adopt_refusal.result) (state_of (with_both_at c.self.inside c.args.number c.in-Some.shard.now c.adoptable.new.self c.self.inside.whereabouts))) c.self.view_is
-    (CoreStep-adopt_refused_fields c.self.inside c.args.number c.in-Some.shard.now c.in-Some.shard.now c.adoptable.new.self c.self.inside.whereabouts c.in-Err.error c.adopt_refusal.result c.self.invariant.sound
-    (record { within = c.in-Some.ensures.variant.0 refl; value = c.in-Some.ensures.value }) c.adopt_refusal.ensures c.in-Err.ensures.spent c.in-Err.ensures.ended c.in-Err.ensures.plan_open c.in-Err.ensures.nothing refl c.adoptable.ensures.same)
+    subst (λ old. CoreStep old (Adopt c.args.number) (Refused c.adopt_refusal.result)
+    (state_of (with_both_at c.self.inside c.args.number c.in-Some.shard.now c.adoptable.new.self c.self.inside.whereabouts))) c.self.view_is
+    (CoreStep-adopt_refused_fields c.self.inside c.args.number c.in-Some.shard.now c.in-Some.shard.now c.adoptable.new.self c.self.inside.whereabouts
+    c.in-Err.error c.adopt_refusal.result c.self.invariant.sound
+    (record { within = c.in-Some.ensures.variant.0 refl; value = c.in-Some.ensures.value }) c.adopt_refusal.ensures c.in-Err.ensures.spent
+    c.in-Err.ensures.ended c.in-Err.ensures.plan_open c.in-Err.ensures.nothing refl c.adoptable.ensures.same)
 
 pub invariant_of-self-in-Err : goal.invariant_of-self-in-Err
 invariant_of-self-in-Err g c =
-    IsKept-both_same c.self.inside c.self.invariant c.args.number c.in-Some.shard.now (record { within = c.in-Some.ensures.variant.0 refl; value = c.in-Some.ensures.value }) c.in-Some.shard.now c.adoptable.new.self refl c.adoptable.ensures.same
+    IsKept-both_same c.self.inside c.self.invariant c.args.number c.in-Some.shard.now
+    (record { within = c.in-Some.ensures.variant.0 refl; value = c.in-Some.ensures.value }) c.in-Some.shard.now c.adoptable.new.self refl
+    c.adoptable.ensures.same
 
 -- room for the notes is refused
 
@@ -46,8 +51,10 @@ returns-in_err-reserve-clause-exact g c =
     let refused = err_from_is_err_and c.from_residual.result c.from_residual.ensures.1 in
     let read : IsRead c.self.inside c.args.number c.in-Some.shard.now = record { within = c.in-Some.ensures.variant.0 refl; value = c.in-Some.ensures.value } in
     let step : CoreStep c.args.self.now (Adopt c.args.number) (Refused OutOfMemory) (state_of (with_both_at c.self.inside c.args.number c.in-Some.shard.now c.adoptable.new.self c.reserve.new.self)) =
-    subst (λ old. CoreStep old (Adopt c.args.number) (Refused OutOfMemory) (state_of (with_both_at c.self.inside c.args.number c.in-Some.shard.now c.adoptable.new.self c.reserve.new.self))) c.self.view_is
-    (CoreStep-adopt_refused_fields c.self.inside c.args.number c.in-Some.shard.now c.in-Some.shard.now c.adoptable.new.self c.reserve.new.self adopt_error.OutOfMemory OutOfMemory c.self.invariant.sound read refl
+    subst (λ old. CoreStep old (Adopt c.args.number) (Refused OutOfMemory)
+    (state_of (with_both_at c.self.inside c.args.number c.in-Some.shard.now c.adoptable.new.self c.reserve.new.self))) c.self.view_is
+    (CoreStep-adopt_refused_fields c.self.inside c.args.number c.in-Some.shard.now c.in-Some.shard.now c.adoptable.new.self c.reserve.new.self
+    adopt_error.OutOfMemory OutOfMemory c.self.invariant.sound read refl
     ((λ e. absurd cc), (λ p. let never = c.in-Ok.ensures.spent.1 p in absurd cc))
     ((λ e. absurd cc), (λ p. let never = c.in-Ok.ensures.ended.1 p in absurd cc))
     ((λ e. absurd cc), (λ p. let never = c.in-Ok.ensures.plan_open.1 p in absurd cc))
@@ -56,7 +63,9 @@ returns-in_err-reserve-clause-exact g c =
 
 pub invariant_of-self-in_err-reserve : goal.invariant_of-self-in_err-reserve
 invariant_of-self-in_err-reserve g c =
-    IsKept-room_made c.self.inside c.self.invariant c.args.number c.in-Some.shard.now (record { within = c.in-Some.ensures.variant.0 refl; value = c.in-Some.ensures.value }) c.in-Some.shard.now c.adoptable.new.self c.reserve.new.self refl c.adoptable.ensures.same c.reserve.ensures.entries
+    IsKept-room_made c.self.inside c.self.invariant c.args.number c.in-Some.shard.now
+    (record { within = c.in-Some.ensures.variant.0 refl; value = c.in-Some.ensures.value }) c.in-Some.shard.now c.adoptable.new.self c.reserve.new.self refl
+    c.adoptable.ensures.same c.reserve.ensures.entries
 
 -- the adoption is refused
 
@@ -69,16 +78,24 @@ adopt_refusal-requires-in-Err-adopt g c = λ e.
 
 pub returns-in-Err-adopt-clause-exact : goal.returns-in-Err-adopt-clause-exact
 returns-in-Err-adopt-clause-exact g c =
-    subst (λ old. CoreStep old (Adopt c.args.number) (Refused c.adopt_refusal-in-Err-adopt.result) (state_of (with_both_at c.self.inside c.args.number c.adopt.new.shard c.adopt.new.self c.reserve.new.self))) c.self.view_is
-    (CoreStep-adopt_refused_fields c.self.inside c.args.number c.in-Some.shard.now c.adopt.new.shard c.adopt.new.self c.reserve.new.self c.in-Err-adopt.error c.adopt_refusal-in-Err-adopt.result c.self.invariant.sound
+    subst (λ old. CoreStep old (Adopt c.args.number) (Refused c.adopt_refusal-in-Err-adopt.result)
+    (state_of (with_both_at c.self.inside c.args.number c.adopt.new.shard c.adopt.new.self c.reserve.new.self))) c.self.view_is
+    (CoreStep-adopt_refused_fields c.self.inside c.args.number c.in-Some.shard.now c.adopt.new.shard c.adopt.new.self c.reserve.new.self c.in-Err-adopt.error
+    c.adopt_refusal-in-Err-adopt.result c.self.invariant.sound
     (record { within = c.in-Some.ensures.variant.0 refl; value = c.in-Some.ensures.value }) c.adopt_refusal-in-Err-adopt.ensures c.in-Err-adopt.ensures.spent c.in-Err-adopt.ensures.ended
-    (subst (λ (pool : PoolState). (Err c.in-Err-adopt.error ≡ Err adopt_error.PlanOpen) ↔ ((c.in-Some.shard.now.page_limit ≢ length c.in-Some.shard.now.groups) × (c.in-Some.shard.now.ended ≡ false) × (IsDoubled pool c.in-Some.shard.now → ⊥) × (pool.has_plan ≡ true))) c.adoptable.ensures.same c.in-Err-adopt.ensures.plan_open)
-    (subst (λ (pool : PoolState). (Err c.in-Err-adopt.error ≡ Err adopt_error.NothingToAdopt) ↔ ((c.in-Some.shard.now.page_limit ≢ length c.in-Some.shard.now.groups) × (c.in-Some.shard.now.ended ≡ false) × (pool.has_plan ≡ false) × HasNothingToAdopt pool)) c.adoptable.ensures.same c.in-Err-adopt.ensures.nothing)
+    (subst (λ (pool : PoolState). (Err c.in-Err-adopt.error ≡ Err adopt_error.PlanOpen) ↔
+    ((c.in-Some.shard.now.page_limit ≢ length c.in-Some.shard.now.groups) × (c.in-Some.shard.now.ended ≡ false) × (IsDoubled pool c.in-Some.shard.now
+    → ⊥) × (pool.has_plan ≡ true))) c.adoptable.ensures.same c.in-Err-adopt.ensures.plan_open)
+    (subst (λ (pool : PoolState). (Err c.in-Err-adopt.error ≡ Err adopt_error.NothingToAdopt) ↔
+    ((c.in-Some.shard.now.page_limit ≢ length c.in-Some.shard.now.groups) × (c.in-Some.shard.now.ended ≡ false) × (pool.has_plan ≡ false)
+    × HasNothingToAdopt pool)) c.adoptable.ensures.same c.in-Err-adopt.ensures.nothing)
     c.in-Err-adopt.ensures.err_shard (c.in-Err-adopt.ensures.err ∙ c.adoptable.ensures.same))
 
 pub invariant_of-self-in-Err-adopt : goal.invariant_of-self-in-Err-adopt
 invariant_of-self-in-Err-adopt g c =
-    IsKept-room_made c.self.inside c.self.invariant c.args.number c.in-Some.shard.now (record { within = c.in-Some.ensures.variant.0 refl; value = c.in-Some.ensures.value }) c.adopt.new.shard c.adopt.new.self c.reserve.new.self c.in-Err-adopt.ensures.err_shard (c.in-Err-adopt.ensures.err ∙ c.adoptable.ensures.same) c.reserve.ensures.entries
+    IsKept-room_made c.self.inside c.self.invariant c.args.number c.in-Some.shard.now
+    (record { within = c.in-Some.ensures.variant.0 refl; value = c.in-Some.ensures.value }) c.adopt.new.shard c.adopt.new.self c.reserve.new.self
+    c.in-Err-adopt.ensures.err_shard (c.in-Err-adopt.ensures.err ∙ c.adoptable.ensures.same) c.reserve.ensures.entries
 
 -- the group comes, and its spans are noted
 
@@ -88,7 +105,8 @@ adopts_here g c = subst (λ (pool : PoolState). Adopts pool c.in-Some.shard.now 
 
 pub note-requires-clause-room : goal.note-requires-clause-room
 note-requires-clause-room g c =
-    HasAtMost-Adopts c.self.inside.pool c.self.invariant.sound.groups.pool c.in-Some.shard.now c.adopt.new.shard c.adopt.ensures.sound_shard c.spans_to_come.result c.reserve.new.self.room c.in_ok-reserve.ensures.room
+    HasAtMost-Adopts c.self.inside.pool c.self.invariant.sound.groups.pool c.in-Some.shard.now c.adopt.new.shard c.adopt.ensures.sound_shard
+    c.spans_to_come.result c.reserve.new.self.room c.in_ok-reserve.ensures.room
     c.in-Ok.head c.in-Ok-adopt.head c.adopt.new.self c.in-Ok.ensures.lowest
     (subst (λ (pool : PoolState). Adopts pool c.in-Some.shard.now c.in-Ok-adopt.head c.adopt.new.self c.adopt.new.shard) c.adoptable.ensures.same c.in-Ok-adopt.ensures.ok)
     (subst (λ (pool : PoolState). CountsPaged pool c.in-Ok.head c.spans_to_come.result) c.adoptable.ensures.same c.spans_to_come.ensures)
@@ -102,11 +120,15 @@ not_full g c full = let never = c.in-Ok-adopt.ensures.spent.1 full in cc
 still_running : (g : _) (c : goal.After-self-2-1 g) → c.in-Some.shard.now.ended ≡ false
 still_running g c = running-adopted c.in-Some.shard.now (not_full g c) (λ both. let never = c.in-Ok-adopt.ensures.ended.1 both in cc)
 
-adopted : (g : _) (c : goal.After-self-2-1 g) → IsSoundStep c.args.self.now (Adopt c.args.number) (Adopted c.in-Ok-adopt.head) (state_of (with_both_at c.self.inside c.args.number c.adopt.new.shard c.adopt.new.self c.note.new.self))
+adopted : (g : _) (c : goal.After-self-2-1 g)
+    → IsSoundStep c.args.self.now (Adopt c.args.number) (Adopted c.in-Ok-adopt.head)
+    (state_of (with_both_at c.self.inside c.args.number c.adopt.new.shard c.adopt.new.self c.note.new.self))
 adopted g c =
-    subst (λ old. IsSoundStep old (Adopt c.args.number) (Adopted c.in-Ok-adopt.head) (state_of (with_both_at c.self.inside c.args.number c.adopt.new.shard c.adopt.new.self c.note.new.self))) c.self.view_is
+    subst (λ old. IsSoundStep old (Adopt c.args.number) (Adopted c.in-Ok-adopt.head)
+    (state_of (with_both_at c.self.inside c.args.number c.adopt.new.shard c.adopt.new.self c.note.new.self))) c.self.view_is
     (IsStep-adopt_fields c.self.inside c.args.number c.in-Ok-adopt.head c.in-Some.shard.now c.adopt.new.shard c.adopt.new.self c.note.new.self c.self.invariant.sound
-    (no_plan_if_adopted c.self.inside c.self.invariant.sound (λ told. let never = c.in-Ok.ensures.plan_open.1 (not_full g c, still_running g c, not_doubled (state_of c.self.inside) c.self.invariant.sound.groups c.args.number c.in-Some.shard.now (read_shard g c) (still_running g c), told) in cc))
+    (no_plan_if_adopted c.self.inside c.self.invariant.sound
+    (λ told. let never = c.in-Ok.ensures.plan_open.1 (not_full g c, still_running g c, not_doubled (state_of c.self.inside) c.self.invariant.sound.groups c.args.number c.in-Some.shard.now (read_shard g c) (still_running g c), told) in cc))
     (record { within = c.in-Some.ensures.variant.0 refl; value = c.in-Some.ensures.value })
     (still_running g c) (adopts_here g c) c.adopt.ensures.sound_shard c.adopt.ensures.sound)
 

@@ -19,14 +19,19 @@ end_refusal-requires g c = λ e.
 
 pub returns-in-Err-clause-exact : goal.returns-in-Err-clause-exact
 returns-in-Err-clause-exact g c =
-    subst (λ old. CoreStep old (End c.args.number) (Refused c.end_refusal.result) (state_of (with_both_at c.self.inside c.args.number c.receive.new.shard c.receive.new.self c.self.inside.whereabouts))) c.self.view_is
-    (CoreStep-end_refused_fields c.self.inside c.args.number c.in-Some.shard.now c.receive.new.shard c.receive.new.self c.self.inside.whereabouts c.in-Err.error c.end_refusal.result c.self.invariant.sound
-    (record { within = c.in-Some.ensures.variant.0 refl; value = c.in-Some.ensures.value }) c.end_refusal.ensures c.in-Err.ensures.ended c.in-Err.ensures.plan_open c.in-Err.ensures.err_shard c.in-Err.ensures.err)
+    subst (λ old. CoreStep old (End c.args.number) (Refused c.end_refusal.result)
+    (state_of (with_both_at c.self.inside c.args.number c.receive.new.shard c.receive.new.self c.self.inside.whereabouts))) c.self.view_is
+    (CoreStep-end_refused_fields c.self.inside c.args.number c.in-Some.shard.now c.receive.new.shard c.receive.new.self c.self.inside.whereabouts c.in-Err.error
+    c.end_refusal.result c.self.invariant.sound
+    (record { within = c.in-Some.ensures.variant.0 refl; value = c.in-Some.ensures.value }) c.end_refusal.ensures c.in-Err.ensures.ended
+    c.in-Err.ensures.plan_open c.in-Err.ensures.err_shard c.in-Err.ensures.err)
 
 read_shard : (g : _) (c : goal.In-Ok g) → slice_get c.self.inside.shards.items c.args.number ≡ Some c.in-Some.shard.now
 read_shard g c = shard-read c.self.inside c.args.number c.in-Some.shard.now (record { within = c.in-Some.ensures.variant.0 refl; value = c.in-Some.ensures.value })
 
-ended : (g : _) (c : goal.In-Ok g) → IsSoundStep c.args.self.now (End c.args.number) ShardEnded (state_of (with_both_at c.self.inside c.args.number c.receive.new.shard c.receive.new.self c.self.inside.whereabouts))
+ended : (g : _) (c : goal.In-Ok g)
+    → IsSoundStep c.args.self.now (End c.args.number) ShardEnded
+    (state_of (with_both_at c.self.inside c.args.number c.receive.new.shard c.receive.new.self c.self.inside.whereabouts))
 ended g c =
     subst (λ old. IsSoundStep old (End c.args.number) ShardEnded (state_of (with_both_at c.self.inside c.args.number c.receive.new.shard c.receive.new.self c.self.inside.whereabouts))) c.self.view_is
     (IsStep-end_fields c.self.inside c.args.number c.in-Some.shard.now c.receive.new.shard c.receive.new.self c.self.inside.whereabouts c.self.invariant.sound
@@ -36,7 +41,9 @@ ended g c =
 
 pub invariant_of-self-in-Err : goal.invariant_of-self-in-Err
 invariant_of-self-in-Err g c =
-    IsKept-both_same c.self.inside c.self.invariant c.args.number c.in-Some.shard.now (record { within = c.in-Some.ensures.variant.0 refl; value = c.in-Some.ensures.value }) c.receive.new.shard c.receive.new.self c.in-Err.ensures.err_shard c.in-Err.ensures.err
+    IsKept-both_same c.self.inside c.self.invariant c.args.number c.in-Some.shard.now
+    (record { within = c.in-Some.ensures.variant.0 refl; value = c.in-Some.ensures.value }) c.receive.new.shard c.receive.new.self
+    c.in-Err.ensures.err_shard c.in-Err.ensures.err
 
 pub invariant_of-self-2 : goal.invariant_of-self-2
 invariant_of-self-2 g c =

@@ -25,4 +25,5 @@ loop-serial-preserved g c =
 pub returns : goal.returns
 returns g c =
     HasNoneBetween-more (shown c.args.self.now) (MOST_SPANS * c.args.shard + c.args.from) (MOST_SPANS * c.args.shard + c.loop-serial.serial) (MOST_SPANS * (c.args.shard + 1)) c.loop-serial.invariant
-    (HasNoneBetween-opened c.args.self.now c.opened_by-serial-end.ensures.sound.groups c.args.shard c.loop-serial.serial (omega (arith, c.loop-serial-test.false, c.opened_by-serial-end.ensures.opened)))
+    (HasNoneBetween-opened c.args.self.now c.opened_by-serial-end.ensures.sound.groups c.args.shard c.loop-serial.serial
+    (omega (arith, c.loop-serial-test.false, c.opened_by-serial-end.ensures.opened)))

@@ -29,7 +29,9 @@ returns-in_default-clause-exact g c = ((nowhere g c).exact.0, c.self.view_is)
 pub returns-in_default-clause-plain : goal.returns-in_default-clause-plain
 returns-in_default-clause-plain g c = ((nowhere g c).plain.0, ap shown c.self.view_is)
 
-home : (g : _) (c : goal.Else-matches g) → IsSoundStep c.args.self.now (Free c.args.key.now) (Freed (was_freed c.free-freed.result)) (state_of (with_shard_at c.self.inside c.args.key.now.span.shard c.free-freed.new.self))
+home : (g : _) (c : goal.Else-matches g)
+    → IsSoundStep c.args.self.now (Free c.args.key.now) (Freed (was_freed c.free-freed.result))
+    (state_of (with_shard_at c.self.inside c.args.key.now.span.shard c.free-freed.new.self))
 home g c =
     IsStep-free_home c.self.inside c.args.self.now c.args.key.now.span.shard c.args.key.now c.in-Some.shard.now c.free-freed.new.self c.free-freed.result c.self.view_is c.self.invariant.sound
     (record { within = c.in-Some.ensures.variant.0 refl; value = c.in-Some.ensures.value })
@@ -39,7 +41,9 @@ home g c =
     ])
     c.free-freed.ensures.step c.free-freed.ensures.found c.free-freed.ensures.plain c.free-freed.ensures.sound
 
-done : (g : _) (c : goal.After-was_done g) → IsSoundStep c.args.self.now (Free c.args.key.now) (Freed c.was_done.result) (state_of (with_shard_at c.self.inside c.args.key.now.span.shard c.free-freed.new.self))
+done : (g : _) (c : goal.After-was_done g)
+    → IsSoundStep c.args.self.now (Free c.args.key.now) (Freed c.was_done.result)
+    (state_of (with_shard_at c.self.inside c.args.key.now.span.shard c.free-freed.new.self))
 done g c =
     subst (λ b. IsSoundStep c.args.self.now (Free c.args.key.now) (Freed b) (state_of (with_shard_at c.self.inside c.args.key.now.span.shard c.free-freed.new.self))) (sym c.was_done.ensures)
     (IsStep-free_home c.self.inside c.args.self.now c.args.key.now.span.shard c.args.key.now c.in-Some.shard.now c.free-freed.new.self c.free-freed.result c.self.view_is c.self.invariant.sound
@@ -71,8 +75,10 @@ away g c = elim c.match-matches.branch [
 pub free_moved-requires : goal.free_moved-requires
 free_moved-requires g c =
     let read : IsRead c.self.inside c.args.key.now.span.shard c.in-Some.shard.now = record { within = c.in-Some.ensures.variant.0 refl; value = c.in-Some.ensures.value } in
-    subst (λ (s : CoreState). StandsIn s.shards c.args.key.now.span c.args.key.now.span.shard → ⊥) (sym (state_of-same c.self.inside c.args.key.now.span.shard c.in-Some.shard.now c.free-freed.new.self read (away g c).1))
-    (not-standing (state_of c.self.inside) c.self.invariant.sound.groups c.args.key.now.span c.args.key.now.span.shard c.in-Some.shard.now (shard-read c.self.inside c.args.key.now.span.shard c.in-Some.shard.now read) (away g c).0)
+    subst (λ (s : CoreState). StandsIn s.shards c.args.key.now.span c.args.key.now.span.shard
+    → ⊥) (sym (state_of-same c.self.inside c.args.key.now.span.shard c.in-Some.shard.now c.free-freed.new.self read (away g c).1))
+    (not-standing (state_of c.self.inside) c.self.invariant.sound.groups c.args.key.now.span c.args.key.now.span.shard c.in-Some.shard.now
+    (shard-read c.self.inside c.args.key.now.span.shard c.in-Some.shard.now read) (away g c).0)
 
 pub returns-clause-exact : goal.returns-clause-exact
 returns-clause-exact g c = (done g c).exact

@@ -23,9 +23,11 @@ returns-in_default-clause-not_here g c = λ e. (
 
 pub returns-in_default-get_mut-clause-not_here : goal.returns-in_default-get_mut-clause-not_here
 returns-in_default-get_mut-clause-not_here g c = λ e.
-    let past : slice_get c.self.inside.shards.items c.in-Some.number ≡ None = slice_get_past c.self.inside.shards.items c.in-Some.number (no_read c.self.inside c.in-Some.number c.in_default-get_mut.ensures.variant.1) in (
+    let past : slice_get c.self.inside.shards.items c.in-Some.number
+    ≡ None = slice_get_past c.self.inside.shards.items c.in-Some.number (no_read c.self.inside c.in-Some.number c.in_default-get_mut.ensures.variant.1) in (
       subst (λ (s : CoreState). StandsInNoOther s.shards c.args.key.now.span) c.self.view_is
-          (no_other-named c.self.inside.shards.items c.self.inside.whereabouts.entries c.self.invariant.moved c.args.key.now.span c.in-Some.number (sym c.shard_of.ensures ∙ c.in-Some.is) (λ stands. none-some _ (sym past ∙ stands.1))),
+          (no_other-named c.self.inside.shards.items c.self.inside.whereabouts.entries c.self.invariant.moved c.args.key.now.span c.in-Some.number
+          (sym c.shard_of.ensures ∙ c.in-Some.is) (λ stands. none-some _ (sym past ∙ stands.1))),
       c.self.view_is,
     )
 
@@ -34,7 +36,9 @@ invariant_of-self-2 g c =
     IsKept-free c.self.inside c.self.invariant c.in-Some.number c.in-Some-get_mut.shard.now (record { within = c.in-Some-get_mut.ensures.variant.0 refl; value = c.in-Some-get_mut.ensures.value })
     c.args.key.now c.free.result c.free.new.self c.free.ensures.step c.free.ensures.found c.free.ensures.plain c.free.ensures.sound
 
-step : (g : _) (c : goal.After-self-2-1 g) → (c.free.result ≢ NotHere) → IsSoundStep c.args.self.now (Free c.args.key.now) (Freed (was_freed c.free.result)) (state_of (with_shard_at c.self.inside c.in-Some.number c.free.new.self))
+step : (g : _) (c : goal.After-self-2-1 g) → (c.free.result ≢ NotHere)
+    → IsSoundStep c.args.self.now (Free c.args.key.now) (Freed (was_freed c.free.result))
+    (state_of (with_shard_at c.self.inside c.in-Some.number c.free.new.self))
 step g c here =
     IsStep-free_home c.self.inside c.args.self.now c.in-Some.number c.args.key.now c.in-Some-get_mut.shard.now c.free.new.self c.free.result c.self.view_is c.self.invariant.sound
     (record { within = c.in-Some-get_mut.ensures.variant.0 refl; value = c.in-Some-get_mut.ensures.value }) here
@@ -51,10 +55,12 @@ returns-clause-sound g c = (invariant_of-self-2 g c).sound
 
 pub returns-clause-not_here : goal.returns-clause-not_here
 returns-clause-not_here g c = λ e.
-    let away : Frees c.in-Some-get_mut.shard.now c.args.key.now NotHere c.free.new.self = subst (λ answer. Frees c.in-Some-get_mut.shard.now c.args.key.now answer c.free.new.self) e c.free.ensures.step in
+    let away : Frees c.in-Some-get_mut.shard.now c.args.key.now NotHere c.free.new.self = subst
+    (λ answer. Frees c.in-Some-get_mut.shard.now c.args.key.now answer c.free.new.self) e c.free.ensures.step in
     let read : IsRead c.self.inside c.in-Some.number c.in-Some-get_mut.shard.now = record { within = c.in-Some-get_mut.ensures.variant.0 refl; value = c.in-Some-get_mut.ensures.value } in (
       subst (λ (s : CoreState). StandsInNoOther s.shards c.args.key.now.span) c.self.view_is
           (no_other-named c.self.inside.shards.items c.self.inside.whereabouts.entries c.self.invariant.moved c.args.key.now.span c.in-Some.number (sym c.shard_of.ensures ∙ c.in-Some.is)
-          (not-standing (state_of c.self.inside) c.self.invariant.sound.groups c.args.key.now.span c.in-Some.number c.in-Some-get_mut.shard.now (shard-read c.self.inside c.in-Some.number c.in-Some-get_mut.shard.now read) away.0)),
+          (not-standing (state_of c.self.inside) c.self.invariant.sound.groups c.args.key.now.span c.in-Some.number c.in-Some-get_mut.shard.now
+          (shard-read c.self.inside c.in-Some.number c.in-Some-get_mut.shard.now read) away.0)),
       state_of-same c.self.inside c.in-Some.number c.in-Some-get_mut.shard.now c.free.new.self read away.1 ∙ c.self.view_is,
     )

@@ -16,9 +16,11 @@ returns-in_default-clause-not_here g c = λ e.
 
 pub returns-in_default-get-clause-not_here : goal.returns-in_default-get-clause-not_here
 returns-in_default-get-clause-not_here g c = λ e.
-    let past : slice_get c.self.inside.shards.items c.in-Some.number ≡ None = ap (λ xs. slice_get xs c.in-Some.number) (sym c.deref.ensures.value) ∙ slice_get_past c.deref.result.now c.in-Some.number c.in_default-get.ensures.lookup.3 in
+    let past : slice_get c.self.inside.shards.items c.in-Some.number ≡ None = ap (λ xs. slice_get xs c.in-Some.number) (sym c.deref.ensures.value)
+    ∙ slice_get_past c.deref.result.now c.in-Some.number c.in_default-get.ensures.lookup.3 in
     subst (λ (s : CoreState). StandsInNoOther s.shards c.args.key.now.span) c.self.view_is
-    (no_other-named c.self.inside.shards.items c.self.inside.whereabouts.entries c.self.invariant.moved c.args.key.now.span c.in-Some.number (sym c.shard_of.ensures ∙ c.in-Some.is) (λ stands. none-some _ (sym past ∙ stands.1)))
+    (no_other-named c.self.inside.shards.items c.self.inside.whereabouts.entries c.self.invariant.moved c.args.key.now.span c.in-Some.number
+    (sym c.shard_of.ensures ∙ c.in-Some.is) (λ stands. none-some _ (sym past ∙ stands.1)))
 
 there : (g : _) (c : goal.After-get-2 g) → slice_get c.self.inside.shards.items c.in-Some.number ≡ Some c.in-Some-get.shard.now
 there g c = ap (λ xs. slice_get xs c.in-Some.number) (sym c.deref.ensures.value) ∙ shard-found c.deref.result.now c.in-Some.number c.in-Some-get.shard c.in-Some-get.ensures.lookup
@@ -32,4 +34,5 @@ pub returns-clause-not_here : goal.returns-clause-not_here
 returns-clause-not_here g c = λ e.
     subst (λ (s : CoreState). StandsInNoOther s.shards c.args.key.now.span) c.self.view_is
     (no_other-named c.self.inside.shards.items c.self.inside.whereabouts.entries c.self.invariant.moved c.args.key.now.span c.in-Some.number (sym c.shard_of.ensures ∙ c.in-Some.is)
-    (not-standing (state_of c.self.inside) c.self.invariant.sound.groups c.args.key.now.span c.in-Some.number c.in-Some-get.shard.now (there g c) (subst (Gets c.in-Some-get.shard.now c.args.key.now) e c.get-2.ensures.found)))
+    (not-standing (state_of c.self.inside) c.self.invariant.sound.groups c.args.key.now.span c.in-Some.number c.in-Some-get.shard.now (there g c)
+    (subst (Gets c.in-Some-get.shard.now c.args.key.now) e c.get-2.ensures.found)))

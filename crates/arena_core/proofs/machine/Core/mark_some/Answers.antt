@@ -29,7 +29,10 @@ mark_refusal-requires g c = λ doubled.
 pub invariant_of-self : goal.invariant_of-self
 invariant_of-self g c =
     let refused = c.in-Err.ensures {u = tt} in
-    IsKept-unchanged c.self.inside (record c.self.inside { shards = with_items c.self.inside.shards c.mark_some_in.new.shards; pool = c.mark_some_in.new.pool }) c.self.invariant refl refl refl refl refl refl refl refl
+    IsKept-unchanged c.self.inside (record c.self.inside {
+      shards = with_items c.self.inside.shards c.mark_some_in.new.shards;
+      pool = c.mark_some_in.new.pool;
+    }) c.self.invariant refl refl refl refl refl refl refl refl
     (with_items_is c.self.inside.shards c.mark_some_in.new.shards (ap length refused.err_shards ∙ c.deref_mut.ensures.len) ∙ refused.err_shards ∙ c.deref_mut.ensures.value) refused.err
 
 -- the shards that are lent are the core's
@@ -52,11 +55,15 @@ fields g c = record c.self.inside { shards = with_items c.self.inside.shards c.m
 shards_are : (g : _) (c : goal.After-begin g) → c.mark_some_in.new.shards ≡ map (closed_onto c.in-Ok.certificate.plan) c.self.inside.shards.items
 shards_are g c =
     sym (map-id c.mark_some_in.new.shards) ∙ (c.in-Ok.ensures {u = tt}).closed ∙ ap (map (closing c.in-Ok.certificate.plan)) (lent g c)
-    ∙ closing-open c.in-Ok.certificate.plan c.self.inside.shards.items (AreOpen-none (state_of c.self.inside) c.self.invariant.sound (None-if_not_some c.self.inside.plan (sym c.self.invariant.sound.plan.told ∙ no_plan g c)))
+    ∙ closing-open c.in-Ok.certificate.plan c.self.inside.shards.items
+    (AreOpen-none (state_of c.self.inside) c.self.invariant.sound
+    (None-if_not_some c.self.inside.plan (sym c.self.invariant.sound.plan.told ∙ no_plan g c)))
 
 items_are : (g : _) (c : goal.After-begin g) → (fields g c).shards.items ≡ map (closed_onto c.in-Ok.certificate.plan) c.self.inside.shards.items
 items_are g c =
-    with_items_is c.self.inside.shards c.mark_some_in.new.shards (ap length (shards_are g c) ∙ length-map c.self.inside.shards.items (closed_onto c.in-Ok.certificate.plan) ∙ ap length (sym c.deref_mut.ensures.value) ∙ c.deref_mut.ensures.len) ∙ shards_are g c
+    with_items_is c.self.inside.shards c.mark_some_in.new.shards
+    (ap length (shards_are g c) ∙ length-map c.self.inside.shards.items (closed_onto c.in-Ok.certificate.plan) ∙ ap length (sym c.deref_mut.ensures.value)
+    ∙ c.deref_mut.ensures.len) ∙ shards_are g c
 
 is_marked : (g : _) (c : goal.After-begin g) → state_of (fields g c) ≡ marked (state_of c.self.inside) c.self.invariant.sound c.in-Ok.certificate (largest g c)
 is_marked g c =
@@ -71,7 +78,8 @@ kept : (g : _) (c : goal.After-begin g) → IsSound (state_of (fields g c))
 kept g c = subst IsSound (sym (is_marked g c)) (IsSound-marked (state_of c.self.inside) c.self.invariant.sound c.in-Ok.certificate (largest g c))
 
 pub invariant_of-self-2 : goal.invariant_of-self-2
-invariant_of-self-2 g c = IsKept-mapped c.self.inside (fields g c) c.self.invariant refl (λ (group : GroupState). is_some group.page && plans_onto c.in-Ok.certificate.plan group.head.id) (items_are g c) (kept g c)
+invariant_of-self-2 g c = IsKept-mapped c.self.inside (fields g c) c.self.invariant refl
+    (λ (group : GroupState). is_some group.page && plans_onto c.in-Ok.certificate.plan group.head.id) (items_are g c) (kept g c)
 
 pub returns-clause-exact : goal.returns-clause-exact
 returns-clause-exact g c =

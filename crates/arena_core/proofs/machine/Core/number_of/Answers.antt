@@ -18,7 +18,8 @@ index-requires g c = omega (arith, c.self.inside.shards.ok.0, home-within (state
 
 pub returns-then-has : goal.returns-then-has
 returns-then-has g c =
-    let within = home-within (state_of c.self.inside) c.self.invariant.sound.groups c.args.id c.requires.0 (subst (λ (s : CoreState). StandsIn s.shards c.args.id c.requires.0) (sym c.self.view_is) c.requires.1) in
+    let within = home-within (state_of c.self.inside) c.self.invariant.sound.groups c.args.id c.requires.0
+    (subst (λ (s : CoreState). StandsIn s.shards c.args.id c.requires.0) (sym c.self.view_is) c.requires.1) in
     subst (λ (s : CoreState). StandsIn s.shards c.args.id c.args.id.shard) c.self.view_is
     (standing (state_of c.self.inside) c.self.invariant.sound.groups c.args.id c.args.id.shard c.index.result.now
     (shard-read c.self.inside c.args.id.shard c.index.result.now (record { within = omega (arith, within, c.self.inside.shards.ok.0); value = c.index.ensures }))

@@ -19,7 +19,9 @@ puts : (g : _) (c : goal.After-key-1 g) → Puts c.in-Some.shard.now (class_of c
 puts g c = subst (λ class. Puts c.in-Some.shard.now class c.args.words.now c.in_ok-key.key c.in_ok-key.field-0-1 c.put_words.new.self)
     (sym (class_of-width c.args.words.now c.args.class c.requires)) c.in_ok-key.ensures.ok
 
-issued : (g : _) (c : goal.After-key-1 g) → IsSoundStep c.args.self.now (Put c.args.number c.args.words.now) (Issued c.in_ok-key.key) (state_of (with_shard_at c.self.inside c.args.number c.put_words.new.self))
+issued : (g : _) (c : goal.After-key-1 g)
+    → IsSoundStep c.args.self.now (Put c.args.number c.args.words.now) (Issued c.in_ok-key.key)
+    (state_of (with_shard_at c.self.inside c.args.number c.put_words.new.self))
 issued g c =
     subst (λ old. IsSoundStep old (Put c.args.number c.args.words.now) (Issued c.in_ok-key.key) (state_of (with_shard_at c.self.inside c.args.number c.put_words.new.self))) c.self.view_is
     (IsStep-put_fields c.self.inside c.args.number c.args.words.now c.in_ok-key.key c.in_ok-key.field-0-1 c.in-Some.shard.now c.put_words.new.self
@@ -29,7 +31,8 @@ issued g c =
 pub returns-in_err-key-clause-exact : goal.returns-in_err-key-clause-exact
 returns-in_err-key-clause-exact g c =
     let refused = err_from_is_err_and c.from_residual.result c.from_residual.ensures.1 in
-    let step = subst (λ old. CoreStep old (Put c.args.number c.args.words.now) (Refused (refusal_of c.in_err-key.field-0.0)) (state_of (with_shard_at c.self.inside c.args.number c.put_words.new.self))) c.self.view_is
+    let step = subst (λ old. CoreStep old (Put c.args.number c.args.words.now) (Refused (refusal_of c.in_err-key.field-0.0))
+    (state_of (with_shard_at c.self.inside c.args.number c.put_words.new.self))) c.self.view_is
     (CoreStep-refused_fields c.self.inside c.args.number c.args.words.now c.in_err-key.field-0.0 c.in-Some.shard.now c.put_words.new.self
     (record { within = c.in-Some.ensures.variant.0 refl; value = c.in-Some.ensures.value })
     (rw (← class_of-width c.args.words.now c.args.class c.requires) at c.in_err-key.ensures.spent) c.in_err-key.ensures.ended c.in_err-key.ensures.err) in
@@ -38,12 +41,16 @@ returns-in_err-key-clause-exact g c =
 pub returns-in_err-key-clause-plain : goal.returns-in_err-key-clause-plain
 returns-in_err-key-clause-plain g c =
     let refused = err_from_is_err_and c.from_residual.result c.from_residual.ensures.1 in
-    let same = state_of-same c.self.inside c.args.number c.in-Some.shard.now c.put_words.new.self (record { within = c.in-Some.ensures.variant.0 refl; value = c.in-Some.ensures.value }) c.in_err-key.ensures.err in
-    let step = PlainStep-refused c.args.self.now.limits (shown c.args.self.now) (shown (state_of (with_shard_at c.self.inside c.args.number c.put_words.new.self))) c.args.number c.args.words.now c.in_err-key.field-0.0 (ap shown (same ∙ c.self.view_is)) in
+    let same = state_of-same c.self.inside c.args.number c.in-Some.shard.now c.put_words.new.self
+    (record { within = c.in-Some.ensures.variant.0 refl; value = c.in-Some.ensures.value }) c.in_err-key.ensures.err in
+    let step = PlainStep-refused c.args.self.now.limits (shown c.args.self.now)
+    (shown (state_of (with_shard_at c.self.inside c.args.number c.put_words.new.self))) c.args.number c.args.words.now c.in_err-key.field-0.0
+    (ap shown (same ∙ c.self.view_is)) in
     rw (refused.1, refused.2) step
 
 pub invariant_of-self-in_err-key : goal.invariant_of-self-in_err-key
-invariant_of-self-in_err-key g c = IsKept-same c.self.inside c.self.invariant c.args.number c.in-Some.shard.now (record { within = c.in-Some.ensures.variant.0 refl; value = c.in-Some.ensures.value }) c.put_words.new.self c.in_err-key.ensures.err
+invariant_of-self-in_err-key g c = IsKept-same c.self.inside c.self.invariant c.args.number c.in-Some.shard.now
+    (record { within = c.in-Some.ensures.variant.0 refl; value = c.in-Some.ensures.value }) c.put_words.new.self c.in_err-key.ensures.err
 
 pub invariant_of-self-2 : goal.invariant_of-self-2
 invariant_of-self-2 g c =

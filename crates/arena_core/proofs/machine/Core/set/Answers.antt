@@ -60,10 +60,14 @@ invariant_of-self-else-matches g c =
     IsKept-set c.self.inside c.self.invariant c.args.key.now.span.shard c.in-Some.shard.now (record { within = c.in-Some.ensures.variant.0 refl; value = c.in-Some.ensures.value })
     c.args.key.now c.args.words.now c.in_ok-replaced.replaced c.set.new.self c.in_ok-replaced.ensures.step c.in_ok-replaced.ensures.found c.in_ok-replaced.ensures.plain c.set.ensures.sound
 
-done : (g : _) (c : goal.After-was_set g) → IsSoundStep c.args.self.now (Set c.args.key.now c.args.words.now) (Replaced c.was_set.result) (state_of (with_shard_at c.self.inside c.args.key.now.span.shard c.set.new.self))
+done : (g : _) (c : goal.After-was_set g)
+    → IsSoundStep c.args.self.now (Set c.args.key.now c.args.words.now) (Replaced c.was_set.result)
+    (state_of (with_shard_at c.self.inside c.args.key.now.span.shard c.set.new.self))
 done g c =
-    subst (λ b. IsSoundStep c.args.self.now (Set c.args.key.now c.args.words.now) (Replaced b) (state_of (with_shard_at c.self.inside c.args.key.now.span.shard c.set.new.self))) (sym c.was_set.ensures)
-    (IsStep-set_home c.self.inside c.args.self.now c.args.key.now.span.shard c.args.key.now c.args.words.now c.in-Some.shard.now c.set.new.self c.in_ok-replaced.replaced c.self.view_is c.self.invariant.sound
+    subst (λ b. IsSoundStep c.args.self.now (Set c.args.key.now c.args.words.now) (Replaced b)
+    (state_of (with_shard_at c.self.inside c.args.key.now.span.shard c.set.new.self))) (sym c.was_set.ensures)
+    (IsStep-set_home c.self.inside c.args.self.now c.args.key.now.span.shard c.args.key.now c.args.words.now c.in-Some.shard.now c.set.new.self
+    c.in_ok-replaced.replaced c.self.view_is c.self.invariant.sound
     (record { within = c.in-Some.ensures.variant.0 refl; value = c.in-Some.ensures.value })
     (elim c.match-matches.branch [
       | in-NotHere w ↦ (λ e. let both : true ≡ false = sym w.matches-is ∙ c.if-matches.false in cc)
@@ -96,5 +100,7 @@ away g c = elim c.match-matches.branch [
 pub set_moved-requires : goal.set_moved-requires
 set_moved-requires g c =
     let read : IsRead c.self.inside c.args.key.now.span.shard c.in-Some.shard.now = record { within = c.in-Some.ensures.variant.0 refl; value = c.in-Some.ensures.value } in
-    subst (λ (s : CoreState). StandsIn s.shards c.args.key.now.span c.args.key.now.span.shard → ⊥) (sym (state_of-same c.self.inside c.args.key.now.span.shard c.in-Some.shard.now c.set.new.self read (away g c).1))
-    (not-standing (state_of c.self.inside) c.self.invariant.sound.groups c.args.key.now.span c.args.key.now.span.shard c.in-Some.shard.now (shard-read c.self.inside c.args.key.now.span.shard c.in-Some.shard.now read) (away g c).0)
+    subst (λ (s : CoreState). StandsIn s.shards c.args.key.now.span c.args.key.now.span.shard
+    → ⊥) (sym (state_of-same c.self.inside c.args.key.now.span.shard c.in-Some.shard.now c.set.new.self read (away g c).1))
+    (not-standing (state_of c.self.inside) c.self.invariant.sound.groups c.args.key.now.span c.args.key.now.span.shard c.in-Some.shard.now
+    (shard-read c.self.inside c.args.key.now.span.shard c.in-Some.shard.now read) (away g c).0)

@@ -14,19 +14,28 @@ use Rattle.arena_core.proofs.machine.Core.totals.Goals as goal
 
 pub overflow_add-totals : goal.overflow_add-totals
 overflow_add-totals g c =
-    let few : IsFew c.loop-shard.shard-index c.shard-item.result = IsFew-fields c.self.inside c.deref-shard-items.result.now c.loop-shard.shard-index c.shard-item.result c.self.invariant.sound.groups c.deref-shard-items.ensures.value c.loop-shard-test.true c.shard-item.is in
+    let few : IsFew c.loop-shard.shard-index c.shard-item.result = IsFew-fields c.self.inside c.deref-shard-items.result.now c.loop-shard.shard-index
+    c.shard-item.result c.self.invariant.sound.groups c.deref-shard-items.ensures.value c.loop-shard-test.true c.shard-item.is in
     omega (arith, few.shards, few.pages, c.pages.ensures, c.live.ensures.groups, length-filter_most (λ (group : PooledState). is_some group.page) c.self.inside.pool.groups)
 
 pub overflow_add-totals-in-loop-shard : goal.overflow_add-totals-in-loop-shard
 overflow_add-totals-in-loop-shard g c =
-    let few : IsFew c.loop-shard.shard-index c.shard-item.result = IsFew-fields c.self.inside c.deref-shard-items.result.now c.loop-shard.shard-index c.shard-item.result c.self.invariant.sound.groups c.deref-shard-items.ensures.value c.loop-shard-test.true c.shard-item.is in
+    let few : IsFew c.loop-shard.shard-index c.shard-item.result = IsFew-fields c.self.inside c.deref-shard-items.result.now c.loop-shard.shard-index
+    c.shard-item.result c.self.invariant.sound.groups c.deref-shard-items.ensures.value c.loop-shard-test.true c.shard-item.is in
     omega (arith, few.shards, few.pages, c.live-in-loop-shard.ensures.at_most, c.live.ensures.at_most, c.live.ensures.groups, c.loop-shard.invariant.few_keys)
 
 pub loop-shard-preserved : goal.loop-shard-preserved
 loop-shard-preserved g c =
-    let few : IsFew c.loop-shard.shard-index c.shard-item.result = IsFew-fields c.self.inside c.deref-shard-items.result.now c.loop-shard.shard-index c.shard-item.result c.self.invariant.sound.groups c.deref-shard-items.ensures.value c.loop-shard-test.true c.shard-item.is in
+    let few : IsFew c.loop-shard.shard-index c.shard-item.result = IsFew-fields c.self.inside c.deref-shard-items.result.now c.loop-shard.shard-index
+    c.shard-item.result c.self.invariant.sound.groups c.deref-shard-items.ensures.value c.loop-shard-test.true c.shard-item.is in
     record {
-      pages = omega (arith, sum_by_more (λ (shard : ShardState). length (paged_in shard.groups)) c.deref-shard-items.result.now c.loop-shard.shard-index c.shard-item.result c.loop-shard-test.true, ap (λ (shard : ShardState). length (paged_in shard.groups)) c.shard-item.is);
+      pages = omega (
+        arith,
+        sum_by_more
+            (λ (shard : ShardState). length (paged_in shard.groups)) c.deref-shard-items.result.now c.loop-shard.shard-index c.shard-item.result
+            c.loop-shard-test.true,
+        ap (λ (shard : ShardState). length (paged_in shard.groups)) c.shard-item.is,
+      );
       live = omega (arith, sum_by_more shard_keys c.deref-shard-items.result.now c.loop-shard.shard-index c.shard-item.result c.loop-shard-test.true, ap shard_keys c.shard-item.is);
       few_pages = omega (arith, few.pages);
       few_keys = omega (arith, few.pages, c.live-in-loop-shard.ensures.at_most);

@@ -17,7 +17,9 @@ trimmed g c =
 pub invariant_of-self-2 : goal.invariant_of-self-2
 invariant_of-self-2 g c =
     let read : IsRead c.self.inside c.args.number c.in-Some.shard.now = record { within = c.in-Some.ensures.variant.0 refl; value = c.in-Some.ensures.value } in
-    IsKept-with_shard_at c.self.inside c.self.invariant c.args.number c.in-Some.shard.now read c.trim.new.self (GetsNone-Trims c.self.inside c.self.invariant c.args.number c.in-Some.shard.now read c.trim.result c.trim.new.self c.trim.ensures.trims) (trimmed g c).kept
+    IsKept-with_shard_at c.self.inside c.self.invariant c.args.number c.in-Some.shard.now read c.trim.new.self
+    (GetsNone-Trims c.self.inside c.self.invariant c.args.number c.in-Some.shard.now read c.trim.result c.trim.new.self c.trim.ensures.trims)
+    (trimmed g c).kept
 
 pub returns-clause-exact : goal.returns-clause-exact
 returns-clause-exact g c = (trimmed g c).exact

@@ -9,10 +9,27 @@ use Rattle.arena_core.proofs.machine.Core.with_limits.Goals as goal
 
 -- the fields show as a new core of these numbers
 made : (g : _) (c : goal.After-new-3 g)
-    → ◌≡◌ {A = CoreState} (record { limits = record { shards = length c.in_ok-shards.shards.items; page_limit = c.page_limit.result; span_limit = c.span_limit.result; ring_capacity = c.ring_capacity-ring_capacity.result; gens = c.gens.result }; shards = c.in_ok-shards.shards.items; pool = c.with_log.result; plan = c.in_ok-plan.plan; rings = c.in_ok-rings.rings; forgotten = c.new-forgotten.result.spans })
+    → ◌≡◌ {A = CoreState} (record {
+      limits = record {
+        shards = length c.in_ok-shards.shards.items;
+        page_limit = c.page_limit.result;
+        span_limit = c.span_limit.result;
+        ring_capacity = c.ring_capacity-ring_capacity.result;
+        gens = c.gens.result;
+      };
+      shards = c.in_ok-shards.shards.items;
+      pool = c.with_log.result;
+      plan = c.in_ok-plan.plan;
+      rings = c.in_ok-rings.rings;
+      forgotten = c.new-forgotten.result.spans;
+    })
     (new_core c.args.limits)
-made g c = new_core-fields c.args.limits c.page_limit.result c.span_limit.result c.ring_capacity-ring_capacity.result c.gens.result c.in_ok-shards.shards.items c.with_log.result c.in_ok-plan.plan c.in_ok-rings.rings c.new-forgotten.result.spans
-    c.page_limit.ensures.page_limit c.span_limit.ensures.span_limit c.ring_capacity-ring_capacity.ensures.ring_capacity c.gens.ensures.gens c.in_ok-shards.ensures.shards c.with_log.ensures.empty c.in_ok-plan.ensures (c.in_ok-rings.ensures ∙ (λ i. new_rings (c.shards-count.ensures.shards i) (c.ring_capacity-ring_capacity.ensures.ring_capacity i))) c.new-forgotten.ensures
+made g c = new_core-fields c.args.limits c.page_limit.result c.span_limit.result c.ring_capacity-ring_capacity.result c.gens.result c.in_ok-shards.shards.items
+    c.with_log.result c.in_ok-plan.plan c.in_ok-rings.rings c.new-forgotten.result.spans
+    c.page_limit.ensures.page_limit c.span_limit.ensures.span_limit c.ring_capacity-ring_capacity.ensures.ring_capacity c.gens.ensures.gens
+    c.in_ok-shards.ensures.shards c.with_log.ensures.empty c.in_ok-plan.ensures
+    (c.in_ok-rings.ensures ∙ (λ i. new_rings (c.shards-count.ensures.shards i) (c.ring_capacity-ring_capacity.ensures.ring_capacity i)))
+    c.new-forgotten.ensures
 
 sound : (g : _) (c : goal.After-new-3 g) → IsSound (new_core c.args.limits)
 sound g c = IsSound-new_core c.args.limits (HasSoundGroups-new_core c.args.limits c.page_limit.ensures.within c.in_ok-shards.ensures.sound)

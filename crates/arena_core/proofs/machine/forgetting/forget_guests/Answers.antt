@@ -25,13 +25,15 @@ loop-index-preserved c =
     let within : at < length first = slice_get_within first at shard was in
     let more = length-spans_more (λ (s : ShardState). dead_guests s.groups) first at shard within (sym (get_or_from_slice_get first at shard shard was)) in
     record {
-      items = ap (set now at) c.forget-count.ensures.forgets.after ∙ ap (λ (shards : List ShardState). set shards at (without_dead_guests shard)) is ∙ changed_below-next without_dead_guests at first shard there;
+      items = ap (set now at) c.forget-count.ensures.forgets.after ∙ ap (λ (shards : List ShardState). set shards at (without_dead_guests shard)) is
+          ∙ changed_below-next without_dead_guests at first shard there;
       count = omega (arith, c.loop-index.invariant.count, c.forget-count.ensures.forgets.count_is, more);
       most = omega (arith, c.loop-index.invariant.most, c.forget-count.ensures.at_most);
     }
 
 pub returns-clause-items : goal.returns-clause-items
-returns-clause-items c = c.loop-index.invariant.items ∙ changed_below-all without_dead_guests c.loop-index.index c.args.shards.now.items (omega (arith, c.len-index-end.ensures, c.args.shards.now.ok.0))
+returns-clause-items c = c.loop-index.invariant.items
+    ∙ changed_below-all without_dead_guests c.loop-index.index c.args.shards.now.items (omega (arith, c.len-index-end.ensures, c.args.shards.now.ok.0))
 
 pub returns-clause-count : goal.returns-clause-count
 returns-clause-count c =

@@ -20,7 +20,8 @@ loop-place-preserved g c =
           w.in-Some-span_at.id w.in-Some-span_at.ensures w.set.ensures.entries w.set.ensures.room c.loop-place.invariant)
       | in_default-span_at w ↦
           subst (λ now. IsNoting c.args.self.now now c.args.shard.now.groups c.args.head c.args.first (c.loop-place.place + 1) c.args.number) (sym w.self-is)
-          (IsNoting-past c.args.shard.now.groups c.requires.sound.ascending c.args.head c.args.self.now c.loop-place.self c.args.first c.loop-place.place c.args.number w.in_default-span_at.ensures c.loop-place.invariant)
+          (IsNoting-past c.args.shard.now.groups c.requires.sound.ascending c.args.head c.args.self.now c.loop-place.self c.args.first c.loop-place.place
+          c.args.number w.in_default-span_at.ensures c.loop-place.invariant)
     ]
 
 pub returns : goal.returns

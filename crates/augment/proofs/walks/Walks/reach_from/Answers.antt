@@ -18,11 +18,14 @@ partners-preserved c =
     let long : length c.args.mates.now.planned.items ≡ length graph.owned = c.requires.owned in
     let planned : mate c.args.mates.now.planned.items owned ≡ Some c.in-Some-index.back = grind (arith, get_or_default) in
     rw (c.in_ok-push-in-Some-index.ensures.items, c.mark.ensures)
-    (reaching_push graph c.args.mates.now.onto.items c.args.mates.now.planned.items c.partners.self.entries.items reached.marked.items c.args.at group c.partners.from (length c.args.self.now.entries.items + unmarked c.args.self.now.reached.marked.items) (length graph.owned) owned c.in-Some-index.back
+    (reaching_push graph c.args.mates.now.onto.items c.args.mates.now.planned.items c.partners.self.entries.items reached.marked.items c.args.at group
+    c.partners.from (length c.args.self.now.entries.items + unmarked c.args.self.now.reached.marked.items) (length graph.owned) owned c.in-Some-index.back
     c.args.mates.now.paired s
-    (λ q late less. marked-from_bits graph reached.unmarked.items reached.marked.items group q reached.opposite s.marks (λ on. c.in-Some.ensures.least q late less (ap (λ l. has_bit l q) c.deref.ensures.value ∙ on)))
+    (λ q late less. marked-from_bits graph reached.unmarked.items reached.marked.items group q reached.opposite s.marks
+    (λ on. c.in-Some.ensures.least q late less (ap (λ l. has_bit l q) c.deref.ensures.value ∙ on)))
     c.in-Some.ensures.partner within
-    (unmarked-from_bit reached.unmarked.items reached.marked.items owned reached.opposite (omega (arith, within, s.marks)) (sym (ap (λ l. has_bit l owned) c.deref.ensures.value) ∙ c.in-Some.ensures.among))
+    (unmarked-from_bit reached.unmarked.items reached.marked.items owned reached.opposite (omega (arith, within, s.marks))
+    (sym (ap (λ l. has_bit l owned) c.deref.ensures.value) ∙ c.in-Some.ensures.among))
     planned)
 
 pub returns-clause-searched : goal.returns-clause-searched
@@ -30,5 +33,7 @@ returns-clause-searched c =
     let graph = c.args.graph.now in
     let reached = c.partners.self.reached in
     let group = c.index.result.now.group in
-    reaching_end graph c.args.mates.now.onto.items c.partners.self.entries.items reached.marked.items c.args.at group c.partners.from (length c.args.self.now.entries.items + unmarked c.args.self.now.reached.marked.items) (length graph.owned) c.partners.invariant
-    (λ q late. marked-from_bits graph reached.unmarked.items reached.marked.items group q reached.opposite c.partners.invariant.marks (λ on. c.in_default.ensures.none q late (ap (λ l. has_bit l q) c.deref.ensures.value ∙ on)))
+    reaching_end graph c.args.mates.now.onto.items c.partners.self.entries.items reached.marked.items c.args.at group c.partners.from
+    (length c.args.self.now.entries.items + unmarked c.args.self.now.reached.marked.items) (length graph.owned) c.partners.invariant
+    (λ q late. marked-from_bits graph reached.unmarked.items reached.marked.items group q reached.opposite c.partners.invariant.marks
+    (λ on. c.in_default.ensures.none q late (ap (λ l. has_bit l q) c.deref.ensures.value ∙ on)))

@@ -10,4 +10,7 @@ returns-clause-numbers c = rw (← c.self.view_is) (joined-same c.self.inside.lo
 pub returns-clause-err : goal.returns-clause-err
 returns-clause-err c =
     on_err_weaker c.grow-2.result
-    (λ same. (λ i. record { numbers = joined-same c.self.inside.low c.grow-2.new.parts.items c.self.inside.high.items c.grow-2.ensures.numbers i; room = 256 + 256 * same i }) ∙ c.self.view_is) c.grow-2.ensures.err
+    (λ same. (λ i. record {
+      numbers = joined-same c.self.inside.low c.grow-2.new.parts.items c.self.inside.high.items c.grow-2.ensures.numbers i;
+      room = 256 + 256 * same i;
+    }) ∙ c.self.view_is) c.grow-2.ensures.err

@@ -27,7 +27,8 @@ returns-in_err-read_nothing-clause-read c =
     (record { read = c.in_ok-folds.ensures.read; text_is = c.in_ok-folds.ensures.text; place = c.in_ok-folds.ensures.passed })
     (record { read = c.in_ok-short.ensures.read; text_is = c.in_ok-short.ensures.text; place = c.in_ok-short.ensures.passed })
     ∙ then-ok _ _ _ c.in_ok-read_fixed.ensures.read
-    ∙ then-err _ _ _ (c.in_err-read_nothing.ensures ∙ (λ i. at_line (c.in_ok-read_fixed.ensures.passed i) (end_in (lines_of (c.in_ok-read_fixed.ensures.text i)) (c.in_ok-read_fixed.ensures.passed i))))))
+    ∙ then-err _ _ _ (c.in_err-read_nothing.ensures
+    ∙ (λ i. at_line (c.in_ok-read_fixed.ensures.passed i) (end_in (lines_of (c.in_ok-read_fixed.ensures.text i)) (c.in_ok-read_fixed.ensures.passed i))))))
 
 pub returns-clause-read : goal.returns-clause-read
 returns-clause-read c =

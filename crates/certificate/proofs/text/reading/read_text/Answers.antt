@@ -15,4 +15,6 @@ returns-in_err-version-clause-read c =
 pub returns-clause-read : goal.returns-clause-read
 unfolding certificate_in
 returns-clause-read c =
-    subst (Reads outline_of c.read_body.result) (sym (then-ok _ _ _ (rw (c.new-lines.ensures.text) at c.in_ok-version.ensures.read))) (subst (λ t. Reads outline_of c.read_body.result (body_in c.in_ok-version.version (lines_of t))) (c.in_ok-version.ensures.text ∙ c.new-lines.ensures.text) c.read_body.ensures.read)
+    subst (Reads outline_of c.read_body.result) (sym (then-ok _ _ _ (rw (c.new-lines.ensures.text) at c.in_ok-version.ensures.read)))
+    (subst (λ t. Reads outline_of c.read_body.result (body_in c.in_ok-version.version (lines_of t)))
+    (c.in_ok-version.ensures.text ∙ c.new-lines.ensures.text) c.read_body.ensures.read)

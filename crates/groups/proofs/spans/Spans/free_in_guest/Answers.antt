@@ -8,7 +8,8 @@ use Rattle.groups.proofs.Unions.{lose_held}
 use Rattle.groups.proofs.spans.Spans.free_in_guest.Goals as goal
 
 here : (g : _) (c : goal.After-remove g) → slice_get c.self.inside.guests.items c.args.at ≡ Some c.index_mut.result.now
-here g c = slice_get_read c.self.inside.guests.items _ c.args.at c.index_mut.result.now refl (subst (λ (g : SpansState). c.args.at < length g.guests) (sym c.self.view_is) c.requires) c.index_mut.ensures.value
+here g c = slice_get_read c.self.inside.guests.items _ c.args.at c.index_mut.result.now refl
+    (subst (λ (g : SpansState). c.args.at < length g.guests) (sym c.self.view_is) c.requires) c.index_mut.ensures.value
 
 same_span : (g : _) (c : goal.After-remove g) (span : SpanState) → slice_get c.args.self.now.guests c.args.at ≡ Some span → c.index_mut.result.now ≡ span
 same_span g c span at = same_some (sym (here g c) ∙ ap (λ (g : SpansState). slice_get g.guests c.args.at) c.self.view_is ∙ at)
@@ -20,7 +21,8 @@ invariant_of-self-2 g c =
     let lost = lose_held (inside.head ∷ inside.guests.items) (suc c.args.at) span c.args.slot c.args.generation (here g c) (c.if-not-free_held.ensures.found.0 refl) c.self.invariant.apart in
     let is : c.free_held.new.self ≡ with_free_at span c.args.slot c.args.generation = c.if-not-free_held.ensures.freed in
     record {
-      occupied_is = c.remove.ensures ∙ ap (λ s. finset.remove s c.args.slot) c.self.invariant.occupied_is ∙ sym lost.0 ∙ ap (λ (s : SpanState). union_of (inside.head ∷ set inside.guests.items c.args.at s)) (sym is);
+      occupied_is = c.remove.ensures ∙ ap (λ s. finset.remove s c.args.slot) c.self.invariant.occupied_is ∙ sym lost.0
+          ∙ ap (λ (s : SpanState). union_of (inside.head ∷ set inside.guests.items c.args.at s)) (sym is);
       apart = subst (λ (s : SpanState). AreApart (inside.head ∷ set inside.guests.items c.args.at s)) (sym is) lost.1;
     }
 

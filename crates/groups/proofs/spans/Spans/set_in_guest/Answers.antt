@@ -15,18 +15,23 @@ pub invariant_of-self-2 : goal.invariant_of-self-2
 invariant_of-self-2 g c =
     let inside = c.self.inside in
     let done = c.in_ok-done.ensures in
-    let here = slice_get_read inside.guests.items _ c.args.at c.index_mut.result.now refl (subst (λ (g : SpansState). c.args.at < length g.guests) (sym c.self.view_is) c.requires) c.index_mut.ensures.value in
-    IsKept-set (inside.head ∷ inside.guests.items) inside.occupied c.self.invariant (suc c.args.at) c.index_mut.result.now here c.args.slot c.args.generation c.args.words.now c.in_ok-done.done c.set_held.new.self done.found done.set done.unknown
+    let here = slice_get_read inside.guests.items _ c.args.at c.index_mut.result.now refl
+    (subst (λ (g : SpansState). c.args.at < length g.guests) (sym c.self.view_is) c.requires) c.index_mut.ensures.value in
+    IsKept-set (inside.head ∷ inside.guests.items) inside.occupied c.self.invariant
+    (suc c.args.at) c.index_mut.result.now here c.args.slot c.args.generation c.args.words.now c.in_ok-done.done c.set_held.new.self done.found done.set
+    done.unknown
 
 pub returns-clause-found : goal.returns-clause-found
 returns-clause-found g c span at =
-    let here = slice_get_read c.self.inside.guests.items _ c.args.at c.index_mut.result.now refl (subst (λ (g : SpansState). c.args.at < length g.guests) (sym c.self.view_is) c.requires) c.index_mut.ensures.value in
+    let here = slice_get_read c.self.inside.guests.items _ c.args.at c.index_mut.result.now refl
+    (subst (λ (g : SpansState). c.args.at < length g.guests) (sym c.self.view_is) c.requires) c.index_mut.ensures.value in
     let same : c.index_mut.result.now ≡ span = same_some (sym here ∙ ap (λ (g : SpansState). slice_get g.guests c.args.at) c.self.view_is ∙ at) in
     rw (← same) c.in_ok-done.ensures.found
 
 pub returns-clause-set : goal.returns-clause-set
 returns-clause-set g c span at =
-    let here = slice_get_read c.self.inside.guests.items _ c.args.at c.index_mut.result.now refl (subst (λ (g : SpansState). c.args.at < length g.guests) (sym c.self.view_is) c.requires) c.index_mut.ensures.value in
+    let here = slice_get_read c.self.inside.guests.items _ c.args.at c.index_mut.result.now refl
+    (subst (λ (g : SpansState). c.args.at < length g.guests) (sym c.self.view_is) c.requires) c.index_mut.ensures.value in
     let same : c.index_mut.result.now ≡ span = same_some (sym here ∙ ap (λ (g : SpansState). slice_get g.guests c.args.at) c.self.view_is ∙ at) in
     rw (← same, ← c.self.view_is)
     (map_true c.in_ok-done.done (λ e. ap (λ (s : SpanState). record { head = c.self.inside.head; guests = set c.self.inside.guests.items c.args.at s }) e) c.in_ok-done.ensures.set)

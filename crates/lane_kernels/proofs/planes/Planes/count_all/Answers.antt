@@ -11,5 +11,7 @@ count_columns-requires-clause-counts c =
 
 pub returns : goal.returns
 returns c =
-    let view : sets_of c.deref.result.now c.deref-2.result.now c.deref-3.result.now c.deref-4.result.now ≡ c.args.self.now = rw (c.deref.ensures.value, c.deref-2.ensures.value, c.deref-3.ensures.value, c.deref-4.ensures.value) c.self.view_is in
-    counts_are c.deref.result.now c.deref-2.result.now c.deref-3.result.now c.deref-4.result.now c.args.self.now c.count_columns.new.counts view c.count_columns.ensures.len c.count_columns.ensures.each
+    let view : sets_of c.deref.result.now c.deref-2.result.now c.deref-3.result.now c.deref-4.result.now
+    ≡ c.args.self.now = rw (c.deref.ensures.value, c.deref-2.ensures.value, c.deref-3.ensures.value, c.deref-4.ensures.value) c.self.view_is in
+    counts_are c.deref.result.now c.deref-2.result.now c.deref-3.result.now c.deref-4.result.now c.args.self.now c.count_columns.new.counts view
+    c.count_columns.ensures.len c.count_columns.ensures.each

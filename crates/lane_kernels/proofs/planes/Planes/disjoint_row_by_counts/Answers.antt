@@ -23,8 +23,10 @@ returns-clause-bits c =
     fits-from_columns a.set.now a.self.now c.fill_row_by_counts.new.row
     (λ j low.
     let inside : j < length p = omega (arith, low, long) in
-    test-is_disjoint _ a.set.now _ (row_tells c.words.result p q r s a.set.now a.self.now _ j a.set.now c.words.ensures.words c.words.ensures.slots view inside (c.fill_row_by_counts.ensures.columns j inside)))
-    (λ j past. row_ends c.fill_row_by_counts.new.row (length a.self.now) j past (omega (arith, c.requires.row, c.fill_row_by_counts.auto.row)) (λ j past inside. c.fill_row_by_counts.ensures.rest j (omega (arith, long)) inside))
+    test-is_disjoint _ a.set.now _ (row_tells c.words.result p q r s a.set.now a.self.now _ j a.set.now c.words.ensures.words c.words.ensures.slots view inside
+    (c.fill_row_by_counts.ensures.columns j inside)))
+    (λ j past. row_ends c.fill_row_by_counts.new.row (length a.self.now) j past (omega (arith, c.requires.row, c.fill_row_by_counts.auto.row))
+    (λ j past inside. c.fill_row_by_counts.ensures.rest j (omega (arith, long)) inside))
 
 pub fill_row_by_counts-requires-clause-fewest : goal.fill_row_by_counts-requires-clause-fewest
 fill_row_by_counts-requires-clause-fewest c = λ j inside.

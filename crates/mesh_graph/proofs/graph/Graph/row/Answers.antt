@@ -4,7 +4,9 @@ use Rattle.mesh_graph.proofs.Building.{lent-bits, lent-within, lent-words}
 use Rattle.mesh_graph.proofs.graph.Graph.row.Goals as goal
 
 pub row_of-requires : goal.row_of-requires
-row_of-requires c = rw c.deref.ensures.value (lent-within c.self.inside.snapshot.now c.args.self.now c.self.inside.rows.items c.owned.result c.args.i c.self.view_is c.self.invariant c.requires c.owned.ensures.count)
+row_of-requires c = rw c.deref.ensures.value
+    (lent-within c.self.inside.snapshot.now c.args.self.now c.self.inside.rows.items c.owned.result c.args.i c.self.view_is c.self.invariant c.requires
+    c.owned.ensures.count)
 
 pub returns-clause-bits : goal.returns-clause-bits
 returns-clause-bits c =

@@ -12,13 +12,16 @@ loop-slot-init c =
 pub loop-slot-preserved : goal.loop-slot-preserved
 loop-slot-preserved c =
     rw (c.set_at.ensures, c.value_at.ensures.object)
-    (IsCopying-next c.args.self.now c.loop-slot.self c.args.class c.args.other.now c.in-Some.slot c.loop-slot.slot-iterator c.next.new.self (ascending c.args.slots.now) c.in-Some.ensures.steps c.loop-slot.invariant)
+    (IsCopying-next c.args.self.now c.loop-slot.self c.args.class c.args.other.now c.in-Some.slot c.loop-slot.slot-iterator c.next.new.self
+    (ascending c.args.slots.now) c.in-Some.ensures.steps c.loop-slot.invariant)
 
 pub returns : goal.returns
 returns c = IsCopying-all c.args.self.now c.loop-slot.self c.args.class c.args.other.now c.args.slots.now c.loop-slot.slot-iterator c.in-None.ensures.steps.0 c.loop-slot.invariant
 
 pub value_at-requires : goal.value_at-requires
-value_at-requires c = slot-on_page c.args.self.now c.loop-slot.self c.args.class c.args.other.now c.in-Some.slot c.loop-slot.slot-iterator c.next.new.self (ascending c.args.slots.now) c.in-Some.ensures.steps c.loop-slot.invariant
+value_at-requires c = slot-on_page c.args.self.now c.loop-slot.self c.args.class c.args.other.now c.in-Some.slot c.loop-slot.slot-iterator c.next.new.self
+    (ascending c.args.slots.now) c.in-Some.ensures.steps c.loop-slot.invariant
 
 pub set_at-requires-clause-on_page : goal.set_at-requires-clause-on_page
-set_at-requires-clause-on_page c = slot-on_page c.args.self.now c.loop-slot.self c.args.class c.args.other.now c.in-Some.slot c.loop-slot.slot-iterator c.next.new.self (ascending c.args.slots.now) c.in-Some.ensures.steps c.loop-slot.invariant
+set_at-requires-clause-on_page c = slot-on_page c.args.self.now c.loop-slot.self c.args.class c.args.other.now c.in-Some.slot c.loop-slot.slot-iterator
+    c.next.new.self (ascending c.args.slots.now) c.in-Some.ensures.steps c.loop-slot.invariant

@@ -14,6 +14,9 @@ returns c =
     let first = length c.args.object.now * c.from-2.result in
     let many : first + length c.args.object.now - first ≡ length c.args.object.now = omega arith in
     let is : first ≡ width_of c.args.class * c.args.slot = λ i. c.requires.width i * c.from-2.ensures i in
-    let long = length-written (record { items = c.self.inside.words.items; whole = c.self.inside.whole }) c.args.class c.args.slot first c.args.object.now (first + length c.args.object.now - first) c.deref_mut.result.now c.copy_from_slice.new.self is c.requires.on_page c.requires.width many c.deref_mut.ensures.value c.copy_from_slice.ensures.after in
+    let long = length-written (record { items = c.self.inside.words.items; whole = c.self.inside.whole }) c.args.class c.args.slot first c.args.object.now
+    (first + length c.args.object.now - first) c.deref_mut.result.now c.copy_from_slice.new.self is c.requires.on_page c.requires.width many
+    c.deref_mut.ensures.value c.copy_from_slice.ensures.after in
     set_object-pasted _ c.args.self.now c.args.class c.args.slot first c.args.object.now (first + length c.args.object.now - first) c.deref_mut.result.now c.copy_from_slice.new.self c.self.view_is
-    is c.requires.on_page c.requires.width many c.deref_mut.ensures.value c.copy_from_slice.ensures.after _ (with_items_is c.self.inside.words _ (omega (arith, long, c.self.inside.words.ok.0, c.self.inside.whole)))
+    is c.requires.on_page c.requires.width many c.deref_mut.ensures.value c.copy_from_slice.ensures.after _
+    (with_items_is c.self.inside.words _ (omega (arith, long, c.self.inside.words.ok.0, c.self.inside.whole)))

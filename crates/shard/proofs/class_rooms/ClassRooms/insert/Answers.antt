@@ -5,7 +5,8 @@ use Rattle.shard.proofs.Classes.{fits_read, room_of-set, set_of-set_other, set_o
 use Rattle.shard.proofs.class_rooms.ClassRooms.insert.Goals as goal
 
 pub insert-requires : goal.insert-requires
-insert-requires c = rw c.number_of.ensures.number (fits_read c.self.inside.sets c.args.self.now c.self.invariant c.self.view_is c.args.class c.index-self-number_of.result (suc c.args.index) c.requires)
+insert-requires c = rw c.number_of.ensures.number
+    (fits_read c.self.inside.sets c.args.self.now c.self.invariant c.self.view_is c.args.class c.index-self-number_of.result (suc c.args.index) c.requires)
 
 pub returns-clause-this : goal.returns-clause-this
 returns-clause-this c =

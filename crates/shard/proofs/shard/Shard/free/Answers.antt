@@ -28,7 +28,8 @@ returns-in_default-clause-found g c = was_freed-Frees c.args.self.now c.args.sel
 -- the span stands where it was found
 here_now : (g : _) (c : goal.After-insert g) → IsHere c.self.inside.groups.items c.args.key.now.span c.in-Some.index c.in-Some.place c.index_mut-group.result.now c.span_at.result.now
 here_now g c =
-    let found = found_in c.args.self.now.groups c.self.inside.groups.items c.args.key.now.span c.in-Some.index c.in-Some.place (ap (λ (s : ShardState). s.groups) (sym c.self.view_is)) c.in-Some.ensures.place in
+    let found = found_in c.args.self.now.groups c.self.inside.groups.items c.args.key.now.span c.in-Some.index c.in-Some.place
+    (ap (λ (s : ShardState). s.groups) (sym c.self.view_is)) c.in-Some.ensures.place in
     here_read _ _ _ _ found.0 found.1 found.2 c.index_mut-group.result.now c.index_mut-group.ensures.value c.span_at.result.now c.span_at.ensures
 
 -- a key that is not live leaves the groups as they were
@@ -37,13 +38,17 @@ groups_same groups index group after here same = ap (set groups index) same ∙ 
 
 pub invariant_of-self : goal.invariant_of-self
 invariant_of-self g c =
-    let found = found_in c.args.self.now.groups c.self.inside.groups.items c.args.key.now.span c.in-Some.index c.in-Some.place (ap (λ (s : ShardState). s.groups) (sym c.self.view_is)) c.in-Some.ensures.place in
+    let found = found_in c.args.self.now.groups c.self.inside.groups.items c.args.key.now.span c.in-Some.index c.in-Some.place
+    (ap (λ (s : ShardState). s.groups) (sym c.self.view_is)) c.in-Some.ensures.place in
     let read = read_is _ _ _ _ found.0 found.1 found.2 c.index_mut-group.result.now c.index_mut-group.ensures.value in
-    IsKept-same c.self.inside c.self.invariant _ c.self.inside.rooms (groups_same c.self.inside.groups.items c.in-Some.index c.index_mut-group.result.now c.free.new.self read (c.if-not-free.ensures {u = tt}).unknown) (omega arith) c.self.invariant.rooms (λ class. omega arith)
+    IsKept-same c.self.inside c.self.invariant _ c.self.inside.rooms
+    (groups_same c.self.inside.groups.items c.in-Some.index c.index_mut-group.result.now c.free.new.self read (c.if-not-free.ensures {u = tt}).unknown)
+    (omega arith) c.self.invariant.rooms (λ class. omega arith)
 
 pub returns-then-not-free-clause-step : goal.returns-then-not-free-clause-step
 returns-then-not-free-clause-step g c =
-    let found = found_in c.args.self.now.groups c.self.inside.groups.items c.args.key.now.span c.in-Some.index c.in-Some.place (ap (λ (s : ShardState). s.groups) (sym c.self.view_is)) c.in-Some.ensures.place in
+    let found = found_in c.args.self.now.groups c.self.inside.groups.items c.args.key.now.span c.in-Some.index c.in-Some.place
+    (ap (λ (s : ShardState). s.groups) (sym c.self.view_is)) c.in-Some.ensures.place in
     let here = here_read _ _ _ _ found.0 found.1 found.2 c.index_mut-group.result.now c.index_mut-group.ensures.value c.span_at.result.now c.span_at.ensures in
     let same = groups_same c.self.inside.groups.items c.in-Some.index c.index_mut-group.result.now c.free.new.self here.group_is (c.if-not-free.ensures {u = tt}).unknown in (
       c.in-Some.index,
@@ -61,7 +66,8 @@ returns-then-not-free-clause-found g c = was_freed-Frees c.args.self.now _ c.arg
 
 pub insert-requires : goal.insert-requires
 insert-requires g c =
-    let found = found_in c.args.self.now.groups c.self.inside.groups.items c.args.key.now.span c.in-Some.index c.in-Some.place (ap (λ (s : ShardState). s.groups) (sym c.self.view_is)) c.in-Some.ensures.place in
+    let found = found_in c.args.self.now.groups c.self.inside.groups.items c.args.key.now.span c.in-Some.index c.in-Some.place
+    (ap (λ (s : ShardState). s.groups) (sym c.self.view_is)) c.in-Some.ensures.place in
     let here = here_read _ _ _ _ found.0 found.1 found.2 c.index_mut-group.result.now c.index_mut-group.ensures.value c.span_at.result.now c.span_at.ensures in
     let low = slice_get_within c.self.inside.groups.items c.in-Some.index c.index_mut-group.result.now here.group_is in
     omega (arith, low, c.self.invariant.room_for_rooms c.class-class.result, c.self.inside.groups.ok.0)
@@ -87,8 +93,12 @@ invariant_of-self-2 g c =
     refl
     (IsSound-free (state_of c.self.inside) kept.sound c.in-Some.index group here.group_is place span here.span_is key (held g c))
     (λ class. rw (← freed_now g c) (elim (cases_class class c.class-class.result) [
-      | inl same ↦ rw (same, c.insert.ensures.this) (HasRooms-free c.class-class.result c.self.inside.groups.items (rooms_of c.self.inside.rooms c.class-class.result) (kept.rooms c.class-class.result) c.in-Some.index c.free.new.self (slice_get_within c.self.inside.groups.items c.in-Some.index group here.group_is))
-      | inr apart ↦ rw (c.insert.ensures.others class apart) (HasRooms-other class c.self.inside.groups.items (rooms_of c.self.inside.rooms class) (kept.rooms class) c.in-Some.index c.free.new.self (λ e. apart (sym e ∙ sym c.class-class.ensures)))
+      | inl same ↦ rw (same, c.insert.ensures.this)
+          (HasRooms-free c.class-class.result c.self.inside.groups.items (rooms_of c.self.inside.rooms c.class-class.result)
+          (kept.rooms c.class-class.result) c.in-Some.index c.free.new.self (slice_get_within c.self.inside.groups.items c.in-Some.index group here.group_is))
+      | inr apart ↦ rw (c.insert.ensures.others class apart)
+          (HasRooms-other class c.self.inside.groups.items (rooms_of c.self.inside.rooms class) (kept.rooms class) c.in-Some.index c.free.new.self
+          (λ e. apart (sym e ∙ sym c.class-class.ensures)))
     ]))
     (λ class. omega (arith, c.insert.ensures.room class))
 

@@ -16,14 +16,17 @@ returns-in_default-clause-plain g c = value_found-Gets c.args.self.now c.find.en
 
 pub value_at-words-requires-clause-paged : goal.value_at-words-requires-clause-paged
 value_at-words-requires-clause-paged g c =
-    let found = found_in c.args.self.now.groups c.self.inside.groups.items c.args.key.now.span c.in-Some.index c.in-Some.place (ap (λ (s : ShardState). s.groups) (sym c.self.view_is)) c.in-Some.ensures.place in
+    let found = found_in c.args.self.now.groups c.self.inside.groups.items c.args.key.now.span c.in-Some.index c.in-Some.place
+    (ap (λ (s : ShardState). s.groups) (sym c.self.view_is)) c.in-Some.ensures.place in
     let group = c.index-group.result.now in
     let read = read_is _ _ _ _ found.0 found.1 found.2 group c.index-group.ensures in
-    paged_if_held group (c.self.invariant.sound.groups c.in-Some.index group read) c.in-Some.place c.span_at-span.result.now c.args.key.now.slot c.args.key.now.generation c.span_at-span.ensures (c.if-holds.ensures.live.0 refl)
+    paged_if_held group (c.self.invariant.sound.groups c.in-Some.index group read) c.in-Some.place c.span_at-span.result.now c.args.key.now.slot
+    c.args.key.now.generation c.span_at-span.ensures (c.if-holds.ensures.live.0 refl)
 
 pub returns-then-holds-clause-found : goal.returns-then-holds-clause-found
 returns-then-holds-clause-found g c =
-    let found = found_in c.args.self.now.groups c.self.inside.groups.items c.args.key.now.span c.in-Some.index c.in-Some.place (ap (λ (s : ShardState). s.groups) (sym c.self.view_is)) c.in-Some.ensures.place in
+    let found = found_in c.args.self.now.groups c.self.inside.groups.items c.args.key.now.span c.in-Some.index c.in-Some.place
+    (ap (λ (s : ShardState). s.groups) (sym c.self.view_is)) c.in-Some.ensures.place in
     let here = here_read _ _ _ _ found.0 found.1 found.2 c.index-group.result.now c.index-group.ensures c.span_at-span.result.now c.span_at-span.ensures in (
       c.in-Some.index,
       c.in-Some.place,
@@ -40,7 +43,8 @@ returns-then-holds-clause-plain g c = value_found-Gets c.args.self.now c.find.en
 
 pub returns-else-holds-clause-found : goal.returns-else-holds-clause-found
 returns-else-holds-clause-found g c =
-    let found = found_in c.args.self.now.groups c.self.inside.groups.items c.args.key.now.span c.in-Some.index c.in-Some.place (ap (λ (s : ShardState). s.groups) (sym c.self.view_is)) c.in-Some.ensures.place in
+    let found = found_in c.args.self.now.groups c.self.inside.groups.items c.args.key.now.span c.in-Some.index c.in-Some.place
+    (ap (λ (s : ShardState). s.groups) (sym c.self.view_is)) c.in-Some.ensures.place in
     let here = here_read _ _ _ _ found.0 found.1 found.2 c.index-group.result.now c.index-group.ensures c.span_at-span.result.now c.span_at-span.ensures in (
       c.in-Some.index,
       c.in-Some.place,

@@ -21,27 +21,38 @@ returns-in_default-clause-lifts g c = (HasNoHead-swept c.args.self.now.groups c.
 
 pub invariant_of-self : goal.invariant_of-self
 invariant_of-self g c =
-    let head_here = head_read c.self.inside.groups.items c.args.self.now.groups (ap (λ (s : ShardState). s.groups) c.self.view_is) c.args.head c.in-Some.index c.in-Some.ensures.head c.index_mut-group.result.now c.index_mut-group.ensures.value in
-    IsKept-same c.self.inside c.self.invariant _ c.self.inside.rooms (set-same c.self.inside.groups.items c.in-Some.index c.index_mut-group.result.now head_here.here) (omega arith) c.self.invariant.rooms (λ class. omega arith)
+    let head_here = head_read c.self.inside.groups.items c.args.self.now.groups
+    (ap (λ (s : ShardState). s.groups) c.self.view_is) c.args.head c.in-Some.index c.in-Some.ensures.head c.index_mut-group.result.now
+    c.index_mut-group.ensures.value in
+    IsKept-same c.self.inside c.self.invariant _ c.self.inside.rooms
+    (set-same c.self.inside.groups.items c.in-Some.index c.index_mut-group.result.now head_here.here) (omega arith) c.self.invariant.rooms
+    (λ class. omega arith)
 
 pub returns-then-has_left-clause-lifts : goal.returns-then-has_left-clause-lifts
 returns-then-has_left-clause-lifts g c =
     let group = c.index_mut-group.result.now in
-    let head_here = head_read c.self.inside.groups.items c.args.self.now.groups (ap (λ (s : ShardState). s.groups) c.self.view_is) c.args.head c.in-Some.index c.in-Some.ensures.head group c.index_mut-group.ensures.value in (
+    let head_here = head_read c.self.inside.groups.items c.args.self.now.groups
+    (ap (λ (s : ShardState). s.groups) c.self.view_is) c.args.head c.in-Some.index c.in-Some.ensures.head group c.index_mut-group.ensures.value in (
       subst (λ (s : ShardState). HasNoHead (filter has_stayed s.groups) c.args.head) c.self.view_is
-          (HasNoHead-left (state_of c.self.inside) c.self.invariant.sound c.in-Some.index group head_here.here group.head.class c.args.head head_here.head_is (sym c.has_left.ensures ∙ c.if-has_left.true)),
-      ap (λ (groups : List GroupState). swept (record (state_of c.self.inside) { groups = groups })) (set-same c.self.inside.groups.items c.in-Some.index group head_here.here) ∙ ap swept c.self.view_is,
+          (HasNoHead-left (state_of c.self.inside) c.self.invariant.sound c.in-Some.index group head_here.here group.head.class c.args.head head_here.head_is
+          (sym c.has_left.ensures ∙ c.if-has_left.true)),
+      ap (λ (groups : List GroupState). swept (record (state_of c.self.inside) { groups = groups }))
+          (set-same c.self.inside.groups.items c.in-Some.index group head_here.here) ∙ ap swept c.self.view_is,
     )
 
 pub new-requires : goal.new-requires
 new-requires g c =
-    let head_here = head_read c.self.inside.groups.items c.args.self.now.groups (ap (λ (s : ShardState). s.groups) c.self.view_is) c.args.head c.in-Some.index c.in-Some.ensures.head c.index_mut-group.result.now c.index_mut-group.ensures.value in
+    let head_here = head_read c.self.inside.groups.items c.args.self.now.groups
+    (ap (λ (s : ShardState). s.groups) c.self.view_is) c.args.head c.in-Some.index c.in-Some.ensures.head c.index_mut-group.result.now
+    c.index_mut-group.ensures.value in
     rw (c.into_parts-spans.ensures.spans, c.into_parts-spans.ensures.page, c.replace.ensures.value)
     (IsSoundWhole-lifted (state_of c.self.inside) c.self.invariant.sound c.in-Some.index c.index_mut-group.result.now head_here.here)
 
 -- the group that left, where it stood
 here_now : (g : _) (c : goal.After-new g) → IsHeadOf c.self.inside.groups.items c.args.head c.in-Some.index c.index_mut-group.result.now
-here_now g c = head_read c.self.inside.groups.items c.args.self.now.groups (ap (λ (s : ShardState). s.groups) c.self.view_is) c.args.head c.in-Some.index c.in-Some.ensures.head c.index_mut-group.result.now c.index_mut-group.ensures.value
+here_now g c = head_read c.self.inside.groups.items c.args.self.now.groups
+    (ap (λ (s : ShardState). s.groups) c.self.view_is) c.args.head c.in-Some.index c.in-Some.ensures.head c.index_mut-group.result.now
+    c.index_mut-group.ensures.value
 
 place_now : (g : _) (c : goal.After-new g) → c.replace.new.dest ≡ left_place c.index_mut-group.result.now.head.id c.class.result c.self.inside.gens
 place_now g c = c.replace.ensures.after ∙ c.left_by-place.ensures ∙ ap (λ id. left_place id c.class.result c.self.inside.gens) c.head_id.ensures
@@ -56,7 +67,9 @@ invariant_of-self-2 g c =
       pages_fit = c.self.invariant.pages_fit;
       gens_fit = c.self.invariant.gens_fit;
       sound = rw (place_now g c) (IsSound-left (state_of c.self.inside) c.self.invariant.sound c.in-Some.index group here c.class.result);
-      rooms = λ class. rw (place_now g c) (HasRooms-full class c.self.inside.groups.items (rooms_of c.self.inside.rooms class) (c.self.invariant.rooms class) c.in-Some.index place group here (λ none. inl refl));
+      rooms = λ class. rw (place_now g c)
+          (HasRooms-full class c.self.inside.groups.items (rooms_of c.self.inside.rooms class) (c.self.invariant.rooms class) c.in-Some.index place group here
+          (λ none. inl refl));
       room_for_groups = c.self.invariant.room_for_groups;
       room_for_rooms = c.self.invariant.room_for_rooms;
       no_guests = c.self.invariant.no_guests;
@@ -69,7 +82,8 @@ invariant_of-self-2 g c =
 pub returns-clause-lifts : goal.returns-clause-lifts
 returns-clause-lifts g c =
     let group = c.index_mut-group.result.now in
-    let left = stayed-left (state_of c.self.inside) c.self.invariant.sound c.in-Some.index group (here_now g c).here c.class.result c.args.head (here_now g c).head_is (sym c.has_left.ensures ∙ c.if-has_left.false) in (
+    let left = stayed-left (state_of c.self.inside) c.self.invariant.sound c.in-Some.index group (here_now g c).here c.class.result c.args.head
+    (here_now g c).head_is (sym c.has_left.ensures ∙ c.if-has_left.false) in (
       left.0,
       group,
       subst (λ (s : ShardState). IsHeadOf (filter has_stayed s.groups) c.args.head left.0 group) c.self.view_is left.1,

@@ -31,11 +31,13 @@ pub put_at-requires-clause-not_live : goal.put_at-requires-clause-not_live
 put_at-requires-clause-not_live g c = ap (λ (s : SpanState). set.contains (live_slots s.log) 0) c.with_log-head.ensures ∙ contains-live_slots-empty 0
 
 pub put_at-requires-clause-not_worn : goal.put_at-requires-clause-not_worn
-put_at-requires-clause-not_worn g c = ap (λ (s : SpanState). set.contains (worn_slots s.gens s.log) 0) c.with_log-head.ensures ∙ contains-worn_slots-empty c.self.inside.gens 0 c.self.invariant.gens_fit
+put_at-requires-clause-not_worn g c = ap (λ (s : SpanState). set.contains (worn_slots s.gens s.log) 0) c.with_log-head.ensures
+    ∙ contains-worn_slots-empty c.self.inside.gens 0 c.self.invariant.gens_fit
 
 -- where the list of groups could not grow, all is as it was
 pub invariant_of-self : goal.invariant_of-self
-invariant_of-self g c = IsKept-same c.self.inside c.self.invariant c.reserve.new.self c.self.inside.rooms c.reserve.ensures.items (omega (arith, c.reserve.ensures.capacity)) c.self.invariant.rooms (λ class. omega arith)
+invariant_of-self g c = IsKept-same c.self.inside c.self.invariant c.reserve.new.self c.self.inside.rooms c.reserve.ensures.items
+    (omega (arith, c.reserve.ensures.capacity)) c.self.invariant.rooms (λ class. omega arith)
 
 pub lower_heads-index-requires : goal.lower_heads-index-requires
 lower_heads-index-requires g c = rw (c.as_slice.ensures.value, c.in_ok-reserve.ensures.items) c.self.invariant.sound.ascending
@@ -49,7 +51,9 @@ made g c = new_group c.in-Some.id c.args.class c.self.inside.gens c.args.words.n
 group_now : (g : _) (c : goal.After-self-3-1 g) → c.of-2.result ≡ made g c
 group_now g c =
     c.of-2.ensures
-    ∙ rw (c.of.ensures, c.set_at.ensures, c.in_ok-page.ensures) (ap (λ (head : SpanState). group_of (record { head = head; guests = [] }) (Some (set_object blank_page c.args.class 0 c.args.words.now)) false) (head_now g c))
+    ∙ rw (c.of.ensures, c.set_at.ensures, c.in_ok-page.ensures)
+    (ap (λ (head : SpanState). group_of (record { head = head; guests = [] }) (Some (set_object blank_page c.args.class 0 c.args.words.now)) false)
+    (head_now g c))
 
 list_is : (g : _) (c : goal.After-self-3-1 g) → c.as_slice.result.now ≡ c.self.inside.groups.items
 list_is g c = c.as_slice.ensures.value ∙ c.in_ok-reserve.ensures.items
@@ -73,25 +77,75 @@ invariant_of-self-2 g c = record {
   pages_fit = c.self.invariant.pages_fit;
   gens_fit = c.self.invariant.gens_fit;
   sound = rw (groups_now g c, c.saturating_sub-self-inside.ensures)
-      (IsSound-put_in_new (state_of c.self.inside) c.self.invariant.sound c.in-Some.id c.in-Some.ensures.parts.0 c.in-Some.ensures.parts.1 c.args.class c.lower_heads-index.result c.args.words.now c.requires.width (place_now g c)
+      (IsSound-put_in_new (state_of c.self.inside) c.self.invariant.sound c.in-Some.id c.in-Some.ensures.parts.0 c.in-Some.ensures.parts.1 c.args.class
+      c.lower_heads-index.result c.args.words.now c.requires.width (place_now g c)
       (ap (λ (s : ShardState). s.ended) c.self.view_is ∙ c.requires.running)
       (subst (λ (s : ShardState). length s.groups < s.page_limit) (sym c.self.view_is) c.requires.pages)
       (subst (λ (s : ShardState). s.opened < s.span_limit) (sym c.self.view_is) c.requires.opened));
   rooms = λ class. rw (groups_now g c) (elim (cases_eq (c.lower_heads-index.result + 1) c.len-2.result) [
     | inl last ↦
-        let at_end : c.lower_heads-index.result ≡ length c.self.inside.groups.items = omega (arith, last, c.len-2.ensures, c.insert_reserved.ensures.len, c.in_ok-reserve.ensures.len, c.self.inside.groups.ok.0) in
+        let at_end : c.lower_heads-index.result
+        ≡ length c.self.inside.groups.items = omega (
+          arith,
+          last,
+          c.len-2.ensures,
+          c.insert_reserved.ensures.len,
+          c.in_ok-reserve.ensures.len,
+          c.self.inside.groups.ok.0,
+        ) in
         elim (cases_class class c.args.class) [
-          | inl same ↦ rw (same, c.note_opened.ensures.this (sym last), c.in_ok-reserve-2.ensures.same c.args.class) (HasRooms-last c.args.class c.self.inside.groups.items c.lower_heads-index.result (made g c) (rooms_of c.self.inside.rooms c.args.class) at_end (c.self.invariant.rooms c.args.class))
-          | inr apart ↦ rw (c.note_opened.ensures.others (sym last) class apart, c.in_ok-reserve-2.ensures.same class) (HasRooms-last_other class c.self.inside.groups.items c.lower_heads-index.result (made g c) (rooms_of c.self.inside.rooms class) at_end (λ e. apart (sym e)) (c.self.invariant.rooms class))
+          | inl same ↦ rw (same, c.note_opened.ensures.this (sym last), c.in_ok-reserve-2.ensures.same c.args.class)
+              (HasRooms-last c.args.class c.self.inside.groups.items c.lower_heads-index.result (made g c) (rooms_of c.self.inside.rooms c.args.class) at_end
+              (c.self.invariant.rooms c.args.class))
+          | inr apart ↦ rw (c.note_opened.ensures.others (sym last) class apart, c.in_ok-reserve-2.ensures.same class)
+              (HasRooms-last_other class c.self.inside.groups.items c.lower_heads-index.result (made g c) (rooms_of c.self.inside.rooms class) at_end
+              (λ e. apart (sym e)) (c.self.invariant.rooms class))
         ]
-    | inr more ↦ HasRooms-all class _ (rooms_of c.note_opened.new.self class) c.len-2.result (omega (arith, c.len-2.ensures, c.insert_reserved.ensures.len, c.in_ok-reserve.ensures.len, c.self.inside.groups.ok.0, length_insert c.self.inside.groups.items c.lower_heads-index.result (made g c)))
-        (c.note_opened.ensures.moved (omega (arith, more, c.len-2.ensures, c.insert_reserved.ensures.len, c.in_ok-reserve.ensures.len, c.lower_heads-index.ensures.within, c.as_slice.ensures.len)) class)
+    | inr more ↦ HasRooms-all class _ (rooms_of c.note_opened.new.self class) c.len-2.result
+        (omega (
+          arith,
+          c.len-2.ensures,
+          c.insert_reserved.ensures.len,
+          c.in_ok-reserve.ensures.len,
+          c.self.inside.groups.ok.0,
+          length_insert c.self.inside.groups.items c.lower_heads-index.result (made g c),
+        ))
+        (c.note_opened.ensures.moved (omega (
+          arith,
+          more,
+          c.len-2.ensures,
+          c.insert_reserved.ensures.len,
+          c.in_ok-reserve.ensures.len,
+          c.lower_heads-index.ensures.within,
+          c.as_slice.ensures.len,
+        )) class)
   ]);
-  room_for_groups = omega (arith, c.self.invariant.room_for_groups, c.insert_reserved.ensures.len, c.insert_reserved.ensures.capacity, c.in_ok-reserve.ensures.len, c.in_ok-reserve.ensures.ok, c.in_ok-reserve.ensures.capacity, c.saturating_sub-self-inside.ensures);
-  room_for_rooms = λ class. omega (arith, c.self.invariant.room_for_rooms class, c.insert_reserved.ensures.len, c.in_ok-reserve.ensures.len, c.in_ok-reserve-2.ensures.more class, c.in_ok-reserve-2.ensures.ok class, c.len.ensures, c.note_opened.ensures.room class, c.saturating_sub-self-inside.ensures);
+  room_for_groups = omega (
+    arith,
+    c.self.invariant.room_for_groups,
+    c.insert_reserved.ensures.len,
+    c.insert_reserved.ensures.capacity,
+    c.in_ok-reserve.ensures.len,
+    c.in_ok-reserve.ensures.ok,
+    c.in_ok-reserve.ensures.capacity,
+    c.saturating_sub-self-inside.ensures,
+  );
+  room_for_rooms = λ class. omega (
+    arith,
+    c.self.invariant.room_for_rooms class,
+    c.insert_reserved.ensures.len,
+    c.in_ok-reserve.ensures.len,
+    c.in_ok-reserve-2.ensures.more class,
+    c.in_ok-reserve-2.ensures.ok class,
+    c.len.ensures,
+    c.note_opened.ensures.room class,
+    c.saturating_sub-self-inside.ensures,
+  );
   no_guests = c.self.invariant.no_guests;
   room_for_guests = HasGuestRoom-none _ _ _;
-  guests_known = rw (groups_now g c) (KnowsGuests-alone c.self.inside.groups.items c.self.inside.directory.entries c.self.invariant.guests_known c.lower_heads-index.result (made g c) (place_now g c).within refl);
+  guests_known = rw (groups_now g c)
+      (KnowsGuests-alone c.self.inside.groups.items c.self.inside.directory.entries c.self.invariant.guests_known c.lower_heads-index.result (made g c)
+      (place_now g c).within refl);
   room_for_entries = c.self.invariant.room_for_entries;
 }
 
@@ -114,7 +168,8 @@ returns-clause-ok g c =
 -- where the sets of those with room could not grow, all is as it was
 pub invariant_of-self-in_err-reserve-2 : goal.invariant_of-self-in_err-reserve-2
 invariant_of-self-in_err-reserve-2 g c =
-    IsKept-same c.self.inside c.self.invariant c.reserve.new.self c.reserve-2.new.self c.in_ok-reserve.ensures.items (omega (arith, c.in_ok-reserve.ensures.capacity)) (λ class. rw (c.in_err-reserve-2.ensures.same class) (c.self.invariant.rooms class))
+    IsKept-same c.self.inside c.self.invariant c.reserve.new.self c.reserve-2.new.self c.in_ok-reserve.ensures.items
+    (omega (arith, c.in_ok-reserve.ensures.capacity)) (λ class. rw (c.in_err-reserve-2.ensures.same class) (c.self.invariant.rooms class))
     (λ class. omega (arith, c.in_err-reserve-2.ensures.more class))
 
 pub note_opened-requires-clause-room : goal.note_opened-requires-clause-room

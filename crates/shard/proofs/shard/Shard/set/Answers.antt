@@ -43,18 +43,21 @@ returns-in_default-clause-found g c = was_replaced-Sets c.args.self.now c.args.s
 
 pub index_mut-group-requires : goal.index_mut-group-requires
 index_mut-group-requires g c =
-    let found = found_in c.args.self.now.groups c.self.inside.groups.items c.args.key.now.span c.in-Some.index c.in-Some.place (ap (λ (s : ShardState). s.groups) (sym c.self.view_is)) c.in-Some.ensures.place in
+    let found = found_in c.args.self.now.groups c.self.inside.groups.items c.args.key.now.span c.in-Some.index c.in-Some.place
+    (ap (λ (s : ShardState). s.groups) (sym c.self.view_is)) c.in-Some.ensures.place in
     let low = index_within c.self.inside.groups.items c.args.key.now.span c.in-Some.index c.in-Some.place found.0 found.1 found.2 in
     omega (arith, low, c.self.inside.groups.ok.0)
 
 pub span_at-requires : goal.span_at-requires
 span_at-requires g c =
-    let found = found_in c.args.self.now.groups c.self.inside.groups.items c.args.key.now.span c.in-Some.index c.in-Some.place (ap (λ (s : ShardState). s.groups) (sym c.self.view_is)) c.in-Some.ensures.place in
+    let found = found_in c.args.self.now.groups c.self.inside.groups.items c.args.key.now.span c.in-Some.index c.in-Some.place
+    (ap (λ (s : ShardState). s.groups) (sym c.self.view_is)) c.in-Some.ensures.place in
     place_within _ _ _ _ found.0 found.1 found.2 c.index_mut-group.result.now c.index_mut-group.ensures.value
 
 pub set-requires : goal.set-requires
 set-requires g c =
-    let found = found_in c.args.self.now.groups c.self.inside.groups.items c.args.key.now.span c.in-Some.index c.in-Some.place (ap (λ (s : ShardState). s.groups) (sym c.self.view_is)) c.in-Some.ensures.place in
+    let found = found_in c.args.self.now.groups c.self.inside.groups.items c.args.key.now.span c.in-Some.index c.in-Some.place
+    (ap (λ (s : ShardState). s.groups) (sym c.self.view_is)) c.in-Some.ensures.place in
     let read = read_is _ _ _ _ found.0 found.1 found.2 c.index_mut-group.result.now c.index_mut-group.ensures.value in
     record {
       place = place_within _ _ _ _ found.0 found.1 found.2 c.index_mut-group.result.now c.index_mut-group.ensures.value;
@@ -63,28 +66,40 @@ set-requires g c =
 
 pub invariant_of-self : goal.invariant_of-self
 invariant_of-self g c =
-    let found = found_in c.args.self.now.groups c.self.inside.groups.items c.args.key.now.span c.in-Some.index c.in-Some.place (ap (λ (s : ShardState). s.groups) (sym c.self.view_is)) c.in-Some.ensures.place in
+    let found = found_in c.args.self.now.groups c.self.inside.groups.items c.args.key.now.span c.in-Some.index c.in-Some.place
+    (ap (λ (s : ShardState). s.groups) (sym c.self.view_is)) c.in-Some.ensures.place in
     let read = read_is _ _ _ _ found.0 found.1 found.2 c.index_mut-group.result.now c.index_mut-group.ensures.value in
-    IsKept-same c.self.inside c.self.invariant _ c.self.inside.rooms (groups_same c.self.inside.groups.items c.in-Some.index c.index_mut-group.result.now c.set.new.self read c.in_err-set.ensures.err) (omega arith) c.self.invariant.rooms (λ class. omega arith)
+    IsKept-same c.self.inside c.self.invariant _ c.self.inside.rooms
+    (groups_same c.self.inside.groups.items c.in-Some.index c.index_mut-group.result.now c.set.new.self read c.in_err-set.ensures.err)
+    (omega arith) c.self.invariant.rooms (λ class. omega arith)
 
 pub returns-in_err-set-clause-refused : goal.returns-in_err-set-clause-refused
 returns-in_err-set-clause-refused g c =
-    let found = found_in c.args.self.now.groups c.self.inside.groups.items c.args.key.now.span c.in-Some.index c.in-Some.place (ap (λ (s : ShardState). s.groups) (sym c.self.view_is)) c.in-Some.ensures.place in
-    let here = subst (λ (s : ShardState). IsHere s.groups c.args.key.now.span c.in-Some.index c.in-Some.place c.index_mut-group.result.now c.span_at.result.now) c.self.view_is (here_read _ _ _ _ found.0 found.1 found.2 c.index_mut-group.result.now c.index_mut-group.ensures.value c.span_at.result.now c.span_at.ensures) in
-    on_err c.from_residual.result (may_set-settable c.args.self.now.groups c.find.ensures.sound.groups c.find.ensures.sound.once c.args.key.now c.in-Some.index c.in-Some.place c.index_mut-group.result.now c.span_at.result.now here c.args.words.now
+    let found = found_in c.args.self.now.groups c.self.inside.groups.items c.args.key.now.span c.in-Some.index c.in-Some.place
+    (ap (λ (s : ShardState). s.groups) (sym c.self.view_is)) c.in-Some.ensures.place in
+    let here = subst (λ (s : ShardState). IsHere s.groups c.args.key.now.span c.in-Some.index c.in-Some.place c.index_mut-group.result.now c.span_at.result.now)
+    c.self.view_is (here_read _ _ _ _ found.0 found.1 found.2 c.index_mut-group.result.now c.index_mut-group.ensures.value c.span_at.result.now
+    c.span_at.ensures) in
+    on_err c.from_residual.result (may_set-settable c.args.self.now.groups c.find.ensures.sound.groups c.find.ensures.sound.once c.args.key.now c.in-Some.index
+    c.in-Some.place c.index_mut-group.result.now c.span_at.result.now here c.args.words.now
     (c.in_err-set.ensures.refused c.span_at.result.now c.span_at.ensures))
 
 pub invariant_of-self-then-not-branch : goal.invariant_of-self-then-not-branch
 invariant_of-self-then-not-branch g c =
-    let found = found_in c.args.self.now.groups c.self.inside.groups.items c.args.key.now.span c.in-Some.index c.in-Some.place (ap (λ (s : ShardState). s.groups) (sym c.self.view_is)) c.in-Some.ensures.place in
+    let found = found_in c.args.self.now.groups c.self.inside.groups.items c.args.key.now.span c.in-Some.index c.in-Some.place
+    (ap (λ (s : ShardState). s.groups) (sym c.self.view_is)) c.in-Some.ensures.place in
     let read = read_is _ _ _ _ found.0 found.1 found.2 c.index_mut-group.result.now c.index_mut-group.ensures.value in
-    IsKept-same c.self.inside c.self.invariant _ c.self.inside.rooms (groups_same c.self.inside.groups.items c.in-Some.index c.index_mut-group.result.now c.set.new.self read (undone c.in_ok-set.field-0 c.if-not-branch.true c.in_ok-set.ensures.unknown)) (omega arith) c.self.invariant.rooms (λ class. omega arith)
+    IsKept-same c.self.inside c.self.invariant _ c.self.inside.rooms
+    (groups_same c.self.inside.groups.items c.in-Some.index c.index_mut-group.result.now c.set.new.self read
+    (undone c.in_ok-set.field-0 c.if-not-branch.true c.in_ok-set.ensures.unknown)) (omega arith) c.self.invariant.rooms (λ class. omega arith)
 
 pub returns-then-not-branch-clause-step : goal.returns-then-not-branch-clause-step
 returns-then-not-branch-clause-step g c =
-    let found = found_in c.args.self.now.groups c.self.inside.groups.items c.args.key.now.span c.in-Some.index c.in-Some.place (ap (λ (s : ShardState). s.groups) (sym c.self.view_is)) c.in-Some.ensures.place in
+    let found = found_in c.args.self.now.groups c.self.inside.groups.items c.args.key.now.span c.in-Some.index c.in-Some.place
+    (ap (λ (s : ShardState). s.groups) (sym c.self.view_is)) c.in-Some.ensures.place in
     let here = here_read _ _ _ _ found.0 found.1 found.2 c.index_mut-group.result.now c.index_mut-group.ensures.value c.span_at.result.now c.span_at.ensures in
-    let same = groups_same c.self.inside.groups.items c.in-Some.index c.index_mut-group.result.now c.set.new.self here.group_is (undone c.in_ok-set.field-0 c.if-not-branch.true c.in_ok-set.ensures.unknown) in (
+    let same = groups_same c.self.inside.groups.items c.in-Some.index c.index_mut-group.result.now c.set.new.self here.group_is
+    (undone c.in_ok-set.field-0 c.if-not-branch.true c.in_ok-set.ensures.unknown) in (
       c.in-Some.index,
       c.in-Some.place,
       c.index_mut-group.result.now,
@@ -98,7 +113,9 @@ returns-then-not-branch-clause-step g c =
 pub returns-then-not-branch-clause-found : goal.returns-then-not-branch-clause-found
 returns-then-not-branch-clause-found g c = was_replaced-Sets c.args.self.now _ c.args.key.now c.args.words.now (No c.changes-at.result) c.find.ensures.sound (returns-then-not-branch-clause-step g c)
 
-set_now : (g : _) (c : goal.Else-not-branch g) → c.set.new.self ≡ set_group c.index_mut-group.result.now c.in-Some.place c.span_at.result.now c.args.key.now.slot c.args.key.now.generation c.args.words.now
+set_now : (g : _) (c : goal.Else-not-branch g)
+    → c.set.new.self ≡ set_group c.index_mut-group.result.now c.in-Some.place c.span_at.result.now c.args.key.now.slot c.args.key.now.generation
+    c.args.words.now
 set_now g c = done c.in_ok-set.field-0 c.if-not-branch.false (c.in_ok-set.ensures.set c.span_at.result.now c.span_at.ensures)
 
 settable_now : (g : _) (c : goal.Else-not-branch g) → IsSettable c.span_at.result.now c.args.key.now.slot c.args.key.now.generation c.args.words.now
@@ -106,7 +123,8 @@ settable_now g c = (c.in_ok-set.ensures.found c.span_at.result.now c.span_at.ens
 
 here_now : (g : _) (c : goal.Else-not-branch g) → IsHere c.self.inside.groups.items c.args.key.now.span c.in-Some.index c.in-Some.place c.index_mut-group.result.now c.span_at.result.now
 here_now g c =
-    let found = found_in c.args.self.now.groups c.self.inside.groups.items c.args.key.now.span c.in-Some.index c.in-Some.place (ap (λ (s : ShardState). s.groups) (sym c.self.view_is)) c.in-Some.ensures.place in
+    let found = found_in c.args.self.now.groups c.self.inside.groups.items c.args.key.now.span c.in-Some.index c.in-Some.place
+    (ap (λ (s : ShardState). s.groups) (sym c.self.view_is)) c.in-Some.ensures.place in
     here_read _ _ _ _ found.0 found.1 found.2 c.index_mut-group.result.now c.index_mut-group.ensures.value c.span_at.result.now c.span_at.ensures
 
 pub invariant_of-self-2 : goal.invariant_of-self-2
@@ -123,7 +141,8 @@ invariant_of-self-2 g c =
     (ap (set c.self.inside.groups.items c.in-Some.index) (set_now g c))
     refl
     (IsSound-set (state_of c.self.inside) kept.sound c.in-Some.index group here.group_is place span here.span_is key.slot key.generation words (settable_now g c))
-    (λ class. HasRooms-full class c.self.inside.groups.items (rooms_of c.self.inside.rooms class) (kept.rooms class) c.in-Some.index (set_group group place span key.slot key.generation words) group here.group_is
+    (λ class. HasRooms-full class c.self.inside.groups.items (rooms_of c.self.inside.rooms class) (kept.rooms class) c.in-Some.index
+    (set_group group place span key.slot key.generation words) group here.group_is
     (HasNoRoom-set group span key.slot key.generation words place here.span_is (kept.sound.groups c.in-Some.index group here.group_is).apart (settable_now g c) class))
     (λ class. omega arith)
 

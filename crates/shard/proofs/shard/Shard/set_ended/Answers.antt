@@ -15,7 +15,13 @@ invariant_of-self g c =
       number_fits = c.self.invariant.number_fits;
       pages_fit = c.self.invariant.pages_fit;
       gens_fit = c.self.invariant.gens_fit;
-      sound = rw c.new.ensures.items (IsSound-none (record (state_of c.self.inside) { ended = true; group_room = 0; span_room = 0; onto = None }) c.self.invariant.sound.opened c.self.invariant.sound.span_limit c.self.invariant.sound.gens);
+      sound = rw c.new.ensures.items (IsSound-none
+          (record (state_of c.self.inside) {
+            ended = true;
+            group_room = 0;
+            span_room = 0;
+            onto = None;
+          }) c.self.invariant.sound.opened c.self.invariant.sound.span_limit c.self.invariant.sound.gens);
       rooms = λ class. rw (c.new.ensures.items, c.new-2.ensures class) (HasRooms-empty class);
       room_for_groups = omega (arith, c.new.result.ok.1);
       room_for_rooms = λ class. omega (arith, c.new.ensures.len);

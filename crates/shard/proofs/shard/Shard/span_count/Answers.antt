@@ -6,8 +6,11 @@ use Rattle.span.specs.declared.limits.TheConstants.{ALL_IDS}
 use Rattle.shard.proofs.shard.Shard.span_count.Goals as goal
 
 pub loop-group-init : goal.loop-group-init
-loop-group-init g c =
-    (refl, subst (λ (groups : List GroupState). length (spans_in groups) ≤ ALL_IDS) (sym c.deref-group-items.ensures.value) (at_most_ids (spans_in c.self.inside.groups.items) c.self.invariant.sound.once))
+loop-group-init g c = (
+  refl,
+  subst (λ (groups : List GroupState). length (spans_in groups) ≤ ALL_IDS) (sym c.deref-group-items.ensures.value)
+      (at_most_ids (spans_in c.self.inside.groups.items) c.self.invariant.sound.once),
+)
 
 pub overflow_add-count : goal.overflow_add-count
 overflow_add-count g c =

@@ -23,10 +23,24 @@ invariant_of-self g c = record {
   gens_fit = c.self.invariant.gens_fit;
   sound = IsSound-alike (state_of c.self.inside) c.trim_all.new.groups.items (pages g c) (sound_now g c) c.self.invariant.sound;
   rooms = λ class. rw c.trim_all.ensures.items (HasRooms-trimmed class c.self.inside.groups.items (rooms_of c.self.inside.rooms class) (c.self.invariant.rooms class));
-  room_for_groups = omega (arith, c.self.invariant.room_for_groups, c.trim_all.ensures.capacity, (alike c.self.inside.groups.items c.trim_all.new.groups.items (pages g c)).many, c.self.inside.groups.ok.0, c.trim_all.new.groups.ok.0);
-  room_for_rooms = λ class. omega (arith, c.self.invariant.room_for_rooms class, (alike c.self.inside.groups.items c.trim_all.new.groups.items (pages g c)).many, c.self.inside.groups.ok.0, c.trim_all.new.groups.ok.0);
+  room_for_groups = omega (
+    arith,
+    c.self.invariant.room_for_groups,
+    c.trim_all.ensures.capacity,
+    (alike c.self.inside.groups.items c.trim_all.new.groups.items (pages g c)).many,
+    c.self.inside.groups.ok.0,
+    c.trim_all.new.groups.ok.0,
+  );
+  room_for_rooms = λ class. omega (
+    arith,
+    c.self.invariant.room_for_rooms class,
+    (alike c.self.inside.groups.items c.trim_all.new.groups.items (pages g c)).many,
+    c.self.inside.groups.ok.0,
+    c.trim_all.new.groups.ok.0,
+  );
   no_guests = c.self.invariant.no_guests;
-  room_for_guests = HasGuestRoom-alike (state_of c.self.inside) c.trim_all.new.groups.items (pages g c) c.self.inside.onto c.self.inside.span_room (vec_capacity c.self.inside.guest_room) c.self.invariant.room_for_guests;
+  room_for_guests = HasGuestRoom-alike (state_of c.self.inside) c.trim_all.new.groups.items (pages g c) c.self.inside.onto c.self.inside.span_room
+      (vec_capacity c.self.inside.guest_room) c.self.invariant.room_for_guests;
   guests_known = KnowsGuests-alike c.self.inside.groups.items c.self.inside.directory.entries c.self.invariant.guests_known c.trim_all.new.groups.items (pages g c);
   room_for_entries = c.self.invariant.room_for_entries;
 }

@@ -10,7 +10,8 @@ returns-in_default-head_index-clause-head g c = sym (ap (head_among c.args.group
 
 pub returns-clause-head : goal.returns-clause-head
 returns-clause-head g c =
-    sym (ap (head_among c.args.groups.now) c.in-Some.is ∙ head_among-here c.args.groups.now c.in-Some.head c.in-Some-head_index.index c.in-Some-head_index.ensures.head.0 c.in-Some-head_index.ensures.head.1)
+    sym (ap (head_among c.args.groups.now) c.in-Some.is
+    ∙ head_among-here c.args.groups.now c.in-Some.head c.in-Some-head_index.index c.in-Some-head_index.ensures.head.0 c.in-Some-head_index.ensures.head.1)
 
 pub returns-clause-room : goal.returns-clause-room
 returns-clause-room g c =

@@ -22,4 +22,5 @@ returns-clause-receipts c =
     let receipt = c.args.receipt.now in
     let stored : StoredReceipt = record { section = receipt.section; at = receipt.at; first = c.len-first.result; key = receipt.key; worker = receipt.worker; call = c.stored.result } in
     rw (c.push_reserved.ensures.items, c.push_words.ensures.items, c.words_of.ensures)
-    (receipts_in-push list.words.items list.receipts.items stored receipt list.within (omega (arith, c.len-first.ensures, list.words.ok.0)) c.stored.ensures.width c.stored.ensures.call refl refl refl refl)
+    (receipts_in-push list.words.items list.receipts.items stored receipt list.within
+    (omega (arith, c.len-first.ensures, list.words.ok.0)) c.stored.ensures.width c.stored.ensures.call refl refl refl refl)

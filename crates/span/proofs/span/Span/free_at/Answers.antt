@@ -15,7 +15,8 @@ use Rattle.span.proofs.Keeping.{Holds-kept, Follows-free, len-remove_member, som
 use Rattle.span.proofs.span.Span.free_at.Goals as goal
 
 -- what the room kept for a live key's free comes to
-module _ {class : Class} {gens : ℕ} {live worn : SlotSet} {generations : Generations} {log : List Change} {room : ℕ} (kept : IsKept class gens live worn generations log room) (slot generation : ℕ) (within : slot < 256) (holds : Holds log slot generation) where
+module _ {class : Class} {gens : ℕ} {live worn : SlotSet} {generations : Generations} {log : List Change} {room : ℕ}
+    (kept : IsKept class gens live worn generations log room) (slot generation : ℕ) (within : slot < 256) (holds : Holds log slot generation) where
   member : set.contains live slot ≡ true
   member = (Holds-kept gens log live worn (last_given generations) kept.follows slot within generation holds).0
 
@@ -45,7 +46,8 @@ invariant_of-self g c =
     record {
       some_generation = c.self.invariant.some_generation;
       follows = rw (c.push_free.ensures.changes, c.remove.ensures)
-          (Follows-free inside.gens (g.L.Log.changes inside.log) inside.live inside.worn (last_given inside.generations) c.self.invariant.follows c.args.slot c.ranges.slot.fits c.args.generation holds);
+          (Follows-free inside.gens (g.L.Log.changes inside.log) inside.live inside.worn
+          (last_given inside.generations) c.self.invariant.follows c.args.slot c.ranges.slot.fits c.args.generation holds);
       all_or_none = c.self.invariant.all_or_none;
       gens_fit = c.self.invariant.gens_fit;
       of_class = rw c.push_free.ensures.changes (IsOfClass-push inside.class (g.L.Log.changes inside.log) _ c.self.invariant.of_class tt);

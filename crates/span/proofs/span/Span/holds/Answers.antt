@@ -10,14 +10,18 @@ use Rattle.span.proofs.span.Span.holds.Goals as goal
 pub generation_of-requires : goal.generation_of-requires
 generation_of-requires g c =
     let inside = c.self.inside in
-    (live-within inside.gens (g.L.Log.changes inside.log) inside.live inside.worn (last_given inside.generations) c.self.invariant.follows c.args.slot c.ranges.slot.fits (sym c.contains.ensures ∙ c.if-contains.true))
+    (live-within inside.gens (g.L.Log.changes inside.log) inside.live inside.worn
+    (last_given inside.generations) c.self.invariant.follows c.args.slot c.ranges.slot.fits (sym c.contains.ensures ∙ c.if-contains.true))
 
 pub returns-then-contains-clause-live : goal.returns-then-contains-clause-live
 returns-then-contains-clause-live g c =
     let inside = c.self.inside in
     rw (← c.self.view_is, c.generation_of.ensures) (
-      λ yes. kept-Holds inside.gens (g.L.Log.changes inside.log) inside.live inside.worn (last_given inside.generations) c.self.invariant.follows c.args.slot c.ranges.slot.fits c.args.generation (sym c.contains.ensures ∙ c.if-contains.true) (eqb-true _ _ yes),
-      λ holds. eq-eqb _ _ (Holds-kept inside.gens (g.L.Log.changes inside.log) inside.live inside.worn (last_given inside.generations) c.self.invariant.follows c.args.slot c.ranges.slot.fits c.args.generation holds).1,
+      λ yes. kept-Holds inside.gens (g.L.Log.changes inside.log) inside.live inside.worn
+          (last_given inside.generations) c.self.invariant.follows c.args.slot c.ranges.slot.fits c.args.generation
+          (sym c.contains.ensures ∙ c.if-contains.true) (eqb-true _ _ yes),
+      λ holds. eq-eqb _ _ (Holds-kept inside.gens (g.L.Log.changes inside.log) inside.live inside.worn
+          (last_given inside.generations) c.self.invariant.follows c.args.slot c.ranges.slot.fits c.args.generation holds).1,
     )
 
 pub returns-else-contains-clause-live : goal.returns-else-contains-clause-live
@@ -27,7 +31,8 @@ returns-else-contains-clause-live g c =
       λ holds.
           let kept : Holds (g.L.Log.changes inside.log) c.args.slot c.args.generation = subst (λ (s : SpanState). Holds s.log c.args.slot c.args.generation) (sym c.self.view_is) holds in
           c.contains.ensures
-          ∙ (Holds-kept inside.gens (g.L.Log.changes inside.log) inside.live inside.worn (last_given inside.generations) c.self.invariant.follows c.args.slot c.ranges.slot.fits c.args.generation kept).0,
+          ∙ (Holds-kept inside.gens (g.L.Log.changes inside.log) inside.live inside.worn
+          (last_given inside.generations) c.self.invariant.follows c.args.slot c.ranges.slot.fits c.args.generation kept).0,
     )
 
 on_true : (b : Bool) {P : Type 0} → (b ≡ true → P) → OnTrue b P
@@ -39,4 +44,6 @@ returns-then-contains-clause-on_page g c =
     let inside = c.self.inside in
     rw (← c.self.view_is, c.generation_of.ensures) (on_true _ (λ yes.
     Holds-on_page inside.class (g.L.Log.changes inside.log) c.args.slot c.args.generation c.self.invariant.of_class
-    (kept-Holds inside.gens (g.L.Log.changes inside.log) inside.live inside.worn (last_given inside.generations) c.self.invariant.follows c.args.slot c.ranges.slot.fits c.args.generation (sym c.contains.ensures ∙ c.if-contains.true) (eqb-true _ _ yes))))
+    (kept-Holds inside.gens (g.L.Log.changes inside.log) inside.live inside.worn
+    (last_given inside.generations) c.self.invariant.follows c.args.slot c.ranges.slot.fits c.args.generation (sym c.contains.ensures ∙ c.if-contains.true)
+    (eqb-true _ _ yes))))

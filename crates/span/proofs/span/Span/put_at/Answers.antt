@@ -21,7 +21,9 @@ use Rattle.span.proofs.span.Span.put_at.Goals as goal
 use Rattle.span.proofs.span.Span.put_at.Goals.{then-generation-self, else-generation-self}
 
 -- the span before the put, seen by its state, at a slot that is neither live nor worn
-module _ {id : SpanId} {class : Class} {gens : ℕ} {live worn : SlotSet} {kept_generations : Generations} {log : List Change} {room : ℕ} (kept : IsKept class gens live worn kept_generations log room) (state : SpanState) (view_is : record { id = id; class = class; gens = gens; log = log } ≡ state) (slot : ℕ) (within : slot < 256)
+module _ {id : SpanId} {class : Class} {gens : ℕ} {live worn : SlotSet} {kept_generations : Generations} {log : List Change} {room : ℕ}
+    (kept : IsKept class gens live worn kept_generations log room) (state : SpanState)
+    (view_is : record { id = id; class = class; gens = gens; log = log } ≡ state) (slot : ℕ) (within : slot < 256)
     (not_live : set.contains (live_slots state.log) slot ≡ false) (not_worn : set.contains (worn_slots state.gens state.log) slot ≡ false) where
   unused : set.contains (live_slots log) slot ≡ false
   unused = ap (λ (S : SpanState). set.contains (live_slots S.log) slot) view_is ∙ not_live
@@ -48,7 +50,9 @@ module _ {id : SpanId} {class : Class} {gens : ℕ} {live worn : SlotSet} {kept_
     next_is_fresh = rw (← view_is, last) (was_issued-next gens log slot kept.follows.legal)
 
 -- the put is of the span's class
-put_fits : {id : SpanId} {class : Class} {gens : ℕ} {log : List Change} {state : SpanState} {slot : ℕ} (words : List ℕ) → record { id = id; class = class; gens = gens; log = log } ≡ state → slot < slots_in state.class → length words ≡ width_of state.class → (slot < slots_in class) × (length words ≡ width_of class)
+put_fits : {id : SpanId} {class : Class} {gens : ℕ} {log : List Change} {state : SpanState} {slot : ℕ} (words : List ℕ)
+    → record { id = id; class = class; gens = gens; log = log } ≡ state → slot < slots_in state.class → length words ≡ width_of state.class
+    → (slot < slots_in class) × (length words ≡ width_of class)
 put_fits {class = class} {state = state} {slot = slot} words view_is on_page width =
     let same : class ≡ state.class = ap (λ (S : SpanState). S.class) view_is in
     (subst (λ (c : Class). slot < slots_in c) (sym same) on_page, subst (λ (c : Class). length words ≡ width_of c) (sym same) width)
@@ -86,21 +90,34 @@ invariant_of-self-2 g c =
     elim c.if-generation-self.branch [
       | then-generation-self w ↦ subst (λ (s : Inside g.row.L.Denot). IsKept s.class s.gens s.live s.worn s.generations (g.L.Log.changes s.log) (g.L.Log.room s.log)) (sym w.self-inside-is) (record {
         some_generation = c.self.invariant.some_generation;
-        follows = rw (c.push_put.ensures.changes, c.in_ok-reserve.ensures.changes, c.insert.ensures, w.insert-then-generation-self.ensures, c.give_next-generation.ensures.given, c.give_next-generation.ensures.next)
-            (Follows-put_last s.gens (g.L.Log.changes s.log) s.live s.worn generations before c.args.slot c.ranges.slot.fits long c.args.words.now not_live not_worn (sym c.give_next-generation.ensures.next ∙ w.if-generation-self.true));
+        follows = rw (
+          c.push_put.ensures.changes,
+          c.in_ok-reserve.ensures.changes,
+          c.insert.ensures,
+          w.insert-then-generation-self.ensures,
+          c.give_next-generation.ensures.given,
+          c.give_next-generation.ensures.next,
+        )
+            (Follows-put_last s.gens (g.L.Log.changes s.log) s.live s.worn generations before c.args.slot c.ranges.slot.fits long c.args.words.now not_live
+            not_worn (sym c.give_next-generation.ensures.next ∙ w.if-generation-self.true));
         all_or_none = c.give_next-generation.ensures.all_or_none s.class c.in_ok-reserve_all.ensures.all_or_none;
         gens_fit = c.self.invariant.gens_fit;
-        of_class = rw (c.push_put.ensures.changes, c.in_ok-reserve.ensures.changes) (IsOfClass-push s.class (g.L.Log.changes s.log) _ c.self.invariant.of_class (put_fits {slot = c.args.slot} c.args.words.now c.self.view_is c.requires.on_page c.requires.width));
+        of_class = rw (c.push_put.ensures.changes, c.in_ok-reserve.ensures.changes)
+            (IsOfClass-push s.class (g.L.Log.changes s.log) _ c.self.invariant.of_class
+            (put_fits {slot = c.args.slot} c.args.words.now c.self.view_is c.requires.on_page c.requires.width));
         few_sets = rw (c.push_put.ensures.changes, c.in_ok-reserve.ensures.changes, c.insert.ensures) (counted _ c.args.words.now);
         room_for_frees = rw c.insert.ensures (omega (arith, one, c.count.ensures.count, c.in_ok-reserve.ensures.ok, c.push_put.ensures.room));
       })
       | else-generation-self w ↦ subst (λ (s : Inside g.row.L.Denot). IsKept s.class s.gens s.live s.worn s.generations (g.L.Log.changes s.log) (g.L.Log.room s.log)) (sym w.self-inside-is) (record {
         some_generation = c.self.invariant.some_generation;
         follows = rw (c.push_put.ensures.changes, c.in_ok-reserve.ensures.changes, c.insert.ensures, c.give_next-generation.ensures.given, c.give_next-generation.ensures.next)
-            (Follows-put_more s.gens (g.L.Log.changes s.log) s.live s.worn generations before c.args.slot c.ranges.slot.fits long c.args.words.now not_live not_worn (λ e. w.if-generation-self.false (c.give_next-generation.ensures.next ∙ e)));
+            (Follows-put_more s.gens (g.L.Log.changes s.log) s.live s.worn generations before c.args.slot c.ranges.slot.fits long c.args.words.now not_live
+            not_worn (λ e. w.if-generation-self.false (c.give_next-generation.ensures.next ∙ e)));
         all_or_none = c.give_next-generation.ensures.all_or_none s.class c.in_ok-reserve_all.ensures.all_or_none;
         gens_fit = c.self.invariant.gens_fit;
-        of_class = rw (c.push_put.ensures.changes, c.in_ok-reserve.ensures.changes) (IsOfClass-push s.class (g.L.Log.changes s.log) _ c.self.invariant.of_class (put_fits {slot = c.args.slot} c.args.words.now c.self.view_is c.requires.on_page c.requires.width));
+        of_class = rw (c.push_put.ensures.changes, c.in_ok-reserve.ensures.changes)
+            (IsOfClass-push s.class (g.L.Log.changes s.log) _ c.self.invariant.of_class
+            (put_fits {slot = c.args.slot} c.args.words.now c.self.view_is c.requires.on_page c.requires.width));
         few_sets = rw (c.push_put.ensures.changes, c.in_ok-reserve.ensures.changes, c.insert.ensures) (counted _ c.args.words.now);
         room_for_frees = rw c.insert.ensures (omega (arith, one, c.count.ensures.count, c.in_ok-reserve.ensures.ok, c.push_put.ensures.room));
       })

@@ -17,7 +17,9 @@ use Rattle.span.proofs.Keeping.{Follows-set}
 use Rattle.span.proofs.span.Span.set_at.Goals as goal
 
 -- the span before the set, seen by its state
-module _ {id : SpanId} {class : Class} {gens : ℕ} {live worn : SlotSet} {generations : Generations} {log : List Change} {room : ℕ} (kept : IsKept class gens live worn generations log room) (state : SpanState) (view_is : record { id = id; class = class; gens = gens; log = log } ≡ state) (slot generation : ℕ) (within : slot < 256) (words : Value)
+module _ {id : SpanId} {class : Class} {gens : ℕ} {live worn : SlotSet} {generations : Generations} {log : List Change} {room : ℕ}
+    (kept : IsKept class gens live worn generations log room) (state : SpanState) (view_is : record { id = id; class = class; gens = gens; log = log } ≡ state)
+    (slot generation : ℕ) (within : slot < 256) (words : Value)
     (settable : IsSettable state slot generation words) where
   holds : Holds log slot generation
   holds = subst (λ (S : SpanState). Holds S.log slot generation) (sym view_is) settable.0

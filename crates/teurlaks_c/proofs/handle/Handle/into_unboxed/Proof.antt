@@ -68,16 +68,19 @@ module _ {M : Type 1} {𝓤 : Ura M} (𝓛 : Logic 𝓤) (at_mem : Memory → SP
   from_null z hv fa none =
       qed 𝓛 (raw (emp 𝓤) ∷ []) ∵ drop ! $ enter ! 𝓣.C 𝓣.Λ code.function (word null_ptr ∷ hv ∷ []) _ $ alloc_all ! (λ ls. pass_all ! refl ((tt, (record { fits = lit< tt }, tt)), (fa, tt)) $
       let Ev = env code.function.locals ls in
-      sets ! (of_opd ! (get_in ! (fld ! refl (stop !)) (sub ! 0 refl (whole !)))) refl (tt, record { fits = lit< tt }) $ sets ! (bin ! (get ! refl) (lit ! tt) tt) refl (tt, tt) $ first ! $ branches ! (get ! refl)
+      sets ! (of_opd ! (get_in ! (fld ! refl (stop !)) (sub ! 0 refl (whole !)))) refl (tt, record { fits = lit< tt }) $ sets !
+      (bin ! (get ! refl) (lit ! tt) tt) refl (tt, tt) $ first ! $ branches ! (get ! refl)
       (λ _. sets_last ! (agg ! (and_then ! (lit ! tt) (no_more !))) refl (tt, (record { fits = lit< tt }, tt)) $ exec ! 𝓣.C 𝓣.Λ Ev (after 3 code.function.body) (at_ret Ev (Post z)) $
-      sets ! (of_opd ! (get ! refl)) refl (tt, (record { fits = lit< tt }, tt)) $ returns ! (look_at ! 0 refl) $ free_all ! refl $ use0 𝓛 (‵ (To.own_val None (live 0 vnil ∷ []))) (none_of 𝓛 OfUnboxed) $
+      sets ! (of_opd ! (get ! refl)) refl (tt, (record { fits = lit< tt }, tt)) $ returns ! (look_at ! 0 refl) $ free_all ! refl $ use0 𝓛
+      (‵ (To.own_val None (live 0 vnil ∷ []))) (none_of 𝓛 OfUnboxed) $
       suffices ! _ (ends_at 𝓛 F.ended stayed (F.clauses 𝓛 at_mem run) z (live 0 vnil) None (tt, (tt, tt)) (tt, (tt, tt))) $ says ! none $
       nothing ! $ nothing ! $ fjoin ! $ nothing ! $ fjoin ! $ join ! $ nothing ! $ join ! $ done !)
       (λ wrong. absurd wrong))
 
   -- a handle of something
   from_box : (z : Bound) (held : Held) (hv : Val) (b o : ℕ) → Fits E.al hv → Testable (block_ptr b o) → z.0.3.0.held ≡ Some held
-      → ent 𝓤 (sep 𝓤 (sem 𝓛 (box_owns right Content.the_row (block_ptr b o) held)) (sem 𝓛 ((P E).own_val z.0.3.1.0 (hv ∷ [])))) (WpFn 𝓤 H 𝓣.C 𝓣.Λ code.function (word (block_ptr b o) ∷ hv ∷ []) (Post z))
+      → ent 𝓤 (sep 𝓤 (sem 𝓛 (box_owns right Content.the_row (block_ptr b o) held)) (sem 𝓛 ((P E).own_val z.0.3.1.0 (hv ∷ []))))
+      (WpFn 𝓤 H 𝓣.C 𝓣.Λ code.function (word (block_ptr b o) ∷ hv ∷ []) (Post z))
   from_box z held hv b o fa may same =
       let a = z.0.3.1.0 in
       let v : D E = record { ptr = block_ptr b o; alloc = a; value = held } in
@@ -85,13 +88,17 @@ module _ {M : Type 1} {𝓤 : Ura M} (𝓛 : Logic 𝓤) (at_mem : Memory → SP
       let some : Val = live 1 (vcons (box_word E hv b o) vnil) in
       let typed = box_typed E hv b o fa in
       let good : Good (layout To) some = (and_tt _ typed.0, (record { fits = lit< tt }, (typed.1, tt))) in
-      qed 𝓛 (‵ (box_owns right Content.the_row (block_ptr b o) held) ∷ ‵ ((P E).own_val a (hv ∷ [])) ∷ []) ∵ use1 𝓛 (‵ (box_owns right (R E) (block_ptr b o) held)) (id⊢ 𝓤 _) $ fsplit ! $ box_in E ! v b o held refl refl $
+      qed 𝓛 (‵ (box_owns right Content.the_row (block_ptr b o) held) ∷ ‵ ((P E).own_val a (hv ∷ [])) ∷ []) ∵ use1 𝓛
+      (‵ (box_owns right (R E) (block_ptr b o) held)) (id⊢ 𝓤 _) $ fsplit ! $ box_in E ! v b o held refl refl $
       use1 𝓛 (‵ (OfUnboxed.own_val made (box_word E hv b o ∷ []))) (id⊢ 𝓤 _) $ use1 𝓛 (‵ (To.own_val (Some made) (some ∷ []))) (Some-of 𝓛 OfUnboxed made (box_word E hv b o)) $
       enter ! 𝓣.C 𝓣.Λ code.function (word (block_ptr b o) ∷ hv ∷ []) _ $ alloc_all ! (λ ls. pass_all ! refl ((tt, (tt, tt)), (fa, tt)) $
       let Ev = env code.function.locals ls in
-      sets ! (of_opd ! (get_in ! (fld ! refl (stop !)) (sub ! 0 refl (whole !)))) refl (tt, tt) $ sets ! (bin ! (get ! refl) (lit ! tt) (tests_null (block_ptr b o) may)) refl (tt, tt) $ first ! $ branches ! (get ! refl)
+      sets ! (of_opd ! (get_in ! (fld ! refl (stop !)) (sub ! 0 refl (whole !)))) refl (tt, tt) $ sets !
+      (bin ! (get ! refl) (lit ! tt) (tests_null (block_ptr b o) may)) refl (tt, tt) $ first ! $ branches ! (get ! refl)
       (λ wrong. absurd wrong)
-      (λ _. sets ! (of_opd ! (get ! refl)) refl (tt, tt) $ sets ! (agg ! (and_then ! (get ! refl) (and_then ! (get ! refl) (no_more !)))) refl typed $ sets_last ! (agg ! (and_then ! (lit ! tt) (and_then ! (get ! refl) (no_more !)))) refl good $
+      (λ _. sets ! (of_opd ! (get ! refl)) refl (tt, tt) $ sets !
+      (agg ! (and_then ! (get ! refl) (and_then ! (get ! refl) (no_more !)))) refl typed $ sets_last !
+      (agg ! (and_then ! (lit ! tt) (and_then ! (get ! refl) (no_more !)))) refl good $
       exec ! 𝓣.C 𝓣.Λ Ev (after 3 code.function.body) (at_ret Ev (Post z)) $ sets ! (of_opd ! (get ! refl)) refl good $ returns ! (look_at ! 0 refl) $ free_all ! refl $
       suffices ! _ (ends_at 𝓛 F.ended stayed (F.clauses 𝓛 at_mem run) z some (Some made) (tt, (tt, tt)) (tt, (tt, tt))) $ says ! same $
       nothing ! $ nothing ! $ fjoin ! $ nothing ! $ fjoin ! $ join ! $ nothing ! $ join ! $ done !))
@@ -104,17 +111,21 @@ module _ {M : Type 1} {𝓤 : Ura M} (𝓛 : Logic 𝓤) (at_mem : Memory → SP
       split ! $ drop ! $ fsplit ! $ move ! (1 ∷ []) $ fsplit ! $ handle_tells E.al ! a z.0.4.1.0 (λ hv ea fa. move ! (2 ∷ []) $
       -- [the handle; the allocator; nothing]
       fsplit ! $ fpick ! (λ vss. fsplit ! $ feq_l ! (λ ev. fsplit ! $ feq_l ! (λ ep. drop ! $
-      let passed : (p : Ptr) → h.at ≡ p → z.0.4.0 ++ (z.0.4.1.0 ++ []) ≡ word p ∷ hv ∷ [] = λ p e. (λ i. (ev ∙ ap (λ (us : List Val). vstruct (of_list (us ++ [])) ∷ []) (ep ∙ ap (λ (q : Ptr). ptr_val q ∷ []) e)) i ++ (ea i ++ [])) in
+      let passed : (p : Ptr) → h.at ≡ p
+      → z.0.4.0 ++ (z.0.4.1.0 ++ []) ≡ word p ∷ hv
+      ∷ [] = λ p e. (λ i. (ev ∙ ap (λ (us : List Val). vstruct (of_list (us ++ [])) ∷ []) (ep ∙ ap (λ (q : Ptr). ptr_val q ∷ []) e)) i ++ (ea i ++ [])) in
       held_or_null ! h.at h.held
       (λ none null. keep ! [] $ by ! (subst (λ (us : List Val). ent 𝓤 (emp 𝓤) (Goes us)) (sym (passed null_ptr null)) (from_null z hv fa none)))
       (λ held same. in_a_block ! h.at (λ p. box_owns right Content.the_row p held) (fst∗ 𝓤 (never 𝓤) (sem 𝓛 (right (bare (τ E)) null_ptr))) (λ b o e. keep ! (0 ∷ 1 ∷ []) $
       use1 𝓛 (given (Testable (block_ptr b o)) (‵ (box_owns right Content.the_row (block_ptr b o) held))) (tested 𝓛 (block_ptr b o) held) $ learn ! (λ may.
-      by ! (subst (λ (us : List Val). ent 𝓤 (sep 𝓤 (sem 𝓛 (box_owns right Content.the_row (block_ptr b o) held)) (sem 𝓛 ((P E).own_val a (hv ∷ [])))) (Goes us)) (sym (passed (block_ptr b o) e)) (from_box z held hv b o fa may same)))))))))
+      by ! (subst (λ (us : List Val). ent 𝓤 (sep 𝓤 (sem 𝓛 (box_owns right Content.the_row (block_ptr b o) held)) (sem 𝓛 ((P E).own_val a (hv ∷ [])))) (Goes us))
+      (sym (passed (block_ptr b o) e)) (from_box z held hv b o fa may same)))))))))
 
 pub into_unboxed_spec : {M : Type 1} → stated.statement M
 unfolding tables_of
 into_unboxed_spec 𝓤 𝓛 𝓜 𝓡 wired =
     let 𝓣 : Tables 𝓤 𝓛.H = tables_of 𝓤 𝓛.H 𝓜 (tables 𝓤 𝓛.H 𝓜 𝓡 𝓡.env) in
     entered 𝓤 𝓛.H (triple_of 𝓛 F.signature (F.spec 𝓛 𝓜.mem 𝓡.returns)) 𝓣.C 𝓣.Λ #self code.function (code.unfolded 𝓤 𝓛.H 𝓜 𝓡 wired)
-    (walk_Meets 𝓛 F.ended stayed (Goes-dropped 𝓛 0 From yes (λ κs x f. refl), (Goes-dropped 𝓛 0 FromHeap yes (λ κs x f. refl), tt)) (F.clauses 𝓛 𝓜.mem 𝓡.returns) (WpFn 𝓤 𝓛.H 𝓣.C 𝓣.Λ code.function) (WpFn-mono 𝓤 𝓛.H 𝓛.laws 𝓣 code.function)
+    (walk_Meets 𝓛 F.ended stayed (Goes-dropped 𝓛 0 From yes (λ κs x f. refl), (Goes-dropped 𝓛 0 FromHeap yes (λ κs x f. refl), tt))
+    (F.clauses 𝓛 𝓜.mem 𝓡.returns) (WpFn 𝓤 𝓛.H 𝓣.C 𝓣.Λ code.function) (WpFn-mono 𝓤 𝓛.H 𝓛.laws 𝓣 code.function)
     (walk 𝓛 𝓜.mem 𝓡.returns 𝓣))

@@ -46,7 +46,10 @@ steward_fields = (share, (steward_send, (search (sendable, crosses, witness_send
 
 content : IsSend Content.the_row
 content =
-    let variants : EachSend (enum_shape Content.the_type).variants = ((struct_send (struct_shape SeatContent.the_type) seat_fields, tt), ((struct_send (struct_shape StewardContent.the_type) steward_fields, tt), tt)) in
+    let variants : EachSend (enum_shape Content.the_type).variants = (
+      (struct_send (struct_shape SeatContent.the_type) seat_fields, tt),
+      ((struct_send (struct_shape StewardContent.the_type) steward_fields, tt), tt),
+    ) in
     recorded_send (Content.the_field).row _ _ (Content.the_type).to_one (enum_send (enum_shape Content.the_type) variants)
 
 owned : (at : Ptr) (found : Option Share) → Keyless (owns_share at found)

@@ -18,8 +18,12 @@ returns-in-Fill-clause-told g c above binds reads =
     let kept = c.args.keys.now.kept.items in
     let knew : GivenKeys → Type 0 = AreKnown kept self.fresh.items in
     let knows : GivenKeys → Type 0 = AreKnown kept later.fresh.items in
-    subst (λ l. OnOk c.fill.result (Tells self.seat.section self.seat.worker c.args.spot.number (asked_by above l) knew knows self.diary later.diary (carried_by self.seat) (carried_by later.seat))) (sym c.in-Fill.is)
-    (subst (λ n. OnOk c.fill.result (Tells self.seat.section self.seat.worker c.args.spot.number (map (λ i. Puts (n + i) (counted_from c.in-Fill.class (c.in-Fill.value + i))) (range_with_len 0 c.in-Fill.count)) knew knows self.diary later.diary (carried_by self.seat) (carried_by later.seat))) binds
+    subst (λ l. OnOk c.fill.result (Tells self.seat.section self.seat.worker c.args.spot.number (asked_by above l) knew knows self.diary later.diary
+    (carried_by self.seat) (carried_by later.seat))) (sym c.in-Fill.is)
+    (subst (λ n. OnOk c.fill.result
+    (Tells self.seat.section self.seat.worker c.args.spot.number
+    (map (λ i. Puts (n + i) (counted_from c.in-Fill.class (c.in-Fill.value + i))) (range_with_len 0 c.in-Fill.count)) knew knows self.diary later.diary
+    (carried_by self.seat) (carried_by later.seat))) binds
     (c.fill.ensures.told kept))
 
 pub returns-in-End-clause-told : goal.returns-in-End-clause-told
@@ -29,8 +33,11 @@ returns-in-End-clause-told g c above binds reads =
     let kept = c.args.keys.now.kept.items in
     let knew : GivenKeys → Type 0 = AreKnown kept self.fresh.items in
     let knows : GivenKeys → Type 0 = AreKnown kept later.fresh.items in
-    subst (λ l. OnOk c.other.result (Tells self.seat.section self.seat.worker c.args.spot.number (asked_by above l) knew knows self.diary later.diary (carried_by self.seat) (carried_by later.seat))) (sym c.in-End.is)
+    subst (λ l. OnOk c.other.result
+    (Tells self.seat.section self.seat.worker c.args.spot.number (asked_by above l) knew knows self.diary later.diary (carried_by self.seat)
+    (carried_by later.seat))) (sym c.in-End.is)
     (on_ok_weaker c.other.result
-    (Tells-still self.seat.section self.seat.worker c.args.spot.number Ends (Said other.Ended) kept self.fresh.items later.fresh.items self.diary later.diary (carried_by self.seat) (carried_by later.seat)
+    (Tells-still self.seat.section self.seat.worker c.args.spot.number Ends (Said other.Ended) kept self.fresh.items later.fresh.items self.diary later.diary
+    (carried_by self.seat) (carried_by later.seat)
     (subst (λ f. f.items ≡ self.fresh.items) (sym c.other.ensures.fresh) refl) (λ given known. refl) (Carries-none (carried_by self.seat) (carried_by later.seat) (ap carried_by c.other.ensures.seat)))
     c.other.ensures.told)

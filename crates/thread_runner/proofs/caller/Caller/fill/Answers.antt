@@ -18,12 +18,19 @@ loop-i-preserved g c =
     let after = c.put.new.self in
     record {
       told = λ kept.
-          let here = subst (λ n. Tells before.seat.section before.seat.worker c.args.number (Puts n (counted_from c.args.class (c.args.value + c.loop-i.i)) ∷ []) (AreKnown kept before.fresh.items) (AreKnown kept after.fresh.items) before.diary after.diary (carried_by before.seat) (carried_by after.seat))
+          let here = subst (λ n. Tells before.seat.section before.seat.worker c.args.number
+          (Puts n (counted_from c.args.class (c.args.value + c.loop-i.i)) ∷ []) (AreKnown kept before.fresh.items)
+          (AreKnown kept after.fresh.items) before.diary after.diary (carried_by before.seat) (carried_by after.seat))
           c.in_ok-place.ensures (rw c.from.ensures at (c.in_ok-put.ensures.told kept)) in
-          let of_thread = subst (λ t. Tells before.seat.section t c.args.number (put c.loop-i.i ∷ []) (AreKnown kept before.fresh.items) (AreKnown kept after.fresh.items) before.diary after.diary (carried_by before.seat) (carried_by after.seat)) c.loop-i.invariant.thread here in
-          let next = subst (λ s. Tells s seat.worker c.args.number (put c.loop-i.i ∷ []) (AreKnown kept before.fresh.items) (AreKnown kept after.fresh.items) before.diary after.diary (carried_by before.seat) (carried_by after.seat)) c.loop-i.invariant.section of_thread in
-          subst (λ (asked : List Asked). Tells seat.section seat.worker c.args.number asked (AreKnown kept c.args.self.now.fresh.items) (AreKnown kept after.fresh.items) c.args.self.now.diary after.diary (carried_by seat) (carried_by after.seat)) (sym more)
-          (Tells-append seat.section seat.worker c.args.number (map put (range_with_len 0 c.loop-i.i)) (put c.loop-i.i ∷ []) (AreKnown kept c.args.self.now.fresh.items) (AreKnown kept before.fresh.items)
+          let of_thread = subst (λ t. Tells before.seat.section t c.args.number (put c.loop-i.i ∷ []) (AreKnown kept before.fresh.items)
+          (AreKnown kept after.fresh.items) before.diary after.diary (carried_by before.seat) (carried_by after.seat)) c.loop-i.invariant.thread here in
+          let next = subst (λ s. Tells s seat.worker c.args.number (put c.loop-i.i ∷ []) (AreKnown kept before.fresh.items)
+          (AreKnown kept after.fresh.items) before.diary after.diary (carried_by before.seat) (carried_by after.seat)) c.loop-i.invariant.section
+          of_thread in
+          subst (λ (asked : List Asked). Tells seat.section seat.worker c.args.number asked (AreKnown kept c.args.self.now.fresh.items)
+          (AreKnown kept after.fresh.items) c.args.self.now.diary after.diary (carried_by seat) (carried_by after.seat)) (sym more)
+          (Tells-append seat.section seat.worker c.args.number (map put (range_with_len 0 c.loop-i.i)) (put c.loop-i.i ∷ [])
+          (AreKnown kept c.args.self.now.fresh.items) (AreKnown kept before.fresh.items)
           (AreKnown kept after.fresh.items) c.args.self.now.diary before.diary after.diary (carried_by seat) (carried_by before.seat) (carried_by after.seat) (c.loop-i.invariant.told kept) next);
       table = c.put.ensures.table ∙ c.loop-i.invariant.table;
       thread = c.put.ensures.thread ∙ c.loop-i.invariant.thread;

@@ -12,9 +12,12 @@ returns-in_default-clause-told g c =
     let self = c.args.self.now in
     let place = c.args.place in
     on_ok_weaker c.other.result
-    (Tells-still self.seat.section self.seat.worker c.args.number (Gets place) (Said other.Unbound) c.args.keys.now.kept.items self.fresh.items c.other.new.self.fresh.items self.diary c.other.new.self.diary (carried_by self.seat) (carried_by c.other.new.self.seat)
+    (Tells-still self.seat.section self.seat.worker c.args.number (Gets place)
+    (Said other.Unbound) c.args.keys.now.kept.items self.fresh.items c.other.new.self.fresh.items self.diary c.other.new.self.diary (carried_by self.seat)
+    (carried_by c.other.new.self.seat)
     (subst (λ f. f.items ≡ self.fresh.items) (sym c.other.ensures.fresh) refl)
-    (λ given known. (c.in_ok-key.ensures given known ∙ None-not_some c.in_ok-key.field-0 c.in_default.not-Some, refl)) (Carries-none (carried_by self.seat) (carried_by c.other.new.self.seat) (ap carried_by c.other.ensures.seat)))
+    (λ given known. (c.in_ok-key.ensures given known ∙ None-not_some c.in_ok-key.field-0 c.in_default.not-Some, refl))
+    (Carries-none (carried_by self.seat) (carried_by c.other.new.self.seat) (ap carried_by c.other.ensures.seat)))
     c.other.ensures.told
 
 pub returns-clause-told : goal.returns-clause-told
@@ -22,8 +25,11 @@ returns-clause-told g c =
     let self = c.args.self.now in
     let place = c.args.place in
     on_ok_weaker c.keep.result
-    (Tells-still self.seat.section self.seat.worker c.args.number (Gets place) (Called c.get-receipt.result.1) c.args.keys.now.kept.items self.fresh.items c.keep.new.self.fresh.items self.diary c.keep.new.self.diary (carried_by self.seat) (carried_by c.keep.new.self.seat)
+    (Tells-still self.seat.section self.seat.worker c.args.number (Gets place)
+    (Called c.get-receipt.result.1) c.args.keys.now.kept.items self.fresh.items c.keep.new.self.fresh.items self.diary c.keep.new.self.diary
+    (carried_by self.seat) (carried_by c.keep.new.self.seat)
     (subst (λ f. f.items ≡ self.fresh.items) (sym c.keep.ensures.fresh) refl)
-    (λ given known. Answers-get given self.seat.section self.seat.worker place c.get-receipt.result.0 c.in-Some.key c.get-receipt.result.1 c.get-receipt.ensures.receipt (c.in_ok-key.ensures given known ∙ c.in-Some.is))
+    (λ given known. Answers-get given self.seat.section self.seat.worker place c.get-receipt.result.0 c.in-Some.key c.get-receipt.result.1
+    c.get-receipt.ensures.receipt (c.in_ok-key.ensures given known ∙ c.in-Some.is))
     (Carries-none (carried_by self.seat) (carried_by c.keep.new.self.seat) (ap carried_by c.keep.ensures.seat ∙ carried-kept self.seat c.get-receipt.new.self c.get-receipt.ensures.seat.kept)))
     c.keep.ensures.told

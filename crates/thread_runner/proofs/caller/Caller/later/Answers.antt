@@ -15,7 +15,8 @@ returns-in_default-clause-told g c =
     let later = c.other.new.self in
     let place = c.args.place in
     on_ok_weaker c.other.result
-    (Tells-still self.seat.section self.seat.worker c.args.number (Leaves place) (Said other.Unbound) c.args.keys.now.kept.items self.fresh.items later.fresh.items self.diary later.diary (carried_by self.seat) (carried_by later.seat)
+    (Tells-still self.seat.section self.seat.worker c.args.number (Leaves place)
+    (Said other.Unbound) c.args.keys.now.kept.items self.fresh.items later.fresh.items self.diary later.diary (carried_by self.seat) (carried_by later.seat)
     (subst (λ f. f.items ≡ self.fresh.items) (sym c.other.ensures.fresh) refl)
     (λ given known. IsKeptBack-none (given place) (c.in_ok-key.ensures given known ∙ None-not_some c.in_ok-key.field-0 c.in_default.not-Some))
     (Carries-none (carried_by self.seat) (carried_by later.seat) (ap carried_by c.other.ensures.seat)))
@@ -29,7 +30,8 @@ returns-in-Ok-clause-told g c =
     let key = c.in-Some.key in
     let there : IsTrue c.has_shard_of.result = search rules in
     on_ok_weaker c.other-in-Ok.result
-    (Tells-still self.seat.section self.seat.worker c.args.number (Leaves place) (Left key) c.args.keys.now.kept.items self.fresh.items later.fresh.items self.diary later.diary (carried_by self.seat) (carried_by later.seat)
+    (Tells-still self.seat.section self.seat.worker c.args.number (Leaves place)
+    (Left key) c.args.keys.now.kept.items self.fresh.items later.fresh.items self.diary later.diary (carried_by self.seat) (carried_by later.seat)
     (subst (λ f. f.items ≡ self.fresh.items) (sym c.other-in-Ok.ensures.fresh) refl)
     (λ given known. c.in_ok-key.ensures given known ∙ c.in-Some.is)
     (subst (λ s. Carries (key ∷ []) [] (carried_by self.seat) (carried_by s)) (sym c.other-in-Ok.ensures.seat)
@@ -42,8 +44,11 @@ returns-in-Err-clause-told g c =
     let later = c.other-in-Err.new.self in
     let place = c.args.place in
     on_ok_weaker c.other-in-Err.result
-    (Tells-still self.seat.section self.seat.worker c.args.number (Leaves place) (Said other.RingFull) c.args.keys.now.kept.items self.fresh.items later.fresh.items self.diary later.diary (carried_by self.seat) (carried_by later.seat)
+    (Tells-still self.seat.section self.seat.worker c.args.number (Leaves place)
+    (Said other.RingFull) c.args.keys.now.kept.items self.fresh.items later.fresh.items self.diary later.diary (carried_by self.seat)
+    (carried_by later.seat)
     (subst (λ f. f.items ≡ self.fresh.items) (sym c.other-in-Err.ensures.fresh) refl)
     (λ given known. IsKeptBack-some (given place) c.in-Some.key (c.in_ok-key.ensures given known ∙ c.in-Some.is))
-    (Carries-none (carried_by self.seat) (carried_by later.seat) (ap carried_by c.other-in-Err.ensures.seat ∙ carried-unsent self.seat c.free_later.new.self c.in-Err.ensures.sent.1 c.free_later.ensures.seat.2)))
+    (Carries-none (carried_by self.seat) (carried_by later.seat)
+    (ap carried_by c.other-in-Err.ensures.seat ∙ carried-unsent self.seat c.free_later.new.self c.in-Err.ensures.sent.1 c.free_later.ensures.seat.2)))
     c.other-in-Err.ensures.told

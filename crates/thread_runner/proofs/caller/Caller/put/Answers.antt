@@ -14,7 +14,9 @@ pub returns-in_ok-enter-in-Ok-clause-told : goal.returns-in_ok-enter-in-Ok-claus
 returns-in_ok-enter-in-Ok-clause-told g c kept =
     let self = c.args.self.now in
     on_ok_weaker c.keep.result
-    (Tells-put self.seat.section self.seat.worker c.args.number c.args.place (counted_from c.args.class c.args.base) (Called c.in-Ok.receipt) (Some c.in-Ok.key) kept self.fresh.items c.keep.new.self.fresh.items self.diary c.keep.new.self.diary (carried_by self.seat) (carried_by c.keep.new.self.seat)
+    (Tells-put self.seat.section self.seat.worker c.args.number c.args.place (counted_from c.args.class c.args.base) (Called c.in-Ok.receipt)
+    (Some c.in-Ok.key) kept self.fresh.items c.keep.new.self.fresh.items self.diary c.keep.new.self.diary (carried_by self.seat)
+    (carried_by c.keep.new.self.seat)
     (λ given are. c.in_ok-enter-in-Ok.ensures given (subst (λ f. AreFresh f.items given) c.keep.ensures.fresh are))
     (λ given known. Answers-put given self.seat.section self.seat.worker c.args.place (counted_from c.args.class c.args.base) c.in-Ok.key c.in-Ok.receipt
     (subst (λ v. c.in-Ok.receipt ≡ put_receipt self.seat.worker self.seat.section v c.in-Ok.key c.in-Ok.receipt.at) c.counting_from.ensures c.in-Ok.ensures.receipt) known)
@@ -25,7 +27,9 @@ pub returns-in_ok-enter-in-Err-PagesSpent-clause-told : goal.returns-in_ok-enter
 returns-in_ok-enter-in-Err-PagesSpent-clause-told g c kept =
     let self = c.args.self.now in
     on_ok_weaker c.other.result
-    (Tells-put self.seat.section self.seat.worker c.args.number c.args.place (counted_from c.args.class c.args.base) (Said other.PagesSpent) None kept self.fresh.items c.other.new.self.fresh.items self.diary c.other.new.self.diary (carried_by self.seat) (carried_by c.other.new.self.seat)
+    (Tells-put self.seat.section self.seat.worker c.args.number c.args.place (counted_from c.args.class c.args.base)
+    (Said other.PagesSpent) None kept self.fresh.items c.other.new.self.fresh.items self.diary c.other.new.self.diary (carried_by self.seat)
+    (carried_by c.other.new.self.seat)
     (λ given are. c.in_ok-enter-in-Err-PagesSpent.ensures given (subst (λ f. AreFresh f.items given) c.other.ensures.fresh are))
     (λ given known. (known, refl))
     (Carries-none (carried_by self.seat) (carried_by c.other.new.self.seat) (ap carried_by c.other.ensures.seat ∙ carried-kept self.seat c.put.new.self c.put.ensures.seat.kept)))

@@ -21,12 +21,17 @@ loop-index-preserved g c =
     let before = c.loop-index.self in
     let after = c.free.new.self in
     let knows : List Given → GivenKeys → Type 0 = λ f. AreKnown c.args.keys.now.kept.items f in
-    let here = subst (λ n. Tells before.seat.section before.seat.worker c.args.number (Frees n ∷ []) (knows before.fresh.items) (knows after.fresh.items) before.diary after.diary (carried_by before.seat) (carried_by after.seat)) c.in_ok-place.ensures c.in_ok-free.ensures.told in
-    let of_thread = subst (λ t. Tells before.seat.section t c.args.number (free index ∷ []) (knows before.fresh.items) (knows after.fresh.items) before.diary after.diary (carried_by before.seat) (carried_by after.seat)) c.loop-index.invariant.thread here in
-    let freed = subst (λ s. Tells s seat.worker c.args.number (free index ∷ []) (knows before.fresh.items) (knows after.fresh.items) before.diary after.diary (carried_by before.seat) (carried_by after.seat)) c.loop-index.invariant.section of_thread in
+    let here = subst (λ n. Tells before.seat.section before.seat.worker c.args.number (Frees n ∷ []) (knows before.fresh.items)
+    (knows after.fresh.items) before.diary after.diary (carried_by before.seat) (carried_by after.seat)) c.in_ok-place.ensures c.in_ok-free.ensures.told in
+    let of_thread = subst (λ t. Tells before.seat.section t c.args.number (free index ∷ []) (knows before.fresh.items)
+    (knows after.fresh.items) before.diary after.diary (carried_by before.seat) (carried_by after.seat)) c.loop-index.invariant.thread here in
+    let freed = subst (λ s. Tells s seat.worker c.args.number (free index ∷ []) (knows before.fresh.items) (knows after.fresh.items) before.diary after.diary
+    (carried_by before.seat) (carried_by after.seat)) c.loop-index.invariant.section of_thread in
     record {
-      told = subst (λ (asked : List Asked). Tells seat.section seat.worker c.args.number asked (knows c.args.self.now.fresh.items) (knows after.fresh.items) c.args.self.now.diary after.diary (carried_by seat) (carried_by after.seat)) (sym more)
-          (Tells-append seat.section seat.worker c.args.number (map free (range_with_len start (index - start))) (free index ∷ []) (knows c.args.self.now.fresh.items) (knows before.fresh.items) (knows after.fresh.items)
+      told = subst (λ (asked : List Asked). Tells seat.section seat.worker c.args.number asked (knows c.args.self.now.fresh.items)
+          (knows after.fresh.items) c.args.self.now.diary after.diary (carried_by seat) (carried_by after.seat)) (sym more)
+          (Tells-append seat.section seat.worker c.args.number (map free (range_with_len start (index - start))) (free index ∷ [])
+          (knows c.args.self.now.fresh.items) (knows before.fresh.items) (knows after.fresh.items)
           c.args.self.now.diary before.diary after.diary (carried_by seat) (carried_by before.seat) (carried_by after.seat) c.loop-index.invariant.told freed);
       bound = omega arith;
       table = c.free.ensures.table ∙ c.loop-index.invariant.table;
@@ -46,7 +51,9 @@ loop-index-init g c =
     let knows : GivenKeys → Type 0 = AreKnown c.args.keys.now.kept.items self.fresh.items in
     let none : start - start ≡ 0 = omega arith in
     record {
-      told = subst (λ n. Tells self.seat.section self.seat.worker c.args.number (map (λ k. Frees (c.args.first + k)) (range_with_len start n)) knows knows self.diary self.diary (carried_by self.seat) (carried_by self.seat)) (sym none)
+      told = subst (λ n. Tells self.seat.section self.seat.worker c.args.number
+          (map (λ k. Frees (c.args.first + k)) (range_with_len start n)) knows knows self.diary self.diary (carried_by self.seat) (carried_by self.seat))
+          (sym none)
           (Tells-none self.seat.section self.seat.worker c.args.number knows self.diary (carried_by self.seat));
       bound = omega arith;
       table = refl;

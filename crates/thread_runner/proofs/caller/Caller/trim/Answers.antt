@@ -12,7 +12,8 @@ returns-clause-told g c kept =
     let self = c.args.self.now in
     let later = c.other.new.self in
     on_ok_weaker c.other.result
-    (Tells-still self.seat.section self.seat.worker c.args.number Trims (Said (other.Trimmed c.trim-count.result)) kept self.fresh.items later.fresh.items self.diary later.diary (carried_by self.seat) (carried_by later.seat)
+    (Tells-still self.seat.section self.seat.worker c.args.number Trims
+    (Said (other.Trimmed c.trim-count.result)) kept self.fresh.items later.fresh.items self.diary later.diary (carried_by self.seat) (carried_by later.seat)
     (subst (λ f. f.items ≡ self.fresh.items) (sym c.other.ensures.fresh) refl) (λ given known. refl)
     (Carries-none (carried_by self.seat) (carried_by later.seat) (ap carried_by c.other.ensures.seat ∙ carried-kept self.seat c.trim-count.new.self c.trim-count.ensures.seat.kept)))
     c.other.ensures.told

@@ -38,7 +38,8 @@ loop-place-preserved g c =
           let next = IsOneSection-other lines c.loop-place.from place c.loop-place.crew.sections line here other so_far.within so_far.one in
           record {
             within = let within = so_far.within in omega (arith, from_is);
-            come = HaveCome-same lines c.loop-place.from c.if-is_mark.from c.loop-place.keeper.steward.plan c.if-is_mark.keeper.steward.plan c.loop-place.keeper.minutes c.if-is_mark.keeper.minutes from_is
+            come = HaveCome-same lines c.loop-place.from c.if-is_mark.from c.loop-place.keeper.steward.plan c.if-is_mark.keeper.steward.plan
+                c.loop-place.keeper.minutes c.if-is_mark.keeper.minutes from_is
                 (ap (λ k. plan_pairs k.steward.plan) w.keeper-is) (ap (λ k. k.minutes) w.keeper-is) so_far.come;
             same = marks_above-other lines place (is ∙ w.if-is_mark.false) ∙ so_far.same ∙ ap (marks_above lines) (sym from_is);
             one = subst (λ s. IsOneSection lines c.if-is_mark.from (place + 1) s) (sym sections_is) (subst (λ f. IsOneSection lines f (place + 1) c.loop-place.crew.sections) (sym from_is) next);
@@ -70,5 +71,6 @@ returns-clause-sections g c =
     let lines = c.args.lines.now.items in
     let so_far = c.loop-place.invariant in
     let end : c.loop-place.place ≡ length lines = omega (arith, c.loop-place-test.false, c.loop-place.auto.place-end, c.len-place-end.ensures.len) in
-    let all : marks lines ≡ c.loop-place.crew.sections = ap marks (sym (take_all (length lines) lines (omega arith))) ∙ ap (λ n. marks (take n lines)) (sym end) ∙ so_far.one c.loop-place.place so_far.within (omega arith) in
+    let all : marks lines ≡ c.loop-place.crew.sections = ap marks (sym (take_all (length lines) lines (omega arith))) ∙ ap (λ n. marks (take n lines)) (sym end)
+    ∙ so_far.one c.loop-place.place so_far.within (omega arith) in
     IfOk-weaker c.last_section.result _ _ (λ both sections. sections ∙ ap (λ n. n + 1) (sym all)) c.last_section.ensures.sections

@@ -11,6 +11,8 @@ invariant_of-result g c =
     let next = total ∙ ap (λ n. n + 1) c.requires.section in
     record {
       reads = c.args.self.reads;
-      rest = subst (λ n. AllByRecursion (λ (r : Resting g.row.G.Denot). Rests g.J.Reading.lines g.J.Reading.shown g.J.Reading.table (AreKept c.in_ok-threads.keys.kept.items) n r.caller.seat r.done r.caller.diary)
+      rest = subst (λ n. AllByRecursion
+          (λ (r : Resting g.row.G.Denot). Rests g.J.Reading.lines g.J.Reading.shown g.J.Reading.table
+          (AreKept c.in_ok-threads.keys.kept.items) n r.caller.seat r.done r.caller.diary)
           c.in_ok-threads.threads.items) (sym next) c.in_ok-threads.ensures;
     }

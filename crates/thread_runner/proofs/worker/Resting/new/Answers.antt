@@ -15,5 +15,6 @@ returns g c kept first nothing =
       rows_are = ap (λ (s : SeatState). s.table.rows) same;
       columns_are = ap (λ (s : SeatState). s.table.columns) same;
       section_is = ap (λ (s : SeatState). s.section) same ∙ first;
-      tracks = Tracks-none text.trace.now.lines.items text.replies (AreKept kept) caller.seat.worker caller.diary (carried_by caller.seat) c.in_ok-caller.ensures.diary (subst (λ s. HaveNothing (carried_by s)) (sym same) nothing);
+      tracks = Tracks-none text.trace.now.lines.items text.replies (AreKept kept) caller.seat.worker caller.diary
+          (carried_by caller.seat) c.in_ok-caller.ensures.diary (subst (λ s. HaveNothing (carried_by s)) (sym same) nothing);
     }

@@ -21,7 +21,8 @@ invariant_of-result g c =
       columns = ap (λ (t : Table). t.columns) c.settle.ensures.table ∙ worker.columns;
       reads = worker.reads;
       section = c.settle.ensures.section ∙ worker.section;
-      tracks = Tracks-barrier lines shown (AreKnown kept later.fresh.items) section old.seat.worker later.seat.worker worker.done count old.diary later.diary (carried_by old.seat) (carried_by later.seat) c.settle.ensures.thread
+      tracks = Tracks-barrier lines shown (AreKnown kept later.fresh.items) section old.seat.worker later.seat.worker worker.done count old.diary later.diary
+          (carried_by old.seat) (carried_by later.seat) c.settle.ensures.thread
           (subst (λ n. TellsTending n old.seat.worker count old.diary later.diary (carried_by old.seat) (carried_by later.seat)) worker.section c.in_ok-settle.ensures.told)
           (subst (λ f. Tracks lines shown (AreKnown kept f.items) old.seat.worker worker.done section old.diary (carried_by old.seat)) (sym c.settle.ensures.fresh) worker.tracks);
     }

@@ -28,6 +28,7 @@ invariant_of-result g c =
       columns = ap (λ (t : Table). t.columns) c.adopt.ensures.table ∙ c.args.self.columns;
       reads = c.args.self.reads;
       section = c.adopt.ensures.section ∙ c.args.self.section;
-      tracks = Tracks-adoption lines shown (AreKnown kept new.fresh.items) section worker new.seat.worker done place l old.diary new.diary (carried_by old.seat) (carried_by new.seat) c.adopt.ensures.thread c.adopt.ensures.carried (sym c.requires.section) next here own (c.requires.adopts l here)
+      tracks = Tracks-adoption lines shown (AreKnown kept new.fresh.items) section worker new.seat.worker done place l old.diary new.diary (carried_by old.seat)
+          (carried_by new.seat) c.adopt.ensures.thread c.adopt.ensures.carried (sym c.requires.section) next here own (c.requires.adopts l here)
           c.in_ok-adopt.ensures.told (subst (λ f. Tracks lines shown (AreKnown kept f.items) worker done (section + 1) old.diary (carried_by old.seat)) (sym c.adopt.ensures.fresh) c.args.self.tracks);
     }

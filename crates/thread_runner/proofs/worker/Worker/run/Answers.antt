@@ -17,7 +17,8 @@ loop-init g c =
     let caller = c.args.self.caller in
     let later = c.reserve.new.self in
     record {
-      tracks = Tracks-kept lines shown (AreKnown kept later.fresh.items) caller.seat.worker later.seat.worker c.args.self.done section caller.diary later.diary (carried_by caller.seat) (carried_by later.seat) c.reserve.ensures.thread c.in_ok-reserve.ensures.told c.reserve.ensures.carried
+      tracks = Tracks-kept lines shown (AreKnown kept later.fresh.items) caller.seat.worker later.seat.worker c.args.self.done section caller.diary later.diary
+          (carried_by caller.seat) (carried_by later.seat) c.reserve.ensures.thread c.in_ok-reserve.ensures.told c.reserve.ensures.carried
           (subst (λ f. Tracks lines shown (AreKnown kept f.items) caller.seat.worker c.args.self.done section caller.diary (carried_by caller.seat)) (sym c.reserve.ensures.fresh) c.args.self.tracks);
       section = c.reserve.ensures.section ∙ c.args.self.section;
       rows = ap (λ (t : Table). t.rows) c.reserve.ensures.table ∙ c.args.self.rows;
@@ -39,11 +40,16 @@ loop-preserved g c =
     let next = rw c.thread-in-loop.ensures at (c.in-Some.ensures.place text.trace.now.lines.items text.laid) in
     let (l, here, own) = line_at-place worker text.trace.now.lines.items c.loop.done place next in
     let tells = c.in_ok-line.ensures.told l here in
-    let known = subst (λ k. Tells old.seat.section worker (place + 6) (asked_at (take place text.trace.now.lines.items) l) (AreKnown k old.fresh.items) (AreKnown k new.fresh.items) old.diary new.diary (carried_by old.seat) (carried_by new.seat)) told.known tells in
-    let of_trace = subst (λ ls. Tells old.seat.section worker (place + 6) (asked_at (take place ls) l) (AreKnown kept old.fresh.items) (AreKnown kept new.fresh.items) old.diary new.diary (carried_by old.seat) (carried_by new.seat)) c.args.self.reads known in
-    let of_section = subst (λ n. Tells n worker (place + 6) (asked_at (take place lines) l) (AreKnown kept old.fresh.items) (AreKnown kept new.fresh.items) old.diary new.diary (carried_by old.seat) (carried_by new.seat)) c.loop.invariant.section of_trace in
+    let known = subst (λ k. Tells old.seat.section worker (place + 6) (asked_at (take place text.trace.now.lines.items) l) (AreKnown k old.fresh.items)
+    (AreKnown k new.fresh.items) old.diary new.diary (carried_by old.seat) (carried_by new.seat)) told.known tells in
+    let of_trace = subst (λ ls. Tells old.seat.section worker (place + 6) (asked_at (take place ls) l) (AreKnown kept old.fresh.items)
+    (AreKnown kept new.fresh.items) old.diary new.diary (carried_by old.seat) (carried_by new.seat)) c.args.self.reads known in
+    let of_section = subst (λ n. Tells n worker (place + 6) (asked_at (take place lines) l) (AreKnown kept old.fresh.items)
+    (AreKnown kept new.fresh.items) old.diary new.diary (carried_by old.seat) (carried_by new.seat)) c.loop.invariant.section of_trace in
     record {
-      tracks = Tracks-line lines shown (AreKnown kept old.fresh.items) (AreKnown kept new.fresh.items) section worker new.seat.worker c.loop.done place l old.diary new.diary (carried_by old.seat) (carried_by new.seat) c.line.ensures.thread
+      tracks = Tracks-line lines shown (AreKnown kept old.fresh.items)
+          (AreKnown kept new.fresh.items) section worker new.seat.worker c.loop.done place l old.diary new.diary (carried_by old.seat)
+          (carried_by new.seat) c.line.ensures.thread
           (sym (told.one place (omega (arith, c.if-place-told.false)) c.in-Some.ensures.above)) (subst (λ ls. slice_get (places_of worker ls) c.loop.done ≡ Some place) c.args.self.reads next)
           (subst (λ ls. slice_get ls place ≡ Some l) c.args.self.reads here) own (c.in_ok-line.ensures.call l here) of_section c.loop.invariant.tracks;
       section = c.line.ensures.section ∙ c.loop.invariant.section;

@@ -14,7 +14,9 @@ use Rattle.trace_runner.proofs.plans.Plans.close.Goals as goal
 pub returns-clause-made : goal.returns-clause-made
 returns-clause-made c =
     let before : News = news_at (kept_in c.args.replies.now) c.args.self.now in
-    on_ok_weaker c.tell_news.result (λ told. Carries-one event.Close reply.Closed c.args.core.now c.step.new.self before _ c.in-Closed.ensures.exact c.in-Closed.ensures.sound c.in-Closed.ensures.plain tt
+    on_ok_weaker c.tell_news.result
+    (λ told. Carries-one event.Close reply.Closed c.args.core.now c.step.new.self before _ c.in-Closed.ensures.exact c.in-Closed.ensures.sound
+    c.in-Closed.ensures.plain tt
     (News-same _ (with_called before (Called event.Close reply.Closed c.step.new.self)) (ap (λ (k : Kept). k.asked) c.tell_news.ensures.rest) refl (c.replace-steps.ensures.after ∙ c.new.ensures)
     (told ∙ ap₂ (λ steps pages. with_news before (Closed (record { mark = before.marks; steps = steps; pages = pages }))) c.replace-steps.ensures.value c.totals.ensures.pages)
     refl)) c.tell_news.ensures.text

@@ -21,4 +21,5 @@ loop-taken-preserved c =
 pub returns-clause-made : goal.returns-clause-made
 returns-clause-made c kept =
     let all : c.loop-taken.taken ≡ c.args.left = omega (arith, c.loop-taken-test.false, c.loop-taken.auto.taken-end) in
-    subst (λ (count : ℕ). Carries (replicate count (Calls event.Step)) c.args.core.now (news_at kept c.args.self.now) c.loop-taken.core (news_at kept c.loop-taken.self)) all (c.loop-taken.invariant.made kept)
+    subst (λ (count : ℕ). Carries (replicate count (Calls event.Step)) c.args.core.now (news_at kept c.args.self.now) c.loop-taken.core
+    (news_at kept c.loop-taken.self)) all (c.loop-taken.invariant.made kept)

@@ -18,7 +18,8 @@ planned-requires-clause-writable c = c.in-Marked.ensures.exact.largest.writable
 
 pub returns-in-Marked-clause-made : goal.returns-in-Marked-clause-made
 returns-in-Marked-clause-made c = on_ok_weaker c.planned.result
-    (Carries-one event.Mark (reply.Marked c.in-Marked.certificate) c.args.core.now c.step.new.self (news_at (kept_in c.args.replies.now) c.args.self.now) (news_at (kept_in c.planned.new.replies) c.planned.new.self)
+    (Carries-one event.Mark (reply.Marked c.in-Marked.certificate) c.args.core.now c.step.new.self (news_at (kept_in c.args.replies.now) c.args.self.now)
+    (news_at (kept_in c.planned.new.replies) c.planned.new.self)
     c.in-Marked.ensures.exact c.in-Marked.ensures.sound c.in-Marked.ensures.plain tt) c.planned.ensures.news
 
 pub returns-in-Marked-clause-shards : goal.returns-in-Marked-clause-shards
@@ -30,4 +31,5 @@ returns-in-Refused-TooMany-clause-made c =
     let w = c.in-Refused-TooMany in
     on_ok_weaker c.tell_news.result (λ told. Carries-one event.Mark (reply.Refused refusal.TooMany) c.args.core.now c.step.new.self before _
     (subst (λ (r : Refusal). CoreStep c.args.core.now event.Mark (reply.Refused r) c.step.new.self) w.field-0-is w.ensures.exact) w.ensures.sound w.ensures.plain tt
-    (News-same _ (with_called before (Called event.Mark (reply.Refused refusal.TooMany) c.step.new.self)) (ap (λ (k : Kept). k.asked) c.tell_news.ensures.rest) refl refl told refl)) c.tell_news.ensures.text
+    (News-same _ (with_called before (Called event.Mark (reply.Refused refusal.TooMany) c.step.new.self))
+    (ap (λ (k : Kept). k.asked) c.tell_news.ensures.rest) refl refl told refl)) c.tell_news.ensures.text

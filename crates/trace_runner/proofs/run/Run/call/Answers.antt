@@ -13,7 +13,8 @@ pub returns-clause-made : goal.returns-clause-made
 returns-clause-made c =
     let answered = c.in_ok-answer.ensures.answer in
     Makes-called c.args.number c.args.event c.step-reply.result c.args.self.now.core c.step-reply.new.self (kept_in c.args.self.now.replies) (kept_in c.tell.new.self)
-    c.step-reply.ensures.exact c.step-reply.ensures.sound c.step-reply.ensures.plain (c.in_ok-answer.ensures.told c.args.event (MeetsPlan-step _ _ c.args.event c.step-reply.result c.requires.may c.step-reply.ensures.exact))
+    c.step-reply.ensures.exact c.step-reply.ensures.sound c.step-reply.ensures.plain
+    (c.in_ok-answer.ensures.told c.args.event (MeetsPlan-step _ _ c.args.event c.step-reply.result c.requires.may c.step-reply.ensures.exact))
     (keeping-other c.args.number (kept_in c.args.self.now.replies) (kept_in c.tell.new.self) (one_call c.args.event c.step-reply.result c.step-reply.new.self)
     c.in_ok-tell.ensures.count c.tell.ensures.asked (rw answered at c.in_ok-tell.ensures.text) c.requires.kind (ap (λ v. v.items) c.tell.ensures.keys))
 

@@ -9,7 +9,8 @@ use Rattle.trace_runner.proofs.run.Run.fill.Given as goal
 
 abbrev pub invariant-loop-i : goal.invariant-loop-i
 invariant-loop-i l = record {
-  made : Makes l.number (map (λ k. Calls (event.Put l.thread (counted_from l.class (l.value + k)))) (range_with_len 0 l.i)) l.fn.self.core (kept_in l.fn.self.replies) l.self.core (kept_in l.self.replies);
+  made : Makes l.number (map (λ k. Calls (event.Put l.thread (counted_from l.class (l.value + k)))) (range_with_len 0 l.i)) l.fn.self.core
+      (kept_in l.fn.self.replies) l.self.core (kept_in l.self.replies);
   trace : l.self.trace.now ≡ l.fn.self.trace.now;
   leaving : l.self.leaving ≡ l.fn.self.leaving;
   shards : KeepsPlan l.fn.self.core l.self.core;

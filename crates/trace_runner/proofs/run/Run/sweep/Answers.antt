@@ -15,7 +15,9 @@ module _ (c : goal.In_ok-free) where
   asked : List Did → List ℕ → ℕ → Asked
   asked done name place = on_key event.Free (key_at c.args.self.now.trace.now.lines.items done name place)
 
-  freed : (done : List Did) (name : List ℕ) → ((place : ℕ) → c.args.from ≤ place → place < c.args.to → FindsOne c.args.self.now.trace.now.lines.items done c.args.self.now.replies.keys.items c.args.first name place)
+  freed : (done : List Did) (name : List ℕ)
+      → ((place : ℕ) → c.args.from ≤ place → place < c.args.to
+      → FindsOne c.args.self.now.trace.now.lines.items done c.args.self.now.replies.keys.items c.args.first name place)
       → Makes c.args.number (asked done name c.loop-place.place ∷ []) c.loop-place.self.core (kept_in c.loop-place.self.replies) c.free.new.self.core (kept_in c.free.new.self.replies)
   unfolding asked
   freed done name finds =
@@ -31,7 +33,8 @@ loop-place-preserved c = record {
       let next : c.loop-place.place + 1 - c.args.from ≡ c.loop-place.place - c.args.from + 1 = omega arith in
       subst (λ (events : List Asked). Makes c.args.number events c.args.self.now.core (kept_in c.args.self.now.replies) c.free.new.self.core (kept_in c.free.new.self.replies))
       (sym (ap (λ n. map (asked c done name) (range_with_len c.args.from n)) next ∙ more))
-      (Makes-append c.args.number (map (asked c done name) (range_with_len c.args.from (c.loop-place.place - c.args.from))) (asked c done name c.loop-place.place ∷ []) c.args.self.now.core c.loop-place.self.core c.free.new.self.core
+      (Makes-append c.args.number (map (asked c done name) (range_with_len c.args.from (c.loop-place.place - c.args.from)))
+      (asked c done name c.loop-place.place ∷ []) c.args.self.now.core c.loop-place.self.core c.free.new.self.core
       (kept_in c.args.self.now.replies) (kept_in c.loop-place.self.replies) (kept_in c.free.new.self.replies) (c.loop-place.invariant.made done name finds) (freed c done name finds));
   bound = omega arith;
   keys = c.free.ensures.keys ∙ c.loop-place.invariant.keys;

@@ -10,7 +10,8 @@ use Rattle.trace_runner.proofs.run.Run.sweep.Given as goal
 abbrev pub invariant-loop-place : goal.invariant-loop-place
 invariant-loop-place l = record {
   made : (done : List Did) (name : List ℕ) → ((place : ℕ) → l.fn.from ≤ place → place < l.fn.to → FindsOne l.fn.self.trace.now.lines.items done l.fn.self.replies.keys.items l.fn.first name place)
-      → Makes l.number (map (λ place. on_key event.Free (key_at l.fn.self.trace.now.lines.items done name place)) (range_with_len l.fn.from (l.place - l.fn.from))) l.fn.self.core (kept_in l.fn.self.replies) l.self.core (kept_in l.self.replies);
+      → Makes l.number (map (λ place. on_key event.Free (key_at l.fn.self.trace.now.lines.items done name place))
+      (range_with_len l.fn.from (l.place - l.fn.from))) l.fn.self.core (kept_in l.fn.self.replies) l.self.core (kept_in l.self.replies);
   bound : l.place - l.fn.from ≤ l.fn.to - l.fn.from;
   keys : l.self.replies.keys ≡ l.fn.self.replies.keys;
   trace : l.self.trace.now ≡ l.fn.self.trace.now;

@@ -11,4 +11,5 @@ returns-in-Some c = rw (← c.self.view_is)
 
 pub returns-in-None : goal.returns-in-None
 returns-in-None c = rw (← c.self.view_is)
-    (kept_line-none c.self.inside.kept.items c.self.inside.count c.args.place (rw (← c.self.view_is) at c.requires) (sym (rw (c.as_slice.ensures.value) at c.in-None.ensures)) ∙ ap Some (sym c.self.invariant.2))
+    (kept_line-none c.self.inside.kept.items c.self.inside.count c.args.place (rw (← c.self.view_is) at c.requires)
+    (sym (rw (c.as_slice.ensures.value) at c.in-None.ensures)) ∙ ap Some (sym c.self.invariant.2))

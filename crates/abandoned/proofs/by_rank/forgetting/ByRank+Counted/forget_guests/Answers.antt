@@ -19,8 +19,15 @@ forget_all-requires-clause-once c = HaveGuestsOnce-row c.self.inside.groups.item
 
 pub invariant_of-self : goal.invariant_of-self
 invariant_of-self c = record {
-  found = subst (λ (gs : List PooledState). AreFound gs (hash.get nat_eq c.self.inside.places)) (sym c.forget_all.ensures.items) (AreFound-without_dead c.self.inside.groups.items (hash.get nat_eq c.self.inside.places) c.self.invariant.found);
-  reserved = omega (arith, c.self.invariant.reserved, c.forget_all.ensures.capacity, ap (λ (gs : List PooledState). length gs) c.forget_all.ensures.items, length-map c.self.inside.groups.items (without_dead {Closed = _}));
+  found = subst (λ (gs : List PooledState). AreFound gs (hash.get nat_eq c.self.inside.places)) (sym c.forget_all.ensures.items)
+      (AreFound-without_dead c.self.inside.groups.items (hash.get nat_eq c.self.inside.places) c.self.invariant.found);
+  reserved = omega (
+    arith,
+    c.self.invariant.reserved,
+    c.forget_all.ensures.capacity,
+    ap (λ (gs : List PooledState). length gs) c.forget_all.ensures.items,
+    length-map c.self.inside.groups.items (without_dead {Closed = _}),
+  );
   spare = c.self.invariant.spare;
 }
 

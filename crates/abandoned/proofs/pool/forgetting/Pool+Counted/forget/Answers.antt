@@ -23,8 +23,10 @@ invariant_of-self c = record {
 -- how many spans there are before and after
 counts : (c : goal.After-span_count) → c.span_count.result + length (gone_from c.self.inside.groups.groups) ≡ c.span_count-before.result
 counts c =
-    let now : c.span_count.result ≡ length (spans_in (left_in c.self.inside.groups.groups)) = c.span_count.ensures.count ∙ ap (λ (groups : List PooledState). length (spans_in groups)) (ap (λ (s : GroupsState). s.groups) c.forget.ensures.groups) in
-    let before : c.span_count-before.result ≡ length (spans_in c.self.inside.groups.groups) = c.span_count-before.ensures.count ∙ ap (λ (s : PoolState). length (spans_in s.groups)) (sym c.self.view_is) in
+    let now : c.span_count.result ≡ length (spans_in (left_in c.self.inside.groups.groups)) = c.span_count.ensures.count
+    ∙ ap (λ (groups : List PooledState). length (spans_in groups)) (ap (λ (s : GroupsState). s.groups) c.forget.ensures.groups) in
+    let before : c.span_count-before.result ≡ length (spans_in c.self.inside.groups.groups) = c.span_count-before.ensures.count
+    ∙ ap (λ (s : PoolState). length (spans_in s.groups)) (sym c.self.view_is) in
     omega (arith, now, before, length-left c.self.inside.groups.groups)
 
 pub overflow_sub-result : goal.overflow_sub-result

@@ -25,10 +25,12 @@ keeps : (c : goal.After-forget) → KeepsStanding c.forget_guests-owned.new.shar
 keeps c = c.forget.ensures
 
 kept : (c : goal.After-forget) → IsKept (fields c)
-kept c = IsKept-forgotten c.self.inside (fields c) c.self.invariant refl refl refl refl c.forget-pooled.ensures.forgets.after refl (keeps c) refl c.forget_guests-owned.ensures.items c.with-self-inside.ensures (none c)
+kept c = IsKept-forgotten c.self.inside (fields c) c.self.invariant refl refl refl refl c.forget-pooled.ensures.forgets.after refl
+    (keeps c) refl c.forget_guests-owned.ensures.items c.with-self-inside.ensures (none c)
 
 are : (c : goal.After-forget) → state_of (fields c) ≡ with_forgotten (state_of c.self.inside)
-are c = state_of-forgotten c.self.inside (fields c) c.self.invariant refl refl refl refl c.forget-pooled.ensures.forgets.after refl (keeps c) refl c.forget_guests-owned.ensures.items c.with-self-inside.ensures
+are c = state_of-forgotten c.self.inside (fields c) c.self.invariant refl refl refl refl c.forget-pooled.ensures.forgets.after refl
+    (keeps c) refl c.forget_guests-owned.ensures.items c.with-self-inside.ensures
 
 pub invariant_of-self : goal.invariant_of-self
 invariant_of-self c = kept c

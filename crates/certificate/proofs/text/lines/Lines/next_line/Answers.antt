@@ -7,20 +7,23 @@ use Rattle.certificate.proofs.text.lines.Lines.next_line.Goals as goal
 pub returns-in_default-clause-line : goal.returns-in_default-clause-line
 returns-in_default-clause-line c =
     let l = c.args.self.now in
-    let rest : take (length l.text.now - l.start) (drop l.start l.text.now) ≡ drop l.start l.text.now = take_all (length l.text.now - l.start) (drop l.start l.text.now) (omega (arith, length-drop l.start l.text.now)) in
+    let rest : take (length l.text.now - l.start) (drop l.start l.text.now)
+    ≡ drop l.start l.text.now = take_all (length l.text.now - l.start) (drop l.start l.text.now) (omega (arith, length-drop l.start l.text.now)) in
     let none : position is_feed (drop l.start l.text.now) ≡ None = rw rest at (sym c.in_default.ensures) in
     sym (whole_line-cut l.text.now l.start l.at l.left none)
 
 pub invariant_of-self : goal.invariant_of-self
 invariant_of-self c =
     let l = c.args.self.now in
-    let rest : take (length l.text.now - l.start) (drop l.start l.text.now) ≡ drop l.start l.text.now = take_all (length l.text.now - l.start) (drop l.start l.text.now) (omega (arith, length-drop l.start l.text.now)) in
+    let rest : take (length l.text.now - l.start) (drop l.start l.text.now)
+    ≡ drop l.start l.text.now = take_all (length l.text.now - l.start) (drop l.start l.text.now) (omega (arith, length-drop l.start l.text.now)) in
     let feed : position is_feed (drop l.start l.text.now) ≡ Some c.in-Some.end = rw rest at (sym c.in-Some.ensures) in
     record { within = within-next l.text.now l.start l.at l.left c.in-Some.end feed l.within; few = omega (arith, l.few); left = left-next l.text.now l.start l.at l.left c.in-Some.end feed }
 
 pub returns-clause-line : goal.returns-clause-line
 returns-clause-line c =
     let l = c.args.self.now in
-    let rest : take (length l.text.now - l.start) (drop l.start l.text.now) ≡ drop l.start l.text.now = take_all (length l.text.now - l.start) (drop l.start l.text.now) (omega (arith, length-drop l.start l.text.now)) in
+    let rest : take (length l.text.now - l.start) (drop l.start l.text.now)
+    ≡ drop l.start l.text.now = take_all (length l.text.now - l.start) (drop l.start l.text.now) (omega (arith, length-drop l.start l.text.now)) in
     let feed : position is_feed (drop l.start l.text.now) ≡ Some c.in-Some.end = rw rest at (sym c.in-Some.ensures) in
     rw rest (sym (whole_line-next l.text.now l.start l.at l.left c.in-Some.end feed))

@@ -44,7 +44,9 @@ invariant_of-self c = record {
     c.forget_all.new.groups.ok.0,
   );
   no_guests = c.self.invariant.no_guests;
-  room_for_guests = rw c.forget_all.ensures.items (HasGuestRoom-without_dead c.self.inside.groups.items c.self.inside.onto c.self.inside.span_room (vec_capacity c.self.inside.guest_room) c.self.invariant.room_for_guests);
+  room_for_guests = rw c.forget_all.ensures.items
+      (HasGuestRoom-without_dead c.self.inside.groups.items c.self.inside.onto c.self.inside.span_room
+      (vec_capacity c.self.inside.guest_room) c.self.invariant.room_for_guests);
   guests_known = c.forget_all.ensures.known;
   room_for_entries = rw c.forget_all.ensures.room c.self.invariant.room_for_entries;
 }
@@ -52,8 +54,10 @@ invariant_of-self c = record {
 -- how many spans there are before and after
 counts : (c : goal.After-span_count) → c.span_count.result + length (dead_guests c.self.inside.groups.items) ≡ c.span_count-before.result
 counts c =
-    let now : c.span_count.result ≡ length (spans_in (map_list without_dead c.self.inside.groups.items)) = c.span_count.ensures.count ∙ ap (λ (groups : List GroupState). length (spans_in groups)) c.forget_all.ensures.items in
-    let before : c.span_count-before.result ≡ length (spans_in c.self.inside.groups.items) = c.span_count-before.ensures.count ∙ ap (λ (s : ShardState). length (spans_in s.groups)) (sym c.self.view_is) in
+    let now : c.span_count.result ≡ length (spans_in (map_list without_dead c.self.inside.groups.items)) = c.span_count.ensures.count
+    ∙ ap (λ (groups : List GroupState). length (spans_in groups)) c.forget_all.ensures.items in
+    let before : c.span_count-before.result ≡ length (spans_in c.self.inside.groups.items) = c.span_count-before.ensures.count
+    ∙ ap (λ (s : ShardState). length (spans_in s.groups)) (sym c.self.view_is) in
     omega (arith, now, before, length-without_dead c.self.inside.groups.items)
 
 pub overflow_sub-result : goal.overflow_sub-result

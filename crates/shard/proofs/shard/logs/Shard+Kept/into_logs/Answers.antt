@@ -13,7 +13,8 @@ loop-group-preserved c =
     let before = map span_of_log c.loop-group.logs.items in
     let more = into_iter_items c.next.new.self in
     let left : into_iter_items c.loop-group.group-iterator ≡ c.in-Some.group ∷ more = (c.in-Some.ensures {u = tt}).steps.0 in
-    let longer : length (spans_in (into_iter_items c.loop-group.group-iterator)) ≡ length (spans_of c.in-Some.group ++ spans_in more) = ap (λ (groups : List GroupState). length (spans_in groups)) left in
+    let longer : length (spans_in (into_iter_items c.loop-group.group-iterator))
+    ≡ length (spans_of c.in-Some.group ++ spans_in more) = ap (λ (groups : List GroupState). length (spans_in groups)) left in
     let moved : length (all_spans c.into_spans.result) ≡ length (spans_of c.in-Some.group) = ap (λ (spans : SpansState). length (all_spans spans)) c.into_spans.ensures in
     record {
       logs = ap (λ (spans : List SpanState). spans ++ spans_in more) (c.into_logs.ensures.logs ∙ ap (λ (spans : SpansState). before ++ all_spans spans) c.into_spans.ensures)

@@ -91,7 +91,8 @@ module _ (E : Bx) (glue : Dict) where
         fjoin ! $ move ! (1 ∷ 0 ∷ []) $ join ! $ join ! $ use1 𝓛 (raw (Takes.pre y)) (id⊢ 𝓤 _) $
         calls_at ! (fm_of 𝓤 H 𝓛.laws 𝓣) Takes takes y (and_then ! (get ! refl) (no_more !)) (λ u.
         use1 𝓛 (later (some (λ (r : Ptr × E.al.row.Denot). (tokens ⊛ ‵ ((Tuple (RawPtr ∷ P E ∷ [])).own_val r (u ∷ []))) ⊛
-        some (λ (_ : (Unit {0} × (Unit {0} × Unit {0})) × Unit {0}). ‵ (fsep (fsep ftrue (fsep ftrue ftrue)) ftrue) ⊛ (raw (fact 𝓤 (r.1 ≡ held.alloc)) ⊛ ‵ (box_owns (token E.al held.alloc) (R E) r.0 held.value)))))) (id⊢ 𝓤 _) $
+        some (λ (_ : (Unit {0} × (Unit {0} × Unit {0})) × Unit {0}). ‵ (fsep (fsep ftrue (fsep ftrue ftrue)) ftrue) ⊛
+        (raw (fact 𝓤 (r.1 ≡ held.alloc)) ⊛ ‵ (box_owns (token E.al held.alloc) (R E) r.0 held.value)))))) (id⊢ 𝓤 _) $
         await ! tt $ pick ! (λ r. split ! $ move ! (1 ∷ []) $ pick ! (λ _. split3 ! $ drop ! $ heard ! (r.1 ≡ held.alloc) (λ same.
         in_a_block ! r.0 (λ p. box_owns (token E.al held.alloc) (R E) p held.value) (fst∗ 𝓤 (never 𝓤) (sem 𝓛 (token E.al held.alloc (bare (τ E)) null_ptr))) (λ b' o' at'.
         -- the pair that came back is one machine value too
