@@ -77,6 +77,8 @@ static void each_call_of_a_seat(struct teurlaks_share_handle *none, struct teurl
     WANT(teurlaks_seat_retire(none, 9).status == TEURLAKS_NO_CORE && teurlaks_seat_retire(none, 9).count == 0);
     WANT(teurlaks_seat_trim(none).status == TEURLAKS_NO_CORE && teurlaks_seat_trim(none).count == 0);
     WANT(teurlaks_seat_adopt(none).status == TEURLAKS_NO_CORE);
+    struct teurlaks_walk walk = {1, 2, 3};
+    WANT(teurlaks_seat_next(none, &walk).status == TEURLAKS_NO_CORE && walk.shard == 1 && walk.serial == 2 && walk.slot == 3);
 }
 
 /* The same of the steward's. */
@@ -91,6 +93,8 @@ static void each_call_of_a_steward(struct teurlaks_share_handle *none) {
     uint8_t text = 7;
     struct teurlaks_certificate_reply certificate = teurlaks_steward_certificate(none, &text, 1);
     WANT(certificate.status == TEURLAKS_NO_CORE && certificate.len == 0 && text == 7);
+    struct teurlaks_walk walk = {1, 2, 3};
+    WANT(teurlaks_steward_next(none, &walk).status == TEURLAKS_NO_CORE && walk.shard == 1 && walk.serial == 2 && walk.slot == 3);
     struct teurlaks_arena_totals_reply totals = teurlaks_steward_totals(none);
     WANT(totals.status == TEURLAKS_NO_CORE && totals.pages == 0 && totals.live == 0);
 }

@@ -106,6 +106,13 @@ struct teurlaks_words_reply {
     size_t len;
 };
 
+/* Where a walk over the live keys of an arena stands. All zeros are its beginning. */
+struct teurlaks_walk {
+    uint32_t shard;
+    uint32_t serial;
+    uint32_t slot;
+};
+
 /* The key, where the status is TEURLAKS_OK. */
 struct teurlaks_next_reply {
     uint32_t status;
@@ -319,6 +326,10 @@ struct teurlaks_trim_reply teurlaks_seat_trim(struct teurlaks_share_handle *hand
 /* As teurlaks_adopt, for the seat's shard. */
 struct teurlaks_adopt_reply teurlaks_seat_adopt(struct teurlaks_share_handle *handle);
 
+/* The live key of the arena that comes next in the walk, which then stands behind it: no key comes twice, and each that is live all the while
+ * comes. TEURLAKS_NONE at the end of the walk. After TEURLAKS_BUSY the next call goes on from there. */
+struct teurlaks_next_reply teurlaks_seat_next(struct teurlaks_share_handle *handle, struct teurlaks_walk *walk);
+
 /* As teurlaks_mark, of all shards at one time. */
 struct teurlaks_mark_reply teurlaks_steward_mark(struct teurlaks_share_handle *handle);
 
@@ -336,6 +347,9 @@ struct teurlaks_forget_reply teurlaks_steward_forget(struct teurlaks_share_handl
 
 /* As teurlaks_certificate, of the last mark of this steward. It takes no lock, and so is never TEURLAKS_BUSY. */
 struct teurlaks_certificate_reply teurlaks_steward_certificate(struct teurlaks_share_handle *handle, uint8_t *text, size_t text_len);
+
+/* As teurlaks_seat_next. */
+struct teurlaks_next_reply teurlaks_steward_next(struct teurlaks_share_handle *handle, struct teurlaks_walk *walk);
 
 /* How much the arena keeps, at one time. */
 struct teurlaks_arena_totals_reply teurlaks_steward_totals(struct teurlaks_share_handle *handle);

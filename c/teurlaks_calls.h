@@ -202,6 +202,16 @@ TEURLAKS_INLINE struct teurlaks_retire_reply teurlaks_tested_seat_retire(struct 
     return handle ? teurlaks_seat_retire(handle, most) : none;
 }
 
+TEURLAKS_INLINE struct teurlaks_next_reply teurlaks_tested_seat_next(struct teurlaks_share_handle *handle, struct teurlaks_walk *walk) {
+    struct teurlaks_next_reply none = {TEURLAKS_NO_CORE, {0, 0, 0, 0, 0}};
+    return handle ? teurlaks_seat_next(handle, walk) : none;
+}
+
+TEURLAKS_INLINE struct teurlaks_next_reply teurlaks_tested_steward_next(struct teurlaks_share_handle *handle, struct teurlaks_walk *walk) {
+    struct teurlaks_next_reply none = {TEURLAKS_NO_CORE, {0, 0, 0, 0, 0}};
+    return handle ? teurlaks_steward_next(handle, walk) : none;
+}
+
 TEURLAKS_INLINE struct teurlaks_trim_reply teurlaks_tested_seat_trim(struct teurlaks_share_handle *handle) {
     struct teurlaks_trim_reply none = {TEURLAKS_NO_CORE, 0};
     return handle ? teurlaks_seat_trim(handle) : none;
@@ -283,6 +293,7 @@ TEURLAKS_INLINE struct teurlaks_arena_totals_reply teurlaks_tested_steward_total
 #define teurlaks_seat_begin teurlaks_tested_seat_begin
 #define teurlaks_seat_retire teurlaks_tested_seat_retire
 #define teurlaks_seat_trim teurlaks_tested_seat_trim
+#define teurlaks_seat_next teurlaks_tested_seat_next
 #define teurlaks_seat_adopt teurlaks_tested_seat_adopt
 #define teurlaks_steward_mark teurlaks_tested_steward_mark
 #define teurlaks_steward_mark_some teurlaks_tested_steward_mark_some
@@ -290,6 +301,7 @@ TEURLAKS_INLINE struct teurlaks_arena_totals_reply teurlaks_tested_steward_total
 #define teurlaks_steward_close teurlaks_tested_steward_close
 #define teurlaks_steward_forget teurlaks_tested_steward_forget
 #define teurlaks_steward_certificate teurlaks_tested_steward_certificate
+#define teurlaks_steward_next teurlaks_tested_steward_next
 #define teurlaks_steward_totals teurlaks_tested_steward_totals
 
 #endif

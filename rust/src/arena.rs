@@ -1,8 +1,10 @@
 //! Plain values that threads share, each from a seat of its own, under the locks of the proved library.
 
+mod keys;
 mod seat;
 mod share;
 
+pub use keys::Keys;
 pub use seat::Seat;
 
 use crate::bytes::MOST_BYTES;
@@ -262,6 +264,24 @@ impl<T> Arena<T> {
             .at_steward(|| unsafe { raw::teurlaks_steward_forget(self.share.handle()) });
         done(status)?;
         Ok(count)
+    }
+
+    /// The live keys, one after another, while other threads go on: no key comes twice, and each that is live all the while comes; one that
+    /// is put or freed meanwhile may come or not. They come by the shards that gave them out, and by when they first did. It takes one lock
+    /// at a time.
+    ///
+    /// ```
+    /// use teurlaks::{arena::Arena, Limits};
+    ///
+    /// let mut arena = Arena::open(Limits::default())?;
+    /// let mut seat = arena.seat()?;
+    /// let keys = [seat.insert(7)?, seat.insert(8)?, seat.insert(9)?];
+    /// seat.free(keys[1]);
+    /// assert!(arena.keys().eq([keys[0], keys[2]]));
+    /// # Ok::<(), teurlaks::Refused>(())
+    /// ```
+    pub fn keys(&self) -> Keys<'_> {
+        Keys::of_steward(&self.share, &self.turn)
     }
 
     /// How many pages there are and how many keys are live, at one time: it holds all locks meanwhile.

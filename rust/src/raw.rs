@@ -53,6 +53,14 @@ pub struct WordsReply {
 
 #[repr(C)]
 #[derive(Clone, Copy)]
+pub struct RawWalk {
+    pub shard: u32,
+    pub serial: u32,
+    pub slot: u32,
+}
+
+#[repr(C)]
+#[derive(Clone, Copy)]
 pub struct NextReply {
     pub status: u32,
     pub key: RawKey,
@@ -192,6 +200,8 @@ extern "C" {
     pub fn teurlaks_seat_begin(handle: *mut ShareHandle) -> u32;
     pub fn teurlaks_seat_retire(handle: *mut ShareHandle, most: usize) -> RetireReply;
     pub fn teurlaks_seat_trim(handle: *mut ShareHandle) -> TrimReply;
+    pub fn teurlaks_seat_next(handle: *mut ShareHandle, walk: *mut RawWalk) -> NextReply;
+    pub fn teurlaks_steward_next(handle: *mut ShareHandle, walk: *mut RawWalk) -> NextReply;
     pub fn teurlaks_seat_adopt(handle: *mut ShareHandle) -> AdoptReply;
     pub fn teurlaks_steward_mark(handle: *mut ShareHandle) -> MarkReply;
     pub fn teurlaks_steward_mark_some(handle: *mut ShareHandle) -> MarkReply;

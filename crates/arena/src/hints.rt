@@ -5,7 +5,7 @@ ghost use Rattle.arena.specs.Hints.{IsPlace, hint_word, place_code};
 ghost use Rattle.span.specs.declared.limits.TheConstants.{MOST_SHARDS};
 
 use shard::Shard;
-use span::{Log, SpanId};
+use span::{Log, MOST_SPANS, SpanId};
 use std::alloc::{AllocError, Global};
 use std::sync::atomic::Ordering::SeqCst;
 use std::sync::atomic::{AtomicIn, Rule};
@@ -108,6 +108,15 @@ impl Hints {
         match self.hint_of(id) {
             Some(hint) => hint.place,
             None => Place::Shard(shard),
+        }
+    }
+
+    /// How many spans the shard of this number has opened, or 4,294,967,295 where that is more: no key has a greater serial. None where
+    /// there is no such shard.
+    pub(crate) fn opened_by(&self, shard: u32) -> u32 {
+        match self.opened.get(shard as usize) {
+            Some(opened) => opened.load(SeqCst).min(u64::from(MOST_SPANS)) as u32,
+            None => 0,
         }
     }
 

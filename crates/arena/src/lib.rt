@@ -87,6 +87,7 @@ mod tending;
 mod unkept;
 mod unlocked;
 mod untold;
+mod walk;
 mod word;
 
 pub use arena::{Arena, Stepped};
@@ -100,4 +101,5 @@ pub use receipts::{Dropped, Receipts};
 pub use ring_table::RingTable;
 pub use seat::{Seat, Tended};
 pub use steward::Steward;
+pub use walk::Walk;
 pub use word::Word;

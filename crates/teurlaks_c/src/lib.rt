@@ -52,6 +52,7 @@ mod share_handle;
 mod status;
 mod steward_calls;
 mod stewards;
+mod walks;
 mod words;
 
 pub use calls::{
@@ -73,3 +74,4 @@ pub use stewards::{
     teurlaks_steward_forget, teurlaks_steward_mark, teurlaks_steward_mark_some,
     teurlaks_steward_seat, teurlaks_steward_step, teurlaks_steward_totals,
 };
+pub use walks::{teurlaks_seat_next, teurlaks_steward_next};

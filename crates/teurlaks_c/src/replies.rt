@@ -28,6 +28,16 @@ pub struct RawWord {
     pub high: u64,
 }
 
+/// Where a walk over the live keys of an arena stands: at this slot of the span that this shard opened as its `serial`th. All zeros are
+/// its beginning.
+#[repr(C)]
+#[derive(Clone, Copy)]
+pub struct RawWalk {
+    pub shard: u32,
+    pub serial: u32,
+    pub slot: u32,
+}
+
 /// What a put answers: the key where the status is `OK`.
 #[repr(C)]
 #[derive(Clone, Copy)]

@@ -1,5 +1,6 @@
 //! What a thread does at its seat.
 
+use super::keys::Keys;
 use super::share::{Share, Turn};
 use crate::bytes::MOST_WORDS;
 use crate::core::{done, was_put, was_set};
@@ -106,6 +107,11 @@ impl<T> Seat<T> {
             .turn
             .at_seat(|| unsafe { raw::teurlaks_seat_get_words(self.share.handle(), key.raw(), none, 0) });
         got.status != raw::NONE
+    }
+
+    /// The live keys of all shards, one after another, as [`Arena::keys`](super::Arena::keys) gives them.
+    pub fn keys(&self) -> Keys<'_> {
+        Keys::of_seat(&self.share, &self.turn)
     }
 
     /// Frees the key, and says whether it was live. The key finds nothing from then on, at any seat. It takes no memory.

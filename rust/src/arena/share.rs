@@ -71,6 +71,7 @@ macro_rules! answers {
 answers!(
     PutReply,
     WordsReply,
+    NextReply,
     TendReply,
     RetireReply,
     TrimReply,
