@@ -13,52 +13,55 @@ use Rattle.span.specs.Log.{replay, value_if}
 use Rattle.audit.specs.declared.slot.SlotChange.{SlotChange}
 use Rattle.audit.specs.Receipts.{value_after}
 use Rattle.audit.specs.Changes.{slot_of, left_by}
-use Rattle.audit.specs.Slots.{slot_rank, change_rank, HasChanges, IsBySlot, IsQuiet, IsLast, IsSplitAt}
+use Rattle.audit.specs.Slots.{slot_rank, change_rank, place_of, HasChanges, IsBySlot, IsQuiet, IsLast, IsSplitAt}
 use Rattle.audit.proofs.Flat.{get_left, get_right}
 use Rattle.audit.proofs.Replies.{get_none, get_taken}
+
+-- the element is the change at a place
+abbrev pub IsFirst : List SlotChange → ℕ → Change → Type 0
+IsFirst found k change = (x : SlotChange) × (slice_get found k ≡ Some x) × (x.slot ≡ slot_of change) × (place_of x ≡ k)
 
 -- the first n changes, in order
 pub record AreFirst (changes : List Change) (n : ℕ) (found : List SlotChange) : Type 0 where
   pub len : length found ≡ n
-  pub each : (k : ℕ) (change : Change) → k < n → slice_get changes k ≡ Some change → slice_get found k ≡ Some (record { slot = slot_of change; place = k })
+  pub each : (k : ℕ) (change : Change) → k < n → slice_get changes k ≡ Some change → IsFirst found k change
 
 pub AreFirst-none : (changes : List Change) → AreFirst changes 0 []
 AreFirst-none changes = record { len = refl; each = λ k change less at. absurd (omega arith) }
 
-pub AreFirst-more : (changes : List Change) (n : ℕ) (found : List SlotChange) (change : Change) (slot : ℕ) → AreFirst changes n found → slice_get changes n ≡ Some change → slot ≡ slot_of change
-    → AreFirst changes (n + 1) (found ++ record { slot = slot; place = n } ∷ [])
-AreFirst-more changes n found change slot are at is = record {
-  len = let long = are.len in length-append found (record { slot = slot; place = n } ∷ []) ∙ omega arith;
+pub AreFirst-more : (changes : List Change) (n : ℕ) (found : List SlotChange) (change : Change) (slot : ℕ) (x : SlotChange) → AreFirst changes n found
+    → slice_get changes n ≡ Some change → slot ≡ slot_of change → x.slot ≡ slot → place_of x ≡ n → AreFirst changes (n + 1) (found ++ x ∷ [])
+AreFirst-more changes n found change slot x are at is slots places = record {
+  len = let long = are.len in length-append found (x ∷ []) ∙ omega arith;
   each = λ k other fits at_k. elim (cases_lt k n) [
-    | inl less ↦ get_left found (record { slot = slot; place = n } ∷ []) k (record { slot = slot_of other; place = k }) (are.each k other less at_k)
+    | inl less ↦
+        let before = are.each k other less at_k in
+        (before.0, get_left found (x ∷ []) k before.0 before.1, before.2, before.3)
     | inr high ↦
         let last : n ≡ k = omega arith in
         let same : change ≡ other = same_Some change other (sym at ∙ ap (λ k. slice_get changes k) last ∙ at_k) in
         let long = are.len in
-        get_right found (record { slot = slot; place = n } ∷ []) k 0 (record { slot = slot_of other; place = k }) (omega arith)
-        (λ i. Some (record { slot = (is ∙ ap slot_of same) i; place = last i }))
+        (x, get_right found (x ∷ []) k 0 x (omega arith) refl, slots ∙ is ∙ ap slot_of same, places ∙ last)
   ];
 }
 
 pub HasChanges-all : (changes : List Change) (n : ℕ) (found : List SlotChange) → AreFirst changes n found → length changes ≡ n → n < 18446744073709551616 → HasChanges changes found
 HasChanges-all changes n found are long small = record {
-  each = λ place change at. (
-    place,
-    record { slot = slot_of change; place = place },
-    are.each place change (let within = slice_get_within changes place change at in omega arith) at,
-    refl,
-    refl,
-  );
+  each = λ place change at.
+      let there = are.each place change (let within = slice_get_within changes place change at in omega arith) at in
+      (place, there.0, there.1, there.3, there.2);
   only = λ k x at. elim (slice_get_cases changes k).1 [
     | inl there ↦
-        let same : record { slot = slot_of there.0; place = k } ≡ x = same_Some (record { slot = slot_of there.0; place = k }) x (sym (are.each k there.0 (omega (arith, there.1)) there.2) ∙ at) in
-        (there.0, ap (λ (y : SlotChange). slice_get changes y.place) (sym same) ∙ there.2, ap (λ (y : SlotChange). y.slot) same)
+        let of = are.each k there.0 (omega (arith, there.1)) there.2 in
+        let same : of.0 ≡ x = same_Some of.0 x (sym of.1 ∙ at) in
+        (there.0, ap (λ n. slice_get changes n) (ap place_of (sym same) ∙ of.3) ∙ there.2, sym of.2 ∙ ap (λ (y : SlotChange). y.slot) same)
     | inr past ↦ absurd (let within = slice_get_within found k x at in let whole = are.len in omega (arith, past.0))
   ];
   small = λ k x at. elim (slice_get_cases changes k).1 [
     | inl there ↦
-        let same : record { slot = slot_of there.0; place = k } ≡ x = same_Some (record { slot = slot_of there.0; place = k }) x (sym (are.each k there.0 (omega (arith, there.1)) there.2) ∙ at) in
-        let place : k ≡ x.place = ap (λ (y : SlotChange). y.place) same in
+        let of = are.each k there.0 (omega (arith, there.1)) there.2 in
+        let same : of.0 ≡ x = same_Some of.0 x (sym of.1 ∙ at) in
+        let place : k ≡ place_of x = sym of.3 ∙ ap place_of same in
         omega (arith, there.1)
     | inr past ↦ absurd (let within = slice_get_within found k x at in let whole = are.len in omega (arith, past.0))
   ];
@@ -89,7 +92,7 @@ module _ (changes : List Change) (found : List SlotChange) (by : IsBySlot change
     (high : (k : ℕ) (x : SlotChange) → n ≤ k → slice_get found k ≡ Some x → slot_rank slot at ≤ change_rank x) where
   -- a change of the slot before the place stands in the first n
   early : (q : ℕ) (change : Change) → q < at → slice_get changes q ≡ Some change → slot_of change ≡ slot
-      → (k : ℕ) × (x : SlotChange) × (k < n) × (slice_get found k ≡ Some x) × (x.place ≡ q) × (x.slot ≡ slot)
+      → (k : ℕ) × (x : SlotChange) × (k < n) × (slice_get found k ≡ Some x) × (place_of x ≡ q) × (x.slot ≡ slot)
   early q change less at_q same =
       let there = by.has.each q change at_q in
       let of_slot : there.1.slot ≡ slot = there.4 ∙ same in
@@ -118,7 +121,7 @@ module _ (changes : List Change) (found : List SlotChange) (by : IsBySlot change
         let fits = by.has.small (n - 1) x at_x in
         other (omega (arith, there.4, there.5))
 
-    pub last_here : x.slot ≡ slot → IsLast changes slot at x.place
+    pub last_here : x.slot ≡ slot → IsLast changes slot at (place_of x)
     last_here is =
         let least = low (n - 1) x (omega arith) at_x in
         record {
@@ -145,7 +148,7 @@ module _ (changes : List Change) (found : List SlotChange) (by : IsBySlot change
   pub quiet_split_other : (x : SlotChange) → 1 ≤ n → slice_get found (n - 1) ≡ Some x → (x.slot ≡ slot → ⊥) → IsQuiet changes slot 0 at
   quiet_split_other x some at_x other = quiet_other changes found by slot at n small low_split high_split x some at_x other
 
-  pub last_split : (x : SlotChange) → 1 ≤ n → slice_get found (n - 1) ≡ Some x → x.slot ≡ slot → IsLast changes slot at x.place
+  pub last_split : (x : SlotChange) → 1 ≤ n → slice_get found (n - 1) ≡ Some x → x.slot ≡ slot → IsLast changes slot at (place_of x)
   last_split x some at_x same = last_here changes found by slot at n small low_split high_split x some at_x same
 
 -- changes in order are split where the rank stands between two neighbours

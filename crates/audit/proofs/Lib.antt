@@ -4,6 +4,7 @@ pub mod Entries
 pub mod Shown
 pub mod Histories
 pub mod Replies
+pub mod Rows
 pub mod Orderly
 pub mod Lists
 pub mod Legality

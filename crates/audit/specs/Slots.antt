@@ -11,20 +11,24 @@ use Rattle.audit.specs.Changes.{slot_of}
 abbrev pub slot_rank : ℕ → ℕ → ℕ
 slot_rank slot place = 18446744073709551616 * slot + place
 
+-- the place of a change in its log
+abbrev pub place_of : SlotChange → ℕ
+place_of change = 4294967296 * change.high + change.low
+
 -- the rank of a change
 abbrev pub change_rank : SlotChange → ℕ
-change_rank change = slot_rank change.slot change.place
+change_rank change = slot_rank change.slot (place_of change)
 
 -- the change at this place of the log has this slot
 abbrev pub IsOf : List Change → SlotChange → Type 0
-IsOf changes found = (change : Change) × (slice_get changes found.place ≡ Some change) × (slot_of change ≡ found.slot)
+IsOf changes found = (change : Change) × (slice_get changes (place_of found) ≡ Some change) × (slot_of change ≡ found.slot)
 
 -- each change of the log, and nothing else; a place is below 2^64
 pub record HasChanges (changes : List Change) (found : List SlotChange) : Type 0 where
   pub each : (place : ℕ) (change : Change) → slice_get changes place ≡ Some change
-      → (k : ℕ) × (x : SlotChange) × (slice_get found k ≡ Some x) × (x.place ≡ place) × (x.slot ≡ slot_of change)
+      → (k : ℕ) × (x : SlotChange) × (slice_get found k ≡ Some x) × (place_of x ≡ place) × (x.slot ≡ slot_of change)
   pub only : (k : ℕ) (x : SlotChange) → slice_get found k ≡ Some x → IsOf changes x
-  pub small : (k : ℕ) (x : SlotChange) → slice_get found k ≡ Some x → x.place < 18446744073709551616
+  pub small : (k : ℕ) (x : SlotChange) → slice_get found k ≡ Some x → place_of x < 18446744073709551616
 
 -- the changes of the log, by slot, and those of a slot in their order
 pub record IsBySlot (changes : List Change) (found : List SlotChange) : Type 0 where

@@ -1,5 +1,5 @@
 -- The tables of an audit: where each span's log stands, and which section made each change. No public clause cites this module.
-use Rattle.std.specs.Prelude.{◌≡◌, ℕ, ◌+◌, ◌-◌, ◌<◌, ◌≤◌, Bool, true, false, Option, Some, None, List, [], ◌∷◌, length, suc, if◌then◌else◌, slice_get, slice_index_or}
+use Rattle.std.specs.Prelude.{◌≡◌, ℕ, ◌+◌, ◌-◌, ◌<◌, ◌≤◌, Bool, true, false, Option, Some, None, List, [], ◌∷◌, Vec, length, map, suc, if◌then◌else◌, slice_get, slice_index_or}
 use Rattle.span.specs.declared.change.Change.{Change}
 use Rattle.span.specs.declared.id.SpanId.{SpanId}
 use Rattle.span.specs.declared.receipt.Receipt.{Receipt}
@@ -9,8 +9,10 @@ use Rattle.span.specs.KeptLogs.{kept_changes}
 use Rattle.span.specs.declared.span_log.SpanLog.{SpanLog}
 use Rattle.audit.specs.Receipts.{log_of, makes_change}
 use Rattle.audit.specs.Agreement.{CallMakes}
+use Rattle.std.specs.declared.alloc.Global.{Global}
 use Rattle.audit.specs.declared.log.LogPlace.{LogPlace}
 use Rattle.audit.specs.declared.log.LogPlaces.{LogPlaces}
+use Rattle.audit.specs.declared.row.Row.{Row}
 
 -- each place is that of a span's log, and each log has its place
 pub record ArePlaces (logs : List SpanLog) (places : List LogPlace) : Type 0 where
@@ -90,6 +92,19 @@ pub record AreEntered (logs : List SpanLog) (calls : List Receipt) (rows : List 
 abbrev pub WereEntered : List SpanLog → List Receipt → List (List (Option ℕ)) → Bool → Type 0
 WereEntered logs calls rows true = AreEntered logs calls rows
 WereEntered logs calls rows false = MakeChanges logs calls → ⊥
+
+-- the sections of a row, where they were told
+abbrev pub told_sections : List ℕ → List Bool → List (Option ℕ)
+told_sections (section ∷ sections) (told ∷ more) = (if told then Some section else None) ∷ told_sections sections more
+told_sections sections told = []
+
+-- a row that fills: the section of each change that has one
+abbrev pub filled_row : Row → List (Option ℕ)
+filled_row row = told_sections row.sections.items row.told.items
+
+-- a row that is full: each change has its section
+abbrev pub full_row : Vec ℕ Global → List (Option ℕ)
+full_row row = map Some row.items
 
 -- each place of the row has a section
 abbrev pub IsFull : List (Option ℕ) → Type 0

@@ -1,10 +1,10 @@
 // Whether the calls of each section stand after those of the sections of lower number.
-ghost use Rattle.std.specs.Prelude.{◌≡◌, ◌↔◌, IsTrue, Some, ℕ, length, slice_get, map, flat_map, vec_items};
+ghost use Rattle.std.specs.Prelude.{◌≡◌, ◌↔◌, IsTrue, Some, ℕ, length, slice_get, map, flat_map};
 ghost use Rattle.span.specs.ReceiptLists.{kept_receipts};
 ghost use Rattle.span.specs.ReceiptViews.{receipt_viewed};
 ghost use Rattle.span.specs.declared.receipt.Receipt.{Receipt};
 ghost use Rattle.audit.specs.Agreement.{RepliesAreRight, SectionsAreInOrder};
-ghost use Rattle.audit.specs.Tables.{AreEntered, AreFull, IsTable, StandsBetween};
+ghost use Rattle.audit.specs.Tables.{AreEntered, AreFull, IsTable, StandsBetween, full_row};
 
 use crate::log::{LogPlaces, index_of};
 use crate::section::is_between;
@@ -14,12 +14,12 @@ use span::{ReceiptList, ReceiptView, SpanLog};
 fn stands_between(
     logs: &[SpanLog],
     table: &LogPlaces,
-    rows: &[Vec<Option<u64>>],
+    rows: &[Vec<u64>],
     receipt: &ReceiptView<'_>,
 ) -> bool
     requires table { IsTable logs.now table.now }
     requires len { length rows.now ≡ length logs.now }
-    ensures { IsTrue result ↔ StandsBetween logs.now (map vec_items rows.now)
+    ensures { IsTrue result ↔ StandsBetween logs.now (map full_row rows.now)
         (receipt_viewed receipt.now) }
 {
     match index_of(logs, table, receipt.key.span) {
@@ -32,13 +32,13 @@ fn stands_between(
 pub fn stand_between(
     logs: &[SpanLog],
     table: &LogPlaces,
-    rows: &[Vec<Option<u64>>],
+    rows: &[Vec<u64>],
     list: &ReceiptList,
 ) -> bool
     requires table { IsTable logs.now table.now }
     requires len { length rows.now ≡ length logs.now }
     ensures { IsTrue result ↔ ((i : ℕ) (receipt : Receipt) → slice_get (kept_receipts list.now) i
-        ≡ Some receipt → StandsBetween logs.now (map vec_items rows.now) receipt) }
+        ≡ Some receipt → StandsBetween logs.now (map full_row rows.now) receipt) }
 {
     for i in 0..list.len() {
         if !stands_between(logs, table, rows, &list.view(i)) {
@@ -54,13 +54,13 @@ pub fn stand_between(
 pub fn sections_are_in_order(
     logs: &[SpanLog],
     table: &LogPlaces,
-    rows: &[Vec<Option<u64>>],
+    rows: &[Vec<u64>],
     lists: &[ReceiptList],
 ) -> bool
     requires table { IsTable logs.now table.now }
     requires entered { AreEntered logs.now (flat_map kept_receipts lists.now)
-        (map vec_items rows.now) }
-    requires full { AreFull (map vec_items rows.now) }
+        (map full_row rows.now) }
+    requires full { AreFull (map full_row rows.now) }
     requires replies { RepliesAreRight logs.now (map kept_receipts lists.now) }
     ensures { IsTrue result ↔ SectionsAreInOrder (map kept_receipts lists.now) }
 {

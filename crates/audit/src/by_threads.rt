@@ -5,6 +5,7 @@ ghost use Rattle.audit.specs.Agreement.{Agreement, ChangesHaveReceipts};
 ghost use Rattle.audit.specs.Faults.{FailsFirst, IsAuditError};
 ghost use Rattle.audit.specs.History.{HaveHistories};
 ghost use Rattle.audit.specs.Judged.{AreRecords, AreVerdicts, IsVerdict};
+ghost use Rattle.audit.specs.Tables.{full_row};
 
 use crate::change::sections_of_changes;
 use crate::fault::{AuditCause, AuditError};
@@ -21,10 +22,10 @@ use std::thread::Threads;
 // What comes of the calls of the worker with this number.
 fn verdict_at(alloc: Global, records: &Records, lists: &[ReceiptList], w: usize) -> Verdict
     requires records { AreRecords records.now.logs.now records.now.table.now
-        (map vec_items records.now.sections.now) (map vec_items records.now.orders.now) }
+        (map full_row records.now.sections.now) (map vec_items records.now.orders.now) }
     requires inside { w < length lists.now }
     requires changes { ChangesHaveReceipts records.now.logs.now (map kept_receipts lists.now) }
-    ensures { IsVerdict records.now.logs.now (map vec_items records.now.sections.now)
+    ensures { IsVerdict records.now.logs.now (map full_row records.now.sections.now)
         (slice_index_or (map kept_receipts lists.now) w []) result }
 {
     verdict_of(alloc, records, &lists[w])
@@ -38,10 +39,10 @@ fn verdicts_of<R: Threads + Sync>(
     lists: &[ReceiptList],
 ) -> Result<Vec<Verdict>, AllocError>
     requires records { AreRecords records.now.logs.now records.now.table.now
-        (map vec_items records.now.sections.now) (map vec_items records.now.orders.now) }
+        (map full_row records.now.sections.now) (map vec_items records.now.orders.now) }
     requires changes { ChangesHaveReceipts records.now.logs.now (map kept_receipts lists.now) }
     ensures { IfOk result (λ verdicts. AreVerdicts records.now.logs.now
-        (map vec_items records.now.sections.now) (map kept_receipts lists.now) verdicts.items) }
+        (map full_row records.now.sections.now) (map kept_receipts lists.now) verdicts.items) }
 {
     let verdicts = thread::map_indices(
         rt,
@@ -49,11 +50,11 @@ fn verdicts_of<R: Threads + Sync>(
         lists.len(),
         &|w: usize| -> Verdict
             requires { (w < length lists.now) × AreRecords records.now.logs.now
-                records.now.table.now (map vec_items records.now.sections.now)
+                records.now.table.now (map full_row records.now.sections.now)
                 (map vec_items records.now.orders.now)
                 × ChangesHaveReceipts records.now.logs.now (map kept_receipts lists.now) }
             ensures { IsVerdict records.entry.now.logs.now
-                (map vec_items records.entry.now.sections.now)
+                (map full_row records.entry.now.sections.now)
                 (slice_index_or (map kept_receipts lists.entry.now) w []) result }
         { verdict_at(alloc, records, lists, w) },
     )?;

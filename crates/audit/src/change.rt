@@ -1,16 +1,17 @@
 // Whether each change has exactly one receipt, and each receipt of a change its change.
-ghost use Rattle.std.specs.Prelude.{◌≡◌, ◌↔◌, ◌<◌, ◌++◌, ◌∷◌, [], IfOk, IfSome, IsTrue, MatchOption, ℕ, List, true, length, map, flat_map, vec_len, vec_items};
+ghost use Rattle.std.specs.Prelude.{◌≡◌, ◌↔◌, ◌<◌, ◌++◌, ◌∷◌, [], IfOk, IfSome, IsTrue, MatchOption, ℕ, List, true, length, map, flat_map, vec_len};
 ghost use Rattle.span.specs.KeptLogs.{kept_changes};
 ghost use Rattle.span.specs.ReceiptLists.{kept_receipts};
 ghost use Rattle.span.specs.ReceiptViews.{receipt_viewed};
 ghost use Rattle.span.specs.declared.receipt.Receipt.{Receipt};
 ghost use Rattle.audit.specs.Receipts.{log_of, makes_change};
 ghost use Rattle.audit.specs.Agreement.{ChangesHaveReceipts};
-ghost use Rattle.audit.specs.Tables.{AreEntered, AreFull, HasMade, IsKnown, IsLogAt, IsTable, WereEntered};
+ghost use Rattle.audit.specs.Tables.{AreEntered, AreFull, HasMade, IsKnown, IsLogAt, IsTable, WereEntered, filled_row, full_row};
 
 use crate::calls::{call_makes, makes_change};
 use crate::log::{LogPlaces, index_of};
-use crate::section::{are_full, empty_rows, mark};
+use crate::row::Row;
+use crate::section::{are_full, empty_rows, full_rows, mark};
 use span::{Kept, Log, ReceiptList, ReceiptView, SpanLog};
 use std::alloc::{AllocError, Global};
 
@@ -46,16 +47,16 @@ fn log_with_change(logs: &[SpanLog], table: &LogPlaces, receipt: &ReceiptView<'_
 fn enter(
     logs: &[SpanLog],
     table: &LogPlaces,
-    rows: &mut Vec<Vec<Option<u64>>>,
+    rows: &mut Vec<Row>,
     receipt: &ReceiptView<'_>,
 ) -> bool
     requires table { IsTable logs.now table.now }
     requires len { vec_len rows.old ≡ length logs.now }
     ensures len { vec_len rows.new ≡ length logs.now }
     ensures entered { (before : List Receipt)
-        → AreEntered logs.now before (map vec_items rows.old.items)
+        → AreEntered logs.now before (map filled_row rows.old.items)
         → WereEntered logs.now (before ++ receipt_viewed receipt.now ∷ [])
-        (map vec_items rows.new.items) result }
+        (map filled_row rows.new.items) result }
 {
     if !makes_change(receipt) {
         return true;
@@ -67,19 +68,14 @@ fn enter(
 }
 
 // The same of the receipts of a worker.
-fn enter_list(
-    logs: &[SpanLog],
-    table: &LogPlaces,
-    rows: &mut Vec<Vec<Option<u64>>>,
-    list: &ReceiptList,
-) -> bool
+fn enter_list(logs: &[SpanLog], table: &LogPlaces, rows: &mut Vec<Row>, list: &ReceiptList) -> bool
     requires table { IsTable logs.now table.now }
     requires len { vec_len rows.old ≡ length logs.now }
     ensures len { vec_len rows.new ≡ length logs.now }
     ensures entered { (before : List Receipt)
-        → AreEntered logs.now before (map vec_items rows.old.items)
+        → AreEntered logs.now before (map filled_row rows.old.items)
         → WereEntered logs.now (before ++ kept_receipts list.now)
-        (map vec_items rows.new.items) result }
+        (map filled_row rows.new.items) result }
 {
     for i in 0..list.len() {
         if !enter(logs, table, rows, &list.view(i)) {
@@ -93,15 +89,15 @@ fn enter_list(
 fn enter_lists(
     logs: &[SpanLog],
     table: &LogPlaces,
-    rows: &mut Vec<Vec<Option<u64>>>,
+    rows: &mut Vec<Row>,
     lists: &[ReceiptList],
 ) -> bool
     requires table { IsTable logs.now table.now }
     requires len { vec_len rows.old ≡ length logs.now }
-    requires rows { AreEntered logs.now [] (map vec_items rows.old.items) }
+    requires rows { AreEntered logs.now [] (map filled_row rows.old.items) }
     ensures len { vec_len rows.new ≡ length logs.now }
     ensures entered { WereEntered logs.now (flat_map kept_receipts lists.now)
-        (map vec_items rows.new.items) result }
+        (map filled_row rows.new.items) result }
 {
     for list in lists {
         if !enter_list(logs, table, rows, list) {
@@ -118,18 +114,18 @@ pub fn sections_of_changes(
     logs: &[SpanLog],
     table: &LogPlaces,
     lists: &[ReceiptList],
-) -> Result<Option<Vec<Vec<Option<u64>>>>, AllocError>
+) -> Result<Option<Vec<Vec<u64>>>, AllocError>
     requires { IsTable logs.now table.now }
     ensures len { IfOk result (λ rows. IfSome rows (λ rows. vec_len rows ≡ length logs.now)) }
     ensures entered { IfOk result (λ rows. MatchOption rows
         (ChangesHaveReceipts logs.now (map kept_receipts lists.now) → ⊥)
         (λ rows. ChangesHaveReceipts logs.now (map kept_receipts lists.now)
-        × AreEntered logs.now (flat_map kept_receipts lists.now) (map vec_items rows.items)
-        × AreFull (map vec_items rows.items))) }
+        × AreEntered logs.now (flat_map kept_receipts lists.now) (map full_row rows.items)
+        × AreFull (map full_row rows.items))) }
 {
     let mut rows = empty_rows(alloc, logs)?;
     if enter_lists(logs, table, &mut rows, lists) && are_full(rows.as_slice()) {
-        Ok(Some(rows))
+        Ok(Some(full_rows(alloc, rows)?))
     } else {
         Ok(None)
     }

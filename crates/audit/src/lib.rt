@@ -46,6 +46,7 @@ mod log;
 mod order;
 mod records;
 mod reply;
+mod row;
 mod section;
 mod slot;
 mod verdict;

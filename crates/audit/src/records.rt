@@ -12,7 +12,7 @@ pub struct Records<'a> {
     /// Where each span's log stands.
     pub table: &'a LogPlaces,
     /// The section of each change of each log.
-    pub sections: &'a [Vec<Option<u64>>],
+    pub sections: &'a [Vec<u64>],
     /// The changes of each log by slot.
     pub orders: &'a [Vec<SlotChange>],
     /// Where those of a slot begin.

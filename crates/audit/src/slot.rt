@@ -3,22 +3,54 @@ ghost use Rattle.std.specs.Prelude.{◌≡◌, ◌≤◌, ◌<◌, ◌-◌, IfOk
 ghost use Rattle.std.specs.List.Sorted.{IsNonDecreasingBy};
 ghost use Rattle.span.specs.KeptLogs.{kept_changes};
 ghost use Rattle.span.specs.declared.change.Change.{Change};
-ghost use Rattle.audit.specs.Slots.{change_rank, slot_rank, HasChanges, HaveChanges, IsBySlot, IsSortedFrom, AreBySlot, IsQuiet, IsLast, IsSplitAt};
+ghost use Rattle.audit.specs.declared.slot.TheConstants.{MOST_PLACES};
+ghost use Rattle.audit.specs.Slots.{change_rank, place_of, slot_rank, HasChanges, HaveChanges, IsBySlot, IsSortedFrom, AreBySlot, IsQuiet, IsLast, IsSplitAt};
 
 use crate::calls::slot_of;
 use span::{Kept, Log, SpanLog};
 use std::alloc::{AllocError, Global};
+use std::mem::size_of;
 use std::thread;
 use std::thread::Threads;
 
 // At most that many threads sort.
 const SORTERS: usize = 16;
 
-/// Where a change stands: its slot, and its place in the log.
+/// At most that many changes of a log are sorted: more than any memory holds, since each takes 16 bytes.
+const MOST_PLACES: usize = 1 << 48;
+
+/// Where a change stands: its slot, and its place in the log, below [`MOST_PLACES`]. It takes 8 bytes.
 #[derive(Clone, Copy)]
 pub struct SlotChange {
     pub slot: u8,
-    pub place: usize,
+    // The place: how often it has 2^32, and what is left.
+    high: u16,
+    low: u32,
+}
+
+const _: () = prove!(size_of::<SlotChange>() == 8);
+
+impl SlotChange {
+    // The change of the slot at the place.
+    fn new(slot: u8, place: usize) -> SlotChange
+        requires { place < MOST_PLACES }
+        ensures slot { result.slot ≡ slot }
+        ensures place { place_of result ≡ place }
+    {
+        SlotChange {
+            slot,
+            high: (place >> 32) as u16,
+            low: (place & 0xffff_ffff) as u32,
+        }
+    }
+
+    // Its place in the log.
+    fn place(&self) -> usize
+        ensures { result ≡ place_of self.now }
+    {
+        let SlotChange { high, low, .. } = *self;
+        4_294_967_296 * high as usize + low as usize
+    }
 }
 
 // The place among all changes by slot, and then by place in the log.
@@ -32,10 +64,13 @@ fn slot_rank(slot: u8, place: usize) -> u128
 fn slot_changes(alloc: Global, log: &Kept) -> Result<Vec<SlotChange>, AllocError>
     ensures { IfOk result (λ found. HasChanges (kept_changes log.now) found.items) }
 {
+    if MOST_PLACES < log.len() {
+        return Err(AllocError);
+    }
     let mut found = Vec::with_capacity(alloc, log.len())?;
     for place in 0..log.len() {
         let slot = slot_of(log.view(place));
-        found.push_reserved(SlotChange { slot, place });
+        found.push_reserved(SlotChange::new(slot, place));
     }
     Ok(found)
 }
@@ -44,7 +79,7 @@ fn slot_changes(alloc: Global, log: &Kept) -> Result<Vec<SlotChange>, AllocError
 fn sort(found: &mut Vec<SlotChange>)
     ensures { IsSortedFrom found.old.items found.new.items }
 {
-    found.sort_unstable_by_key(|change| slot_rank(change.slot, change.place));
+    found.sort_unstable_by_key(|change| slot_rank(change.slot, change.place()));
 }
 
 // The changes of the log by slot, and those of a slot in their order.
@@ -114,7 +149,7 @@ pub fn all_by_slot_by_threads<R: Threads + Sync>(
 fn change_rank(change: &SlotChange) -> u128
     ensures { result ≡ change_rank change.now }
 {
-    slot_rank(change.slot, change.place)
+    slot_rank(change.slot, change.place())
 }
 
 // Whether the last of the first `n` changes by slot, if there is one, stands before the rank.
@@ -178,7 +213,7 @@ fn count_before(found: &[SlotChange], rank: u128, guess: usize) -> usize
     if is_split_at(found, rank, next) {
         return next;
     }
-    found.partition_point(|change| slot_rank(change.slot, change.place) < rank)
+    found.partition_point(|change| slot_rank(change.slot, change.place()) < rank)
 }
 
 /// The place of the last change of the slot before the place, if there is one. `guess` is how many of the changes by slot may
@@ -193,6 +228,10 @@ pub fn last_before(found: &[SlotChange], slot: u8, at: usize, guess: usize) -> O
     if n == 0 {
         return None;
     }
-    let SlotChange { slot: last, place } = found[n - 1];
-    if last == slot { Some(place) } else { None }
+    let last = found[n - 1];
+    if last.slot == slot {
+        Some(last.place())
+    } else {
+        None
+    }
 }

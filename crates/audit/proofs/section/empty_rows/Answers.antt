@@ -1,7 +1,7 @@
-use Rattle.std.proofs.Common.{[], Option, ℕ, List, vec_items, length, refl, arith}
+use Rattle.std.proofs.Common.{[], Option, ℕ, List, length, refl, arith}
 use Rattle.std.proofs.lemmas.Option.{slice_get_read}
 use Rattle.span.specs.declared.span_log.SpanLog.{SpanLog}
-use Rattle.audit.specs.Tables.{IsRowOf}
+use Rattle.audit.specs.Tables.{IsRowOf, filled_row}
 use Rattle.audit.proofs.Entered.{IsRowOf-none}
 use Rattle.audit.proofs.Lists.{rows_more}
 use Rattle.audit.proofs.section.empty_rows.Goals as goal
@@ -13,8 +13,8 @@ loop-log-preserved c =
     let row = c.in_ok-empty_row.field-0 in
     record {
       len = omega (arith, c.in_ok-push.ensures.len, c.loop-log.invariant.len);
-      each = rows_more vec_items (λ (x : SpanLog) (l : List (Option ℕ)). IsRowOf [] x l) logs c.loop-log.rows.items log row c.loop-log.log-index
+      each = rows_more filled_row (λ (x : SpanLog) (l : List (Option ℕ)). IsRowOf [] x l) logs c.loop-log.rows.items log row c.loop-log.log-index
           (slice_get_read logs (length logs) c.loop-log.log-index log refl c.loop-log-test.true c.log-item.is) (omega (arith, c.loop-log.rows.ok.0, c.loop-log.invariant.len))
-          c.loop-log.invariant.each (IsRowOf-none log row.items (omega (arith, row.ok.0, c.in_ok-empty_row.ensures.len)) c.in_ok-empty_row.ensures.none)
+          c.loop-log.invariant.each (IsRowOf-none log (filled_row row) (omega (arith, c.in_ok-empty_row.ensures.len)) c.in_ok-empty_row.ensures.none)
           c.push.new.self.items c.in_ok-push.ensures.items;
     }

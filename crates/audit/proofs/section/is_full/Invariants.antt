@@ -1,5 +1,5 @@
-use Rattle.std.proofs.Common.{ℕ, ◌≡◌, ◌<◌, None, get_or}
+use Rattle.std.proofs.Common.{ℕ, ◌≡◌, ◌<◌, true, false, get_or}
 use Rattle.audit.proofs.section.is_full.Given as goal
 
-abbrev pub invariant-loop-at : goal.invariant-loop-at
-invariant-loop-at l = (k : ℕ) → k < l.at → get_or l.row k None ≡ None → ⊥
+abbrev pub invariant-loop-told : goal.invariant-loop-told
+invariant-loop-told l = (k : ℕ) → k < l.told-index → get_or l.row.told.items k false ≡ true

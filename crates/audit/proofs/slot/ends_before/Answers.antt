@@ -8,5 +8,5 @@ returns-then-n-eq0 c so x some at = absurd (omega (arith, c.if-n-eq0.true))
 
 pub returns : goal.returns
 returns c so x some at =
-    let same = ap change_rank (get_or_from_slice_get c.args.found.now (c.args.n - 1) x (record { slot = 0; place = 0 }) at) in
+    let same = ap change_rank (get_or_from_slice_get c.args.found.now (c.args.n - 1) x (record { slot = 0; high = 0; low = 0 }) at) in
     omega (arith, same, c.if-rank-last.false, c.change_rank-last.ensures)

@@ -8,5 +8,5 @@ returns-then-n-found c so x at = absurd (let within = slice_get_within c.args.fo
 
 pub returns : goal.returns
 returns c so x at =
-    let same = ap change_rank (get_or_from_slice_get c.args.found.now c.args.n x (record { slot = 0; place = 0 }) at) in
+    let same = ap change_rank (get_or_from_slice_get c.args.found.now c.args.n x (record { slot = 0; high = 0; low = 0 }) at) in
     omega (arith, same, c.if-next-rank.false, c.change_rank-next.ensures)
