@@ -7,7 +7,7 @@ ghost use Rattle.span.specs.State.{SpanState};
 ghost use Rattle.span.specs.PlainMap as plain;
 ghost use Rattle.shard.specs.Group.{GroupState};
 ghost use Rattle.groups.specs.Group.{Ascend, HasNoHead, IsElsewhere, IsHeadOf, IsHere, live_in, paged_in, summary};
-ghost use Rattle.shard.specs.Rooms.{HasRooms, PutsFirst, room_of, rooms_of};
+ghost use Rattle.shard.specs.Rooms.{HasRooms, room_of, rooms_of};
 ghost use Rattle.span.specs.Classes.{class_of, width_of};
 ghost use Rattle.span.specs.declared.class.Class.{Class};
 ghost use Rattle.shard.specs.Shown.{shown};
@@ -366,28 +366,18 @@ impl<L: Log> Shard<L> {
         if self.ended {
             return Err(PutError::Ended);
         }
-        if let Some(made) = self.put_here(class, words)? {
-            return Ok(made);
+        while let Some(index) = self.rooms.lowest(class) {
+            let group = &mut self.groups[index];
+            let at = group.span_at(0).changes();
+            if let Some(key) = group.put(self.alloc, class, words)? {
+                return Ok((key, at));
+            }
+            self.rooms.remove(class, index);
         }
         if self.groups.len() >= self.page_limit || self.opened >= self.span_limit {
             return Err(PutError::PagesSpent);
         }
         self.put_in_new(class, words)
-    }
-
-    // Puts the value at the lowest usable slot of the lowest group that has one, if one has. Its log grows first.
-    #[inline(always)]
-    fn put_here(&mut self, class: Class, words: &[u128]) -> Result<Option<(Key, usize)>, PutError>
-        requires { length words.now ≡ width_of class }
-        ensures ok { IfOk result (λ found. MatchOption found
-            (IsFull class self.old.groups × (self.new ≡ self.old))
-            (λ made. PutsHere self.old class words.now made.0 made.1 self.new)) }
-        ensures only { IsOkUnless result PutError.OutOfMemory }
-        ensures room { OnErr result (IsFull class self.old.groups → ⊥) }
-        ensures err { OnErr result (self.new ≡ self.old) }
-    {
-        let made = put_first(&mut self.groups, &mut self.rooms, self.alloc, class, words)?;
-        Ok(made)
     }
 
     // Opens a span on a new page, with the value at its first slot. The new head, its page, the list of groups and the sets of
@@ -514,38 +504,4 @@ fn lower_heads<L: Log>(groups: &[Group<L>], id: SpanId) -> usize
             ensures { result ≡ nat_lt (rank group.now.head.id) (rank id) }
         { group.head_id().rank() < id.rank() },
     )
-}
-
-// Puts the value at the lowest usable slot of the first open group that has one, and on its page. It gives the key, and
-// how many changes the head's log had before. Groups that have no usable slot leave the set.
-#[inline(always)]
-fn put_first<L: Log>(
-    groups: &mut Vec<Group<L>>,
-    rooms: &mut ClassRooms,
-    alloc: Global,
-    class: Class,
-    words: &[u128],
-) -> Result<Option<(Key, usize)>, AllocError>
-    requires width { length words.now ≡ width_of class }
-    requires rooms { (other : Class) → HasRooms other groups.old.items
-        (rooms_of rooms.old other) }
-    ensures ok { IfOk result (λ found. MatchOption found
-        (IsFull class groups.old.items × (groups.new.items ≡ groups.old.items))
-        (λ made. PutsFirst class groups.old.items words.now made.0 made.1 groups.new.items)) }
-    ensures room { OnErr result (IsFull class groups.old.items → ⊥) }
-    ensures err { OnErr result (groups.new.items ≡ groups.old.items) }
-    ensures rooms { (other : Class) → HasRooms other groups.new.items
-        (rooms_of rooms.new other) }
-    ensures same_room { (other : Class) → room_of rooms.new other ≡ room_of rooms.old other }
-    ensures capacity { vec_capacity groups.new ≡ vec_capacity groups.old }
-{
-    while let Some(index) = rooms.lowest(class) {
-        let group = &mut groups[index];
-        let at = group.span_at(0).changes();
-        if let Some(key) = group.put(alloc, class, words)? {
-            return Ok(Some((key, at)));
-        }
-        rooms.remove(class, index);
-    }
-    Ok(None)
 }
