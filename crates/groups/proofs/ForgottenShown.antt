@@ -1,9 +1,9 @@
 -- The values that logs leave, where spans go in which no slot is live.
-use Rattle.std.proofs.Common.{◌≡◌, ℕ, ◌+◌, ◌≤◌, Bool, true, false, cond, List, [], ◌∷◌, ◌++◌, Option, None, Some, map, refl, sym, ap, ◌∙◌, arith}
+use Rattle.std.proofs.Common.{◌≡◌, ℕ, ◌≤◌, Bool, true, false, cond, List, [], ◌∷◌, ◌++◌, Option, None, Some, map, refl, sym, ap, ◌∙◌, arith}
 use Rattle.std.specs.FinSet.{contains, contains-empty, empty}
 use Rattle.std.specs.FinMap as fin
 use Rattle.std.specs.Ordering.{nat_cmp}
-use Rattle.std.specs.Prelude.{find, is_some}
+use Rattle.std.specs.Prelude.{is_some}
 use Rattle.span.proofs.Slots.{contains-live_slots}
 use Rattle.span.specs.Ids.{same_span}
 use Rattle.span.specs.Log.{Held, Value, live_slots, replay, value_if, value_in}
@@ -13,10 +13,9 @@ use Rattle.groups.specs.Dead.{is_live, live_among, without_dead}
 use Rattle.groups.specs.Group.{Group, spans_in}
 use Rattle.groups.specs.Shown.{shown_by, span_named}
 use Rattle.groups.specs.Sound.{AreSoundGroups}
-use Rattle.groups.specs.Spans.{union_of}
 use Rattle.groups.proofs.DeadGuests.{live_slots-dead}
 use Rattle.groups.proofs.GroupSpans.{times}
-use Rattle.groups.proofs.Lists.{count-append, count-cons, find-none, none_where, one_where}
+use Rattle.groups.proofs.Lists.{count-append, count-cons, find-none, one_where}
 use Rattle.groups.proofs.Logged.{logged_by}
 use Rattle.groups.proofs.ShownGroups.{value-logged}
 

@@ -186,7 +186,8 @@ impl<L: Log> Spans<L> {
         let Some(slot) = self.lowest_usable() else {
             return Ok(None);
         };
-        let key = self.put_at(slot, words)?;
+        let key = self.head.put_at(slot, words)?;
+        self.occupied.insert(slot);
         Ok(Some(key))
     }
 
@@ -212,25 +213,6 @@ impl<L: Log> Spans<L> {
             Class::C16 => taken.lowest_outside(),
             class => taken.lowest_outside_below(class.slots()),
         }
-    }
-
-    // Puts an object at a slot of the page that is live in no span, and not worn in the head.
-    #[inline(always)]
-    fn put_at(&mut self, slot: u8, words: &[u128]) -> Result<Key, AllocError>
-        requires on_page { slot < slots_in self.old.head.class }
-        requires width { length words.now ≡ width_of self.old.head.class }
-        requires free { set.contains (taken self.old) slot ≡ false }
-        ensures key { IfOk result (λ key. (key.span ≡ self.old.head.id) × (key.slot ≡ slot)
-            × (key.generation ≡ puts_of slot self.old.head.log + 1)) }
-        ensures ok { OnOk result (self.new ≡ record self.old {
-          head = with_put self.old.head slot
-              words.now;
-        }) }
-        ensures err { OnErr result (self.new ≡ self.old) }
-    {
-        let key = self.head.put_at(slot, words)?;
-        self.occupied.insert(slot);
-        Ok(key)
     }
 
     /// Sets the object of the slot in the span at the place to these words, where the slot is live there at the generation

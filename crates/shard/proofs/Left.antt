@@ -1,5 +1,5 @@
 -- A shard whose groups leave one after another, and whose places go at once.
-use Rattle.std.proofs.Common.{zero, suc, ◌≡◌, ℕ, ◌+◌, ◌*◌, ◌<◌, ◌≤◌, ◌⊎◌, ◌++◌, Bool, true, false, cond, ◌&&◌, not, List, [], ◌∷◌, length, length-set, None, Option, Some, set, slice_get, ◌∙◌, ap, sym, subst, refl, inl, inr, arith}
+use Rattle.std.proofs.Common.{zero, suc, ◌≡◌, ℕ, ◌<◌, ◌≤◌, Bool, true, false, cond, ◌&&◌, not, List, [], ◌∷◌, length, length-set, None, Option, Some, set, slice_get, ◌∙◌, ap, sym, subst, refl, inl, inr, arith}
 use Rattle.std.specs.Prelude.{count_by, is_some, nat_eq, remove}
 use Rattle.std.specs.List.{filter, list_any}
 use Rattle.std.proofs.lemmas.Bool.{cases_Bool, false_from_ne_true, ne_eqb, true≢false}
@@ -11,7 +11,7 @@ use Rattle.span.specs.State.{SpanState}
 use Rattle.span.specs.declared.class.Class.{Class}
 use Rattle.span.specs.declared.id.SpanId.{SpanId}
 use Rattle.groups.specs.Directory.{Entries, KnowsGuests, struck}
-use Rattle.groups.specs.Group.{Ascend, HasNoHead, IsHeadOf, Stands, spans_in, spans_of}
+use Rattle.groups.specs.Group.{HasNoHead, IsHeadOf, spans_in, spans_of}
 use Rattle.groups.specs.Sound.{IsSoundGroup}
 use Rattle.groups.proofs.GroupSpans.{count-spans_insert, count-spans_remove, times}
 use Rattle.groups.proofs.KnownGuests.{KnowsGuests-remove}

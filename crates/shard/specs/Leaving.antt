@@ -1,5 +1,5 @@
 -- Groups that leave a shard one after another, while their places stay until all have left.
-use Rattle.std.specs.Prelude.{ℕ, Bool, ◌&&◌, None, true, filter, is_some, length, nat_eq, not}
+use Rattle.std.specs.Prelude.{ℕ, Bool, ◌&&◌, true, filter, is_some, length, nat_eq, not}
 use Rattle.span.specs.declared.class.Class.{Class}
 use Rattle.span.specs.declared.id.SpanId.{SpanId}
 use Rattle.shard.specs.Calls.{empty_group}

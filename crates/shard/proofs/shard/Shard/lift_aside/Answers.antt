@@ -1,11 +1,11 @@
-use Rattle.std.proofs.Common.{◌≡◌, ◌∙◌, List, None, ap, arith, false, inl, refl, set, slice_get, subst, sym, true}
+use Rattle.std.proofs.Common.{◌≡◌, ◌∙◌, List, None, ap, arith, inl, refl, set, subst, sym}
 use Rattle.std.specs.Prelude.{filter, remove}
 use Rattle.groups.specs.Directory.{DirectoryState}
 use Rattle.groups.specs.Group.{HasNoHead, IsHeadOf}
 use Rattle.groups.proofs.Lists.{set-same}
 use Rattle.shard.specs.Group.{GroupState}
 use Rattle.shard.specs.Kept.{state_of}
-use Rattle.shard.specs.Leaving.{has_left, has_stayed, left_place, swept}
+use Rattle.shard.specs.Leaving.{has_stayed, left_place, swept}
 use Rattle.shard.specs.Rooms.{rooms_of}
 use Rattle.shard.specs.State.{ShardState}
 use Rattle.shard.proofs.GuestRoom.{HasGuestRoom-none}

@@ -1,82 +1,219 @@
-use Rattle.std.proofs.Common.{rules, refl, ◌≡◌, ◌∙◌, ◌<◌, ◌≤◌, ◌⊎◌, ap, arith, inl, inr, length, subst, sym}
+use Rattle.std.proofs.Common.{rules, refl, ◌≡◌, ◌∙◌, ◌<◌, ◌≤◌, ◌⊎◌, ap, arith, inl, inr, length, set, subst, sym}
 use Rattle.std.specs.Prelude.{IfOk, OnErr}
+use Rattle.std.proofs.lemmas.Result.{err_from_is_err_and}
+use Rattle.groups.proofs.Lists.{same_some}
+use Rattle.groups.proofs.Maps.{at_err}
+use Rattle.span.specs.State.{SpanState}
 use Rattle.shard.specs.Calls.{IsFull, Puts, PutsInNew}
+use Rattle.shard.specs.Group.{HasNoRoom, IsLowestUsable}
 use Rattle.shard.specs.Kept.{state_of}
+use Rattle.shard.specs.Rooms.{rooms_of}
 use Rattle.shard.specs.Sound.{IsSound}
 use Rattle.shard.specs.State.{ShardState}
+use Rattle.shard.proofs.KeptGroups.{IsKept-same}
+use Rattle.shard.proofs.OpenGroups.{HasNoRoom-usable}
+use Rattle.shard.proofs.PutFirst.{group_here, IsKept-passed, IsKept-put, Puts-first, set-kept}
 use Rattle.shard.proofs.PutResult.{is_issued-result, IsSound-result, puts_if_new, shown-result}
-use Rattle.shard.proofs.ShownLogs.{is_issued-Puts, IsSound-Puts, shown-Puts}
+use Rattle.shard.proofs.RoomBits.{IsFull-empty, len-remove_lt}
+use Rattle.shard.proofs.ShownLogs.{is_issued-Puts, shown-Puts}
 use Rattle.shard.proofs.shard.Shard.put_words.Goals.{then-len-self-via-then-len-self, then-len-self-via-else-len-self+then-self-2}
 use Rattle.shard.proofs.shard.Shard.put_words.Goals as goal
 
-here : (g : _) (c : goal.In-Some g) → Puts c.args.self.now c.args.class c.args.words.now c.in-Some.made.0 c.in-Some.made.1 c.put_here.new.self
-here g c = (ap (λ (s : ShardState). s.ended) (sym c.self.view_is) ∙ c.if-self.false, inl (rw c.in-Some.is at (c.in_ok-made.ensures {u = tt}).ok))
+pub loop-index-init : goal.loop-index-init
+loop-index-init g c = record { kept = c.self.invariant; same = c.self.view_is }
 
-sound_here : (g : _) (c : goal.In-Some g) → IsSound c.args.self.now
+pub index_mut-group-requires : goal.index_mut-group-requires
+index_mut-group-requires g c =
+    let within = (c.loop-index.invariant.kept.rooms c.args.class).within c.in-Some.index c.in-Some.ensures.lowest.inside in
+    omega (arith, within, c.loop-index.self-inside.groups.ok.0)
+
+-- memory was refused, and the group is as it was
+pub invariant_of-self : goal.invariant_of-self
+invariant_of-self g c =
+    let s = c.loop-index.self-inside in
+    let kept = c.loop-index.invariant.kept in
+    let group = c.index_mut-group.result.now in
+    let here = group_here s c.loop-index.invariant.kept c.args.class c.in-Some.index group c.in-Some.ensures.lowest c.index_mut-group.ensures.value in
+    IsKept-same s kept _ s.rooms (set-kept s.groups.items c.in-Some.index group c.put.new.self here (c.in_err-key.ensures {u = tt}).err)
+    (omega arith) kept.rooms (λ class. omega arith)
+
+pub returns-in_err-key-clause-err : goal.returns-in_err-key-clause-err
+returns-in_err-key-clause-err g c =
+    let s = c.loop-index.self-inside in
+    let group = c.index_mut-group.result.now in
+    let here = group_here s c.loop-index.invariant.kept c.args.class c.in-Some.index group c.in-Some.ensures.lowest c.index_mut-group.ensures.value in
+    at_err c.from_residual.result
+    (ap (λ groups. record (state_of s) { groups = groups })
+    (set-kept s.groups.items c.in-Some.index group c.put.new.self here (c.in_err-key.ensures {u = tt}).err)
+    ∙ c.loop-index.invariant.same)
+
+pub returns-in_err-key-clause-sound : goal.returns-in_err-key-clause-sound
+returns-in_err-key-clause-sound g c = (invariant_of-self g c).sound
+
+pub returns-in_err-key-clause-spent : goal.returns-in_err-key-clause-spent
+returns-in_err-key-clause-spent g c =
+    let s = c.loop-index.self-inside in
+    let group = c.index_mut-group.result.now in
+    let here = group_here s c.loop-index.invariant.kept c.args.class c.in-Some.index group c.in-Some.ensures.lowest c.index_mut-group.ensures.value in
+    let refused = err_from_is_err_and c.from_residual.result c.from_residual.ensures.1 in (
+      (λ e. absurd (let spent = sym e ∙ refused.1 in search rules)),
+      λ spent. absurd ((c.in_err-key.ensures {u = tt}).room
+          (subst (λ (shard : ShardState). IsFull c.args.class shard.groups) (sym c.loop-index.invariant.same) spent.1.0 c.in-Some.index group here)),
+    )
+
+-- the group took the put
+pub invariant_of-self-in-Some-2 : goal.invariant_of-self-in-Some-2
+invariant_of-self-in-Some-2 g c =
+    let s = c.loop-index.self-inside in
+    let kept = c.loop-index.invariant.kept in
+    let group = c.index_mut-group.result.now in
+    let key = c.in-Some-2.key in
+    let made = c.in_ok-key.ensures {u = tt} in
+    let here = group_here s c.loop-index.invariant.kept c.args.class c.in-Some.index group c.in-Some.ensures.lowest c.index_mut-group.ensures.value in
+    IsKept-put s kept c.args.class c.in-Some.index group here c.in-Some.ensures.lowest key c.args.words.now (rw c.in-Some-2.is at made.slot) c.requires
+    _ (ap (set s.groups.items c.in-Some.index) (rw c.in-Some-2.is at made.ok)) refl
+
+puts : (g : _) (c : goal.In-Some-2 g)
+    → Puts c.args.self.now c.args.class c.args.words.now c.in-Some-2.key c.changes-at.result
+    (record (state_of c.loop-index.self-inside) { groups = set c.loop-index.self-inside.groups.items c.in-Some.index c.put.new.self })
+puts g c =
+    let s = c.loop-index.self-inside in
+    let kept = c.loop-index.invariant.kept in
+    let group = c.index_mut-group.result.now in
+    let key = c.in-Some-2.key in
+    let made = c.in_ok-key.ensures {u = tt} in
+    let named = rw c.in-Some-2.is at made.key in
+    let here = group_here s c.loop-index.invariant.kept c.args.class c.in-Some.index group c.in-Some.ensures.lowest c.index_mut-group.ensures.value in
+    Puts-first s kept c.args.class c.in-Some.index group here c.in-Some.ensures.lowest key c.args.words.now (rw c.in-Some-2.is at made.slot)
+    c.args.self.now c.loop-index.invariant.same (ap (λ (s : ShardState). s.ended) (sym c.self.view_is) ∙ c.if-self.false) named.0 named.1
+    c.changes-at.result (c.changes-at.ensures ∙ ap (λ (span : SpanState). length span.log) (sym (same_some c.span_at.ensures)))
+    c.put.new.self (rw c.in-Some-2.is at made.ok)
+
+sound_here : (g : _) (c : goal.In-Some-2 g) → IsSound c.args.self.now
 sound_here g c = subst IsSound c.self.view_is c.self.invariant.sound
 
-pub returns-in-Some-clause-fresh : goal.returns-in-Some-clause-fresh
-returns-in-Some-clause-fresh g c = is_issued-Puts c.args.self.now c.put_here.new.self c.args.class c.args.words.now c.requires c.in-Some.made.0 c.in-Some.made.1 (sound_here g c) (here g c)
+pub returns-in-Some-2-clause-ok : goal.returns-in-Some-2-clause-ok
+returns-in-Some-2-clause-ok g c = puts g c
 
-pub returns-in-Some-clause-plain : goal.returns-in-Some-clause-plain
-returns-in-Some-clause-plain g c = shown-Puts c.args.self.now c.put_here.new.self c.args.class c.args.words.now c.requires c.in-Some.made.0 c.in-Some.made.1 (sound_here g c) (here g c)
+pub returns-in-Some-2-clause-fresh : goal.returns-in-Some-2-clause-fresh
+returns-in-Some-2-clause-fresh g c =
+    is_issued-Puts c.args.self.now _ c.args.class c.args.words.now c.requires c.in-Some-2.key c.changes-at.result (sound_here g c) (puts g c)
 
-pub returns-in-Some-clause-sound : goal.returns-in-Some-clause-sound
-returns-in-Some-clause-sound g c = IsSound-Puts c.args.self.now c.put_here.new.self c.args.class c.args.words.now c.requires c.in-Some.made.0 c.in-Some.made.1 (sound_here g c) (here g c)
+pub returns-in-Some-2-clause-plain : goal.returns-in-Some-2-clause-plain
+returns-in-Some-2-clause-plain g c =
+    shown-Puts c.args.self.now _ c.args.class c.args.words.now c.requires c.in-Some-2.key c.changes-at.result (sound_here g c) (puts g c)
+
+pub returns-in-Some-2-clause-sound : goal.returns-in-Some-2-clause-sound
+returns-in-Some-2-clause-sound g c = (invariant_of-self-in-Some-2 g c).sound
+
+pub returns-in-Some-2-clause-spent : goal.returns-in-Some-2-clause-spent
+returns-in-Some-2-clause-spent g c =
+    let s = c.loop-index.self-inside in
+    let group = c.index_mut-group.result.now in
+    let usable : IsLowestUsable c.args.class group c.in-Some-2.key.slot = rw c.in-Some-2.is at (c.in_ok-key.ensures {u = tt}).slot in
+    let here = group_here s c.loop-index.invariant.kept c.args.class c.in-Some.index group c.in-Some.ensures.lowest c.index_mut-group.ensures.value in (
+      (λ e. absurd (search rules)),
+      λ spent. absurd (HasNoRoom-usable c.args.class group c.in-Some-2.key.slot usable
+          (subst (λ (shard : ShardState). IsFull c.args.class shard.groups) (sym c.loop-index.invariant.same) spent.1.0 c.in-Some.index group here)),
+    )
+
+-- the group has no usable slot
+pub loop-index-smaller : goal.loop-index-smaller
+loop-index-smaller g c =
+    rw c.remove.ensures.this (len-remove_lt (rooms_of c.loop-index.self-inside.rooms c.args.class) c.in-Some.index c.in-Some.ensures.lowest.inside)
+
+pub loop-index-preserved : goal.loop-index-preserved
+loop-index-preserved g c =
+    let s = c.loop-index.self-inside in
+    let kept = c.loop-index.invariant.kept in
+    let group = c.index_mut-group.result.now in
+    let made = c.in_ok-key.ensures {u = tt} in
+    let here = group_here s c.loop-index.invariant.kept c.args.class c.in-Some.index group c.in-Some.ensures.lowest c.index_mut-group.ensures.value in
+    let none : HasNoRoom c.args.class group = rw c.in_default-2.is at made.slot in
+    let back = set-kept s.groups.items c.in-Some.index group c.put.new.self here (rw c.in_default-2.is at made.ok) in
+    record {
+      kept = IsKept-passed s kept c.args.class c.in-Some.index group here _ back refl none c.remove.new.self c.remove.ensures.this c.remove.ensures.others
+          c.remove.ensures.room;
+      same = ap (λ groups. record (state_of s) { groups = groups }) back ∙ c.loop-index.invariant.same;
+    }
+
+-- no group has room
+pub invariant_of-self-then-len-self : goal.invariant_of-self-then-len-self
+invariant_of-self-then-len-self g c = c.loop-index.invariant.kept
+
+pub returns-then-len-self-clause-sound : goal.returns-then-len-self-clause-sound
+returns-then-len-self-clause-sound g c = c.loop-index.invariant.kept.sound
+
+pub returns-then-len-self-clause-err : goal.returns-then-len-self-clause-err
+returns-then-len-self-clause-err g c = c.loop-index.invariant.same
+
+pub returns-then-len-self-clause-spent : goal.returns-then-len-self-clause-spent
+returns-then-len-self-clause-spent g c =
+    let s = c.loop-index.self-inside in
+    let same = c.loop-index.invariant.same in
+    let full : IsFull c.args.class s.groups.items =
+    IsFull-empty c.args.class s.groups.items (rooms_of s.rooms c.args.class) (c.loop-index.invariant.kept.rooms c.args.class) c.in_default.ensures.lowest in
+    let spent : (c.args.self.now.page_limit ≤ length c.args.self.now.groups)
+    ⊎ (c.args.self.now.span_limit ≤ c.args.self.now.opened) = elim c.then-len-self.branch [
+      | then-len-self-via-then-len-self w ↦ inl
+          (subst (λ (s : ShardState). s.page_limit ≤ length s.groups) same (omega (arith, w.if-len-self, s.groups.ok.0, c.len.ensures)))
+      | then-len-self-via-else-len-self+then-self-2 w ↦ inr (subst (λ (s : ShardState). s.span_limit ≤ s.opened) same (omega (arith, w.if-self-2)))
+    ] in (
+      (λ e. (
+        ap (λ (s : ShardState). s.ended) (sym c.self.view_is) ∙ c.if-self.false,
+        (subst (λ (s : ShardState). IsFull c.args.class s.groups) same full, spent),
+      )),
+      λ e. refl,
+    )
+
+-- a new span is opened
+pub invariant_of-self-2 : goal.invariant_of-self-2
+invariant_of-self-2 g c = c.loop-index.invariant.kept
 
 pub put_in_new-requires-clause-full : goal.put_in_new-requires-clause-full
 put_in_new-requires-clause-full g c =
-    let full = rw c.in_default.is at (c.in_ok-made.ensures {u = tt}).ok in
-    subst (λ (s : ShardState). IsFull c.args.class s.groups) (sym full.1) full.0
+    IsFull-empty c.args.class c.loop-index.self-inside.groups.items (rooms_of c.loop-index.self-inside.rooms c.args.class)
+    (c.loop-index.invariant.kept.rooms c.args.class) c.in_default.ensures.lowest
 
--- no group had room, and the shard is as it was
-full : (g : _) (c : goal.After-put_in_new g) → IsFull c.args.class c.args.self.now.groups × (c.put_here.new.self ≡ c.args.self.now)
-full g c = rw c.in_default.is at (c.in_ok-made.ensures {u = tt}).ok
+pub put_in_new-requires-clause-running : goal.put_in_new-requires-clause-running
+put_in_new-requires-clause-running g c = ap (λ (s : ShardState). s.ended) (c.loop-index.invariant.same ∙ sym c.self.view_is) ∙ c.if-self.false
 
 sound_new : (g : _) (c : goal.After-put_in_new g) → IsSound c.args.self.now
 sound_new g c = subst IsSound c.self.view_is c.self.invariant.sound
 
-new_one : (g : _) (c : goal.After-put_in_new g) → IfOk c.put_in_new.result (λ made. Puts c.args.self.now c.args.class c.args.words.now made.0 made.1 c.put_in_new.new.self)
+new_one : (g : _) (c : goal.After-put_in_new g)
+    → IfOk c.put_in_new.result (λ made. Puts c.args.self.now c.args.class c.args.words.now made.0 made.1 c.put_in_new.new.self)
 new_one g c =
-    let same : state_of c.self-2.inside ≡ c.args.self.now = c.self-2.view_is ∙ (full g c).1 in
+    let s = c.loop-index.self-inside in
+    let same = c.loop-index.invariant.same in
+    let full : IsFull c.args.class s.groups.items =
+    IsFull-empty c.args.class s.groups.items (rooms_of s.rooms c.args.class) (c.loop-index.invariant.kept.rooms c.args.class) c.in_default.ensures.lowest in
     puts_if_new c.args.self.now c.put_in_new.new.self c.args.class c.args.words.now c.requires c.put_in_new.result
     (ap (λ (s : ShardState). s.ended) (sym c.self.view_is) ∙ c.if-self.false)
-    (full g c).0
-    (subst (λ (s : ShardState). length s.groups < s.page_limit) same (omega (arith, c.self-2.inside.groups.ok.0, c.len.ensures)))
-    (subst (λ (s : ShardState). s.opened < s.span_limit) same (omega arith))
-    (subst (λ (s : ShardState). IfOk c.put_in_new.result (λ made. PutsInNew s c.args.class c.args.words.now made.0 made.1 c.put_in_new.new.self)) (full g c).1 c.put_in_new.ensures.ok)
+    (subst (λ (s : ShardState). IsFull c.args.class s.groups) same full)
+    (subst (λ (s : ShardState). length s.groups < s.page_limit) same (omega (arith, c.if-len-self.false, s.groups.ok.0, c.len.ensures)))
+    (subst (λ (s : ShardState). s.opened < s.span_limit) same (omega (arith, c.if-self-2.false)))
+    (subst (λ (s : ShardState). IfOk c.put_in_new.result (λ made. PutsInNew s c.args.class c.args.words.now made.0 made.1 c.put_in_new.new.self)) same
+    c.put_in_new.ensures.ok)
+
+kept_new : (g : _) (c : goal.After-put_in_new g) → OnErr c.put_in_new.result (c.put_in_new.new.self ≡ c.args.self.now)
+kept_new g c = subst (λ (s : ShardState). OnErr c.put_in_new.result (c.put_in_new.new.self ≡ s)) c.loop-index.invariant.same c.put_in_new.ensures.err
 
 pub returns-clause-ok : goal.returns-clause-ok
 returns-clause-ok g c = new_one g c
 
 pub returns-clause-fresh : goal.returns-clause-fresh
-returns-clause-fresh g c = is_issued-result c.args.self.now c.put_in_new.new.self c.args.class c.args.words.now c.requires c.put_in_new.result (sound_new g c) (new_one g c)
+returns-clause-fresh g c = is_issued-result c.args.self.now c.put_in_new.new.self c.args.class c.args.words.now c.requires c.put_in_new.result (sound_new g c)
+    (new_one g c)
 
 pub returns-clause-plain : goal.returns-clause-plain
-returns-clause-plain g c = shown-result c.args.self.now c.put_in_new.new.self c.args.class c.args.words.now c.requires c.put_in_new.result (sound_new g c) (new_one g c)
+returns-clause-plain g c = shown-result c.args.self.now c.put_in_new.new.self c.args.class c.args.words.now c.requires c.put_in_new.result (sound_new g c)
+    (new_one g c)
 
 pub returns-clause-sound : goal.returns-clause-sound
 returns-clause-sound g c =
     IsSound-result c.args.self.now c.put_in_new.new.self c.args.class c.args.words.now c.requires c.put_in_new.result (sound_new g c) (new_one g c)
-    (subst (λ (s : ShardState). OnErr c.put_in_new.result (c.put_in_new.new.self ≡ s)) (full g c).1 c.put_in_new.ensures.err)
+    (kept_new g c)
 
-pub returns-in_err-made-clause-spent : goal.returns-in_err-made-clause-spent
-returns-in_err-made-clause-spent g c = (
-  (λ e. absurd (search rules)),
-  λ spent. absurd (c.in_err-made.ensures.room spent.1.0),
-)
-
-pub returns-in-Some-clause-ok : goal.returns-in-Some-clause-ok
-returns-in-Some-clause-ok g c = here g c
-
-pub returns-then-len-self-clause-spent : goal.returns-then-len-self-clause-spent
-returns-then-len-self-clause-spent g c =
-    let full : IsFull c.args.class c.args.self.now.groups × (c.put_here.new.self ≡ c.args.self.now) = rw c.in_default.is at (c.in_ok-made.ensures {u = tt}).ok in
-    let same : state_of c.self-2.inside ≡ c.args.self.now = c.self-2.view_is ∙ full.1 in
-    let spent : (c.args.self.now.page_limit ≤ length c.args.self.now.groups) ⊎ (c.args.self.now.span_limit ≤ c.args.self.now.opened) = elim c.then-len-self.branch [
-      | then-len-self-via-then-len-self w ↦ inl (subst (λ (s : ShardState). s.page_limit ≤ length s.groups) same (omega (arith, w.if-len-self, c.self-2.inside.groups.ok.0, c.len.ensures)))
-      | then-len-self-via-else-len-self+then-self-2 w ↦ inr (subst (λ (s : ShardState). s.span_limit ≤ s.opened) same (omega (arith, w.if-self-2)))
-    ] in (
-      (λ e. (ap (λ (s : ShardState). s.ended) (sym c.self.view_is) ∙ c.if-self.false, (full.0, spent))),
-      λ e. refl,
-    )
+pub returns-clause-err : goal.returns-clause-err
+returns-clause-err g c = kept_new g c
