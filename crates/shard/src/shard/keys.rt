@@ -1,0 +1,116 @@
+// Look-ups and frees, and where the span of a key stands.
+ghost use Rattle.std.specs.Prelude.{◌≡◌, ◌<◌, IfSome, MatchOption, if◌then◌else◌, is_some, length};
+ghost use Rattle.span.specs.Order.{HasNoneFrom, IsFirstFrom};
+ghost use Rattle.span.specs.PlainMap as plain;
+ghost use Rattle.span.specs.State.{SpanState};
+ghost use Rattle.groups.specs.Group.{HasNoHead, IsElsewhere, IsHeadOf, IsHere};
+ghost use Rattle.shard.specs.Calls.{FindsObject, Frees, Gets, value_found, was_freed};
+ghost use Rattle.shard.specs.Group.{GroupState};
+ghost use Rattle.shard.specs.Shown.{shown};
+ghost use Rattle.shard.specs.Sound.{IsSound};
+
+use super::{Found, Freed, Shard, head_index};
+use groups::Place;
+use span::{Key, Log, SpanId};
+
+impl<L: Log> Shard<L> {
+    /// The words of the key's object, where it is live here. They are lent from the page, which all spans of a group share.
+    // Inlined, what is found stays in registers: a call passes it through memory.
+    #[inline(always)]
+    pub fn get(&self, key: &Key) -> Found<'_>
+        ensures found { Gets self.now key.now result }
+        ensures width { FindsObject result }
+        ensures plain { value_found result ≡ (shown self.now).value_of key.now }
+        ensures sound { IsSound self.now }
+    {
+        let Some((index, place)) = self.find(key.span) else {
+            return Found::NotHere;
+        };
+        let group = &self.groups[index];
+        let span = group.span_at(place);
+        let at = span.changes();
+        if span.holds(key.slot, key.generation) {
+            let class = span.class();
+            let words = group.value_at(class, key.slot);
+            Found::Value(words, at)
+        } else {
+            Found::Gone(at)
+        }
+    }
+
+    /// Frees the key, where it is live here. It takes no memory.
+    #[inline(always)]
+    pub fn free(&mut self, key: &Key) -> Freed
+        ensures step { Frees self.old key.now result self.new }
+        ensures found { was_freed result ≡ is_some ((shown self.old).value_of key.now) }
+        ensures plain { shown self.new ≡ (if was_freed result then plain.without
+            (shown self.old) key.now else shown self.old) }
+        ensures sound { IsSound self.new }
+    {
+        let Some((index, place)) = self.find(key.span) else {
+            return Freed::NotHere;
+        };
+        let group = &mut self.groups[index];
+        let at = group.span_at(place).changes();
+        if !group.free(place, key.slot, key.generation) {
+            return Freed::No(at);
+        }
+        let class = group.class();
+        self.rooms.insert(class, index);
+        Freed::Yes(at)
+    }
+
+    /// The key of the span's lowest live slot from this one on, if one is live here. It takes no memory.
+    pub fn first_from(&self, id: SpanId, slot: u32) -> Option<Key>
+        ensures first { MatchOption result (HasNoneFrom (shown self.now) id slot)
+            (IsFirstFrom (shown self.now) id slot) }
+        ensures sound { IsSound self.now }
+    {
+        let Some((index, place)) = self.find(id) else {
+            return None;
+        };
+        self.groups[index].span_at(place).first_from(slot)
+    }
+
+    // Where the span of the id stands: its group, and its place there. Tried first is the index that a head has
+    // while the shard has all groups that it opened, and no other. That much is inlined, so that the place stays
+    // in registers; a call would pass it through memory.
+    #[inline(always)]
+    pub(super) fn find(&self, id: SpanId) -> Option<(usize, usize)>
+        ensures sound { IsSound self.now }
+        ensures place { MatchOption result (IsElsewhere self.now.groups id)
+            (λ at. (group : GroupState) × (span : SpanState)
+            × IsHere self.now.groups id at.0 at.1 group span) }
+    {
+        let first = id.serial as usize;
+        if first < self.groups.len() && self.groups[first].head_id() == id {
+            return Some((first, 0));
+        }
+        self.find_moved(id)
+    }
+
+    // The same, wherever its group stands.
+    #[inline(never)]
+    fn find_moved(&self, id: SpanId) -> Option<(usize, usize)>
+        ensures { MatchOption result (IsElsewhere self.now.groups id)
+            (λ at. (group : GroupState) × (span : SpanState)
+            × IsHere self.now.groups id at.0 at.1 group span) }
+    {
+        let head = Place { head: id, place: 0 };
+        let at = self.directory.place_of(id).unwrap_or(head);
+        let Some(index) = self.find_head(at.head) else {
+            return None;
+        };
+        Some((index, at.place))
+    }
+
+    // Where the group of the head stands.
+    pub(super) fn find_head(&self, head: SpanId) -> Option<usize>
+        ensures head { MatchOption result (HasNoHead self.now.groups head)
+            (λ index. (group : GroupState) × IsHeadOf self.now.groups head index group) }
+        ensures within { IfSome result (λ index. index < length self.now.groups) }
+        ensures sound { IsSound self.now }
+    {
+        head_index(self.groups.as_slice(), head)
+    }
+}

@@ -1,0 +1,106 @@
+// Puts: into the lowest group that has a usable slot, or into a new one.
+ghost use Rattle.std.specs.Prelude.{◌≡◌, ◌<◌, ◌↔◌, Err, IfOk, IsOkUnless, OnErr, false, length, true};
+ghost use Rattle.span.specs.Classes.{class_of, width_of};
+ghost use Rattle.span.specs.PlainMap as plain;
+ghost use Rattle.shard.specs.Calls.{IsFull, IsSpent, Puts, PutsInNew};
+ghost use Rattle.shard.specs.Shown.{shown};
+ghost use Rattle.shard.specs.Sound.{IsSound};
+
+use super::{Shard, insert_reserved, lower_heads};
+use crate::error::PutError;
+use crate::group::Group;
+use groups::Spans;
+use page::Page;
+use span::{Class, Key, Log, Object, Span, SpanId};
+
+impl<L: Log> Shard<L> {
+    /// Keeps the object at the lowest usable slot of the open group of its class of lowest head that has one, and where there
+    /// is none, at slot 0 of a span that it opens on a new page. It gives the key, which the group's head gives
+    /// out, and the number of changes that the head's log had before.
+    ///
+    /// It is refused with `Ended` exactly after the shard's end, and with `PagesSpent` exactly where it has not
+    /// ended, no open group has a usable slot, and it has as many groups as it may have pages, or has opened as many spans as it may.
+    /// With `OutOfMemory` an allocation was refused; each stands before the first change.
+    pub fn put(&mut self, object: Object) -> Result<(Key, usize), PutError>
+        ensures ok { IfOk result (λ made.
+            Puts self.old (class_of object) object made.0 made.1 self.new) }
+        ensures fresh { IfOk result (λ made. (shown self.old).is_issued made.0 ≡ false) }
+        ensures plain { IfOk result (λ made. shown self.new
+            ≡ plain.with_put (shown self.old) made.0 object) }
+        ensures sound { IsSound self.new }
+        ensures spent { (result ≡ Err PutError.PagesSpent)
+            ↔ ((self.old.ended ≡ false) × IsSpent (class_of object) self.old) }
+        ensures ended { (result ≡ Err PutError.Ended) ↔ (self.old.ended ≡ true) }
+        ensures err { OnErr result (self.new ≡ self.old) }
+    {
+        self.put_words(object.class(), object.words())
+    }
+
+    /// What [`Shard::put`] does with the object of these words, which are as many as the class has: they are copied to the
+    /// page from where they stand, and no object is made.
+    // Inlined, a caller's class is a constant in it, and what it answers stays in registers.
+    #[inline(always)]
+    pub fn put_words(&mut self, class: Class, words: &[u128]) -> Result<(Key, usize), PutError>
+        requires { length words.now ≡ width_of class }
+        ensures ok { IfOk result (λ made. Puts self.old class words.now made.0 made.1 self.new) }
+        ensures fresh { IfOk result (λ made. (shown self.old).is_issued made.0 ≡ false) }
+        ensures plain { IfOk result (λ made. shown self.new
+            ≡ plain.with_put (shown self.old) made.0 words.now) }
+        ensures sound { IsSound self.new }
+        ensures spent { (result ≡ Err PutError.PagesSpent)
+            ↔ ((self.old.ended ≡ false) × IsSpent class self.old) }
+        ensures ended { (result ≡ Err PutError.Ended) ↔ (self.old.ended ≡ true) }
+        ensures err { OnErr result (self.new ≡ self.old) }
+    {
+        if self.ended {
+            return Err(PutError::Ended);
+        }
+        while let Some(index) = self.rooms.lowest(class) {
+            let group = &mut self.groups[index];
+            let at = group.span_at(0).changes();
+            if let Some(key) = group.put(self.alloc, class, words)? {
+                return Ok((key, at));
+            }
+            self.rooms.remove(class, index);
+        }
+        if self.groups.len() >= self.page_limit || self.opened >= self.span_limit {
+            return Err(PutError::PagesSpent);
+        }
+        self.put_in_new(class, words)
+    }
+
+    // Opens a span on a new page, with the value at its first slot. The new head, its page, the list of groups and the sets of
+    // those with room grow before the shard changes. No other group has room, so its own is the only one that may have.
+    #[inline(never)]
+    fn put_in_new(&mut self, class: Class, words: &[u128]) -> Result<(Key, usize), PutError>
+        requires width { length words.now ≡ width_of class }
+        requires full { IsFull class self.old.groups }
+        requires pages { length self.old.groups < self.old.page_limit }
+        requires opened { self.old.opened < self.old.span_limit }
+        requires running { self.old.ended ≡ false }
+        ensures ok { IfOk result (λ made. PutsInNew self.old class words.now made.0 made.1 self.new) }
+        ensures only { IsOkUnless result PutError.OutOfMemory }
+        ensures err { OnErr result (self.new ≡ self.old) }
+    {
+        let Some(id) = SpanId::new(self.number, self.opened) else {
+            unreachable!();
+        };
+        let mut head = Span::with_log(self.alloc, id, class, self.gens);
+        let key = head.put_at(0, words)?;
+        let mut page = Page::blank(self.alloc)?;
+        self.groups.reserve(1)?;
+        self.rooms.reserve(self.groups.len() + 1)?;
+        page.set_at(class, 0, words);
+        let index = lower_heads(self.groups.as_slice(), id);
+        insert_reserved(
+            &mut self.groups,
+            index,
+            Group::of(Spans::of(self.alloc, head), Some(page)),
+        );
+        self.rooms.note_opened(class, index, self.groups.len());
+        self.group_room = self.group_room.saturating_sub(1);
+        self.opened += 1;
+        self.onto = None;
+        Ok((key, 0))
+    }
+}
