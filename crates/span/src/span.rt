@@ -115,8 +115,9 @@ impl<L: Log> Span<L> {
 
     /// Whether the key is of this span and live.
     pub fn find(&self, key: &Key) -> bool
-        ensures { IsTrue result ↔ ((key.now.span ≡ self.now.id)
+        ensures live { IsTrue result ↔ ((key.now.span ≡ self.now.id)
             × Holds self.now.log key.now.slot key.now.generation) }
+        ensures legal { IsLegal self.now.gens self.now.log }
     {
         key.span == self.id && self.holds(key.slot, key.generation)
     }
@@ -125,6 +126,7 @@ impl<L: Log> Span<L> {
     pub fn holds(&self, slot: u8, generation: u32) -> bool
         ensures live { IsTrue result ↔ Holds self.now.log slot generation }
         ensures on_page { OnTrue result (slot < slots_in self.now.class) }
+        ensures legal { IsLegal self.now.gens self.now.log }
     {
         self.live.contains(slot) && self.generations.generation_of(slot) == generation
     }
@@ -171,7 +173,6 @@ impl<L: Log> Span<L> {
         ensures legal { IsLegal self.new.gens self.new.log }
         ensures of_class { IsOfClass self.new.class self.new.log }
     {
-        let _ = &self.log;
         if words.len() != self.class.words() || !self.holds(slot, generation) {
             return Ok(false);
         }
@@ -205,7 +206,6 @@ impl<L: Log> Span<L> {
         ensures unknown { OnFalse result (self.new ≡ self.old) }
         ensures legal { IsLegal self.new.gens self.new.log }
     {
-        let _ = &self.log;
         if !self.find(key) {
             return false;
         }
@@ -223,7 +223,6 @@ impl<L: Log> Span<L> {
         ensures unknown { OnFalse result (self.new ≡ self.old) }
         ensures legal { IsLegal self.new.gens self.new.log }
     {
-        let _ = &self.log;
         if !self.holds(slot, generation) {
             return false;
         }
