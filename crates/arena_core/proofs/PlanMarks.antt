@@ -29,6 +29,7 @@ use Rattle.marks.specs.Seen.{IsSeenInPart, abandoned_entries, owned_entries}
 use Rattle.arena_core.specs.State.{CoreState}
 use Rattle.arena_core.proofs.Lists.{each-append}
 use Rattle.marks.proofs.Lists.{slice_get-map_at}
+use Rattle.mesh_graph.specs.declared.build.TheConstants.{MOST_GROUPS}
 
 -- lists
 
@@ -37,8 +38,8 @@ each-to [] to all = tt
 each-to (x ∷ xs) to all = (to x all.0, each-to xs to all.1)
 
 -- what holds of each entry holds of those that a mark sees
-each-chosen : (P : Entry → Type 0) (entries chosen : List Entry) → AreSparsest 4096 entries chosen → AllByRecursion P entries → AllByRecursion P chosen
-each-chosen P entries chosen sparsest all = recursion_from_All P chosen (All-sparsest P 4096 entries chosen sparsest (All-from_recursion P entries all))
+each-chosen : (P : Entry → Type 0) (entries chosen : List Entry) → AreSparsest MOST_GROUPS entries chosen → AllByRecursion P entries → AllByRecursion P chosen
+each-chosen P entries chosen sparsest all = recursion_from_All P chosen (All-sparsest P MOST_GROUPS entries chosen sparsest (All-from_recursion P entries all))
 
 -- the element by which a test of the list passes
 any-which : {X : Type 0} {P : X → Type 0} (test : X → Bool) (xs : List X) → AllByRecursion P xs → list_any test xs ≡ true → (x : X) × (test x ≡ true) × P x

@@ -5,7 +5,7 @@ use Rattle.std.proofs.lemmas.Bool.{cases_Bool, or_left, or_right}
 use Rattle.std.proofs.lemmas.List.{get_or_default}
 use Rattle.certificate.specs.Sides.{among}
 use Rattle.augment.specs.Mates.{mate}
-use Rattle.augment.specs.Walks.{is_marked}
+use Rattle.augment.specs.Walks.{is_passed}
 use Rattle.augment.specs.Listed.{pairs_of, is_short, short_of}
 use Rattle.certificate.proofs.Members.{Tells, all_among}
 use Rattle.augment.proofs.Listing.{apart_at}
@@ -89,42 +89,42 @@ right_distinct same t right (a ∷ left) (Some q ∷ ms) u k once =
       right_distinct same t right left ms u (λ i j m. k (suc i) j m) (λ i b j m n. let e : suc i ≡ suc b = once (suc i) (suc b) j m n in omega arith),
     )
 
--- the marked ids of the right side that have a mate
-abbrev pub marked_of : {K : Type 0} → List Bool → List K → List K → List (Option ℕ) → List K
-marked_of reached right [] ms = []
-marked_of reached right (a ∷ left) [] = []
-marked_of reached right (a ∷ left) (None ∷ ms) = marked_of reached right left ms
-marked_of reached right (a ∷ left) (Some j ∷ ms) = cond (is_marked reached j) (get_or right j a ∷ marked_of reached right left ms) (marked_of reached right left ms)
+-- the passed ids of the right side that have a mate
+abbrev pub passed_of : {K : Type 0} → List Bool → List K → List K → List (Option ℕ) → List K
+passed_of reached right [] ms = []
+passed_of reached right (a ∷ left) [] = []
+passed_of reached right (a ∷ left) (None ∷ ms) = passed_of reached right left ms
+passed_of reached right (a ∷ left) (Some j ∷ ms) = cond (is_passed reached j) (get_or right j a ∷ passed_of reached right left ms) (passed_of reached right left ms)
 
-pub marked_at : {K : Type 0} (same : K → K → Bool) → Tells same → (reached : List Bool) (right left : List K) (ms : List (Option ℕ)) (i j : ℕ) (d : K)
-    → length ms ≡ length left → mate ms i ≡ Some j → j < length right → is_marked reached j ≡ true
-    → among same (get_or right j d) (marked_of reached right left ms) ≡ true
-marked_at same t reached right [] [] i j d n m j_in e = let no : None ≡ Some j = m in cc
-marked_at same t reached right [] (x ∷ ms) i j d n m j_in e = absurd (omega arith)
-marked_at same t reached right (a ∷ left) [] i j d n m j_in e = absurd (omega arith)
-marked_at same t reached right (a ∷ left) (None ∷ ms) zero j d n m j_in e = let no : None ≡ Some j = m in cc
-marked_at same t reached right (a ∷ left) (None ∷ ms) (suc i) j d n m j_in e = marked_at same t reached right left ms i j d (omega arith) m j_in e
-marked_at same t reached right (a ∷ left) (Some q ∷ ms) zero j d n m j_in e =
+pub passed_at : {K : Type 0} (same : K → K → Bool) → Tells same → (reached : List Bool) (right left : List K) (ms : List (Option ℕ)) (i j : ℕ) (d : K)
+    → length ms ≡ length left → mate ms i ≡ Some j → j < length right → is_passed reached j ≡ true
+    → among same (get_or right j d) (passed_of reached right left ms) ≡ true
+passed_at same t reached right [] [] i j d n m j_in e = let no : None ≡ Some j = m in cc
+passed_at same t reached right [] (x ∷ ms) i j d n m j_in e = absurd (omega arith)
+passed_at same t reached right (a ∷ left) [] i j d n m j_in e = absurd (omega arith)
+passed_at same t reached right (a ∷ left) (None ∷ ms) zero j d n m j_in e = let no : None ≡ Some j = m in cc
+passed_at same t reached right (a ∷ left) (None ∷ ms) (suc i) j d n m j_in e = passed_at same t reached right left ms i j d (omega arith) m j_in e
+passed_at same t reached right (a ∷ left) (Some q ∷ ms) zero j d n m j_in e =
     let qj : q ≡ j = cc in
     let here : get_or right j d ≡ get_or right q a = get_or_default right j d a j_in ∙ ap (λ x. get_or right x a) (sym qj) in
-    let mq : is_marked reached q ≡ true = ap (is_marked reached) qj ∙ e in
+    let mq : is_passed reached q ≡ true = ap (is_passed reached) qj ∙ e in
     rw mq (or_left (same (get_or right j d) (get_or right q a)) _ (ap (λ x. same x (get_or right q a)) here ∙ t.itself (get_or right q a)))
-marked_at same t reached right (a ∷ left) (Some q ∷ ms) (suc i) j d n m j_in e =
-    let rest : among same (get_or right j d) (marked_of reached right left ms) ≡ true = marked_at same t reached right left ms i j d (omega arith) m j_in e in
-    elim (cases_Bool (is_marked reached q)) [
+passed_at same t reached right (a ∷ left) (Some q ∷ ms) (suc i) j d n m j_in e =
+    let rest : among same (get_or right j d) (passed_of reached right left ms) ≡ true = passed_at same t reached right left ms i j d (omega arith) m j_in e in
+    elim (cases_Bool (is_passed reached q)) [
       | inl f ↦ rw f (or_right (same (get_or right j d) (get_or right q a)) _ rest)
       | inr f ↦ rw f rest
     ]
 
--- each place is left out, or has a marked mate, or one that is not
+-- each place is left out, or has a mate that was passed, or one that is not
 pub counted : {K : Type 0} (reached : List Bool) (right left : List K) (ms : List (Option ℕ)) → length ms ≡ length left
-    → length (pairs_of right left ms) + length (short_of reached left ms) ≡ length left + length (marked_of reached right left ms)
+    → length (pairs_of right left ms) + length (short_of reached left ms) ≡ length left + length (passed_of reached right left ms)
 counted reached right [] [] n = refl
 counted reached right [] (m ∷ ms) n = absurd (omega arith)
 counted reached right (a ∷ left) [] n = absurd (omega arith)
 counted reached right (a ∷ left) (None ∷ ms) n =
-    let rest : length (pairs_of right left ms) + length (short_of reached left ms) ≡ length left + length (marked_of reached right left ms) = counted reached right left ms (omega arith) in
+    let rest : length (pairs_of right left ms) + length (short_of reached left ms) ≡ length left + length (passed_of reached right left ms) = counted reached right left ms (omega arith) in
     omega arith
 counted reached right (a ∷ left) (Some j ∷ ms) n =
-    let rest : length (pairs_of right left ms) + length (short_of reached left ms) ≡ length left + length (marked_of reached right left ms) = counted reached right left ms (omega arith) in
-    elim (cases_Bool (is_marked reached j)) [ inl e ↦ rw e (omega arith) | inr e ↦ rw e (omega arith) ]
+    let rest : length (pairs_of right left ms) + length (short_of reached left ms) ≡ length left + length (passed_of reached right left ms) = counted reached right left ms (omega arith) in
+    elim (cases_Bool (is_passed reached j)) [ inl e ↦ rw e (omega arith) | inr e ↦ rw e (omega arith) ]

@@ -8,7 +8,7 @@ use Rattle.span.specs.Ids.{same_span}
 use Rattle.certificate.proofs.Verdicts.{tells_span}
 use Rattle.augment.specs.Mates.{mate, ArePaired}
 use Rattle.mesh_graph.specs.Groups.{Groups, IsAscending, any_compatible, are_partners, compatible_at, ids}
-use Rattle.augment.specs.Walks.{Joins, group, before, Stands, IsSearched}
+use Rattle.augment.specs.Walks.{Joins, group, before, IsReached, IsSearched}
 use Rattle.augment.specs.Listed.{is_short}
 use Rattle.span.specs.declared.entry.Entry.{Entry}
 use Rattle.mesh_graph.proofs.Entries.{any_compatible-at}
@@ -33,7 +33,7 @@ any_compatible-ids graph up_a up_b i j d i_in j_in =
     ∙ (λ k. are_partners (sym (slice_get-get_or graph.abandoned i left i_in) k) (sym (slice_get-get_or graph.owned j right j_in) k))
 
 -- who is in the short set was reached
-stands : (graph : Groups) (onto : List (Option ℕ)) (reached : List Bool) → (s : IsSearched graph onto reached) → (i : ℕ) → i < length onto → is_short reached (mate onto i) ≡ true → Stands s.entries i
+stands : (graph : Groups) (onto : List (Option ℕ)) (reached : List Bool) → (s : IsSearched graph onto reached) → (i : ℕ) → i < length onto → is_short reached (mate onto i) ≡ true → IsReached s.entries i
 stands graph onto reached s i h e = elim (mate_cases (mate onto i)) [
   | inl m ↦ s.search.left_out i h m
   | inr m ↦ s.search.mates_stand i m.0 (let f : is_short reached (Some m.0) ≡ true = subst (λ x. is_short reached x ≡ true) m.1 e in f) m.1
@@ -76,11 +76,11 @@ outcome graph onto planned reached up_a up_b long_onto long_planned joins paired
       right_in = right;
       once = λ i a j m n. let e : Some i ≡ Some a = sym (paired.forth i j m) ∙ paired.forth a j n in cc;
       closed = λ i j d il short jl c.
-          let at : Stands s.entries i = stands graph onto reached s i (in_onto i il) short in
+          let at : IsReached s.entries i = stands graph onto reached s i (in_onto i il) short in
           s.search.closed at.0 j at.1 (ap (λ x. compatible_at graph x j) at.2 ∙ (sym (same i j d il jl) ∙ c));
       are_planned = s.search.are_planned;
       least = λ test out step i il short.
-          let at : Stands s.entries i = stands graph onto reached s i (in_onto i il) short in
+          let at : IsReached s.entries i = stands graph onto reached s i (in_onto i il) short in
           sym (ap test at.2) ∙ passes graph onto reached s test (λ k h m. out k (in_left k h) m)
           (λ k j a h p c m. step k j a (in_left k h) p (λ d. same k j d (in_left k h) (right a j m) ∙ c) m)
           (suc at.0) at.0 (omega arith) at.1;

@@ -1,4 +1,4 @@
--- Mates and marks that a search leaves name a best plan and its short set
+-- The mates that a search leaves, and the places that it has passed, name a best plan and its short set
 use Rattle.std.proofs.Common.{ℕ, ◌+◌, ◌<◌, ◌≤◌, ◌≡◌, ◌≢◌, Bool, true, false, List, [], ◌∷◌, length, map, Option, Some, None, refl, sym, ◌∙◌, ap, subst, ◌⊎◌, inl, inr, arith, get_or}
 use Rattle.std.specs.List.{All, IsDistinct, list_any}
 use Rattle.std.proofs.lemmas.Bool.{cases_Bool, both_ways, or_cases, or_left, or_right}
@@ -6,15 +6,15 @@ use Rattle.std.proofs.lemmas.List.{get_or_default}
 use Rattle.std.proofs.lemmas.List.Elements.{recursion_from_All, All-from_recursion}
 use Rattle.certificate.specs.Sides.{Sides, among, partners, IsPlan, IsChoice, IsBest, IsCertificate, IsClosed, IsShort}
 use Rattle.augment.specs.Mates.{mate}
-use Rattle.augment.specs.Walks.{is_marked}
+use Rattle.augment.specs.Walks.{is_passed}
 use Rattle.augment.specs.Listed.{pairs_of, is_short, short_of}
 use Rattle.certificate.proofs.Members.{Tells, all_among, length-le_from_distinct}
 use Rattle.augment.proofs.Pairing.{mate_within}
 use Rattle.certificate.proofs.Duality.{at_most, best_from_certificate}
 use Rattle.augment.proofs.Listing.{place_of, among_at, apart_at, each_pair, pair_at, place_of_left, left_at, each_short, place_of_short, short_at}
-use Rattle.augment.proofs.Counting.{each_left, each_second, left_distinct, short_distinct, right_distinct, filter_distinct, each_in_filter, marked_of, marked_at, counted}
+use Rattle.augment.proofs.Counting.{each_left, each_second, left_distinct, short_distinct, right_distinct, filter_distinct, each_in_filter, passed_of, passed_at, counted}
 
--- what the mates and the marks of the last search keep, by places
+-- what the mates and the passed places of the last search keep, by places
 pub record IsOutcome {K : Type 0} (same : K → K → Bool) (g : Sides K) (onto : List (Option ℕ)) (reached : List Bool) : Type 0 where
   pub left_once : IsDistinct same g.left
   pub right_once : IsDistinct same g.right
@@ -23,8 +23,8 @@ pub record IsOutcome {K : Type 0} (same : K → K → Bool) (g : Sides K) (onto 
   pub right_in : (i j : ℕ) → mate onto i ≡ Some j → j < length g.right
   pub once : (i a j : ℕ) → mate onto i ≡ Some j → mate onto a ≡ Some j → i ≡ a
   pub closed : (i j : ℕ) (d : K) → i < length g.left → is_short reached (mate onto i) ≡ true → j < length g.right
-      → g.compatible (get_or g.left i d) (get_or g.right j d) ≡ true → is_marked reached j ≡ true
-  pub are_planned : (j : ℕ) → is_marked reached j ≡ true → (i : ℕ) × (mate onto i ≡ Some j)
+      → g.compatible (get_or g.left i d) (get_or g.right j d) ≡ true → is_passed reached j ≡ true
+  pub are_planned : (j : ℕ) → is_passed reached j ≡ true → (i : ℕ) × (mate onto i ≡ Some j)
   pub least : (test : ℕ → Bool) → ((i : ℕ) → i < length g.left → mate onto i ≡ None → test i ≡ true)
       → ((i j a : ℕ) → i < length g.left → test i ≡ true → ((d : K) → g.compatible (get_or g.left i d) (get_or g.right j d) ≡ true) → mate onto a ≡ Some j → test a ≡ true)
       → (i : ℕ) → i < length g.left → is_short reached (mate onto i) ≡ true → test i ≡ true
@@ -66,20 +66,20 @@ short_choice same t g onto reached o = record {
   distinct = short_distinct same reached g.left onto o.left_once;
 }
 
--- each partner of the short set is a marked mate
-partner_marked : {K : Type 0} (same : K → K → Bool) → Tells same → (g : Sides K) (onto : List (Option ℕ)) (reached : List Bool) → IsOutcome same g onto reached
+-- each partner of the short set is a mate that was passed
+partner_passed : {K : Type 0} (same : K → K → Bool) → Tells same → (g : Sides K) (onto : List (Option ℕ)) (reached : List Bool) → IsOutcome same g onto reached
     → (b : K) → among same b g.right ≡ true → list_any (λ a. g.compatible a b) (short_of reached g.left onto) ≡ true
-    → among same b (marked_of reached g.right g.left onto) ≡ true
-partner_marked same t g onto reached o b h any =
+    → among same b (passed_of reached g.right g.left onto) ≡ true
+partner_passed same t g onto reached o b h any =
     let member : (a : _) × (among same a (short_of reached g.left onto) ≡ true) × (g.compatible a b ≡ true) = any_member same t (λ a. g.compatible a b) (short_of reached g.left onto) any in
     let at : (i : ℕ) × (i < length g.left) × (get_or g.left i member.0 ≡ member.0) × (is_short reached (mate onto i) ≡ true) = place_of_short same t member.0 reached g.left onto member.1 in
     let there : (j : ℕ) × (j < length g.right) × (get_or g.right j b ≡ b) = place_of same t b g.right h in
     let compatible : g.compatible (get_or g.left at.0 b) (get_or g.right there.0 b)
     ≡ true = ap (λ x. g.compatible x (get_or g.right there.0 b)) (get_or_default g.left at.0 b member.0 at.1 ∙ at.2)
     ∙ (ap (g.compatible member.0) there.2 ∙ member.2) in
-    let marked : is_marked reached there.0 ≡ true = o.closed at.0 there.0 b at.1 at.3 there.1 compatible in
-    let mates : (i : ℕ) × (mate onto i ≡ Some there.0) = o.are_planned there.0 marked in
-    subst (λ x. among same x (marked_of reached g.right g.left onto) ≡ true) there.2 (marked_at same t reached g.right g.left onto mates.0 there.0 b o.long mates.1 there.1 marked)
+    let passed : is_passed reached there.0 ≡ true = o.closed at.0 there.0 b at.1 at.3 there.1 compatible in
+    let mates : (i : ℕ) × (mate onto i ≡ Some there.0) = o.are_planned there.0 passed in
+    subst (λ x. among same x (passed_of reached g.right g.left onto) ≡ true) there.2 (passed_at same t reached g.right g.left onto mates.0 there.0 b o.long mates.1 there.1 passed)
 
 pub certificate_from_outcome : {K : Type 0} (same : K → K → Bool) → Tells same → (g : Sides K) (onto : List (Option ℕ)) (reached : List Bool)
     → IsOutcome same g onto reached → IsCertificate same g (pairs_of g.right g.left onto) (short_of reached g.left onto)
@@ -89,12 +89,12 @@ certificate_from_outcome same t g onto reached o =
     let most : length (pairs_of g.right g.left onto) + length (short_of reached g.left onto) ≤ length g.left
     + length (partners g (short_of reached g.left onto)) = at_most same t g (short_of reached g.left onto) (pairs_of g.right g.left onto) chosen plan in
     let count : length (pairs_of g.right g.left onto) + length (short_of reached g.left onto) ≡ length g.left
-    + length (marked_of reached g.right g.left onto) = counted reached g.right g.left onto o.long in
-    let few : length (partners g (short_of reached g.left onto)) ≤ length (marked_of reached g.right g.left onto) =
-    length-le_from_distinct same t (partners g (short_of reached g.left onto)) (marked_of reached g.right g.left onto)
+    + length (passed_of reached g.right g.left onto) = counted reached g.right g.left onto o.long in
+    let few : length (partners g (short_of reached g.left onto)) ≤ length (passed_of reached g.right g.left onto) =
+    length-le_from_distinct same t (partners g (short_of reached g.left onto)) (passed_of reached g.right g.left onto)
     (filter_distinct same (λ b. list_any (λ a. g.compatible a b) (short_of reached g.left onto)) g.right o.right_once)
-    (each_in_filter same t (λ b. among same b (marked_of reached g.right g.left onto) ≡ true)
-    (λ b. list_any (λ a. g.compatible a b) (short_of reached g.left onto)) g.right (partner_marked same t g onto reached o)) in
+    (each_in_filter same t (λ b. among same b (passed_of reached g.right g.left onto) ≡ true)
+    (λ b. list_any (λ a. g.compatible a b) (short_of reached g.left onto)) g.right (partner_passed same t g onto reached o)) in
     record {
       plan = plan;
       chosen = chosen;
@@ -116,8 +116,8 @@ short_closed same t g onto reached o = record {
       All-from_recursion (λ p. g.compatible a p.1 ≡ true → among same p.0 (short_of reached g.left onto) ≡ true) (pairs_of g.right g.left onto)
       (each_pair (λ p. g.compatible a p.1 ≡ true → among same p.0 (short_of reached g.left onto) ≡ true) g.right g.left onto
       (λ i j d l m c.
-      let marked : is_marked reached j ≡ true = o.closed at.0 j d at.1 at.3 (o.right_in i j m) (ap (λ x. g.compatible x (get_or g.right j d)) (get_or_default g.left at.0 d a at.1 ∙ at.2) ∙ c) in
-      short_at same t reached g.left onto i d o.long l (ap (is_short reached) m ∙ marked))
+      let passed : is_passed reached j ≡ true = o.closed at.0 j d at.1 at.3 (o.right_in i j m) (ap (λ x. g.compatible x (get_or g.right j d)) (get_or_default g.left at.0 d a at.1 ∙ at.2) ∙ c) in
+      short_at same t reached g.left onto i d o.long l (ap (is_short reached) m ∙ passed))
       o.right_in);
 }
 

@@ -5,7 +5,7 @@ use Rattle.std.proofs.lemmas.List.{length_push}
 use Rattle.augment.specs.declared.walks.Reached.{Reached}
 use Rattle.augment.specs.Mates.{mate}
 use Rattle.mesh_graph.specs.Groups.{Groups, compatible_at}
-use Rattle.augment.specs.Walks.{group, before, is_marked, IsWalk}
+use Rattle.augment.specs.Walks.{group, before, is_passed, IsWalk}
 use Rattle.augment.proofs.Searching.{linked_more, group_kept, before_kept, group_last, below_push}
 
 -- a walk of the root alone
@@ -22,22 +22,22 @@ walk_root graph onto used root root_in none =
         joined_to = λ t k h m. absurd (no t k h m);
         apart = λ t u tu h. absurd (omega arith);
       };
-      marked = λ t k h m. absurd (no t k h m);
+      passed = λ t k h m. absurd (no t k h m);
     }
 
 -- one step more, over the unused k to its mate
 pub walk_more : (graph : Groups) (onto : List (Option ℕ)) (path : List Reached) (used : List Bool) (i k at : ℕ) → IsWalk graph onto path used → at < length path
-    → k < length used → compatible_at graph (group path at) k ≡ true → is_marked used k ≡ false → mate onto i ≡ Some k
+    → k < length used → compatible_at graph (group path at) k ≡ true → is_passed used k ≡ false → mate onto i ≡ Some k
     → IsWalk graph onto (path ++ record { group = i; before = at } ∷ []) (set used k true)
 walk_more graph onto path used i k at w at_in k_in j unused m =
     let e : Reached = record { group = i; before = at } in
-    let now : is_marked (set used k true) k ≡ true = get_or-set_same used k true false k_in in
+    let now : is_passed (set used k true) k ≡ true = get_or-set_same used k true false k_in in
     record {
       linked = linked_more graph onto path used i k at w at_in j unused m;
-      marked = λ t q h n. elim (cases_eq q k) [
-        | inl s ↦ ap (is_marked (set used k true)) s ∙ now
+      passed = λ t q h n. elim (cases_eq q k) [
+        | inl s ↦ ap (is_passed (set used k true)) s ∙ now
         | inr d ↦ elim (below_push path e t h) [
-          | inl l ↦ get_or-set_other used k q true false d ∙ w.marked t q l (ap (mate onto) (sym (group_kept path e t l)) ∙ n)
+          | inl l ↦ get_or-set_other used k q true false d ∙ w.passed t q l (ap (mate onto) (sym (group_kept path e t l)) ∙ n)
           | inr l ↦ let m' : mate onto i ≡ Some q = ap (mate onto) (sym (group_last path e t l)) ∙ n in let qk : q ≡ k = cc in absurd (d qk)
         ]
       ];
@@ -60,5 +60,5 @@ walk_less graph onto path e used w =
             ap (λ x. compatible_at graph x k) (sym (ap (group (path ++ e ∷ [])) same ∙ group_kept path e (before path t) lower_in)) ∙ w.linked.joined_to t k (longer t h) m';
         apart = λ t u tu h q. let tl : t < length path = omega arith in w.linked.apart t u tu (longer u h) (group_kept path e t tl ∙ (q ∙ sym (group_kept path e u h)));
       };
-      marked = λ t k h m. w.marked t k (longer t h) (ap (mate onto) (group_kept path e t h) ∙ m);
+      passed = λ t k h m. w.passed t k (longer t h) (ap (mate onto) (group_kept path e t h) ∙ m);
     }

@@ -6,7 +6,7 @@ use Rattle.std.proofs.lemmas.List.Sums.{sum_by-set}
 use Rattle.augment.specs.declared.walks.Reached.{Reached}
 use Rattle.augment.specs.Mates.{mate, ArePaired}
 use Rattle.mesh_graph.specs.Groups.{Groups, compatible_at}
-use Rattle.augment.specs.Walks.{group, before, AreReached, is_marked, Stands, IsSearch, IsWalk, unmarked}
+use Rattle.augment.specs.Walks.{group, before, AreReached, is_passed, IsReached, IsSearch, IsWalk, unpassed}
 use Rattle.augment.proofs.Pairing.{mate_within}
 
 -- an entry of a list with one more is that of the list, or the last one
@@ -28,26 +28,26 @@ below_push entries e t h =
     let n : length (entries ++ e ∷ []) ≡ length entries + 1 = length_push entries e in
     elim (cases_lt t (length entries)) [ inl k ↦ inl k | inr k ↦ inr (omega arith) ]
 
-pub stands_kept : (entries : List Reached) (e : Reached) (i : ℕ) → Stands entries i → Stands (entries ++ e ∷ []) i
+pub stands_kept : (entries : List Reached) (e : Reached) (i : ℕ) → IsReached entries i → IsReached (entries ++ e ∷ []) i
 stands_kept entries e i s =
     let n : length (entries ++ e ∷ []) ≡ length entries + 1 = length_push entries e in
     let l : s.0 < length entries = s.1 in
     (s.0, omega arith, group_kept entries e s.0 s.1 ∙ s.2)
 
-pub stands_last : (entries : List Reached) (e : Reached) → Stands (entries ++ e ∷ []) e.group
+pub stands_last : (entries : List Reached) (e : Reached) → IsReached (entries ++ e ∷ []) e.group
 stands_last entries e =
     let n : length (entries ++ e ∷ []) ≡ length entries + 1 = length_push entries e in
     (length entries, omega arith, group_last entries e (length entries) refl)
 
--- i, the mate of k, is reached over the unmarked k from entry at
+-- i, the mate of k, is reached over k, which was not passed, from entry at
 pub linked_more : (graph : Groups) (onto : List (Option ℕ)) (entries : List Reached) (reached : List Bool) (i k at : ℕ) → IsWalk graph onto entries reached
-    → at < length entries → compatible_at graph (group entries at) k ≡ true → is_marked reached k ≡ false → mate onto i ≡ Some k
+    → at < length entries → compatible_at graph (group entries at) k ≡ true → is_passed reached k ≡ false → mate onto i ≡ Some k
     → AreReached graph onto (entries ++ record { group = i; before = at } ∷ [])
-linked_more graph onto entries reached i k at s at_in j unmarked mate_i =
+linked_more graph onto entries reached i k at s at_in j unpassed mate_i =
     let e : Reached = record { group = i; before = at } in
     let new_group : (t : ℕ) → length entries ≡ t → group (entries ++ e ∷ []) t ≡ i = λ t h. group_last entries e t h in
     let new_before : (t : ℕ) → length entries ≡ t → before (entries ++ e ∷ []) t ≡ at = λ t h. before_last entries e t h in
-    let fresh : (t : ℕ) → t < length entries → group entries t ≢ i = λ t h q. both_ways (is_marked reached k) unmarked (s.marked t k h (ap (mate onto) q ∙ mate_i)) in
+    let fresh : (t : ℕ) → t < length entries → group entries t ≢ i = λ t h q. both_ways (is_passed reached k) unpassed (s.passed t k h (ap (mate onto) q ∙ mate_i)) in
     record {
       within = λ t h. elim (below_push entries e t h) [
         | inl l ↦ rw (group_kept entries e t l) (s.linked.within t l)
@@ -76,23 +76,23 @@ linked_more graph onto entries reached i k at s at_in j unmarked mate_i =
 
 pub search_more : (graph : Groups) (onto planned : List (Option ℕ)) (entries : List Reached) (reached : List Bool) (next i k at : ℕ) → ArePaired onto planned
     → IsSearch graph onto entries reached next → next ≤ length entries → at < length entries → k < length reached
-    → compatible_at graph (group entries at) k ≡ true → is_marked reached k ≡ false → mate onto i ≡ Some k
+    → compatible_at graph (group entries at) k ≡ true → is_passed reached k ≡ false → mate onto i ≡ Some k
     → IsSearch graph onto (entries ++ record { group = i; before = at } ∷ []) (set reached k true) next
-search_more graph onto planned entries reached next i k at paired s next_in at_in k_in j unmarked mate_i =
+search_more graph onto planned entries reached next i k at paired s next_in at_in k_in j unpassed mate_i =
     let e : Reached = record { group = i; before = at } in
-    let now : is_marked (set reached k true) k ≡ true = get_or-set_same reached k true false k_in in
-    let kept : (q : ℕ) → is_marked reached q ≡ true → is_marked (set reached k true) q ≡ true = λ q h. elim (cases_eq q k) [
-      | inl s ↦ ap (is_marked (set reached k true)) s ∙ now
+    let now : is_passed (set reached k true) k ≡ true = get_or-set_same reached k true false k_in in
+    let kept : (q : ℕ) → is_passed reached q ≡ true → is_passed (set reached k true) q ≡ true = λ q h. elim (cases_eq q k) [
+      | inl s ↦ ap (is_passed (set reached k true)) s ∙ now
       | inr n ↦ get_or-set_other reached k q true false n ∙ h
     ] in
     record {
-      linked = linked_more graph onto entries reached i k at (record { linked = s.linked; marked = s.marked }) at_in j unmarked mate_i;
-      marked = λ t q h m. elim (below_push entries e t h) [
-        | inl l ↦ kept q (s.marked t q l (ap (mate onto) (sym (group_kept entries e t l)) ∙ m))
+      linked = linked_more graph onto entries reached i k at (record { linked = s.linked; passed = s.passed }) at_in j unpassed mate_i;
+      passed = λ t q h m. elim (below_push entries e t h) [
+        | inl l ↦ kept q (s.passed t q l (ap (mate onto) (sym (group_kept entries e t l)) ∙ m))
         | inr l ↦
             let m' : mate onto i ≡ Some q = ap (mate onto) (sym (group_last entries e t l)) ∙ m in
             let qk : q ≡ k = cc in
-            ap (is_marked (set reached k true)) qk ∙ now
+            ap (is_passed (set reached k true)) qk ∙ now
       ];
       mates_stand = λ a q h m. elim (cases_eq q k) [
         | inl o ↦
@@ -100,7 +100,7 @@ search_more graph onto planned entries reached next i k at paired s next_in at_i
             let pa : mate planned k ≡ Some a = paired.forth a k mk in
             let pi : mate planned k ≡ Some i = paired.forth i k mate_i in
             let ai : i ≡ a = cc in
-            subst (Stands (entries ++ e ∷ [])) ai (stands_last entries e)
+            subst (IsReached (entries ++ e ∷ [])) ai (stands_last entries e)
         | inr n ↦ stands_kept entries e a (s.mates_stand a q (sym (get_or-set_other reached k q true false n) ∙ h) m)
       ];
       are_planned = λ q h. elim (cases_eq q k) [
@@ -111,9 +111,9 @@ search_more graph onto planned entries reached next i k at paired s next_in at_i
       closed = λ t q h c. let tl : t < length entries = omega arith in kept q (s.closed t q h (ap (λ x. compatible_at graph x q) (sym (group_kept entries e t tl)) ∙ c));
     }
 
--- each mark leaves one place fewer to mark
-pub unmarked-set : (reached : List Bool) (k : ℕ) → k < length reached → is_marked reached k ≡ false → unmarked (set reached k true) + 1 ≡ unmarked reached
-unmarked-set reached k h m =
-    let sums : unmarked (set reached k true) + cond {A = ℕ} (not (is_marked reached k)) 1 0 ≡ unmarked reached + 0 = sum_by-set (λ b. cond (not b) 1 0) reached k true false h in
-    let old : cond {A = ℕ} (not (is_marked reached k)) 1 0 ≡ 1 = rw m refl in
+-- each place that is passed leaves one fewer
+pub unpassed-set : (reached : List Bool) (k : ℕ) → k < length reached → is_passed reached k ≡ false → unpassed (set reached k true) + 1 ≡ unpassed reached
+unpassed-set reached k h m =
+    let sums : unpassed (set reached k true) + cond {A = ℕ} (not (is_passed reached k)) 1 0 ≡ unpassed reached + 0 = sum_by-set (λ b. cond (not b) 1 0) reached k true false h in
+    let old : cond {A = ℕ} (not (is_passed reached k)) 1 0 ≡ 1 = rw m refl in
     omega arith

@@ -5,15 +5,15 @@ use Rattle.std.proofs.lemmas.List.{get_or-replicate, get_or_past, length-replica
 use Rattle.augment.specs.declared.walks.Reached.{Reached}
 use Rattle.augment.specs.Mates.{mate, ArePaired}
 use Rattle.mesh_graph.specs.Groups.{Groups, compatible_at}
-use Rattle.augment.specs.Walks.{group, is_marked, Stands, IsSearch, unmarked}
-use Rattle.augment.proofs.Searching.{search_more, unmarked-set, group_kept, group_last, below_push, stands_kept, stands_last}
+use Rattle.augment.specs.Walks.{group, is_passed, IsReached, IsSearch, unpassed}
+use Rattle.augment.proofs.Searching.{search_more, unpassed-set, group_kept, group_last, below_push, stands_kept, stands_last}
 
 -- the places below i that are left out, each once
 pub record IsStarting (onto : List (Option ℕ)) (entries : List Reached) (i : ℕ) : Type 0 where
   pub below : (t : ℕ) → t < length entries → group entries t < i
   pub out : (t : ℕ) → t < length entries → mate onto (group entries t) ≡ None
   pub rising : (t u : ℕ) → t < u → u < length entries → group entries t < group entries u
-  pub all : (a : ℕ) → a < i → mate onto a ≡ None → Stands entries a
+  pub all : (a : ℕ) → a < i → mate onto a ≡ None → IsReached entries a
 
 pub starting_none : (onto : List (Option ℕ)) → IsStarting onto [] 0
 starting_none onto = record {
@@ -63,12 +63,12 @@ starting_push onto entries i s m =
       ];
       all = λ a h n. elim (cases_lt a i) [
         | inl l ↦ stands_kept entries e a (s.all a l n)
-        | inr l ↦ let ai : i ≡ a = omega arith in subst (Stands (entries ++ e ∷ [])) ai (stands_last entries e)
+        | inr l ↦ let ai : i ≡ a = omega arith in subst (IsReached (entries ++ e ∷ [])) ai (stands_last entries e)
       ];
     }
 
-no_mark : (n k : ℕ) → is_marked (replicate n false) k ≡ false
-no_mark n k = elim (cases_lt k n) [
+none_passed : (n k : ℕ) → is_passed (replicate n false) k ≡ false
+none_passed n k = elim (cases_lt k n) [
   | inl l ↦ get_or-replicate n k false false l
   | inr l ↦ get_or_past (replicate n false) k false (let e : length (replicate n false) ≡ n = length-replicate n false in omega arith)
 ]
@@ -83,64 +83,64 @@ started graph onto entries n i s e =
         joined_to = λ t k h m. absurd (no t k h m);
         apart = λ t u tu h q. let r : group entries t < group entries u = s.rising t u tu h in absurd (omega arith);
       };
-      marked = λ t k h m. absurd (no t k h m);
-      mates_stand = λ a k h m. absurd (both_ways (is_marked (replicate n false) k) (no_mark n k) h);
-      are_planned = λ k h. absurd (both_ways (is_marked (replicate n false) k) (no_mark n k) h);
+      passed = λ t k h m. absurd (no t k h m);
+      mates_stand = λ a k h m. absurd (both_ways (is_passed (replicate n false) k) (none_passed n k) h);
+      are_planned = λ k h. absurd (both_ways (is_passed (replicate n false) k) (none_passed n k) h);
       left_out = λ a h m. s.all a (omega arith) m;
       closed = λ t k h j. absurd (omega arith);
     }
 
--- the partners below from of the group of entry at are marked; total counts the entries and what is not marked
+-- the partners below from of the group of entry at were passed; total counts the entries and what was not passed
 pub record IsReaching (graph : Groups) (onto : List (Option ℕ)) (entries : List Reached) (reached : List Bool) (at g from total owned : ℕ) : Type 0 where
   pub search : IsSearch graph onto entries reached at
   pub at_in : at < length entries
   pub group_is : group entries at ≡ g
-  pub below : (k : ℕ) → k < from → compatible_at graph g k ≡ true → is_marked reached k ≡ true
-  pub left : length entries + unmarked reached ≡ total
-  pub marks : length reached ≡ owned
+  pub below : (k : ℕ) → k < from → compatible_at graph g k ≡ true → is_passed reached k ≡ true
+  pub left : length entries + unpassed reached ≡ total
+  pub places : length reached ≡ owned
 
-below_more_partner : (graph : Groups) (reached : List Bool) (g from k : ℕ) → ((q : ℕ) → q < from → compatible_at graph g q ≡ true → is_marked reached q ≡ true)
-    → ((q : ℕ) → from ≤ q → q < k → compatible_at graph g q ≡ true → is_marked reached q ≡ true) → is_marked reached k ≡ true → (q : ℕ) → q < k + 1
-    → compatible_at graph g q ≡ true → is_marked reached q ≡ true
+below_more_partner : (graph : Groups) (reached : List Bool) (g from k : ℕ) → ((q : ℕ) → q < from → compatible_at graph g q ≡ true → is_passed reached q ≡ true)
+    → ((q : ℕ) → from ≤ q → q < k → compatible_at graph g q ≡ true → is_passed reached q ≡ true) → is_passed reached k ≡ true → (q : ℕ) → q < k + 1
+    → compatible_at graph g q ≡ true → is_passed reached q ≡ true
 below_more_partner graph reached g from k below least here q h j =
     elim (cases_lt q from) [
       | inl l ↦ below q l j
       | inr l ↦ elim (cases_lt q k) [
         | inl m ↦ least q l m j
-        | inr m ↦ let qk : q ≡ k = omega arith in ap (is_marked reached) qk ∙ here
+        | inr m ↦ let qk : q ≡ k = omega arith in ap (is_passed reached) qk ∙ here
       ]
     ]
 
 pub reaching_push : (graph : Groups) (onto planned : List (Option ℕ)) (entries : List Reached) (reached : List Bool) (at g from total owned k i : ℕ)
     → ArePaired onto planned → IsReaching graph onto entries reached at g from total owned
-    → ((q : ℕ) → from ≤ q → q < k → compatible_at graph g q ≡ true → is_marked reached q ≡ true) → compatible_at graph g k ≡ true → k < owned
-    → is_marked reached k ≡ false → mate planned k ≡ Some i
+    → ((q : ℕ) → from ≤ q → q < k → compatible_at graph g q ≡ true → is_passed reached q ≡ true) → compatible_at graph g k ≡ true → k < owned
+    → is_passed reached k ≡ false → mate planned k ≡ Some i
     → IsReaching graph onto (entries ++ record { group = i; before = at } ∷ []) (set reached k true) at g (k + 1) total owned
-reaching_push graph onto planned entries reached at g from total owned k i paired s least j k_in unmarked_k m =
+reaching_push graph onto planned entries reached at g from total owned k i paired s least j k_in unpassed_k m =
     let e : Reached = record { group = i; before = at } in
     let at_in : at < length entries = s.at_in in
     let n : length (entries ++ e ∷ []) ≡ length entries + 1 = length_push entries e in
-    let k_marks : k < length reached = rw s.marks k_in in
-    let now : is_marked (set reached k true) k ≡ true = get_or-set_same reached k true false k_marks in
-    let kept : (q : ℕ) → q < from → compatible_at graph g q ≡ true → is_marked (set reached k true) q ≡ true = λ q h jq. elim (cases_eq q k) [
-      | inl o ↦ ap (is_marked (set reached k true)) o ∙ now
+    let k_places : k < length reached = rw s.places k_in in
+    let now : is_passed (set reached k true) k ≡ true = get_or-set_same reached k true false k_places in
+    let kept : (q : ℕ) → q < from → compatible_at graph g q ≡ true → is_passed (set reached k true) q ≡ true = λ q h jq. elim (cases_eq q k) [
+      | inl o ↦ ap (is_passed (set reached k true)) o ∙ now
       | inr o ↦ get_or-set_other reached k q true false o ∙ s.below q h jq
     ] in
     let kept_between : (q : ℕ) → from ≤ q → q < k → compatible_at graph g q ≡ true
-    → is_marked (set reached k true) q ≡ true = λ q l h jq. get_or-set_other reached k q true false (λ e. absurd (omega arith)) ∙ least q l h jq in
-    let fewer : unmarked (set reached k true) + 1 ≡ unmarked reached = unmarked-set reached k k_marks unmarked_k in
-    let was : length entries + unmarked reached ≡ total = s.left in
+    → is_passed (set reached k true) q ≡ true = λ q l h jq. get_or-set_other reached k q true false (λ e. absurd (omega arith)) ∙ least q l h jq in
+    let fewer : unpassed (set reached k true) + 1 ≡ unpassed reached = unpassed-set reached k k_places unpassed_k in
+    let was : length entries + unpassed reached ≡ total = s.left in
     record {
-      search = search_more graph onto planned entries reached at i k at paired s.search (omega arith) at_in k_marks (ap (λ x. compatible_at graph x k) s.group_is ∙ j) unmarked_k (paired.back i k m);
+      search = search_more graph onto planned entries reached at i k at paired s.search (omega arith) at_in k_places (ap (λ x. compatible_at graph x k) s.group_is ∙ j) unpassed_k (paired.back i k m);
       at_in = omega arith;
       group_is = group_kept entries e at at_in ∙ s.group_is;
       below = below_more_partner graph (set reached k true) g from k kept kept_between now;
       left = omega arith;
-      marks = length-set reached k true ∙ s.marks;
+      places = length-set reached k true ∙ s.places;
     }
 
 pub reaching_start : (graph : Groups) (onto : List (Option ℕ)) (entries : List Reached) (reached : List Bool) (at g total owned : ℕ)
-    → IsSearch graph onto entries reached at → at < length entries → group entries at ≡ g → length entries + unmarked reached ≡ total → length reached ≡ owned
+    → IsSearch graph onto entries reached at → at < length entries → group entries at ≡ g → length entries + unpassed reached ≡ total → length reached ≡ owned
     → IsReaching graph onto entries reached at g 0 total owned
 reaching_start graph onto entries reached at g total owned s h e l m = record {
   search = s;
@@ -148,15 +148,15 @@ reaching_start graph onto entries reached at g total owned s h e l m = record {
   group_is = e;
   below = λ k b j. absurd (omega arith);
   left = l;
-  marks = m;
+  places = m;
 }
 
 pub reaching_end : (graph : Groups) (onto : List (Option ℕ)) (entries : List Reached) (reached : List Bool) (at g from total owned : ℕ)
-    → IsReaching graph onto entries reached at g from total owned → ((q : ℕ) → from ≤ q → compatible_at graph g q ≡ true → is_marked reached q ≡ true)
+    → IsReaching graph onto entries reached at g from total owned → ((q : ℕ) → from ≤ q → compatible_at graph g q ≡ true → is_passed reached q ≡ true)
     → IsSearch graph onto entries reached (at + 1)
 reaching_end graph onto entries reached at g from total owned s none = record {
   linked = s.search.linked;
-  marked = s.search.marked;
+  passed = s.search.passed;
   mates_stand = s.search.mates_stand;
   are_planned = s.search.are_planned;
   left_out = s.search.left_out;

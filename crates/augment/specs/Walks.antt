@@ -28,38 +28,38 @@ pub record AreReached (graph : Groups) (onto : List (Option ℕ)) (entries : Lis
   pub joined_to : (t k : ℕ) → t < length entries → mate onto (group entries t) ≡ Some k → compatible_at graph (group entries (before entries t)) k ≡ true
   pub apart : (t u : ℕ) → t < u → u < length entries → group entries t ≢ group entries u
 
--- whether the owned place k is marked
-abbrev pub is_marked : List Bool → ℕ → Bool
-is_marked reached k = slice_index_or reached k false
+-- whether the owned place k was passed
+abbrev pub is_passed : List Bool → ℕ → Bool
+is_passed reached k = slice_index_or reached k false
 
--- the marks of places, and a bit for each place that has none
-pub record AreOpposite (unmarked : List ℕ) (marked : List Bool) : Type 0 where
-  pub size : length unmarked ≡ (length marked + 63) / 64
-  pub bits : (k : ℕ) → k < length marked → has_bit unmarked k ≡ not (is_marked marked k)
+-- which places were passed, and a bit for each place that was not
+pub record AreOpposite (unpassed : List ℕ) (passed : List Bool) : Type 0 where
+  pub size : length unpassed ≡ (length passed + 63) / 64
+  pub bits : (k : ℕ) → k < length passed → has_bit unpassed k ≡ not (is_passed passed k)
 
 -- some entry reached the place i
-abbrev pub Stands : List Reached → ℕ → Type 0
-Stands entries i = (t : ℕ) × (t < length entries) × (group entries t ≡ i)
+abbrev pub IsReached : List Reached → ℕ → Type 0
+IsReached entries i = (t : ℕ) × (t < length entries) × (group entries t ≡ i)
 
--- linked entries, and the partner of each is marked
+-- linked entries, and the partner of each was passed
 pub record IsWalk (graph : Groups) (onto : List (Option ℕ)) (entries : List Reached) (used : List Bool) : Type 0 where
   pub linked : AreReached graph onto entries
-  pub marked : (t k : ℕ) → t < length entries → mate onto (group entries t) ≡ Some k → is_marked used k ≡ true
+  pub passed : (t k : ℕ) → t < length entries → mate onto (group entries t) ≡ Some k → is_passed used k ≡ true
 
 -- how far a search has come: the entries below next have been searched
 pub record IsSearch (graph : Groups) (onto : List (Option ℕ)) (entries : List Reached) (reached : List Bool) (next : ℕ) : Type 0 where
   pub linked : AreReached graph onto entries
-  pub marked : (t k : ℕ) → t < length entries → mate onto (group entries t) ≡ Some k → is_marked reached k ≡ true
-  pub mates_stand : (i k : ℕ) → is_marked reached k ≡ true → mate onto i ≡ Some k → Stands entries i
-  pub are_planned : (k : ℕ) → is_marked reached k ≡ true → (i : ℕ) × (mate onto i ≡ Some k)
-  pub left_out : (i : ℕ) → i < length onto → mate onto i ≡ None → Stands entries i
-  pub closed : (t k : ℕ) → t < next → compatible_at graph (group entries t) k ≡ true → is_marked reached k ≡ true
+  pub passed : (t k : ℕ) → t < length entries → mate onto (group entries t) ≡ Some k → is_passed reached k ≡ true
+  pub mates_stand : (i k : ℕ) → is_passed reached k ≡ true → mate onto i ≡ Some k → IsReached entries i
+  pub are_planned : (k : ℕ) → is_passed reached k ≡ true → (i : ℕ) × (mate onto i ≡ Some k)
+  pub left_out : (i : ℕ) → i < length onto → mate onto i ≡ None → IsReached entries i
+  pub closed : (t k : ℕ) → t < next → compatible_at graph (group entries t) k ≡ true → is_passed reached k ≡ true
 
--- how many owned places are not marked
-abbrev pub unmarked : List Bool → ℕ
-unmarked reached = count_by not reached
+-- how many owned places were not passed
+abbrev pub unpassed : List Bool → ℕ
+unpassed reached = count_by not reached
 
--- the marks that a search leaves which has searched each of its entries
+-- the places that a search has passed which has searched each of its entries
 pub record IsSearched (graph : Groups) (onto : List (Option ℕ)) (reached : List Bool) : Type 0 where
   pub entries : List Reached
   pub search : IsSearch graph onto entries reached (length entries)

@@ -2,7 +2,7 @@
 ghost use Rattle.std.specs.Prelude.{◌≡◌, ◌+◌, ◌<◌, ◌≤◌, ℕ, length, true, false, None, IfSome, IfNone, IfOk};
 ghost use Rattle.augment.specs.Mates.{mate};
 ghost use Rattle.mesh_graph.specs.Groups.{compatible_at};
-ghost use Rattle.augment.specs.Walks.{Joins, pair_count, AreReached, is_marked, IsSearched};
+ghost use Rattle.augment.specs.Walks.{Joins, pair_count, AreReached, is_passed, IsSearched};
 
 use crate::mates::Mates;
 use crate::places::Places;
@@ -33,11 +33,11 @@ pub(crate) fn turn_phase(
 
     // Or no walk comes to a free place.
     ensures unchanged { IfOk result (λ reached. IfSome reached
-        (λ marks. mates.new.onto.items ≡ mates.old.onto.items)) }
+        (λ places. mates.new.onto.items ≡ mates.old.onto.items)) }
     ensures searched { IfOk result (λ reached. IfSome reached
-        (λ marks. IsSearched graph.now mates.new.onto.items marks.items)) }
-    ensures marks { IfOk result (λ reached. IfSome reached
-        (λ marks. length marks.items ≡ length graph.now.owned)) }
+        (λ places. IsSearched graph.now mates.new.onto.items places.items)) }
+    ensures places { IfOk result (λ reached. IfSome reached
+        (λ places. length places.items ≡ length graph.now.owned)) }
 {
     let mut walks = Walks::start(alloc, graph, mates)?;
     let mut next = 0;
@@ -51,7 +51,7 @@ pub(crate) fn turn_phase(
         }
         next += 1;
     }
-    Ok(Some(walks.reached.into_marks()))
+    Ok(Some(walks.reached.into_passed()))
 }
 
 /// Turns round a walk from each place left out from which there is one along the layers.
@@ -67,7 +67,7 @@ fn turn_others(
     requires groups { length mates.old.onto.items ≡ length graph.now.abandoned }
     requires layers { length layers.now ≡ length mates.old.onto.items }
     requires owned { length mates.old.planned.items ≡ length graph.now.owned }
-    requires used { length used.old.marked.items ≡ length graph.now.owned }
+    requires used { length used.old.passed.items ≡ length graph.now.owned }
 
     // So do the pairs afterwards, which are no fewer.
     ensures joins { Joins graph.now mates.new.onto.items }
@@ -81,7 +81,7 @@ fn turn_others(
     for root in 0..mates.onto.len() {
         if mates.onto[root].is_none() {
             // The places before the first one are used, and in a dense graph they are many.
-            first = first_unused(&used.marked, first);
+            first = first_unused(&used.passed, first);
             cursors[root] = first;
             turn_from(graph, mates, layers, used, &mut cursors, &mut path, root)?;
         }
@@ -92,8 +92,8 @@ fn turn_others(
 /// The least place from `from` on that is not used, or the number of places where all of them are.
 fn first_unused(used: &[bool], from: usize) -> usize
     ensures from { from ≤ length used.now → from ≤ result }
-    ensures passed { (k : ℕ) → from ≤ k → k < result → is_marked used.now k ≡ true }
-    ensures unused { result < length used.now → is_marked used.now result ≡ false }
+    ensures passed { (k : ℕ) → from ≤ k → k < result → is_passed used.now k ≡ true }
+    ensures unused { result < length used.now → is_passed used.now result ≡ false }
 {
     for at in from..used.len() {
         if !used[at] {
@@ -140,16 +140,16 @@ fn next_step(
     requires groups { length mates.now.onto.items ≡ length graph.now.abandoned }
     requires layers { length layers.now ≡ length mates.now.onto.items }
     requires owned { length mates.now.planned.items ≡ length graph.now.owned }
-    requires used { length used.now.marked.items ≡ length graph.now.owned }
+    requires used { length used.now.passed.items ≡ length graph.now.owned }
     requires cursors { length cursors.old ≡ length mates.now.onto.items }
 
     // A compatible place that no walk has used.
     ensures joined_to { IfSome result (λ j. compatible_at graph.now group j ≡ true) }
     ensures within { IfSome result (λ j. j < length graph.now.owned) }
-    ensures unused { IfSome result (λ j. is_marked used.now.marked.items j ≡ false) }
+    ensures unused { IfSome result (λ j. is_passed used.now.passed.items j ≡ false) }
 {
     let mut from = cursors[group];
-    'partners: while let Some(owned) = graph.next_partner_among(group, from, &used.unmarked) {
+    'partners: while let Some(owned) = graph.next_partner_among(group, from, &used.unpassed) {
         from = owned + 1;
         cursors[group] = from;
         match mates.planned[owned] {
@@ -188,7 +188,7 @@ fn turn_from(
     requires groups { length mates.old.onto.items ≡ length graph.now.abandoned }
     requires layers { length layers.now ≡ length mates.old.onto.items }
     requires owned { length mates.old.planned.items ≡ length graph.now.owned }
-    requires used { length used.old.marked.items ≡ length graph.now.owned }
+    requires used { length used.old.passed.items ≡ length graph.now.owned }
     requires cursors { length cursors.old ≡ length mates.old.onto.items }
 
     // The walk begins at a group that is left out.
@@ -200,7 +200,7 @@ fn turn_from(
     ensures groups { length mates.new.onto.items ≡ length graph.now.abandoned }
     ensures owned { length mates.new.planned.items ≡ length graph.now.owned }
     ensures more { pair_count mates.old.onto.items ≤ pair_count mates.new.onto.items }
-    ensures used { length used.new.marked.items ≡ length used.old.marked.items }
+    ensures used { length used.new.passed.items ≡ length used.old.passed.items }
 {
     path.clear();
     path.push(Reached {
@@ -214,7 +214,7 @@ fn turn_from(
                 path.pop();
             }
             Some(owned) => {
-                used.mark(owned);
+                used.pass(owned);
                 match mates.planned[owned] {
                     None => {
                         turn_round(graph, mates, path, at, owned, used);

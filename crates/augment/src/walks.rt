@@ -2,7 +2,7 @@
 ghost use Rattle.std.specs.Prelude.{◌≡◌, ◌+◌, ◌<◌, length, true, None, IfSome, IfNone, IfOk};
 ghost use Rattle.augment.specs.Mates.{mate};
 ghost use Rattle.mesh_graph.specs.Groups.{compatible_at};
-ghost use Rattle.augment.specs.Walks.{Joins, pair_count, group, AreReached, IsSearch, unmarked};
+ghost use Rattle.augment.specs.Walks.{Joins, pair_count, group, AreReached, IsSearch, unpassed};
 
 use crate::mates::Mates;
 use crate::places::Places;
@@ -18,7 +18,7 @@ pub(crate) struct Reached {
 }
 
 /// Turns round the pairs of the walk that ends at the entry `last` and, from there, at a free owned
-/// place. It marks the owned places of the walk as used.
+/// place. It notes the owned places of the walk as used.
 pub(crate) fn turn_round(
     graph: &Graph,
     mates: &mut Mates,
@@ -35,7 +35,7 @@ pub(crate) fn turn_round(
     requires last_in { last < length entries.now }
     requires free_in { free < length mates.old.planned.items }
     requires free { mate mates.old.planned.items free ≡ None }
-    requires used { length used.old.marked.items ≡ length mates.old.planned.items }
+    requires used { length used.old.passed.items ≡ length mates.old.planned.items }
     requires end { compatible_at graph.now (group entries.now last) free ≡ true }
 
     // There is one pair more.
@@ -43,14 +43,14 @@ pub(crate) fn turn_round(
     ensures more { pair_count mates.new.onto.items ≡ pair_count mates.old.onto.items + 1 }
     ensures onto { length mates.new.onto.items ≡ length mates.old.onto.items }
     ensures planned { length mates.new.planned.items ≡ length mates.old.planned.items }
-    ensures used { length used.new.marked.items ≡ length used.old.marked.items }
+    ensures used { length used.new.passed.items ≡ length used.old.passed.items }
 {
     'walk: while let Some(left) = mates.pair_up(entries[last].group, free) {
-        used.mark(free);
+        used.pass(free);
         free = left;
         last = entries[last].before;
     }
-    used.mark(free);
+    used.pass(free);
 }
 
 /// What a search along alternating walks has reached.
@@ -65,8 +65,8 @@ impl Walks {
     pub(crate) fn start(alloc: Global, graph: &Graph, mates: &Mates) -> Result<Self, AllocError>
         requires owned { length mates.now.planned.items ≡ length graph.now.owned }
         ensures search { IfOk result (λ walks. IsSearch graph.now mates.now.onto.items
-            walks.entries.items walks.reached.marked.items 0) }
-        ensures owned { IfOk result (λ walks. length walks.reached.marked.items ≡ length graph.now.owned) }
+            walks.entries.items walks.reached.passed.items 0) }
+        ensures owned { IfOk result (λ walks. length walks.reached.passed.items ≡ length graph.now.owned) }
     {
         let mut entries = Vec::new(alloc);
         for (group, mate) in mates.onto.iter().enumerate() {
@@ -88,15 +88,15 @@ impl Walks {
     ) -> Result<Option<usize>, AllocError>
         // The search has come to this entry.
         requires search { IsSearch graph.now mates.now.onto.items self.old.entries.items
-            self.old.reached.marked.items at }
+            self.old.reached.passed.items at }
         requires at_in { at < length self.old.entries.items }
         requires groups { length mates.now.onto.items ≡ length graph.now.abandoned }
         requires owned { length mates.now.planned.items ≡ length graph.now.owned }
-        requires marks { length self.old.reached.marked.items ≡ length graph.now.owned }
+        requires places { length self.old.reached.passed.items ≡ length graph.now.owned }
 
         // It has gone past the entry.
         ensures searched { IfOk result (λ found. IfNone found
-            (IsSearch graph.now mates.now.onto.items self.new.entries.items self.new.reached.marked.items
+            (IsSearch graph.now mates.now.onto.items self.new.entries.items self.new.reached.passed.items
             (at + 1))) }
 
         // Or it has come to a free place.
@@ -110,11 +110,11 @@ impl Walks {
         ensures joined_to { IfOk result (λ found. IfSome found
             (λ free. compatible_at graph.now (group self.new.entries.items at) free ≡ true)) }
 
-        // Each entry stands for a place that is marked.
-        ensures left { IfOk result (λ found. length self.new.entries.items + unmarked
-            self.new.reached.marked.items ≡ length self.old.entries.items + unmarked
-            self.old.reached.marked.items) }
-        ensures marks { IfOk result (λ found. length self.new.reached.marked.items
+        // Each entry stands for a place that was passed.
+        ensures left { IfOk result (λ found. length self.new.entries.items + unpassed
+            self.new.reached.passed.items ≡ length self.old.entries.items + unpassed
+            self.old.reached.passed.items) }
+        ensures places { IfOk result (λ found. length self.new.reached.passed.items
             ≡ length graph.now.owned) }
     {
         let group = self.entries[at].group;
@@ -122,12 +122,12 @@ impl Walks {
         'partners: while let Some(owned) = graph.next_partner_among(
             group,
             from,
-            &self.reached.unmarked,
+            &self.reached.unpassed,
         ) {
             match mates.planned[owned] {
                 None => return Ok(Some(owned)),
                 Some(back) => {
-                    self.reached.mark(owned);
+                    self.reached.pass(owned);
                     self.entries.push(Reached {
                         group: back,
                         before: at,

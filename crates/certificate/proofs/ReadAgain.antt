@@ -27,6 +27,8 @@ use Rattle.certificate.specs.Number.{is_numeral, number_in}
 use Rattle.certificate.specs.Text.{FitsClass, HasTextSerial, class_text}
 use Rattle.certificate.specs.Words.{parts_of}
 use Rattle.certificate.proofs.Split.{lacks, lacks-append, lacks-digits, lacks-high, parts-last, parts-word}
+use Rattle.mesh_graph.specs.declared.build.TheConstants.{MOST_GROUPS}
+use Rattle.bitmap.specs.declared.bits.TheConstants.{SLOTS}
 
 -- ---- numbers
 
@@ -118,7 +120,8 @@ all-filter p q (x ∷ xs) h = elim (cases_Bool (q x)) [
 
 is_on_page-below : (class : Class) (slots : SlotSet) → IsBelow slots (slots_in class) → is_on_page class slots ≡ true
 unfolding members_below
-is_on_page-below class slots below = all-filter (λ slot. nat_lt slot (slots_in class)) (contains slots) (range_with_len 0 256) (λ slot inside. lt-ltb slot (slots_in class) (below slot inside))
+is_on_page-below class slots below = all-filter (λ slot. nat_lt slot (slots_in class)) (contains slots) (range_with_len 0 SLOTS)
+    (λ slot inside. lt-ltb slot (slots_in class) (below slot inside))
 
 -- what holds of a member of a range that passes
 range-filter : (p q : ℕ → Bool) (first n x : ℕ) → list_all p (filter q (range_with_len first n)) ≡ true → first ≤ x → x < first + n → q x ≡ true → p x ≡ true
@@ -140,8 +143,8 @@ range-filter p q first (suc n) x all low high inside = elim (cases_Bool (q first
 pub IsBelow-is_on_page : (class : Class) (word : List ℕ) (slots : SlotSet) → slots ≡ slots_of_text word → is_on_page class slots ≡ true → IsBelow slots (slots_in class)
 unfolding members_below
 IsBelow-is_on_page class word slots is all slot inside =
-    let low : slot < 256 = IsBelow-slots_where (text_has word) 256 slot (ap (λ s. contains s slot) (sym is) ∙ inside) in
-    ltb-true slot (slots_in class) (range-filter (λ slot. nat_lt slot (slots_in class)) (contains slots) 0 256 slot all (omega arith) (omega arith) inside)
+    let low : slot < SLOTS = IsBelow-slots_where (text_has word) SLOTS slot (ap (λ s. contains s slot) (sym is) ∙ inside) in
+    ltb-true slot (slots_in class) (range-filter (λ slot. nat_lt slot (slots_in class)) (contains slots) 0 SLOTS slot all (omega arith) (omega arith) inside)
 
 -- a group's line, without its line feed
 abbrev pub entry_body : Entry → List ℕ
@@ -192,12 +195,12 @@ bytes_eq-same : (xs : List ℕ) → bytes_eq xs xs ≡ true
 bytes_eq-same [] = refl
 bytes_eq-same (x ∷ xs) = and_from (eqb x x) (bytes_eq xs xs) (eq-eqb x x refl) (bytes_eq-same xs)
 
-pub count_in-body : (title : List ℕ) (n : ℕ) → lacks 32 title ≡ true → n ≤ 4096 → count_in title (title_body title n) ≡ Ok n
+pub count_in-body : (title : List ℕ) (n : ℕ) → lacks 32 title ≡ true → n ≤ MOST_GROUPS → count_in title (title_body title n) ≡ Ok n
 count_in-body title n plain few =
     let fits : n < 2 ^ 64 = omega arith in
     let parts : parts_of 32 (title_body title n) ≡ title ∷ decimal n ∷ [] =
     parts-word 32 title (decimal n) plain ∙ ap (λ ps. title ∷ ps) (parts-last 32 (decimal n) (lacks-decimal 32 n (omega arith) fits)) in
-    rw (parts, bytes_eq-same title, number_in-decimal n fits, le-leb n 4096 few) refl
+    rw (parts, bytes_eq-same title, number_in-decimal n fits, le-leb n MOST_GROUPS few) refl
 
-pub lacks-title_body : (title : List ℕ) (n : ℕ) → lacks 10 title ≡ true → n ≤ 4096 → lacks 10 (title_body title n) ≡ true
+pub lacks-title_body : (title : List ℕ) (n : ℕ) → lacks 10 title ≡ true → n ≤ MOST_GROUPS → lacks 10 (title_body title n) ≡ true
 lacks-title_body title n plain few = lacks-append 10 title (codes " " ++ decimal n) plain (lacks-append 10 (codes " ") (decimal n) refl (lacks-decimal 10 n (omega arith) (omega arith)))

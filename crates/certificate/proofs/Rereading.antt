@@ -19,6 +19,7 @@ use Rattle.certificate.specs.Words.{parts_of}
 use Rattle.certificate.proofs.Items.{body_in-lists}
 use Rattle.certificate.proofs.ReadAgain.{classless_body, count_in-body, entry_body, entry_in-body, id_in-text, lacks-classless_body, lacks-entry_body, lacks-id_text, lacks-pair_body, lacks-title_body, pair_body, pair_in-body, title_body}
 use Rattle.certificate.proofs.Split.{lacks, parts-word}
+use Rattle.mesh_graph.specs.declared.build.TheConstants.{MOST_GROUPS}
 
 -- ---- the lines of a text
 
@@ -31,7 +32,7 @@ parts_of-lines line body is plain (x ∷ xs) rest =
     ∙ ap (λ ps. body x ∷ ps) (parts_of-lines line body is plain xs rest)
 
 parts_of-list : {X : Type 0} (title : List ℕ) (line body : X → List ℕ) → lacks 10 title ≡ true → ((x : X) → line x ≡ body x ++ 10 ∷ [])
-    → ((x : X) → lacks 10 (body x) ≡ true) → (xs : List X) (rest : List ℕ) → length xs ≤ 4096
+    → ((x : X) → lacks 10 (body x) ≡ true) → (xs : List X) (rest : List ℕ) → length xs ≤ MOST_GROUPS
     → parts_of 10 (list_text title line xs ++ rest) ≡ title_body title (length xs) ∷ (map body xs ++ parts_of 10 rest)
 parts_of-list title line body head is plain xs rest few =
     let d : List ℕ = decimal (length xs) in
@@ -151,7 +152,7 @@ module _ {X Y : Type 0} (parse : List ℕ → Result X Cause) (id_of : X → Id)
       ap (λ r. at_line (length front) r >>= (λ x. items_in parse id_of (front ++ (body y ∷ (map body ys ++ rest))) (Some (id_of x)) (length front + 1) (length ys) >>= (λ more. Ok (x ∷ more)))) here
       ∙ ap (λ r. r >>= (λ more. Ok (view y ∷ more))) again
 
-  list_in-at : (title : List ℕ) (ys : List Y) (front rest : List (List ℕ)) → lacks 32 title ≡ true → length ys ≤ 4096
+  list_in-at : (title : List ℕ) (ys : List Y) (front rest : List (List ℕ)) → lacks 32 title ≡ true → length ys ≤ MOST_GROUPS
       → AllByRecursion (λ y. parse (body y) ≡ Ok (view y)) ys → IsAscending (map key ys) → 0 < length rest
       → list_in title parse id_of (front ++ (title_body title (length ys) ∷ (map body ys ++ rest))) (length front) ≡ Ok (map view ys)
   unfolding list_in

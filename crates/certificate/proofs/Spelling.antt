@@ -36,6 +36,7 @@ use Rattle.certificate.specs.Words.{parts_of}
 use Rattle.certificate.proofs.Digits.{AllDigits-from_test}
 use Rattle.certificate.proofs.ReadAgain.{classless_body, entry_body, pair_body, title_body}
 use Rattle.certificate.proofs.Rereading.{lines_with, parts_of-classless_text, parts_of-text}
+use Rattle.mesh_graph.specs.declared.build.TheConstants.{MOST_GROUPS}
 
 -- ---- steps that were taken
 
@@ -230,11 +231,11 @@ pair_in-spells line p h = two_words line (id_word p.0) (id_word p.1) (pair_of_wo
 same_bytes : (xs ys : List ℕ) → bytes_eq xs ys ≡ true → xs ≡ ys
 same_bytes xs ys h = (bytes_eq-Decides xs ys).0 h
 
-count_of_number-ok : (number : Option ℕ) (n : ℕ) → count_of_number number ≡ Ok n → (number ≡ Some n) × (n ≤ 4096)
+count_of_number-ok : (number : Option ℕ) (n : ℕ) → count_of_number number ≡ Ok n → (number ≡ Some n) × (n ≤ MOST_GROUPS)
 count_of_number-ok None n h = cc
 count_of_number-ok (Some m) n h =
-    let p = if-ok (nat_le m 4096) m n Limit h in
-    let few : m ≤ 4096 = leb-true m 4096 p.0 in
+    let p = if-ok (nat_le m MOST_GROUPS) m n Limit h in
+    let few : m ≤ MOST_GROUPS = leb-true m MOST_GROUPS p.0 in
     (ap Some p.1, omega (arith, p.1))
 
 count_of_words-ok : (title : List ℕ) (words : List (List ℕ)) (n : ℕ) → count_of_words title words ≡ Ok n → words ≡ title ∷ decimal n ∷ []

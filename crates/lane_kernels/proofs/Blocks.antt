@@ -14,6 +14,7 @@ use Rattle.bitmap.specs.Slots.{SlotSet, ascending, has_bit, members_below}
 use Rattle.bitmap.specs.Words.{has_bit-place}
 use Rattle.lane_kernels.specs.Rows.{IsClear, IsClearIn, row_at, survives}
 use Rattle.lane_kernels.proofs.Rows.{all_at, all_from, not_false, not_true, only_bit}
+use Rattle.bitmap.specs.declared.bits.TheConstants.{SLOTS}
 
 -- a word without its lowest bit
 abbrev pub without_lowest : ℕ → ℕ
@@ -127,26 +128,27 @@ block-step words rows W at i b k block block' before step =
     )
 
 -- a bit of a slot's row, by the place of its word among all rows
-row_bit-is : (W : ℕ) (rows : List ℕ) (q j : ℕ) → length rows ≡ W * 256 → q < 256 → j / 64 < W → has_bit (row_at W rows q) j ≡ (bit_at (get_or rows (j / 64 + W * q) 0) (j % 64) == 1)
+row_bit-is : (W : ℕ) (rows : List ℕ) (q j : ℕ) → length rows ≡ W * SLOTS → q < SLOTS → j / 64 < W
+    → has_bit (row_at W rows q) j ≡ (bit_at (get_or rows (j / 64 + W * q) 0) (j % 64) == 1)
 row_bit-is W rows q j size low inside =
     let place : W * q + j / 64 ≡ j / 64 + W * q = omega arith in
     ap (λ n. bit_at n (j % 64) == 1) (get_or-chunk (W * q) W rows (j / 64) 0 inside ∙ ap (λ n. get_or rows n 0) place)
 
-module _ (set : SlotSet) (words rows : List ℕ) (W j bit : ℕ) (size : length rows ≡ W * 256) (inside : j / 64 < W) (are : (q : ℕ)
-    → has_bit words q ≡ contains set q) (small : bit < 2) (is : (bit ≡ 0) ↔ IsClearIn words rows W (j / 64) (j % 64) 256) where
+module _ (set : SlotSet) (words rows : List ℕ) (W j bit : ℕ) (size : length rows ≡ W * SLOTS) (inside : j / 64 < W) (are : (q : ℕ)
+    → has_bit words q ≡ contains set q) (small : bit < 2) (is : (bit ≡ 0) ↔ IsClearIn words rows W (j / 64) (j % 64) SLOTS) where
   abbrev held : ℕ → Bool
   held q = not (has_bit (row_at W rows q) j)
 
-  clear_all : IsClearIn words rows W (j / 64) (j % 64) 256 → survives W rows j (ascending set) ≡ true
+  clear_all : IsClearIn words rows W (j / 64) (j % 64) SLOTS → survives W rows j (ascending set) ≡ true
   unfolding members_below
-  clear_all clear = all_from (contains set) held 0 256 (λ q low in_a. not_false _ (λ e.
+  clear_all clear = all_from (contains set) held 0 SLOTS (λ q low in_a. not_false _ (λ e.
       let one : bit_at (get_or rows (j / 64 + W * q) 0) (j % 64) ≡ 1 = eqb-true _ 1 (sym (row_bit-is W rows q j size low inside) ∙ e) in
       absurd (omega (arith, one, clear q low (are q ∙ in_a)))))
 
-  all_clear : survives W rows j (ascending set) ≡ true → IsClearIn words rows W (j / 64) (j % 64) 256
+  all_clear : survives W rows j (ascending set) ≡ true → IsClearIn words rows W (j / 64) (j % 64) SLOTS
   unfolding members_below
   all_clear all q low is_in =
-      let off : has_bit (row_at W rows q) j ≡ false = not_true _ (all_at (contains set) held 0 256 all q (omega arith) low (sym (are q) ∙ is_in)) in
+      let off : has_bit (row_at W rows q) j ≡ false = not_true _ (all_at (contains set) held 0 SLOTS all q (omega arith) low (sym (are q) ∙ is_in)) in
       let lt = bit_at-lt (get_or rows (j / 64 + W * q) 0) (j % 64) in
       elim (cases_eq (bit_at (get_or rows (j / 64 + W * q) 0) (j % 64)) 1) [
         | inl one ↦ absurd (both_ways (has_bit (row_at W rows q) j) off (row_bit-is W rows q j size low inside ∙ tested _ one))
@@ -163,9 +165,11 @@ module _ (set : SlotSet) (words rows : List ℕ) (W j bit : ℕ) (size : length 
     | inr other ↦ let zeros : bit ≡ 0 = omega arith in rw (zeros, clear_all (is.0 zeros)) refl
   ]
 
-module _ (set : SlotSet) (words rows block first old new : List ℕ) (W at : ℕ) (aligned : at % 16 ≡ 0) (within : at + 16 ≤ W) (size : length rows ≡ W * 256)
+module _ (set : SlotSet) (words rows block first old new : List ℕ) (W at : ℕ) (aligned : at % 16 ≡ 0) (within : at + 16 ≤ W) (size : length rows ≡ W * SLOTS)
     (are : (q : ℕ) → has_bit words q ≡ contains set q)
-    (bits : (i b : ℕ) → i < 16 → b < 64 → (bit_at (get_or block i 0) b ≡ 0) ↔ IsClearIn words rows W (at + i) b 256) (long_old : length old ≡ length first) (long_new : length new ≡ length old)
+    (bits : (i b : ℕ) → i < 16 → b < 64
+    → (bit_at (get_or block i 0) b ≡ 0) ↔ IsClearIn words rows W (at + i) b SLOTS) (long_old : length old ≡ length first)
+    (long_new : length new ≡ length old)
     (taken : (i b : ℕ) → i < 16 → b < 64 → at + i < length old → (bit_at (get_or new (at + i) 0) b == 1) ≡ ((bit_at (get_or old (at + i) 0) b == 1) && not (bit_at (get_or block i 0) b == 1)))
     (before : (w : ℕ) → w < at → get_or new w 0 ≡ get_or old w 0)
     (done : (j : ℕ) → j < 64 * at → has_bit old j ≡ (has_bit first j && survives W rows j (ascending set)))
@@ -180,7 +184,8 @@ module _ (set : SlotSet) (words rows block first old new : List ℕ) (W at : ℕ
   here j from to inside =
       let i : ℕ = j / 64 - at in
       let place : at + i ≡ j / 64 = omega arith in
-      let clear : (bit_at (get_or block i 0) (j % 64) ≡ 0) ↔ IsClearIn words rows W (j / 64) (j % 64) 256 = rw place at (bits i (j % 64) (omega arith) (omega arith)) in
+      let clear : (bit_at (get_or block i 0) (j % 64) ≡ 0) ↔ IsClearIn words rows W (j / 64) (j % 64) SLOTS = rw place at
+      (bits i (j % 64) (omega arith) (omega arith)) in
       ap (λ w. bit_at (get_or new w 0) (j % 64) == 1) (sym place)
       ∙ taken i (j % 64) (omega arith) (omega arith) (omega arith)
       ∙ ap (λ w. (bit_at (get_or old w 0) (j % 64) == 1) && not (bit_at (get_or block i 0) (j % 64) == 1)) place

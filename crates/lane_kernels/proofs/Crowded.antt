@@ -15,6 +15,7 @@ use Rattle.bitmap.specs.Slots.{AreWords, slots_of_words}
 use Rattle.bitmap.specs.Words.{word_where-is}
 use Rattle.bitmap.proofs.Counts.{len-slots_of_words}
 use Rattle.lane_kernels.specs.Planes.{column, is_apart, word_of}
+use Rattle.bitmap.specs.declared.bits.TheConstants.{SLOTS}
 
 at_most_one : (b c : Bool) → (b && c) ≡ false → cond b 1 0 + cond c 1 0 ≤ 1
 at_most_one true true both = absurd (let e : true ≡ false = both in cc)
@@ -68,7 +69,7 @@ module _ (a p q r s : List ℕ) (are : AreWords a) (fit_p : (k : ℕ) → get_or
       each (suc (suc (suc (suc j)))) = omega arith
 
   -- a set that shares no slot with that of a column has at most 256 slots with it
-  few_apart : is_apart a p q r s k ≡ true → len (slots_of_words a) + len (slots_of_words (column p q r s k)) ≤ 256
+  few_apart : is_apart a p q r s k ≡ true → len (slots_of_words a) + len (slots_of_words (column p q r s k)) ≤ SLOTS
   few_apart disjoint =
       let three = either_zero _ _ (eqb-true _ 0 disjoint) in
       let two = either_zero _ _ three.0 in
@@ -84,7 +85,7 @@ module _ (a p q r s : List ℕ) (are : AreWords a) (fit_p : (k : ℕ) → get_or
       )
 
   -- a set that has more than 256 slots with that of a column shares one
-  pub is_apart-crowded : 256 < len (slots_of_words a) + len (slots_of_words (column p q r s k)) → is_apart a p q r s k ≡ false
+  pub is_apart-crowded : SLOTS < len (slots_of_words a) + len (slots_of_words (column p q r s k)) → is_apart a p q r s k ≡ false
   is_apart-crowded many = elim (cases_Bool (is_apart a p q r s k)) [
     | inl disjoint ↦ absurd (let few = few_apart disjoint in omega arith)
     | inr shared ↦ shared

@@ -19,8 +19,9 @@ use Rattle.bitmap.specs.Operations.{AreDisjoint-at, AreDisjoint-by_slot}
 use Rattle.bitmap.specs.Words.{contains-slots_of_words}
 use Rattle.lane_kernels.specs.Disjoint.{are_disjoint, fits}
 use Rattle.lane_kernels.specs.Planes.{IsUnionOf, column, sets_of}
-use Rattle.lane_kernels.specs.Rows.{AreBitRows, AreSlotRows, IsFull, padded, row_at, survives, width_of}
+use Rattle.lane_kernels.specs.Rows.{AreBitRows, AreSlotRows, IsFullRow, padded, row_at, survives, width_of}
 use Rattle.lane_kernels.proofs.Columns.{get_or-sets_of, length-sets_of}
+use Rattle.bitmap.specs.declared.bits.TheConstants.{SLOTS}
 
 pub only_bit : (x y : ℕ) → x < 2 → y < 2 → (min x (1 - y) == 1) ≡ ((x == 1) && not (y == 1))
 only_bit zero zero p q = refl
@@ -75,11 +76,12 @@ bit_rows-more p q r s n words row have long bits =
     }
 
 -- the rows of the columns are those of the sets
-pub AreSlotRows-from_bits : (p q r s : List ℕ) (sets : List SlotSet) (rows : List ℕ) → sets_of p q r s ≡ sets → AreBitRows p q r s 256 rows → AreSlotRows sets rows
+pub AreSlotRows-from_bits : (p q r s : List ℕ) (sets : List SlotSet) (rows : List ℕ) → sets_of p q r s ≡ sets → AreBitRows p q r s SLOTS rows
+    → AreSlotRows sets rows
 AreSlotRows-from_bits p q r s sets rows view have =
     let long : length sets ≡ length p = ap length (sym view) ∙ length-sets_of p q r s in
     record {
-      size = have.size ∙ ap (λ n. padded (width_of n) * 256) (sym long);
+      size = have.size ∙ ap (λ n. padded (width_of n) * SLOTS) (sym long);
       bits = λ slot j d below low.
           ap (λ n. has_bit (row_at (padded (width_of n)) rows slot) j) long
           ∙ have.bits slot j below (omega (arith, long))
@@ -191,8 +193,8 @@ module _ (set : SlotSet) (sets : List SlotSet) (row : List ℕ) where
     fits_past j past = is j ∙ ap (fits set) (slice_get_past sets j past)
 
     -- the row of the set with no slot is full
-    pub IsFull-from_fits : set ≡ empty {R = nat_cmp} → length row ≡ width_of (length sets) → IsFull sets row
-    IsFull-from_fits none wide = record {
+    pub IsFullRow-from_fits : set ≡ empty {R = nat_cmp} → length row ≡ width_of (length sets) → IsFullRow sets row
+    IsFullRow-from_fits none wide = record {
       width = wide;
       bits = λ j low. fits_at j low ∙ sym (are_disjoint-is set (get_or sets j set) true (λ e. AreDisjoint-by_slot set (get_or sets j set) (λ q in_a in_b. lacks_all set none q in_a)) (λ e. refl));
       rest = fits_past;
@@ -224,7 +226,7 @@ apart_from_each a all sets is apart j d low = AreDisjoint-by_slot a (get_or sets
     AreDisjoint-at a all apart q in_a (is q ∙ list_any_at (λ s. contains s q) sets j d low in_b))
 
 -- the full row is that of a set that shares no slot with any
-pub full_fits : (set all : SlotSet) (sets : List SlotSet) (row : List ℕ) → IsUnionOf all sets → AreDisjoint set all → IsFull sets row → (j : ℕ) → has_bit row j ≡ fits set (slice_get sets j)
+pub full_fits : (set all : SlotSet) (sets : List SlotSet) (row : List ℕ) → IsUnionOf all sets → AreDisjoint set all → IsFullRow sets row → (j : ℕ) → has_bit row j ≡ fits set (slice_get sets j)
 full_fits set all sets row is apart full =
     fits-from_columns set sets row (λ j low. full.bits j low ∙ are_disjoint-is set (get_or sets j set) true (λ e. apart_from_each set all sets is apart j set low) (λ e. refl)) full.rest
 
@@ -232,19 +234,22 @@ pub not_false : (b : Bool) → (b ≡ true → ⊥) → not b ≡ true
 not_false true h = absurd (h refl)
 not_false false h = refl
 
-module _ (set other : SlotSet) (rows : List ℕ) (width j : ℕ) (below : IsBelow set 256) (read : (q : ℕ) → q < 256 → has_bit (row_at width rows q) j ≡ contains other q) where
+module _ (set other : SlotSet) (rows : List ℕ) (width j : ℕ) (below : IsBelow set SLOTS) (read : (q : ℕ) → q < SLOTS
+    → has_bit (row_at width rows q) j ≡ contains other q) where
   -- a bit that is in no row of the set's slots tells of a disjoint set
   survives-tells : survives width rows j (ascending set) ≡ are_disjoint set other
   unfolding members_below
   survives-tells =
       let held : ℕ → Bool = λ q. not (has_bit (row_at width rows q) j) in
-      are_disjoint-is set other (list_all held (filter (contains set) (range_with_len 0 256)))
+      are_disjoint-is set other (list_all held (filter (contains set) (range_with_len 0 SLOTS)))
       (λ all. AreDisjoint-by_slot set other (λ q in_a in_b.
-      both_ways (has_bit (row_at width rows q) j) (not_true _ (all_at (contains set) held 0 256 all q (omega arith) (below q in_a) in_a)) (read q (below q in_a) ∙ in_b)))
-      (λ apart. all_from (contains set) held 0 256 (λ q small in_a. not_false _ (λ bit. AreDisjoint-at set other apart q in_a (sym (read q small) ∙ bit))))
+      both_ways (has_bit (row_at width rows q) j) (not_true _ (all_at (contains set) held 0 SLOTS all q (omega arith) (below q in_a) in_a))
+      (read q (below q in_a) ∙ in_b)))
+      (λ apart. all_from (contains set) held 0 SLOTS (λ q small in_a. not_false _ (λ bit. AreDisjoint-at set other apart q in_a (sym (read q small) ∙ bit))))
 
 -- what is left of the full row without the rows of the set's slots
-pub left_fits : (set : SlotSet) (sets : List SlotSet) (rows full row : List ℕ) (width : ℕ) → IsBelow set 256 → AreSlotRows sets rows → IsFull sets full → width ≡ padded (width_of (length sets))
+pub left_fits : (set : SlotSet) (sets : List SlotSet) (rows full row : List ℕ) (width : ℕ) → IsBelow set SLOTS → AreSlotRows sets rows → IsFullRow sets full
+    → width ≡ padded (width_of (length sets))
     → ((j : ℕ) → has_bit row j ≡ (has_bit full j && survives width rows j (ascending set))) → (j : ℕ) → has_bit row j ≡ fits set (slice_get sets j)
 left_fits set sets rows full row width below are is_full wide bits =
     fits-from_columns set sets row
@@ -255,6 +260,6 @@ left_fits set sets rows full row width below are is_full wide bits =
 
 -- the same of rows that may have been refused
 pub told : (p q r s : List ℕ) (sets : List SlotSet) → sets_of p q r s ≡ sets → (found : Result (Vec ℕ Global) AllocError)
-    → IfOk found (λ rows. AreBitRows p q r s 256 rows.items) → IfOk found (λ rows. AreSlotRows sets rows.items)
+    → IfOk found (λ rows. AreBitRows p q r s SLOTS rows.items) → IfOk found (λ rows. AreSlotRows sets rows.items)
 told p q r s sets view (Ok rows) have = AreSlotRows-from_bits p q r s sets rows.items view have
 told p q r s sets view (Err e) have = tt

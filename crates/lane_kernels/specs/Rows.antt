@@ -5,6 +5,7 @@ use Rattle.std.specs.Int.{bit_at}
 use Rattle.std.specs.List.{list_all}
 use Rattle.bitmap.specs.Slots.{SlotSet, has_bit}
 use Rattle.lane_kernels.specs.Planes.{column}
+use Rattle.bitmap.specs.declared.bits.TheConstants.{SLOTS}
 
 -- the words of a row with a bit for each of n sets
 abbrev pub width_of : ℕ → ℕ
@@ -20,8 +21,9 @@ padded words = (words + 15) / 16 * 16
 
 -- a row for each slot, in blocks of sixteen words: bit j of row s says whether set j has slot s
 pub record AreSlotRows (sets : List SlotSet) (rows : List ℕ) : Type 0 where
-  pub size : length rows ≡ padded (width_of (length sets)) * 256
-  pub bits : (s j : ℕ) (d : SlotSet) → s < 256 → j < length sets → has_bit (row_at (padded (width_of (length sets))) rows s) j ≡ contains (slice_index_or sets j d) s
+  pub size : length rows ≡ padded (width_of (length sets)) * SLOTS
+  pub bits : (s j : ℕ) (d : SlotSet) → s < SLOTS → j < length sets
+      → has_bit (row_at (padded (width_of (length sets))) rows s) j ≡ contains (slice_index_or sets j d) s
 
 -- the rows of the first n slots: bit j of row s says whether column j has slot s
 pub record AreBitRows (p q r s : List ℕ) (n : ℕ) (rows : List ℕ) : Type 0 where
@@ -29,7 +31,7 @@ pub record AreBitRows (p q r s : List ℕ) (n : ℕ) (rows : List ℕ) : Type 0 
   pub bits : (slot j : ℕ) → slot < n → j < length p → has_bit (row_at (padded (width_of (length p))) rows slot) j ≡ has_bit (column p q r s j) slot
 
 -- a row with a bit for each of the sets, and no other
-pub record IsFull (sets : List SlotSet) (row : List ℕ) : Type 0 where
+pub record IsFullRow (sets : List SlotSet) (row : List ℕ) : Type 0 where
   pub width : length row ≡ width_of (length sets)
   pub bits : (j : ℕ) → j < length sets → has_bit row j ≡ true
   pub rest : (j : ℕ) → length sets ≤ j → has_bit row j ≡ false

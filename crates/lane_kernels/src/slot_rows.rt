@@ -3,7 +3,7 @@ ghost use Rattle.std.specs.Prelude.{◌≡◌, ◌==◌, ℕ, ◌+◌, ◌/◌, 
 ghost use Rattle.std.specs.List.{list_any};
 ghost use Rattle.bitmap.specs.Slots.{has_bit};
 ghost use Rattle.lane_kernels.specs.Disjoint.{are_disjoint, fits};
-ghost use Rattle.lane_kernels.specs.Rows.{AreFewest, AreSlotRows, IsFull, width_of};
+ghost use Rattle.lane_kernels.specs.Rows.{AreFewest, AreSlotRows, IsFullRow, width_of};
 
 use crate::by_slots::take_off_all;
 use crate::planes::Planes;
@@ -34,7 +34,7 @@ pub struct SlotRows {
 impl Model for SlotRows {
     ghost use Rattle.std.specs.Prelude.{IfSome, List};
     ghost use Rattle.bitmap.specs.Slots.{SlotSet};
-    ghost use Rattle.lane_kernels.specs.Rows.{AreFewest, AreSlotRows, IsFull};
+    ghost use Rattle.lane_kernels.specs.Rows.{AreFewest, AreSlotRows, IsFullRow};
     ghost use Rattle.std.specs.Coded.{coded_list, coded_ℕ};
     ghost use Rattle.std.specs.FinSet as set;
 
@@ -46,7 +46,7 @@ impl Model for SlotRows {
 
     ghost invariant = { λ r.
         IfSome r.rows (λ rows. AreSlotRows r.planes rows.items)
-        × IsFull r.planes r.full.items × AreFewest r.planes r.fewest.items };
+        × IsFullRow r.planes r.full.items × AreFewest r.planes r.fewest.items };
 }
 
 impl SlotRows {
@@ -114,7 +114,7 @@ impl SlotRows {
 
 // The row of a set that is disjoint from all.
 fn full_row(alloc: Global, planes: &Planes) -> Result<Vec<u64>, AllocError>
-    ensures { IfOk result (λ row. IsFull planes.now row.items) }
+    ensures { IfOk result (λ row. IsFullRow planes.now row.items) }
 {
     let mut row = vec![in alloc; 0; planes.row_words()]?;
     fill_full(planes, &mut row);
@@ -123,7 +123,7 @@ fn full_row(alloc: Global, planes: &Planes) -> Result<Vec<u64>, AllocError>
 
 fn fill_full(planes: &Planes, row: &mut [u64])
     requires { length row.old ≡ width_of (length planes.now) }
-    ensures { IsFull planes.now row.new }
+    ensures { IsFullRow planes.now row.new }
 {
     planes.disjoint_row(&Bits256::empty(), row);
 }
@@ -144,7 +144,7 @@ fn fewest_of(alloc: Global, planes: &Planes) -> Result<Vec<usize>, AllocError>
 // Writes the full row without the rows of the set's slots.
 fn write_row(set: &Bits256, planes: &Planes, rows: &[u64], full: &[u64], row: &mut [u64])
     requires rows { AreSlotRows planes.now rows.now }
-    requires full { IsFull planes.now full.now }
+    requires full { IsFullRow planes.now full.now }
     requires row { length row.old ≡ width_of (length planes.now) }
     ensures len { length row.new ≡ length row.old }
     ensures bits { (j : ℕ) → has_bit row.new j ≡ fits set.now (slice_get planes.now j) }

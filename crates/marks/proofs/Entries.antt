@@ -9,6 +9,7 @@ use Rattle.shard.proofs.Entries.{entries_in}
 use Rattle.groups.specs.Group.{paged_in, summary}
 use Rattle.abandoned.specs.State.{PoolState, paged_groups}
 use Rattle.marks.specs.Seen.{AreTooMany, owned_entries}
+use Rattle.mesh_graph.specs.declared.build.TheConstants.{MOST_GROUPS}
 
 -- as many owned groups as the shards have pages
 pub length-owned : (shards : List ShardState) → length (owned_entries shards) ≡ sum_by (λ shard. length (paged_in shard.groups)) shards
@@ -25,13 +26,13 @@ owned-more lent shards index shard within is =
     ∙ ap owned_entries (sym (map-append lent (take index shards) (shard ∷ [])) ∙ ap (map lent) (ap (λ s. take index shards ++ s ∷ []) is ∙ sym (take_more shards index shard within)))
 
 -- where the pool has few groups, a side has too many exactly where the shards have
-pub too_many-owned : (pool : PoolState) (shards : List ShardState) (pages owned : ℕ) → pages ≡ length (paged_groups pool) → pages ≤ 4096
+pub too_many-owned : (pool : PoolState) (shards : List ShardState) (pages owned : ℕ) → pages ≡ length (paged_groups pool) → pages ≤ MOST_GROUPS
     → owned ≡ min (sum_by (λ shard. length (paged_in shard.groups)) shards) (2 ^ 64 - 1)
-    → IsTrue (nat_lt 4096 owned) ↔ AreTooMany pool shards
+    → IsTrue (nat_lt MOST_GROUPS owned) ↔ AreTooMany pool shards
 too_many-owned pool shards pages owned pages_is few owned_is = (
-  λ more. inr (omega (arith, ltb-true 4096 owned more, length-owned shards)),
+  λ more. inr (omega (arith, ltb-true MOST_GROUPS owned more, length-owned shards)),
   λ many. elim many [
     | inl in_pool ↦ absurd (omega (arith, length-map (paged_groups pool) summary))
-    | inr in_shards ↦ lt-ltb 4096 owned (omega (arith, length-owned shards))
+    | inr in_shards ↦ lt-ltb MOST_GROUPS owned (omega (arith, length-owned shards))
   ],
 )

@@ -16,13 +16,16 @@ use Rattle.certificate.specs.Text.{FitsClass, IsWritable}
 use Rattle.certificate.proofs.Members.{length-le_from_distinct}
 use Rattle.certificate.proofs.Verdicts.{tells_span}
 use Rattle.marks.specs.Seen.{IsSeenInPart}
+use Rattle.mesh_graph.specs.declared.build.TheConstants.{MOST_GROUPS}
 
 -- a mark that sees a part sees few
-pub few_in_part : (pool : PoolState) (shards : List ShardState) (groups : Groups) → IsSeenInPart pool shards groups → (length groups.abandoned ≤ 4096) × (length groups.owned ≤ 4096)
+pub few_in_part : (pool : PoolState) (shards : List ShardState) (groups : Groups) → IsSeenInPart pool shards groups
+    → (length groups.abandoned ≤ MOST_GROUPS) × (length groups.owned ≤ MOST_GROUPS)
 few_in_part pool shards groups seen = (omega (arith, seen.abandoned.count), omega (arith, seen.owned.count))
 
 -- no more can be chosen than there are abandoned groups
-few_chosen : (groups : Groups) (chosen : List SpanId) → IsChoice same_span (ids groups.abandoned) chosen → length groups.abandoned ≤ 4096 → length chosen ≤ 4096
+few_chosen : (groups : Groups) (chosen : List SpanId) → IsChoice same_span (ids groups.abandoned) chosen → length groups.abandoned ≤ MOST_GROUPS
+    → length chosen ≤ MOST_GROUPS
 few_chosen groups chosen choice few =
     omega (
       arith,
@@ -31,18 +34,20 @@ few_chosen groups chosen choice few =
     )
 
 -- a plan has no more pairs than there are abandoned groups
-few_pairs : (groups : Groups) (pairs : List (SpanId × SpanId)) → IsPlanOf groups pairs → length groups.abandoned ≤ 4096 → length pairs ≤ 4096
+few_pairs : (groups : Groups) (pairs : List (SpanId × SpanId)) → IsPlanOf groups pairs → length groups.abandoned ≤ MOST_GROUPS → length pairs ≤ MOST_GROUPS
 unfolding sides_of
 few_pairs groups pairs plan few =
     omega (arith, length-map pairs (λ (pair : SpanId × SpanId). pair.0), few_chosen groups (map (λ (pair : SpanId × SpanId). pair.0) pairs) plan.left few)
 
 -- nor has a short set more members
-few_short : (groups : Groups) (pairs : List (SpanId × SpanId)) (short : List SpanId) → IsCertificateOf groups pairs short → length groups.abandoned ≤ 4096 → length short ≤ 4096
+few_short : (groups : Groups) (pairs : List (SpanId × SpanId)) (short : List SpanId) → IsCertificateOf groups pairs short
+    → length groups.abandoned ≤ MOST_GROUPS → length short ≤ MOST_GROUPS
 unfolding sides_of
 few_short groups pairs short certificate few = few_chosen groups short certificate.chosen few
 
 -- what shows a plan best can be written, where a side has few groups, each with slots of its class, and the ids ascend
-pub IsWritable-few : (found : Certificate) → IsCertificateOf found.snapshot found.plan found.short → (length found.snapshot.abandoned ≤ 4096) × (length found.snapshot.owned ≤ 4096)
+pub IsWritable-few : (found : Certificate) → IsCertificateOf found.snapshot found.plan found.short
+    → (length found.snapshot.abandoned ≤ MOST_GROUPS) × (length found.snapshot.owned ≤ MOST_GROUPS)
     → All FitsClass found.snapshot.abandoned × All FitsClass found.snapshot.owned → IsAscending (map (λ (pair : SpanId × SpanId). pair.0) found.plan) → IsAscending found.short → IsWritable found
 IsWritable-few found certificate few fit folds_ascending short_ascending = record {
   abandoned = few.0;

@@ -26,6 +26,7 @@ use Rattle.mesh_graph.specs.Groups.{Groups}
 use Rattle.mesh_graph.proofs.Sparsest.{All-sparsest}
 use Rattle.certificate.specs.Text.{FitsClass}
 use Rattle.marks.specs.Seen.{AreSound, IsSeenInPart, abandoned_entries, owned_entries}
+use Rattle.mesh_graph.specs.declared.build.TheConstants.{MOST_GROUPS}
 
 -- what is live in a span of the class
 live_below : (class : Class) (span : SpanState) → IsSpanOf class span → IsBelow (live_slots span.log) (slots_in class)
@@ -71,6 +72,6 @@ owned_fit (shard ∷ shards) sound =
 pub fit_in_part : (pool : PoolState) (shards : List ShardState) (groups : Groups) → IsSeenInPart pool shards groups → IsSoundPool pool → AreSound shards
     → All FitsClass groups.abandoned × All FitsClass groups.owned
 fit_in_part pool shards groups seen sound sound_shards = (
-  All-sparsest FitsClass 4096 (abandoned_entries pool) groups.abandoned seen.abandoned (abandoned_fit pool sound),
-  All-sparsest FitsClass 4096 (owned_entries shards) groups.owned seen.owned (owned_fit shards sound_shards),
+  All-sparsest FitsClass MOST_GROUPS (abandoned_entries pool) groups.abandoned seen.abandoned (abandoned_fit pool sound),
+  All-sparsest FitsClass MOST_GROUPS (owned_entries shards) groups.owned seen.owned (owned_fit shards sound_shards),
 )

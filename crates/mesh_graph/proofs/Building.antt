@@ -15,6 +15,7 @@ use Rattle.mesh_graph.specs.Masked.{AreMasks, AreOfOneClass}
 use Rattle.mesh_graph.specs.Rows.{AreRows, HaveRows, row_bit}
 use Rattle.mesh_graph.specs.declared.by_class.Masks.{Masks}
 use Rattle.mesh_graph.proofs.OfClass.{has_partner-kept}
+use Rattle.mesh_graph.specs.declared.build.TheConstants.{MOST_GROUPS}
 
 -- one more row
 pub rows-more : (abandoned : List Entry) (sets : List SlotSet) (masks : Option Masks) (n : ℕ) (y : Entry) (words row : List ℕ)
@@ -42,7 +43,8 @@ rows-none abandoned sets masks words none = record {
 }
 
 -- the rows of all groups are those of the snapshot
-pub AreRows-from_rows : (s : Groups) (sets : List SlotSet) (masks : Option Masks) (words : List ℕ) → length s.abandoned ≤ 4096 → length s.owned ≤ 4096 → sets ≡ map (λ y. y.occupied) s.owned
+pub AreRows-from_rows : (s : Groups) (sets : List SlotSet) (masks : Option Masks) (words : List ℕ) → length s.abandoned ≤ MOST_GROUPS
+    → length s.owned ≤ MOST_GROUPS → sets ≡ map (λ y. y.occupied) s.owned
     → MatchOption masks (AreOfOneClass s.abandoned s.owned) (AreMasks s.owned) → HaveRows s.abandoned sets masks (length s.abandoned) words → AreRows s words
 unfolding compatible_at
 AreRows-from_rows s sets masks words few_a few_o are told have =

@@ -1,9 +1,7 @@
 -- Objects that are copied to the slots of a page, one after another.
-use Rattle.std.proofs.Common.{zero, suc, ◌≡◌, ℕ, ◌+◌, ◌*◌, ◌/◌, ◌%◌, ◌<◌, ◌≤◌, ◌⊎◌, ◌==◌, Bool, true, false, cond, if◌then◌else◌, eqb, eq-eqb, ◌&&◌, ◌||◌, List, [], ◌∷◌, get_or, Option, Some, None, ◌∙◌, ap, sym, subst, refl, inl, inr, arith}
-use Rattle.std.specs.Prelude.{filter, unwrap_or}
+use Rattle.std.proofs.Common.{zero, suc, ◌≡◌, ℕ, ◌+◌, ◌*◌, ◌/◌, ◌%◌, ◌<◌, ◌≤◌, ◌⊎◌, ◌==◌, Bool, true, false, cond, if◌then◌else◌, eqb, eq-eqb, ◌&&◌, ◌||◌, List, [], ◌∷◌, get_or, ◌∙◌, ap, sym, refl, inl, inr, arith}
+use Rattle.std.specs.Prelude.{filter}
 use Rattle.std.specs.List.{range_with_len}
-use Rattle.std.specs.Option.{IsSome}
-use Rattle.std.specs.FinMap as map
 use Rattle.std.specs.FinSet.{contains}
 use Rattle.std.proofs.lemmas.Bool.{cases_eq, ne_eqb}
 use Rattle.std.proofs.lemmas.List.FromFn.{fill_by_all, get_or-map-range_with_len}
@@ -14,6 +12,7 @@ use Rattle.span.specs.declared.class.Class.{Class}
 use Rattle.span.specs.declared.class.Class.TheVariants.{C16, C64, C256}
 use Rattle.page.specs.Words.{Words, copied, object_in, same_words, set_object}
 use Rattle.page.proofs.Words.{get_or-object_in, get_or-set_object, length-object_in, object_in-from, on_page, slot_of_word}
+use Rattle.bitmap.specs.declared.bits.TheConstants.{SLOTS}
 
 -- the words after the objects of the others at the slots were written, one after another
 abbrev pub written : Words → Class → Words → List ℕ → Words
@@ -40,7 +39,7 @@ whole_of C16 j = omega arith
 whole_of C64 j = omega arith
 whole_of C256 j = omega arith
 
-slot-lt : (class : Class) (j : ℕ) → j < 256 → j / width_of class < 256
+slot-lt : (class : Class) (j : ℕ) → j < SLOTS → j / width_of class < SLOTS
 slot-lt C16 j low = omega (arith, low)
 slot-lt C64 j low = omega (arith, low)
 slot-lt C256 j low = omega (arith, low)
@@ -50,7 +49,7 @@ same_both true x = refl
 same_both false x = refl
 
 -- the word of the others, where its slot was written
-get_or-written : (words others : Words) (class : Class) (slots : List ℕ) (j : ℕ) → j < 256
+get_or-written : (words others : Words) (class : Class) (slots : List ℕ) (j : ℕ) → j < SLOTS
     → get_or (written words class others slots).items j 0 ≡ cond (among (j / width_of class) slots) (get_or others.items j 0) (get_or words.items j 0)
 get_or-written words others class [] j low = refl
 get_or-written words others class (slot ∷ slots) j low =
@@ -94,19 +93,22 @@ among-range a (suc n) q from below = by_test (cases_eq q a) (λ above. among-ran
 copied-written : (words others : Words) (class : Class) (slots : SlotSet) → written words class others (ascending slots) ≡ copied words class slots others
 unfolding members_below copied
 copied-written words others class slots = same_words _ _
-    (fill_by_all (λ j. cond (contains slots (j / width_of class)) (get_or others.items j 0) (get_or words.items j 0)) (written words class others (ascending slots)).items 256 0
+    (fill_by_all (λ j. cond (contains slots (j / width_of class)) (get_or others.items j 0) (get_or words.items j 0))
+    (written words class others (ascending slots)).items SLOTS 0
     (written words class others (ascending slots)).whole
     (λ j low.
     let q = j / width_of class in
     get_or-written words others class (ascending slots) j low
     ∙ ap (λ b. cond b (get_or others.items j 0) (get_or words.items j 0))
-    (among-filter (contains slots) q (range_with_len 0 256) ∙ ap (λ b. b && contains slots q) (among-range 0 256 q (omega arith) (slot-lt class j low)))))
+    (among-filter (contains slots) q (range_with_len 0 SLOTS) ∙ ap (λ b. b && contains slots q) (among-range 0 SLOTS q (omega arith) (slot-lt class j low)))))
 
 -- the objects after a copy
 module _ (words others : Words) (class : Class) (slots : SlotSet) where
-  get_or-copied : (j : ℕ) → j < 256 → get_or (copied words class slots others).items j 0 ≡ cond (contains slots (j / width_of class)) (get_or others.items j 0) (get_or words.items j 0)
+  get_or-copied : (j : ℕ) → j < SLOTS
+      → get_or (copied words class slots others).items j 0 ≡ cond (contains slots (j / width_of class)) (get_or others.items j 0) (get_or words.items j 0)
   unfolding copied
-  get_or-copied j low = get_or-map-range_with_len (λ j. cond (contains slots (j / width_of class)) (get_or others.items j 0) (get_or words.items j 0)) 0 256 j j 0 low (omega arith)
+  get_or-copied j low = get_or-map-range_with_len
+      (λ j. cond (contains slots (j / width_of class)) (get_or others.items j 0) (get_or words.items j 0)) 0 SLOTS j j 0 low (omega arith)
 
   pub object_in-copied_there : (q : ℕ) → q < slots_in class → contains slots q ≡ true → object_in (copied words class slots others) class q ≡ object_in others class q
   object_in-copied_there q low inside = object_in-from others class q (object_in (copied words class slots others) class q) (length-object_in (copied words class slots others) class q) (λ k within.
@@ -118,7 +120,8 @@ module _ (words others : Words) (class : Class) (slots : SlotSet) where
 
 among-ascending : (slots : SlotSet) (q : ℕ) → among q (ascending slots) ≡ true → contains slots q ≡ true
 unfolding members_below
-among-ascending slots q inside = second_so (among q (range_with_len 0 256)) (contains slots q) (sym (among-filter (contains slots) q (range_with_len 0 256)) ∙ inside)
+among-ascending slots q inside = second_so (among q (range_with_len 0 SLOTS)) (contains slots q)
+    (sym (among-filter (contains slots) q (range_with_len 0 SLOTS)) ∙ inside)
 
 or_right : (b c : Bool) → c ≡ true → (b || c) ≡ true
 or_right true c so = refl

@@ -10,9 +10,10 @@ use Rattle.span.specs.Classes.{slots_in, width_of}
 use Rattle.span.specs.declared.class.Class.{Class}
 use Rattle.span.specs.declared.class.Class.TheVariants.{C16, C64, C256}
 use Rattle.page.specs.Words.{Words, object_in, same_words, set_object}
+use Rattle.bitmap.specs.declared.bits.TheConstants.{SLOTS}
 
 -- the slots of a class lie on the page, one after another
-pub on_page : (class : Class) (slot k : ℕ) → slot < slots_in class → k < width_of class → width_of class * slot + k < 256
+pub on_page : (class : Class) (slot k : ℕ) → slot < slots_in class → k < width_of class → width_of class * slot + k < SLOTS
 on_page C16 slot k low within = omega (arith, low, within)
 on_page C64 slot k low within = omega (arith, low, within)
 on_page C256 slot k low within = omega (arith, low, within)
@@ -45,19 +46,21 @@ get_or-object_in words class slot k within = get_or-map-range_with_len (λ k. ge
 
 module _ (words : Words) (class : Class) (slot : ℕ) (object : List ℕ) where
   -- the word at a place of the page, after the object was written
-  pub get_or-set_object : (j : ℕ) → j < 256
+  pub get_or-set_object : (j : ℕ) → j < SLOTS
       → get_or (set_object words class slot object).items j 0
       ≡ (if j / width_of class == slot then get_or object (j % width_of class) 0 else get_or words.items j 0)
   unfolding set_object
-  get_or-set_object j low = get_or-map-range_with_len (λ j. if j / width_of class == slot then get_or object (j % width_of class) 0 else get_or words.items j 0) 0 256 j j 0 low (omega arith)
+  get_or-set_object j low = get_or-map-range_with_len
+      (λ j. if j / width_of class == slot then get_or object (j % width_of class) 0 else get_or words.items j 0) 0 SLOTS j j 0 low (omega arith)
 
   -- words are those after the write, where each of them is
   pub set_object-from : (after : Words)
-      → ((j : ℕ) → j < 256 → get_or after.items j 0 ≡ (if j / width_of class == slot then get_or object (j % width_of class) 0 else get_or words.items j 0))
+      → ((j : ℕ) → j < SLOTS → get_or after.items j 0 ≡ (if j / width_of class == slot then get_or object (j % width_of class) 0 else get_or words.items j 0))
       → after ≡ set_object words class slot object
   unfolding set_object
   set_object-from after each =
-      same_words _ _ (fill_by_all (λ j. if j / width_of class == slot then get_or object (j % width_of class) 0 else get_or words.items j 0) after.items 256 0 after.whole each)
+      same_words _ _ (fill_by_all (λ j. if j / width_of class == slot then get_or object (j % width_of class) 0 else get_or words.items j 0) after.items SLOTS 0
+      after.whole each)
 
   pub object_in-set_object_same : slot < slots_in class → length object ≡ width_of class → object_in (set_object words class slot object) class slot ≡ object
   object_in-set_object_same low long = sym (object_in-from (set_object words class slot object) class slot object long (λ k within.
@@ -72,13 +75,13 @@ module _ (words : Words) (class : Class) (slot : ℕ) (object : List ℕ) where
       ∙ rw (ne_eqb _ slot (λ e. apart (sym (slot_of_word class q k within) ∙ e))) refl)
 
 -- a slot of a class is one of a byte
-pub on_page_slot : (class : Class) (slot : ℕ) → slot < slots_in class → slot < 256
+pub on_page_slot : (class : Class) (slot : ℕ) → slot < slots_in class → slot < SLOTS
 on_page_slot C16 slot low = low
 on_page_slot C64 slot low = omega (arith, low)
 on_page_slot C256 slot low = omega (arith, low)
 
 -- the last word of a slot is on the page
-pub last_of : (class : Class) (slot : ℕ) → slot < slots_in class → width_of class * slot + width_of class ≤ 256
+pub last_of : (class : Class) (slot : ℕ) → slot < slots_in class → width_of class * slot + width_of class ≤ SLOTS
 last_of C16 slot low = omega (arith, low)
 last_of C64 slot low = omega (arith, low)
 last_of C256 slot low = omega (arith, low)
@@ -120,7 +123,7 @@ pub set_object-word : (before words : Words) (class : Class) (slot first : ℕ) 
 set_object-word before words class slot first object x same one is low value after items =
     set_object-from words class slot object after (λ j there. ap (λ l. get_or l j 0) (items ∙ ap (λ (w : Words). set w.items first x) same) ∙ of_class class one low j there)
   where
-    of_class : (class : Class) → width_of class ≡ 1 → slot < slots_in class → (j : ℕ) → j < 256
+    of_class : (class : Class) → width_of class ≡ 1 → slot < slots_in class → (j : ℕ) → j < SLOTS
         → get_or (set words.items first x) j 0 ≡ (if j / width_of class == slot then get_or object (j % width_of class) 0 else get_or words.items j 0)
     of_class C16 one low j there = elim (cases_eq j first) [
       | inl here ↦
@@ -203,7 +206,7 @@ set_object-pasted before words class slot first object many held now same is low
 -- as many words as before
 pub length-written : (before : Words) (class : Class) (slot first : ℕ) (object : List ℕ) (many : ℕ) (held now : List ℕ) → first ≡ width_of class * slot
     → slot < slots_in class → length object ≡ width_of class
-    → many ≡ length object → held ≡ before.items → now ≡ object → length (put_mid first many held now) ≡ 256
+    → many ≡ length object → held ≡ before.items → now ≡ object → length (put_mid first many held now) ≡ SLOTS
 length-written before class slot first object many held now is low long many_is held_is now_is =
     (λ i. length (put_mid first (many_is i) (held_is i) (now_is i)))
     ∙ length-pasted before.items object first (length object) (omega (arith, is, long, last_of class slot low, before.whole)) refl ∙ before.whole

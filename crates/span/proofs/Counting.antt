@@ -7,6 +7,7 @@ use Rattle.span.specs.declared.change.Change.TheVariants.{Put, Set, Free}
 use Rattle.span.specs.Log.{Value, puts_of, all_puts, IsLegal}
 use Rattle.span.proofs.Changes.{puts_of-put_same, puts_of-put_other, puts_of-set, puts_of-free}
 use Rattle.span.proofs.LegalLogs.{puts_of-empty, puts_of-le}
+use Rattle.bitmap.specs.declared.bits.TheConstants.{SLOTS}
 
 sum_through-same : (f g : ℕ → ℕ) (n : ℕ) → ((q : ℕ) → q ≤ n → g q ≡ f q) → sum_through g n ≡ sum_through f n
 sum_through-same f g zero same = same 0 (omega arith)
@@ -35,7 +36,8 @@ pub all_puts-empty : all_puts [] ≡ 0
 unfolding all_puts
 all_puts-empty = sum_through-none (λ slot. puts_of slot []) 255 puts_of-empty
 
-pub all_puts-put : (log : List Change) (slot generation : ℕ) (value : Value) → slot < 256 → all_puts (log ++ Put slot generation value ∷ []) ≡ all_puts log + 1
+pub all_puts-put : (log : List Change) (slot generation : ℕ) (value : Value) → slot < SLOTS
+    → all_puts (log ++ Put slot generation value ∷ []) ≡ all_puts log + 1
 unfolding all_puts
 all_puts-put log slot generation value within =
     sum_through-more (λ q. puts_of q log) (λ q. puts_of q (log ++ Put slot generation value ∷ [])) 255 slot (omega (arith, within))
@@ -52,6 +54,6 @@ unfolding all_puts
 all_puts-free log slot generation =
     sum_through-same (λ q. puts_of q log) (λ q. puts_of q (log ++ Free slot generation ∷ [])) 255 (λ q small. puts_of-free log slot generation q)
 
-pub all_puts-le : (gens : ℕ) (log : List Change) → IsLegal gens log → all_puts log ≤ 256 * gens
+pub all_puts-le : (gens : ℕ) (log : List Change) → IsLegal gens log → all_puts log ≤ SLOTS * gens
 unfolding all_puts
 all_puts-le gens log legal = sum_through-le (λ q. puts_of q log) 255 gens (λ q. puts_of-le gens log q legal)

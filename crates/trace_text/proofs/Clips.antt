@@ -14,6 +14,8 @@ use Rattle.trace_text.specs.Reference.{clip_reference}
 use Rattle.trace_text.specs.Within.{clip_call, clip_line, is_value_over}
 use Rattle.trace_text.specs.Earlier.{IsFew, Few}
 use Rattle.trace_text.specs.Causes.{begins_again, bound_name, read_name, has_key, has_range, has_keys, binding_of, first_cause, is_call, is_call_over, reads_unknown, holds}
+use Rattle.span.specs.declared.limits.TheConstants.{MOST_SHARDS}
+use Rattle.trace_text.specs.declared.earlier.TheConstants.{MOST_RETIRED}
 use Rattle.trace_text.specs.declared.header.Header.{Header}
 use Rattle.trace_text.specs.declared.name.Reference.{Reference}
 use Rattle.trace_text.specs.declared.line.Call.{Call}
@@ -28,10 +30,10 @@ use Rattle.trace_text.specs.declared.cause.Cause.TheVariants as cause
 
 -- ---- numbers
 
-clip-thread : (shards t : ℕ) → IsInRange 1 64 shards → nat_le shards (clip t) ≡ nat_le shards t
+clip-thread : (shards t : ℕ) → IsInRange 1 MOST_SHARDS shards → nat_le shards (clip t) ≡ nat_le shards t
 clip-thread shards t range = grind (arith, nat_tests, range.1)
 
-clip-near : (shards t : ℕ) → IsInRange 1 64 shards → nat_le shards t ≡ false → clip t ≡ t
+clip-near : (shards t : ℕ) → IsInRange 1 MOST_SHARDS shards → nat_le shards t ≡ false → clip t ≡ t
 clip-near shards t range near = grind (arith, nat_tests, range.1)
 
 clip-index : (i n : ℕ) → n ≤ 262144 → nat_lt (clip i) n ≡ nat_lt i n
@@ -65,12 +67,13 @@ clip-count_near class n v fine = grind (arith, nat_tests)
 
 -- how many groups may go
 abbrev is_retire_over : ℕ → Bool
-is_retire_over most = not (nat_le 1 most && nat_le most 1048576)
+is_retire_over most = not (nat_le 1 most && nat_le most MOST_RETIRED)
 
 clip-most : (n : ℕ) → is_retire_over (clip n) ≡ is_retire_over n
-clip-most n = elim (cases_Bool (nat_le n 1048576)) [
+clip-most n = elim (cases_Bool (nat_le n MOST_RETIRED)) [
   | inl few ↦ let same : clip n ≡ n = grind (arith, nat_tests) in ap is_retire_over same
-  | inr many ↦ let large : nat_le (clip n) 1048576 ≡ false = grind (arith, nat_tests) in rw (many, large, and_false (nat_le 1 n), and_false (nat_le 1 (clip n))) refl
+  | inr many ↦ let large : nat_le (clip n) MOST_RETIRED ≡ false = grind (arith, nat_tests) in
+      rw (many, large, and_false (nat_le 1 n), and_false (nat_le 1 (clip n))) refl
 ]
 
 clip-most_near : (n : ℕ) → is_retire_over (clip n) ≡ false → clip n ≡ n

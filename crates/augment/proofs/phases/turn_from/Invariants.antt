@@ -1,14 +1,14 @@
 use Rattle.std.proofs.Common.{◌≡◌, ◌+◌, length}
-use Rattle.augment.specs.Walks.{IsWalk, unmarked}
+use Rattle.augment.specs.Walks.{IsWalk, unpassed}
 use Rattle.augment.proofs.phases.turn_from.Given as goal
 
 abbrev pub invariant-path : goal.invariant-path
 invariant-path l = record {
   onto : l.mates.onto.items ≡ l.fn.mates.onto.items;
   planned : l.mates.planned.items ≡ l.fn.mates.planned.items;
-  walk : IsWalk l.graph l.mates.onto.items l.path.items l.used.marked.items;
-  marks : length l.used.marked.items ≡ length l.fn.used.marked.items;
+  walk : IsWalk l.graph l.mates.onto.items l.path.items l.used.passed.items;
+  places : length l.used.passed.items ≡ length l.fn.used.passed.items;
 }
 
 abbrev pub decreases-path : goal.decreases-path
-decreases-path l = unmarked l.used.marked.items + unmarked l.used.marked.items + length l.path.items
+decreases-path l = unpassed l.used.passed.items + unpassed l.used.passed.items + length l.path.items

@@ -7,6 +7,6 @@ invariant-loop-root l = record {
   joins : Joins l.graph l.mates.onto.items;
   groups : length l.mates.onto.items ≡ length l.graph.abandoned;
   owned : length l.mates.planned.items ≡ length l.graph.owned;
-  marks : length l.used.marked.items ≡ length l.fn.used.marked.items;
+  places : length l.used.passed.items ≡ length l.fn.used.passed.items;
   more : pair_count l.fn.mates.onto.items ≤ pair_count l.mates.onto.items;
 }

@@ -2,6 +2,8 @@ use Rattle.std.proofs.Common.{[], ◌∷◌, codes, refl, rules}
 use Rattle.std.proofs.lemmas.Result.{err_from_is_err_and}
 use Rattle.trace_text.specs.Header.{Opening, Size, number_of}
 use Rattle.trace_text.specs.Words.{lines_of}
+use Rattle.trace_text.specs.declared.header.TheConstants.{TRACE_PAGES}
+use Rattle.span.specs.declared.limits.TheConstants.{MOST_RING_KEYS, MOST_SHARDS}
 use Rattle.trace_text.proofs.Heads.{FailsHeader-below, size_range}
 use Rattle.trace_text.proofs.header.read_header.Goals as goal
 
@@ -16,25 +18,26 @@ returns-in_err-shards-clause-err c = let p = err_from_is_err_and c.from_residual
 
 pub returns-in_err-pages-clause-err : goal.returns-in_err-pages-clause-err
 returns-in_err-pages-clause-err c = let p = err_from_is_err_and c.from_residual-in_err-pages.result c.from_residual-in_err-pages.ensures.1 in
-    rw (p.1, p.2) (FailsHeader-below (Opening ∷ Size (codes "shards") 64 ∷ []) _ _ (number_of c.in_ok-version.version ∷ c.in_ok-shards.shards ∷ []) 3
+    rw (p.1, p.2) (FailsHeader-below (Opening ∷ Size (codes "shards") MOST_SHARDS ∷ []) _ _ (number_of c.in_ok-version.version ∷ c.in_ok-shards.shards ∷ []) 3
     (lines_of c.args.text.now) (lines_of c.in_ok-shards.below.now) _ refl refl (search rules) c.in_err-pages.ensures.err)
 
 pub returns-in_err-ring-clause-err : goal.returns-in_err-ring-clause-err
 returns-in_err-ring-clause-err c = let p = err_from_is_err_and c.from_residual-in_err-ring.result c.from_residual-in_err-ring.ensures.1 in
-    rw (p.1, p.2) (FailsHeader-below (Opening ∷ Size (codes "shards") 64 ∷ Size (codes "pages") 1024 ∷ []) _ _
+    rw (p.1, p.2) (FailsHeader-below (Opening ∷ Size (codes "shards") MOST_SHARDS ∷ Size (codes "pages") TRACE_PAGES ∷ []) _ _
     (number_of c.in_ok-version.version ∷ c.in_ok-shards.shards ∷ c.in_ok-pages.pages ∷ []) 4 (lines_of c.args.text.now)
     (lines_of c.in_ok-pages.below.now) _ refl refl (search rules) c.in_err-ring.ensures.err)
 
 pub returns-in_err-gens-clause-err : goal.returns-in_err-gens-clause-err
 returns-in_err-gens-clause-err c = let p = err_from_is_err_and c.from_residual-in_err-gens.result c.from_residual-in_err-gens.ensures.1 in
-    rw (p.1, p.2) (FailsHeader-below (Opening ∷ Size (codes "shards") 64 ∷ Size (codes "pages") 1024 ∷ Size (codes "ring") 1024 ∷ []) _ _
+    rw (p.1, p.2) (FailsHeader-below
+    (Opening ∷ Size (codes "shards") MOST_SHARDS ∷ Size (codes "pages") TRACE_PAGES ∷ Size (codes "ring") MOST_RING_KEYS ∷ []) _ _
     (number_of c.in_ok-version.version ∷ c.in_ok-shards.shards ∷ c.in_ok-pages.pages ∷ c.in_ok-ring.ring ∷ []) 5 (lines_of c.args.text.now)
     (lines_of c.in_ok-ring.below.now) _ refl refl (search rules) c.in_err-gens.ensures.err)
 
 pub returns-clause-within : goal.returns-clause-within
 returns-clause-within c = record {
-  shards = size_range _ 64 _ (lines_of c.in_ok-version.below.now) (lines_of c.in_ok-shards.below.now) c.in_ok-shards.ensures.ok;
-  pages = size_range _ 1024 _ (lines_of c.in_ok-shards.below.now) (lines_of c.in_ok-pages.below.now) c.in_ok-pages.ensures.ok;
-  ring = size_range _ 1024 _ (lines_of c.in_ok-pages.below.now) (lines_of c.in_ok-ring.below.now) c.in_ok-ring.ensures.ok;
+  shards = size_range _ MOST_SHARDS _ (lines_of c.in_ok-version.below.now) (lines_of c.in_ok-shards.below.now) c.in_ok-shards.ensures.ok;
+  pages = size_range _ TRACE_PAGES _ (lines_of c.in_ok-shards.below.now) (lines_of c.in_ok-pages.below.now) c.in_ok-pages.ensures.ok;
+  ring = size_range _ MOST_RING_KEYS _ (lines_of c.in_ok-pages.below.now) (lines_of c.in_ok-ring.below.now) c.in_ok-ring.ensures.ok;
   gens = size_range _ 4294967295 _ (lines_of c.in_ok-ring.below.now) (lines_of c.in_ok-gens.below.now) c.in_ok-gens.ensures.ok;
 }

@@ -1,5 +1,5 @@
 use Rattle.std.proofs.Common.{◌≡◌, refl, ◌∙◌, Some, slice_get, sym, ap}
-use Rattle.std.proofs.lemmas.Option.{get_or_from_slice_get, slice_get_read, slice_get_within}
+use Rattle.std.proofs.lemmas.Option.{slice_get_read}
 use Rattle.trace_text.specs.declared.line_list.KeptLine.{KeptLine}
 use Rattle.trace_text.proofs.Keeping.{find-kept}
 use Rattle.trace_text.proofs.line_list.kept_there.Goals as goal

@@ -12,11 +12,12 @@ use Rattle.span.specs.declared.change.Change.{Change}
 use Rattle.span.specs.declared.change.Change.TheVariants.{Free}
 use Rattle.span.proofs.Counting.{all_puts-free, all_puts-le}
 use Rattle.span.proofs.Keeping.{Holds-kept, Follows-free, len-remove_member, some_member}
+use Rattle.bitmap.specs.declared.bits.TheConstants.{SLOTS}
 use Rattle.span.proofs.span.Span.free_at.Goals as goal
 
 -- what the room kept for a live key's free comes to
 module _ {class : Class} {gens : ℕ} {live worn : SlotSet} {generations : Generations} {log : List Change} {room : ℕ}
-    (kept : IsKept class gens live worn generations log room) (slot generation : ℕ) (within : slot < 256) (holds : Holds log slot generation) where
+    (kept : IsKept class gens live worn generations log room) (slot generation : ℕ) (within : slot < SLOTS) (holds : Holds log slot generation) where
   member : set.contains live slot ≡ true
   member = (Holds-kept gens log live worn (last_given generations) kept.follows slot within generation holds).0
 

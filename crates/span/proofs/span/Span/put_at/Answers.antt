@@ -19,11 +19,12 @@ use Rattle.span.proofs.LegalLogs.{puts_of-lt, was_issued-next}
 use Rattle.span.proofs.Keeping.{Follows-room, Follows-put_last, Follows-put_more, len-insert_new}
 use Rattle.span.proofs.span.Span.put_at.Goals as goal
 use Rattle.span.proofs.span.Span.put_at.Goals.{then-generation-self, else-generation-self}
+use Rattle.bitmap.specs.declared.bits.TheConstants.{SLOTS}
 
 -- the span before the put, seen by its state, at a slot that is neither live nor worn
 module _ {id : SpanId} {class : Class} {gens : ℕ} {live worn : SlotSet} {kept_generations : Generations} {log : List Change} {room : ℕ}
     (kept : IsKept class gens live worn kept_generations log room) (state : SpanState)
-    (view_is : record { id = id; class = class; gens = gens; log = log } ≡ state) (slot : ℕ) (within : slot < 256)
+    (view_is : record { id = id; class = class; gens = gens; log = log } ≡ state) (slot : ℕ) (within : slot < SLOTS)
     (not_live : set.contains (live_slots state.log) slot ≡ false) (not_worn : set.contains (worn_slots state.gens state.log) slot ≡ false) where
   unused : set.contains (live_slots log) slot ≡ false
   unused = ap (λ (S : SpanState). set.contains (live_slots S.log) slot) view_is ∙ not_live

@@ -12,14 +12,14 @@ use Rattle.span.specs.declared.id.SpanId.{SpanId}
 use Rattle.span.proofs.OfClass.{Fits-replay, Holds-on_page, IsOfClass-push}
 use Rattle.span.specs.declared.change.Change.{Change}
 use Rattle.span.specs.declared.change.Change.TheVariants.{Set}
-use Rattle.span.proofs.Counting.{all_puts-set, all_puts-le}
 use Rattle.span.proofs.Keeping.{Follows-set}
+use Rattle.bitmap.specs.declared.bits.TheConstants.{SLOTS}
 use Rattle.span.proofs.span.Span.set_at.Goals as goal
 
 -- the span before the set, seen by its state
 module _ {id : SpanId} {class : Class} {gens : ℕ} {live worn : SlotSet} {generations : Generations} {log : List Change} {room : ℕ}
     (kept : IsKept class gens live worn generations log room) (state : SpanState) (view_is : record { id = id; class = class; gens = gens; log = log } ≡ state)
-    (slot generation : ℕ) (within : slot < 256) (words : Value)
+    (slot generation : ℕ) (within : slot < SLOTS) (words : Value)
     (settable : IsSettable state slot generation words) where
   holds : Holds log slot generation
   holds = subst (λ (S : SpanState). Holds S.log slot generation) (sym view_is) settable.0

@@ -1,7 +1,4 @@
-use Rattle.std.proofs.Common.{◌≡◌, ◌∙◌, ◌<◌, Some, None, ap, arith, length, sym}
-use Rattle.std.specs.List.{find}
-use Rattle.trace_text.specs.AllLines.{is_at, line_kept}
-use Rattle.trace_text.specs.declared.line.Line.TheVariants.{Silent}
+use Rattle.std.proofs.Common.{◌∙◌, Some, ap, sym}
 use Rattle.trace_text.proofs.Keeping.{kept_line, kept_line-none}
 use Rattle.trace_text.proofs.line_list.LineList.line_at.Goals as goal
 

@@ -1,7 +1,6 @@
-use Rattle.std.proofs.Common.{◌≡◌, refl, ◌∙◌, ◌<◌, ◌+◌, ◌^◌, arith, ap, sym}
+use Rattle.std.proofs.Common.{refl, arith}
 use Rattle.std.proofs.lemmas.List.FromFn.{length-map-range_with_len}
 use Rattle.trace_text.specs.AllLines.{line_kept}
-use Rattle.trace_text.specs.declared.line.Line.TheVariants.{Silent}
 use Rattle.trace_text.proofs.Keeping.{AreInOrder-more, AreInOrder-push, lines-more, lines-push, reads-more, reads-push}
 use Rattle.trace_text.proofs.line_list.LineList.push.Goals as goal
 
