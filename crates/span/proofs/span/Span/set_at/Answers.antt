@@ -12,7 +12,6 @@ use Rattle.span.specs.declared.id.SpanId.{SpanId}
 use Rattle.span.proofs.OfClass.{Fits-replay, Holds-on_page, IsOfClass-push}
 use Rattle.span.specs.declared.change.Change.{Change}
 use Rattle.span.specs.declared.change.Change.TheVariants.{Set}
-use Rattle.span.proofs.Counting.{all_puts-set, all_puts-le}
 use Rattle.span.proofs.Keeping.{Follows-set}
 use Rattle.span.proofs.span.Span.set_at.Goals as goal
 
