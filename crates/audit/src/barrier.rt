@@ -40,8 +40,9 @@ pub fn stand_between(
     ensures { IsTrue result ↔ ((i : ℕ) (receipt : Receipt) → slice_get (kept_receipts list.now) i
         ≡ Some receipt → StandsBetween logs.now (map full_row rows.now) receipt) }
 {
+    let mut near = 0;
     for i in 0..list.len() {
-        if !stands_between(logs, table, rows, &list.view(i)) {
+        if !stands_between(logs, table, rows, &list.view_near(i, &mut near)) {
             return false;
         }
     }

@@ -77,8 +77,9 @@ fn enter_list(logs: &[SpanLog], table: &LogPlaces, rows: &mut Vec<Row>, list: &R
         → WereEntered logs.now (before ++ kept_receipts list.now)
         (map filled_row rows.new.items) result }
 {
+    let mut near = 0;
     for i in 0..list.len() {
-        if !enter(logs, table, rows, &list.view(i)) {
+        if !enter(logs, table, rows, &list.view_near(i, &mut near)) {
             return false;
         }
     }

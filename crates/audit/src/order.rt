@@ -30,15 +30,16 @@ fn place_of(logs: &[SpanLog], table: &LogPlaces, span: SpanId) -> usize
     }
 }
 
-// Whether the call has a lower section than the one before it.
-fn goes_back(list: &ReceiptList, i: usize) -> bool
+// Whether the call has a lower section than the one before it. `near` is as in [`ReceiptList::view_near`].
+fn goes_back(list: &ReceiptList, i: usize, near: &mut usize) -> bool
     requires { i < length (kept_receipts list.now) }
     ensures { IsTrue result ↔ GoesBack (kept_receipts list.now) i }
 {
     if i == 0 {
         return false;
     }
-    list.view(i).section < list.view(i - 1).section
+    let before = list.view_near(i - 1, near).section;
+    list.view_near(i, near).section < before
 }
 
 // Whether the calls of one worker stand in the order of its list. The table then has what its calls left.
@@ -56,11 +57,12 @@ fn is_in_order(
     ensures left { IsTrue result → IsLeftFrom logs.now (kept_receipts list.now) 0 left.new.items }
     ensures len { vec_len left.new ≡ length logs.now + 1 }
 {
+    let mut near = 0;
     for i in 0..list.len() {
-        if goes_back(list, i) {
+        if goes_back(list, i, &mut near) {
             return false;
         }
-        let receipt = list.view(i);
+        let receipt = list.view_near(i, &mut near);
         let place = place_of(logs, table, receipt.key.span);
         if (receipt.at as u128) < left[place] {
             return false;
@@ -78,8 +80,9 @@ fn clear(left: &mut Vec<u128>, logs: &[SpanLog], table: &LogPlaces, list: &Recei
     ensures clear { IsClear left.new.items }
     ensures len { vec_len left.new ≡ length logs.now + 1 }
 {
+    let mut near = 0;
     for i in 0..list.len() {
-        let place = place_of(logs, table, list.view(i).key.span);
+        let place = place_of(logs, table, list.view_near(i, &mut near).key.span);
         left[place] = 0;
     }
 }

@@ -149,8 +149,9 @@ pub fn list_is_right(
     ensures { IsTrue result ↔ ((i : ℕ) (receipt : Receipt) → slice_get (kept_receipts list.now) i
         ≡ Some receipt → IsRightReply logs.now receipt) }
 {
+    let mut near = 0;
     for i in 0..list.len() {
-        if !is_right_reply(logs, table, orders, firsts, &list.view(i)) {
+        if !is_right_reply(logs, table, orders, firsts, &list.view_near(i, &mut near)) {
             return false;
         }
     }

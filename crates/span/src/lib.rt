@@ -55,6 +55,7 @@ mod log;
 mod object;
 mod receipt;
 mod receipt_list;
+mod receipt_run;
 mod receipt_view;
 mod span;
 mod span_log;

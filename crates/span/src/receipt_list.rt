@@ -1,24 +1,24 @@
 // A list of receipts.
 ghost use Rattle.std.specs.Prelude.{◌≡◌, ◌≤◌, ◌<◌, ◌+◌, [], ◌∷◌, ◌++◌, OnErr, OnOk, Some, length, slice_get};
-ghost use Rattle.span.specs.StoredReceipts.{AreReceiptsWithin, call_in, call_width, call_words};
-ghost use Rattle.span.specs.ReceiptViews.{call_viewed};
-ghost use Rattle.span.specs.Stored.{run_from};
+ghost use Rattle.span.specs.StoredReceipts.{AreRuns, AreRuns-prop, call_words};
 
-use crate::object::Object;
-use crate::receipt::{Call, Receipt};
-use crate::receipt_view::{CallView, ReceiptView};
-use crate::stored_receipt::{StoredCall, StoredReceipt};
-use crate::words::{push_words, run};
+use crate::receipt::Receipt;
+use crate::receipt_run::{goes_on, receipt_of, run_at, run_of, stored, view_of, words_of};
+use crate::receipt_view::ReceiptView;
+use crate::stored_receipt::ReceiptRun;
+use crate::words::push_words;
 use std::alloc::{AllocError, Global};
 
 /// Receipts, in the order of their calls: what a worker keeps of its run for an audit. A receipt takes 48 bytes, and one with
-/// an object the object's words besides, which stand in a list of their own.
+/// an object the object's words besides, which stand in a list of their own. Receipts of calls that follow one another, as those
+/// of puts on a fresh page do, take 48 bytes together, and their words.
 #[derive(Drop)]
 pub struct ReceiptList {
-    receipts: Vec<StoredReceipt>,
+    runs: Vec<ReceiptRun>,
     words: Vec<u128>,
-    // The words of each call are there.
-    ghost within: { AreReceiptsWithin (length words.items) receipts.items },
+    // How many receipts there are.
+    len: usize,
+    ghost runs_are: { AreRuns (length words.items) len 0 runs.items } by { AreRuns-prop (length words.items) len 0 runs.items },
 }
 
 impl ReceiptList {
@@ -30,8 +30,9 @@ impl ReceiptList {
         ensures { kept_receipts result ≡ [] }
     {
         ReceiptList {
-            receipts: Vec::new(alloc),
+            runs: Vec::new(alloc),
             words: Vec::new(alloc),
+            len: 0,
         }
     }
 
@@ -39,14 +40,15 @@ impl ReceiptList {
     pub fn len(&self) -> usize
         ensures { result ≡ length (kept_receipts self.now) }
     {
-        self.receipts.len()
+        self.len
     }
 
     /// Makes room for that many more receipts, and for that many words of objects among them.
     ///
     /// # Errors
     ///
-    /// `AllocError` where memory runs out. The receipts are then as they were, and the room has not shrunk.
+    /// `AllocError` where memory runs out, or where there would be more receipts than a number counts. The receipts are then as
+    /// they were, and the room has not shrunk.
     pub fn reserve(&mut self, more: usize, words: usize) -> Result<(), AllocError>
         ensures receipts { kept_receipts self.new ≡ kept_receipts self.old }
         ensures room { receipt_room self.old ≤ receipt_room self.new }
@@ -54,7 +56,10 @@ impl ReceiptList {
         ensures ok { OnOk result (more ≤ receipt_room self.new) }
         ensures words { OnOk result (words ≤ receipt_word_room self.new) }
     {
-        self.receipts.reserve(more)?;
+        if usize::MAX - self.len < more {
+            return Err(AllocError);
+        }
+        self.runs.reserve(more)?;
         self.words.reserve(words)?;
         Ok(())
     }
@@ -66,23 +71,17 @@ impl ReceiptList {
         ensures receipts { kept_receipts self.new ≡ kept_receipts self.old ++ receipt.now ∷ [] }
         ensures room { receipt_room self.old ≤ receipt_room self.new + 1 }
     {
-        let Receipt {
-            key,
-            worker,
-            section,
-            at,
-            ..
-        } = *receipt;
         let first = self.words.len();
+        let call = stored(&receipt.call);
+        if goes_on(self.runs.as_slice(), self.len, first, call, receipt) {
+            push_words(&mut self.words, words_of(&receipt.call));
+            self.len += 1;
+            return;
+        }
         push_words(&mut self.words, words_of(&receipt.call));
-        self.receipts.push_reserved(StoredReceipt {
-            key,
-            worker,
-            section,
-            at,
-            call: stored(&receipt.call),
-            first,
-        });
+        self.runs
+            .push_reserved(run_of(receipt, call, first, self.len));
+        self.len += 1;
     }
 
     /// Adds a receipt at the end.
@@ -105,21 +104,19 @@ impl ReceiptList {
         requires { place < length (kept_receipts self.now) }
         ensures { slice_get (kept_receipts self.now) place ≡ Some (receipt_viewed result) }
     {
-        let StoredReceipt {
-            key,
-            worker,
-            section,
-            at,
-            call,
-            first,
-        } = self.receipts[place];
-        ReceiptView {
-            key,
-            worker,
-            section,
-            at,
-            call: call_at(call, self.words.as_slice(), first),
-        }
+        self.view_near(place, &mut self.guess(place))
+    }
+
+    /// The same, looked for first by the number in `near`, which the last call left there: who reads a list in order, from any
+    /// number on, so spares a search.
+    pub fn view_near(&self, place: usize, near: &mut usize) -> ReceiptView<'_>
+        requires { place < length (kept_receipts self.now) }
+        ensures { slice_get (kept_receipts self.now) place ≡ Some (receipt_viewed result) }
+    {
+        let i = run_at(self.runs.as_slice(), place, *near);
+        *near = i;
+        let run = &self.runs[i];
+        view_of(run, place - run.start, self.words.as_slice())
     }
 
     /// The receipt at the place, the oldest being at 0.
@@ -127,97 +124,15 @@ impl ReceiptList {
         requires { place < length (kept_receipts self.now) }
         ensures { slice_get (kept_receipts self.now) place ≡ Some result }
     {
-        let StoredReceipt {
-            key,
-            worker,
-            section,
-            at,
-            call,
-            first,
-        } = self.receipts[place];
-        Receipt {
-            key,
-            worker,
-            section,
-            at,
-            call: copied_call_at(call, self.words.as_slice(), first),
+        let run = &self.runs[run_at(self.runs.as_slice(), place, self.guess(place))];
+        receipt_of(run, place - run.start, self.words.as_slice())
+    }
+
+    // The number of the run that the place may be in, as it is where all have as many receipts. No answer rests on it.
+    fn guess(&self, place: usize) -> usize {
+        if self.len == 0 {
+            return 0;
         }
-    }
-}
-
-// The words of the call's object, if it has one.
-fn words_of(call: &Call) -> &[u128]
-    ensures { result.now ≡ call_words call.now }
-{
-    match call {
-        Call::Put { value }
-        | Call::Found { value }
-        | Call::Set { value }
-        | Call::NotSet { value } => value.words(),
-        Call::NotFound | Call::Freed | Call::NotFreed => &[],
-    }
-}
-
-// The call without its words.
-fn stored(call: &Call) -> StoredCall
-    ensures call { call_in result (call_words call.now) ≡ call.now }
-    ensures width { call_width result ≡ length (call_words call.now) }
-{
-    match call {
-        Call::Put { value } => StoredCall::Put(value.class()),
-        Call::Found { value } => StoredCall::Found(value.class()),
-        Call::NotFound => StoredCall::NotFound,
-        Call::Set { value } => StoredCall::Set(value.class()),
-        Call::NotSet { value } => StoredCall::NotSet(value.class()),
-        Call::Freed => StoredCall::Freed,
-        Call::NotFreed => StoredCall::NotFreed,
-    }
-}
-
-// The call whose words begin at the word `first`.
-fn call_at(call: StoredCall, words: &[u128], first: usize) -> CallView<'_>
-    requires { first + call_width call ≤ length words.now }
-    ensures { call_viewed result ≡ call_in call (run_from words.now first (call_width call)) }
-{
-    match call {
-        StoredCall::Put(class) => CallView::Put {
-            words: run(words, first, class),
-        },
-        StoredCall::Found(class) => CallView::Found {
-            words: run(words, first, class),
-        },
-        StoredCall::NotFound => CallView::NotFound,
-        StoredCall::Set(class) => CallView::Set {
-            words: run(words, first, class),
-        },
-        StoredCall::NotSet(class) => CallView::NotSet {
-            words: run(words, first, class),
-        },
-        StoredCall::Freed => CallView::Freed,
-        StoredCall::NotFreed => CallView::NotFreed,
-    }
-}
-
-// The same, with its words copied.
-fn copied_call_at(call: StoredCall, words: &[u128], first: usize) -> Call
-    requires { first + call_width call ≤ length words.now }
-    ensures { result ≡ call_in call (run_from words.now first (call_width call)) }
-{
-    match call {
-        StoredCall::Put(class) => Call::Put {
-            value: Object::of(class, run(words, first, class)),
-        },
-        StoredCall::Found(class) => Call::Found {
-            value: Object::of(class, run(words, first, class)),
-        },
-        StoredCall::NotFound => Call::NotFound,
-        StoredCall::Set(class) => Call::Set {
-            value: Object::of(class, run(words, first, class)),
-        },
-        StoredCall::NotSet(class) => Call::NotSet {
-            value: Object::of(class, run(words, first, class)),
-        },
-        StoredCall::Freed => Call::Freed,
-        StoredCall::NotFreed => Call::NotFreed,
+        place.saturating_mul(self.runs.len()) / self.len
     }
 }

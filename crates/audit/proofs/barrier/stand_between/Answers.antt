@@ -9,13 +9,13 @@ pub returns-then-not-stands_between : goal.returns-then-not-stands_between
 returns-then-not-stands_between c = (
   λ so. absurd cc,
   λ all.
-      let e : false ≡ true = sym c.if-not-stands_between.true ∙ c.stands_between.ensures.1 (all c.loop-i.i (receipt_viewed c.view.result) c.view.ensures) in
+      let e : false ≡ true = sym c.if-not-stands_between.true ∙ c.stands_between.ensures.1 (all c.loop-i.i (receipt_viewed c.view_near.result) c.view_near.ensures) in
       absurd cc,
 )
 
 pub loop-i-preserved : goal.loop-i-preserved
 loop-i-preserved c = each_more (StandsBetween c.args.logs.now (map full_row c.args.rows.now)) (kept_receipts c.args.list.now) c.loop-i.i
-    (receipt_viewed c.view.result) c.loop-i.invariant c.view.ensures
+    (receipt_viewed c.view_near.result) c.loop-i.invariant c.view_near.ensures
     (c.stands_between.ensures.0 c.if-not-stands_between.false)
 
 pub returns : goal.returns

@@ -6,11 +6,11 @@ use Rattle.audit.proofs.order.clear.Goals as goal
 
 pub loop-i-preserved : goal.loop-i-preserved
 loop-i-preserved c =
-    let call = receipt_viewed c.view.result in
+    let call = receipt_viewed c.view_near.result in
     let place = c.place_of-place.ensures.place in
     record {
       left = rw place (IsLeftFrom-more c.args.logs.now
-          (kept_receipts c.args.list.now) c.loop-i.i c.loop-i.left.items call c.loop-i.invariant.left c.view.ensures
+          (kept_receipts c.args.list.now) c.loop-i.i c.loop-i.left.items call c.loop-i.invariant.left c.view_near.ensures
           (omega (arith, place, c.loop-i.left.ok.0, c.loop-i.invariant.len, c.place_of-place.ensures.in_range)));
       len = c.loop-i.invariant.len;
     }

@@ -8,8 +8,8 @@ use Rattle.audit.proofs.order.is_in_order.Goals as goal
 
 pub returns-then-receipt-index-clause-exact : goal.returns-then-receipt-index-clause-exact
 returns-then-receipt-index-clause-exact c =
-    let call = receipt_viewed c.view-receipt.result in
-    let at = c.view-receipt.ensures in
+    let call = receipt_viewed c.view_near-receipt.result in
+    let at = c.view_near-receipt.ensures in
     let inside : c.place_of-place.result < length c.loop-i.left.items = omega (arith, c.loop-i.left.ok.0, c.loop-i.invariant.len, c.place_of-place.ensures.in_range) in
     let read : c.index.result.now ≡ get_or c.loop-i.left.items c.place_of-place.result 0 = read_at c.loop-i.left.items c.place_of-place.result c.index.result.now 0 inside c.index.ensures in
     let there : c.index.result.now ≡ get_or c.loop-i.left.items (place_in c.args.logs.now call.key.span) 0 = read ∙ ap (λ q. get_or c.loop-i.left.items q 0) c.place_of-place.ensures.place in (
@@ -21,10 +21,10 @@ returns-then-receipt-index-clause-exact c =
 
 pub loop-i-preserved : goal.loop-i-preserved
 loop-i-preserved c =
-    let call = receipt_viewed c.view-receipt.result in
+    let call = receipt_viewed c.view_near-receipt.result in
     let list = kept_receipts c.args.list.now in
     let left = c.loop-i.left.items in
-    let at = c.view-receipt.ensures in
+    let at = c.view_near-receipt.ensures in
     let inside : c.place_of-place.result < length left = omega (arith, c.loop-i.left.ok.0, c.loop-i.invariant.len, c.place_of-place.ensures.in_range) in
     let read : c.index.result.now ≡ get_or left c.place_of-place.result 0 = read_at left c.place_of-place.result c.index.result.now 0 inside c.index.ensures in
     let there : c.index.result.now ≡ get_or left (place_in c.args.logs.now call.key.span) 0 = read ∙ ap (λ q. get_or left q 0) c.place_of-place.ensures.place in

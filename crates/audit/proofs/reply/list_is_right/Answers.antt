@@ -6,7 +6,7 @@ use Rattle.audit.proofs.Lists.{each_more, each_all}
 use Rattle.audit.proofs.reply.list_is_right.Goals as goal
 
 pub loop-i-preserved : goal.loop-i-preserved
-loop-i-preserved c = each_more (IsRightReply c.args.logs.now) (kept_receipts c.args.list.now) c.loop-i.i (receipt_viewed c.view.result) c.loop-i.invariant c.view.ensures
+loop-i-preserved c = each_more (IsRightReply c.args.logs.now) (kept_receipts c.args.list.now) c.loop-i.i (receipt_viewed c.view_near.result) c.loop-i.invariant c.view_near.ensures
     (c.is_right_reply.ensures.0 c.if-not-is_right_reply.false)
 
 pub returns : goal.returns
