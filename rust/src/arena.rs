@@ -1,6 +1,7 @@
 //! Plain values that threads share, each from a seat of its own, under the locks of the proved library.
 
 mod keys;
+mod lanes;
 mod seat;
 mod share;
 
@@ -11,11 +12,12 @@ use crate::bytes::MOST_BYTES;
 use crate::core::{certificate_text, done, marked, stepped, Limits, Marked, Stepped};
 use crate::raw;
 use crate::refused::Refused;
+use lanes::Lanes;
 use share::{Share, Turn};
 use std::cell::Cell;
 use std::fmt;
 use std::marker::PhantomData;
-use std::mem::size_of;
+use std::mem::{self, size_of};
 
 /// How many keys a ring holds where nobody says so.
 const RING: u32 = 256;
@@ -70,6 +72,9 @@ pub struct Arena<T> {
     share: Share,
     turn: Turn,
     limits: Limits,
+    // How many shards a seat has, and those of the next seat that are there so far, where memory was refused for the others.
+    lanes: u32,
+    next: Vec<Share>,
     // As of a seat.
     values: PhantomData<Cell<T>>,
 }
@@ -106,18 +111,46 @@ impl<T: Copy> Arena<T> {
     ///
     /// As of [`Arena::open`].
     pub fn with_rings(limits: Limits, keys: u32) -> Result<Arena<T>, Refused> {
+        Arena::with_lanes(limits, keys, 1)
+    }
+
+    /// As [`Arena::with_rings`], with so many shards for each seat, where the limits' are one for each seat: 64 at most in all.
+    ///
+    /// A seat puts its values into its shards in turn, 64 into each, so that threads which look up what it keeps meet at one lock less often. In
+    /// return its values stand on up to so many more pages that are not full, its shards have a ring from and to each other one, and what it
+    /// leaves to the pool is chosen by shards.
+    ///
+    /// # Errors
+    ///
+    /// As of [`Arena::open`].
+    ///
+    /// ```
+    /// use teurlaks::{Arena, Limits};
+    ///
+    /// let mut arena = Arena::with_lanes(Limits { shards: 4, ..Limits::default() }, 256, 4)?; // four seats of four shards
+    /// let (mut here, there) = (arena.seat()?, arena.seat()?);
+    /// let keys: Vec<_> = (0..1000).map(|n| here.insert(n)).collect::<Result<_, _>>()?;
+    /// assert!(keys.iter().zip(0..).all(|(key, n)| there.get(*key) == Some(n)));
+    /// assert_eq!(keys[0].shard(), keys[63].shard());
+    /// assert_ne!(keys[0].shard(), keys[64].shard());
+    /// # Ok::<(), teurlaks::Refused>(())
+    /// ```
+    pub fn with_lanes(limits: Limits, keys: u32, lanes: u32) -> Result<Arena<T>, Refused> {
         let () = Self::FITS;
         let Limits {
             shards,
             pages,
             generations,
         } = limits;
+        let shards = shards.checked_mul(lanes).ok_or(Refused::Config)?;
         // SAFETY: the handle has nothing yet.
         let share = Share::new(|out| unsafe { raw::teurlaks_arena_open(out, shards, pages, keys, generations) });
         Ok(Arena {
             share: share.map_err(Refused::of)?,
             turn: Turn::new(),
             limits,
+            lanes,
+            next: Vec::new(),
             values: PhantomData,
         })
     }
@@ -130,20 +163,32 @@ impl<T> Arena<T> {
         self.limits
     }
 
-    /// A seat that nobody has had. There is one for each shard.
+    /// A seat that nobody has had. There are as many as the limits have shards.
     ///
     /// # Errors
     ///
     /// - [`Refused::NoSeatLeft`]: each was handed out;
     /// - [`Refused::OutOfMemory`]: memory was refused.
     pub fn seat(&mut self) -> Result<Seat<T>, Refused> {
+        while self.next.len() < self.lanes as usize - 1 {
+            let lane = self.lane()?;
+            self.next.push(lane);
+        }
+        let here = self.lane()?;
+        Ok(Seat::new(
+            Lanes::new(here, mem::take(&mut self.next)),
+            self.turn.clone(),
+        ))
+    }
+
+    /// The proved seat of a shard that nobody has had.
+    fn lane(&mut self) -> Result<Share, Refused> {
         // SAFETY: the handle has a steward, no other call runs on it, and the other one has nothing yet.
         let share = Share::new(|out| unsafe { raw::teurlaks_steward_seat(self.share.handle(), out) });
-        match share {
-            Ok(share) => Ok(Seat::new(share, self.turn.clone())),
-            Err(raw::NONE) => Err(Refused::NoSeatLeft),
-            Err(other) => Err(Refused::of(other)),
-        }
+        share.map_err(|status| match status {
+            raw::NONE => Refused::NoSeatLeft,
+            other => Refused::of(other),
+        })
     }
 
     /// Plans folds of the pool's groups onto those of the shards, as many as can be, and opens the plan. Until it is closed, the groups that it

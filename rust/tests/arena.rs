@@ -4,7 +4,7 @@ mod common;
 
 use common::numbered::{Handed, Value};
 use common::Random;
-use std::collections::BTreeMap;
+use std::collections::{BTreeMap, BTreeSet};
 use std::sync::atomic::{AtomicBool, Ordering};
 use std::sync::Barrier;
 use std::thread;
@@ -158,9 +158,9 @@ impl<'i, const WORDS: usize> Worker<'i, WORDS> {
 /// What a thread leaves: its seat, its live keys with the numbers of their values, and the keys that it left to others.
 type Left<const WORDS: usize> = (Seat<Value<WORDS>>, Vec<(Key, u64)>, Vec<Key>);
 
-/// So many threads make so many calls in all, and a steward folds beside them. Then all is taken out.
-fn threads_find_what_they_expect<const WORDS: usize>(threads: u32, calls: usize) {
-    let mut arena = Arena::open(limits(threads, 1024)).unwrap();
+/// So many threads make so many calls in all, each at a seat of so many shards, and a steward folds beside them. Then all is taken out.
+fn threads_find_what_they_expect<const WORDS: usize>(threads: u32, lanes: u32, calls: usize) {
+    let mut arena = Arena::with_lanes(limits(threads, 1024), 256, lanes).unwrap();
     let inboxes: Vec<Handed> = (0..threads).map(|_| Handed::default()).collect();
     let (done, folds) = beside_a_steward::<WORDS>(&mut arena, &inboxes, calls / threads as usize);
     // A short run has no sparse page.
@@ -235,12 +235,17 @@ fn calls() -> usize {
 
 #[test]
 fn by_four_threads() {
-    threads_find_what_they_expect::<29>(4, calls() / 2);
+    threads_find_what_they_expect::<29>(4, 1, calls() / 2);
+}
+
+#[test]
+fn by_four_threads_of_three_shards_each() {
+    threads_find_what_they_expect::<29>(4, 3, calls() / 4);
 }
 
 #[test]
 fn by_eight_threads() {
-    threads_find_what_they_expect::<7>(8, calls() / 2);
+    threads_find_what_they_expect::<7>(8, 1, calls() / 2);
 }
 
 fn limits(shards: u32, pages: u32) -> Limits {
@@ -507,6 +512,55 @@ fn calls_are_refused_as_they_say() -> Result<(), Refused> {
     assert_eq!((arena.mesh(), arena.totals()), (Ok(0), Totals { pages: 1, live: 2 }));
     assert_eq!((there.get(keys[255]), here.get(other)), (Some(255), Some(7)));
     assert!(format!("{arena:?} {here:?}").contains("Arena"));
+    Ok(())
+}
+
+/// Values of a seat stand in all of its shards, and it ends, begins, retires and tends all of them.
+#[test]
+fn a_seat_has_several_shards() -> Result<(), Refused> {
+    for (seats, lanes) in [(1, 0), (1, 65), (17, 4), (u32::MAX, u32::MAX)] {
+        let arena = Arena::<u64>::with_lanes(limits(seats, 1), 8, lanes);
+        assert_eq!(arena.err(), Some(Refused::Config));
+    }
+    let mut arena = Arena::with_lanes(limits(2, 1), 8, 3)?;
+    let (mut here, mut there) = (arena.seat()?, arena.seat()?);
+    assert_eq!(arena.seat().err(), Some(Refused::NoSeatLeft));
+    let mut keys: Vec<_> = (0..768).map(|n| here.insert(n)).collect::<Result<_, _>>()?;
+    let shards = keys.iter().map(|key| key.shard()).collect::<BTreeSet<_>>();
+    assert_eq!((shards.len(), here.insert(0)), (3, Err(Refused::PagesSpent)));
+    // Whichever has room.
+    assert!(here.free(keys[100]));
+    keys[100] = here.insert(100)?;
+    keys[..8].iter().try_for_each(|key| there.free_later(*key))?;
+    assert_eq!(there.free_later(keys[9]), Err(Refused::RingFull));
+    assert_eq!((here.tend(), here.tend()), (Ok(8), Ok(0)));
+    // The last of each shard stays.
+    let go = keys[8..].iter().filter(|key| key.slot() < 255);
+    go.for_each(|key| assert!(there.free(*key)));
+    assert_eq!((here.retire(2), here.retire(2), here.retire(3)), (Ok(2), Ok(0), Ok(1)));
+    let others: Vec<_> = (0..64).map(|n| there.insert(n)).collect::<Result<_, _>>()?;
+    assert_eq!(arena.mark_some().map(|marked| marked.folds), Ok(1));
+    // The first of its shards had its turn, and stands last: those before it go on.
+    assert_eq!(there.end(), Err(Refused::PlanOpen));
+    assert!((0..3).all(|n| there.insert(n).is_ok()));
+    assert!(matches!(arena.step(), Ok(Stepped::Folded(..))));
+    arena.close()?;
+    there.end()?;
+    assert_eq!(
+        (there.end(), there.insert(0)),
+        (Err(Refused::Ended), Err(Refused::Ended))
+    );
+    there.begin()?;
+    assert_eq!(there.begin(), Err(Refused::Running));
+    for _ in 0..3 {
+        here.adopt()?;
+    }
+    assert_eq!(here.adopt(), Err(Refused::PagesSpent));
+    assert!(keys
+        .iter()
+        .zip(0..)
+        .all(|(key, n)| here.get(*key) == (key.slot() == 255).then_some(n)));
+    assert!(others.iter().zip(0..).all(|(key, n)| here.get(*key) == Some(n)));
     Ok(())
 }
 

@@ -1,18 +1,18 @@
 -- Ring after ring.
-use Rattle.std.proofs.Common.{◌≡◌, ℕ, zero, suc, sum_by, ◌+◌, ◌<◌, ◌≤◌, List, [], ◌∷◌, ◌++◌, length, get_or, slice_set, take, ap, sym, subst, ◌∙◌, refl, inl, inr, arith, length-append, length-take-le, append_assoc}
+use Rattle.std.proofs.Common.{◌≡◌, ℕ, zero, suc, sum_by, ◌+◌, ◌<◌, ◌≤◌, List, [], ◌∷◌, ◌++◌, length, get_or, slice_set, take, take-add, drop, ap, sym, subst, ◌∙◌, refl, inl, inr, arith, length-append, length-take-le, append_assoc}
 use Rattle.std.proofs.Math.Seq.{map-set_same, get_or-append_seam}
 use Rattle.std.proofs.lemmas.Bool.{cases_eq, cases_lt}
 use Rattle.std.proofs.lemmas.Grind.{get_or-set_at}
-use Rattle.std.proofs.lemmas.List.{append-nil, get_or-map, get_or-set_other, get_or_append_left, get_or_past, length-map, map-set}
+use Rattle.std.proofs.lemmas.List.{append-nil, get_or-map, get_or-set_other, get_or_append_left, get_or_past, length-map, map-set, drop-drop}
 use Rattle.std.proofs.lemmas.List.Elements.{All-push}
 use Rattle.std.proofs.lemmas.List.Sums.{sum_by-cons}
 use Rattle.span.specs.declared.key.Key.{Key}
 use Rattle.span.specs.declared.receipt.Receipt.{Receipt}
 use Rattle.remote_queue.specs.Rings.{Taking}
-use Rattle.arena.specs.Receipts.{AddsFrees, joined}
+use Rattle.arena.specs.Receipts.{AddsFrees, IsFreeBy, joined}
 use Rattle.arena.specs.Seats.{taken_lists}
-use Rattle.arena.specs.Tended.{AreRingsTended, IsRingTended}
-use Rattle.arena.proofs.Frees.{AddsFrees-none, AddsFrees-more, joined-push}
+use Rattle.arena.specs.Tended.{AreRingsTended, IsFrontTended, IsRingTended}
+use Rattle.arena.proofs.Frees.{AddsFrees-none, AddsFrees-one, AddsFrees-more, freed_run, joined-push}
 
 -- the sum goes on by one entry, which is looked at
 pub known_more : (f : Taking → ℕ) (inboxes : List Taking) (n : ℕ) (after : Taking) → n < length inboxes → sum_by f (take (n + 1) (slice_set inboxes n after)) ≡ sum_by f (take n inboxes) + f after
@@ -53,6 +53,39 @@ module _ {worker section : ℕ} where
   pub ring_known : (before after : Taking) (n : ℕ) (r0 r : List Receipt) → n ≤ length before.known → after.ring ≡ before.ring → after.taken ≡ before.taken ++ take n before.known
       → AddsFrees worker section (take n before.known) r0 r → IsRingTended worker section n before after r0 r
   ring_known before after n r0 r fits ring took freed = record { keys = take n before.known; count_is = sym (length-take-le n before.known fits); ring_is = ring; taken = took; freed = freed }
+
+  -- no key is taken
+  pub front_none : (inbox : Taking) (receipts : List Receipt) → IsFrontTended worker section 0 inbox inbox receipts receipts
+  front_none inbox receipts = record { ring_is = refl; taken = sym (append-nil inbox.taken); known = refl; freed = AddsFrees-none receipts }
+
+  -- the next key
+  pub front_one : (before after : Taking) (key : Key) (r : Receipt) (r0 r1 : List Receipt) → before.known ≡ key ∷ after.known → after.ring ≡ before.ring
+      → after.taken ≡ before.taken ++ key ∷ [] → r1 ≡ r0 ++ r ∷ [] → IsFreeBy worker section key r → IsFrontTended worker section 1 before after r0 r1
+  front_one before after key r r0 r1 known ring took told free =
+      let first : take 1 before.known ≡ key ∷ [] = rw known refl in
+      record {
+        ring_is = ring;
+        taken = rw first took;
+        known = rw known refl;
+        freed = rw first (AddsFrees-one r0 r1 key r told free);
+      }
+
+  -- some keys, and then some of those that are left
+  pub front_more : (before mid after : Taking) (n h : ℕ) (r0 r r1 : List Receipt) → IsFrontTended worker section n before mid r0 r → IsFrontTended worker section h mid after r r1
+      → IsFrontTended worker section (n + h) before after r0 r1
+  front_more before mid after n h r0 r r1 a b =
+      let keys : take n before.known ++ take h mid.known ≡ take (n + h) before.known = rw a.known (sym (take-add n h before.known)) in
+      record {
+        ring_is = b.ring_is ∙ a.ring_is;
+        taken = b.taken ∙ ap (λ l. l ++ take h mid.known) a.taken ∙ append_assoc before.taken (take n before.known) (take h mid.known) ∙ ap (λ l. before.taken ++ l) keys;
+        known = b.known ∙ ap (drop h) a.known ∙ drop-drop h n before.known;
+        freed = freed_run before.known mid.known n h r0 r r1 a.known a.freed b.freed;
+      }
+
+  -- the keys that were taken were the first of those that were known
+  pub front_ring : (before after : Taking) (n : ℕ) (r0 r : List Receipt) → n ≤ length before.known → IsFrontTended worker section n before after r0 r
+      → IsRingTended worker section n before after r0 r
+  front_ring before after n r0 r fits was = ring_known before after n r0 r fits was.ring_is was.taken was.freed
 
 module _ {most worker section : ℕ} where
   -- before the first ring

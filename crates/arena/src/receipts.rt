@@ -80,6 +80,7 @@ impl Receipts for Dropped {
         Ok(())
     }
 
+    #[inline(always)]
     fn tell(&mut self, receipt: Receipt) {
         self.unkept = Unkept::with(&self.unkept, &receipt);
     }

@@ -108,6 +108,7 @@ pub fn set_in<L: Log>(
 
 /// Frees the key in the shard, as [`Shard::free`] does, and makes the receipt of that free. There is none exactly where the shard
 /// has no such span. It takes no memory.
+#[inline(always)]
 pub fn free_in<L: Log>(
     shard: &mut Shard<L>,
     worker: u32,
@@ -238,7 +239,9 @@ fn receipt_of_set(
     }
 }
 
-// The receipt of a free that came to this, where the span is there.
+// The receipt of a free that came to this, where the span is there. Inlined, its fields go where they are read, and the room for an object
+// is neither made nor copied.
+#[inline(always)]
 fn receipt_of_free(freed: Freed, worker: u32, section: u64, key: &Key) -> Option<Receipt>
     ensures { result ≡ told_of_free worker section key.now freed }
 {
@@ -276,6 +279,7 @@ fn set_at(at: usize, done: bool, worker: u32, section: u64, key: &Key, value: Ob
 }
 
 // The receipt of a free of the key after that many changes, which was done or was not.
+#[inline(always)]
 fn free_at(at: usize, done: bool, worker: u32, section: u64, key: &Key) -> Receipt
     ensures { result ≡ free_receipt worker section key.now done at }
 {

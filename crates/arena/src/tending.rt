@@ -1,17 +1,21 @@
 // Taking keys from rings while others work, with a receipt for each.
-ghost use Rattle.std.specs.Prelude.{◌≡◌, ◌+◌, ◌≤◌, ◌++◌, length, sum_by, take, vec_len};
-ghost use Rattle.arena.specs.Tended.{AreLookedAt, AreRingsTended, IsRingTended, known_count};
+ghost use Rattle.std.specs.Prelude.{◌≡◌, ◌+◌, ◌<◌, ◌≤◌, ◌++◌, IfOk, OnErr, OnOk, length, sum_by, take, vec_len};
+ghost use Rattle.arena.specs.Tended.{AreLookedAt, AreRingsTended, IsFrontTended, IsRingTended, known_count};
 ghost use Rattle.span.specs.declared.limits.TheConstants.{MOST_RING_KEYS, MOST_SHARDS};
 
 use crate::arena::Arena;
+use crate::freeing::free_one;
 use crate::gate::Gate;
+use crate::hints::Place;
 use crate::receipts::Receipts;
 use crate::seat::Tended;
+use latch::Busy;
 use remote_queue::Inbox;
+use shard::Shard;
 use span::{Key, Log, SpanId};
 use std::sync::Wait;
 
-// How many keys are taken from a ring at once.
+// How many keys are taken from a ring at once, or freed under one lock.
 const BLOCK: usize = 64;
 
 // How many keys are seen on the rings, at most that many of each. Their ends then know them.
@@ -64,7 +68,8 @@ pub(crate) fn tend_rings<G: Gate, L: Log, R: Wait, K: Receipts>(
     total
 }
 
-// The same without waiting: it leaves off at the first key that needs a lock which another thread has, and says so.
+// The same without waiting: a key is taken only once it is freed, so that it leaves off at the first one that needs a lock which another
+// thread has, and says so.
 pub(crate) fn try_tend_rings<G: Gate, L: Log, K: Receipts>(
     arena: &Arena<G, L>,
     inboxes: &mut Vec<Inbox>,
@@ -120,21 +125,142 @@ fn try_tend_ring<G: Gate, L: Log, K: Receipts>(
     ensures tended { IsRingTended worker section result.count inbox.old inbox.new
         (K.told receipts.old) (K.told receipts.new) }
 {
-    for count in 0..most {
-        let key = inbox.peek_known();
-        let Ok(receipt) = arena.try_free_wherever(worker, section, &key) else {
+    let mut count = 0;
+    for _ in 0..most {
+        if count == most {
+            break;
+        }
+        let left = most - count;
+        let Ok(freed) = try_tend_some(arena, inbox, left, worker, section, receipts) else {
             return Tended {
                 count,
                 is_busy: true,
             };
         };
+        count += freed;
+    }
+    Tended {
+        count,
+        is_busy: false,
+    }
+}
+
+// Frees the next of the known keys, at most that many, and takes each: those in a row that are at home, or the one whose span is elsewhere.
+fn try_tend_some<G: Gate, L: Log, K: Receipts>(
+    arena: &Arena<G, L>,
+    inbox: &mut Inbox,
+    most: usize,
+    worker: u32,
+    section: u64,
+    receipts: &mut K,
+) -> Result<usize, Busy>
+    requires some { 0 < most }
+    requires known { most ≤ length inbox.old.known }
+    requires room { most ≤ K.room receipts.old }
+    ensures few { IfOk result (λ count. count ≤ most) }
+    ensures room { IfOk result (λ count. K.room receipts.old ≤ K.room receipts.new + count) }
+    ensures tended { IfOk result (λ count. IsFrontTended worker section count inbox.old inbox.new
+        (K.told receipts.old) (K.told receipts.new)) }
+    ensures busy { OnErr result ((K.room receipts.old ≤ K.room receipts.new)
+        × IsFrontTended worker section 0 inbox.old inbox.new (K.told receipts.old)
+        (K.told receipts.new)) }
+{
+    let at_home = try_tend_at_home(arena, inbox, most, worker, section, receipts)?;
+    if at_home > 0 {
+        return Ok(at_home);
+    }
+    match try_tend_next(arena, inbox, worker, section, receipts) {
+        Ok(()) => Ok(1),
+        Err(busy) => Err(busy),
+    }
+}
+
+// Frees the next of the known keys, at most that many and a block, as far as the worker's own shard has their spans, under its lock, and takes
+// each. Where the first key's span is elsewhere it takes no lock.
+fn try_tend_at_home<G: Gate, L: Log, K: Receipts>(
+    arena: &Arena<G, L>,
+    inbox: &mut Inbox,
+    most: usize,
+    worker: u32,
+    section: u64,
+    receipts: &mut K,
+) -> Result<usize, Busy>
+    requires some { 0 < most }
+    requires known { most ≤ length inbox.old.known }
+    requires room { most ≤ K.room receipts.old }
+    ensures few { IfOk result (λ count. count ≤ most) }
+    ensures room { IfOk result (λ count. K.room receipts.old ≤ K.room receipts.new + count) }
+    ensures tended { IfOk result (λ count. IsFrontTended worker section count inbox.old inbox.new
+        (K.told receipts.old) (K.told receipts.new)) }
+    ensures busy { OnErr result ((inbox.new ≡ inbox.old) × (receipts.new ≡ receipts.old)) }
+{
+    let key = inbox.peek_known();
+    if arena.hints.place_of(key.span) != Place::Shard(worker) {
+        return Ok(0);
+    }
+    let Some(lock) = arena.shards.get(worker as usize) else {
+        return Ok(0);
+    };
+    let mut shard = lock.try_lock()?;
+    arena.gate.inside(worker);
+    let block = most.min(BLOCK);
+    Ok(tend_front(
+        &mut *shard,
+        inbox,
+        block,
+        worker,
+        section,
+        receipts,
+    ))
+}
+
+// Frees at most that many of the known keys in the shard, as far as it has their spans, and takes each. It gives how many these are.
+fn tend_front<L: Log, K: Receipts>(
+    shard: &mut Shard<L>,
+    inbox: &mut Inbox,
+    most: usize,
+    worker: u32,
+    section: u64,
+    receipts: &mut K,
+) -> usize
+    requires known { most ≤ length inbox.old.known }
+    requires room { most ≤ K.room receipts.old }
+    ensures few { result ≤ most }
+    ensures room { K.room receipts.old ≤ K.room receipts.new + result }
+    ensures tended { IsFrontTended worker section result inbox.old inbox.new
+        (K.told receipts.old) (K.told receipts.new) }
+{
+    for count in 0..most {
+        let key = inbox.peek_known();
+        let Some(receipt) = free_one(shard, worker, section, &key) else {
+            return count;
+        };
         inbox.take_known();
         receipts.tell(receipt);
     }
-    Tended {
-        count: most,
-        is_busy: false,
-    }
+    most
+}
+
+// Frees the next of the known keys wherever its span is, and takes it then.
+fn try_tend_next<G: Gate, L: Log, K: Receipts>(
+    arena: &Arena<G, L>,
+    inbox: &mut Inbox,
+    worker: u32,
+    section: u64,
+    receipts: &mut K,
+) -> Result<(), Busy>
+    requires known { 0 < length inbox.old.known }
+    requires room { 0 < K.room receipts.old }
+    ensures room { OnOk result (K.room receipts.old ≤ K.room receipts.new + 1) }
+    ensures tended { OnOk result (IsFrontTended worker section 1 inbox.old inbox.new
+        (K.told receipts.old) (K.told receipts.new)) }
+    ensures busy { OnErr result ((inbox.new ≡ inbox.old) × (receipts.new ≡ receipts.old)) }
+{
+    let key = inbox.peek_known();
+    let receipt = arena.try_free_wherever(worker, section, &key)?;
+    inbox.take_known();
+    receipts.tell(receipt);
+    Ok(())
 }
 
 // Takes at most that many keys from a ring, a block at a time, and frees each. It gives how many there were.

@@ -110,11 +110,23 @@ impl<T: Drop> Latch<T> {
     // Inlined, the guard stays in registers: a call passes it through memory.
     #[inline(always)]
     pub fn try_lock(&self) -> Result<LatchGuard<'_, T>, Busy> {
-        for _ in 0..LOOKS {
-            if let Some((value, turn)) = self.take() {
-                return Ok(LatchGuard::new(self, turn, value));
-            }
+        // No other thread has it, mostly. A look before the swap would have the line of the word come twice from another processor.
+        match self.take() {
+            Some((value, turn)) => Ok(LatchGuard::new(self, turn, value)),
+            None => self.look_again(),
+        }
+    }
+
+    // The guard, after the first look: a load goes before each swap, which would take the word's line from who gives the value back.
+    #[inline(never)]
+    fn look_again(&self) -> Result<LatchGuard<'_, T>, Busy> {
+        for _ in 1..LOOKS {
             spin_loop();
+            if self.table.shared.peek(WORD) == 0 {
+                if let Some((value, turn)) = self.take() {
+                    return Ok(LatchGuard::new(self, turn, value));
+                }
+            }
         }
         Err(Busy)
     }
@@ -137,9 +149,6 @@ impl<T: Drop> Latch<T> {
         ensures { IfSome result (λ taken. taken.1 ≡ self.now) }
     {
         let shared = &self.table.shared;
-        if shared.peek(WORD) != 0 {
-            return None;
-        }
         let (found, mut seat) = shared.swap_new_seat::<Taking>(WORD, 1);
         if found != 0 {
             return None;

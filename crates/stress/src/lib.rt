@@ -49,4 +49,6 @@ mod tries;
 #[cfg(test)]
 mod trims;
 #[cfg(test)]
+mod words;
+#[cfg(test)]
 mod worker;

@@ -5,7 +5,7 @@ ghost use Rattle.std.specs.Prelude.{◌≡◌};
 use crate::held::{Holding, Signals, TURNS, Three, get, is_set_in_time, make_three, put};
 use arena::{Arena, Busy, Dropped, Gate, Seat, Stepped, Steward, Tended, Totals};
 use fold::Step;
-use span::{Counted, Key, Object};
+use span::{Class, Counted, Key, Object};
 use std::alloc::Global;
 use std::sync::Wait;
 use std::sync::atomic::Ordering::SeqCst;
@@ -160,8 +160,28 @@ fn answer_as_calls_that_wait(rt: HostRuntime) -> Result<(), Fail> {
     Ok(())
 }
 
-// What calls answer while another thread is inside of the first shard: a look-up of a key there, a mark and totals are busy, as is
-// tending the key that was left to that shard; a put into another shard is not.
+// Whether the calls by words are busy while another thread is inside of the first shard: a put there, and a look-up, a set and a free of a key there.
+fn by_words(
+    arena: &Arena<Holding<'_>, Counted>,
+    first: &mut Seat,
+    third: &mut Seat,
+    key: &Key,
+) -> [bool; 4]
+    requires first { first.old.limits ≡ arena.now.limits }
+    requires third { third.old.limits ≡ arena.now.limits }
+    ensures first { first.new.limits ≡ first.old.limits }
+    ensures third { third.new.limits ≡ third.old.limits }
+{
+    [
+        matches!(first.try_put_words(arena, Class::C16, &[7]), Err(Busy)),
+        third.try_get_words(arena, key, &mut [0u128]) == Err(Busy),
+        matches!(third.try_set_words(arena, key, &[8]), Err(Busy)),
+        third.try_free_untold(arena, key) == Err(Busy),
+    ]
+}
+
+// What calls answer while another thread is inside of the first shard: a look-up of a key there, a mark and totals are busy, as are
+// tending the key that was left to that shard and the calls by words there; a put into another shard is not.
 fn try_beside(
     arena: &Arena<Holding<'_>, Counted>,
     signals: &Signals,
@@ -169,9 +189,9 @@ fn try_beside(
     third: &mut Seat,
     steward: &mut Steward,
     key: &Key,
-) -> [bool; 5] {
+) -> [bool; 6] {
     if !first.fits(arena) || !third.fits(arena) || !steward.fits(arena) {
-        return [false; 5];
+        return [false; 6];
     }
     let came = is_set_in_time(&signals.came, TURNS);
     signals.begun.store(1, SeqCst);
@@ -184,6 +204,7 @@ fn try_beside(
                 count: 0,
                 is_busy: true,
             }),
+        by_words(arena, first, third, key) == [true; 4],
         try_put(arena, third).is_some(),
     ];
     signals.answered.store(1, SeqCst);
@@ -200,7 +221,7 @@ fn meet<R: Threads + Wait + Sync>(
     third: &mut Seat,
     steward: &mut Steward,
     key: &Key,
-) -> (bool, [bool; 5])
+) -> (bool, [bool; 6])
     requires { second.old.limits ≡ arena.now.limits }
 {
     signals.armed.store(1, SeqCst);
@@ -214,7 +235,7 @@ fn meet<R: Threads + Wait + Sync>(
 }
 
 // That, and what the first seat tends once nobody is inside.
-fn busy<R: Threads + Wait + Sync>(rt: &R, alloc: Global) -> Option<([bool; 5], Tended)> {
+fn busy<R: Threads + Wait + Sync>(rt: &R, alloc: Global) -> Option<([bool; 6], Tended)> {
     let signals = Signals::new();
     let gate = Holding {
         signals: &signals,
@@ -257,6 +278,6 @@ fn are_busy_while_a_thread_is_inside(rt: HostRuntime) -> Result<(), Fail> {
         is_busy: false,
     };
     let seen = busy(&rt, rt.alloc());
-    assert_eq!(rt; seen, Some(([true; 5], tended)));
+    assert_eq!(rt; seen, Some(([true; 6], tended)));
     Ok(())
 }

@@ -1,6 +1,7 @@
 //! What a thread does at its seat.
 
 use super::keys::Keys;
+use super::lanes::Lanes;
 use super::share::{Share, Turn};
 use crate::bytes::MOST_WORDS;
 use crate::core::{done, was_put, was_set};
@@ -24,17 +25,17 @@ use std::ptr::NonNull;
 /// finds. Their pages stay too, until they are empty, so [`Seat::end`] leaves them to the pool before, from where they are folded onto others. What
 /// other threads have left to it ([`Seat::free_later`]) nobody frees any more once it is gone.
 pub struct Seat<T> {
-    share: Share,
+    lanes: Lanes,
     turn: Turn,
     // A value of any other type is none of this arena, whatever its lifetime: it is read at all seats.
     values: PhantomData<Cell<T>>,
 }
 
 impl<T> Seat<T> {
-    /// The seat that a handle has.
-    pub(super) fn new(share: Share, turn: Turn) -> Seat<T> {
+    /// The seat that has these shards.
+    pub(super) fn new(lanes: Lanes, turn: Turn) -> Seat<T> {
         Seat {
-            share,
+            lanes,
             turn,
             values: PhantomData,
         }
@@ -52,11 +53,37 @@ impl<T: Copy> Seat<T> {
     #[doc(alias = "put")]
     #[inline]
     pub fn insert(&mut self, value: T) -> Result<Key, Refused> {
+        match self.insert_here(value) {
+            Ok(key) => {
+                self.lanes.count();
+                Ok(key)
+            }
+            Err(Refused::PagesSpent) => self.insert_beyond(value),
+            refused => refused,
+        }
+    }
+
+    /// Keeps a value in the shard whose turn it is.
+    #[inline]
+    fn insert_here(&mut self, value: T) -> Result<Key, Refused> {
         was_put(as_words(value, |first, len| {
             // SAFETY: the handle has a seat, no other call runs on it, and so many words stand there.
             self.turn
-                .at_seat(|| unsafe { raw::teurlaks_seat_put_words(self.share.handle(), first.cast(), len) })
+                .at_seat(|| unsafe { raw::teurlaks_seat_put_words(self.lanes.handle(), first.cast(), len) })
         }))
+    }
+
+    /// Keeps a value in the next of the seat's other shards that has room, whose turn it is then.
+    #[cold]
+    fn insert_beyond(&mut self, value: T) -> Result<Key, Refused> {
+        for _ in 1..self.lanes.len() {
+            self.lanes.turn();
+            match self.insert_here(value) {
+                Err(Refused::PagesSpent) => {}
+                done => return done,
+            }
+        }
+        Err(Refused::PagesSpent)
     }
 
     /// The value of the key, where it is live, of whichever shard.
@@ -65,10 +92,10 @@ impl<T: Copy> Seat<T> {
     pub fn get(&self, key: Key) -> Option<T> {
         let mut words = [MaybeUninit::<u128>::uninit(); MOST_WORDS];
         let first = words.as_mut_ptr().cast();
-        // SAFETY: as in `insert`, and there is room for 16 words.
+        // SAFETY: as in `insert_here`, and there is room for 16 words.
         let got = self
             .turn
-            .at_seat(|| unsafe { raw::teurlaks_seat_get_words(self.share.handle(), key.raw(), first, MOST_WORDS) });
+            .at_seat(|| unsafe { raw::teurlaks_seat_get_words(self.lanes.handle(), key.raw(), first, MOST_WORDS) });
         // SAFETY: the library is proved to find what was put or set, and at all seats only values of this type were.
         (got.status == raw::OK).then(|| unsafe { words.as_ptr().cast::<T>().read_unaligned() })
     }
@@ -81,9 +108,9 @@ impl<T: Copy> Seat<T> {
     #[inline]
     pub fn set(&mut self, key: Key, value: T) -> Result<bool, Refused> {
         was_set(as_words(value, |first, len| {
-            // SAFETY: as in `insert`.
+            // SAFETY: as in `insert_here`.
             self.turn
-                .at_seat(|| unsafe { raw::teurlaks_seat_set_words(self.share.handle(), key.raw(), first.cast(), len) })
+                .at_seat(|| unsafe { raw::teurlaks_seat_set_words(self.lanes.handle(), key.raw(), first.cast(), len) })
         }))
     }
 
@@ -102,24 +129,24 @@ impl<T> Seat<T> {
     #[must_use]
     pub fn contains(&self, key: Key) -> bool {
         let none = NonNull::dangling().as_ptr();
-        // SAFETY: as in `insert`, and there is no room, into which nothing is written.
+        // SAFETY: as in `insert_here`, and there is no room, into which nothing is written.
         let got = self
             .turn
-            .at_seat(|| unsafe { raw::teurlaks_seat_get_words(self.share.handle(), key.raw(), none, 0) });
+            .at_seat(|| unsafe { raw::teurlaks_seat_get_words(self.lanes.handle(), key.raw(), none, 0) });
         got.status != raw::NONE
     }
 
     /// The live keys of all shards, one after another, as [`Arena::keys`](super::Arena::keys) gives them.
     pub fn keys(&self) -> Keys<'_> {
-        Keys::of_seat(&self.share, &self.turn)
+        Keys::of_seat(self.lanes.here(), &self.turn)
     }
 
     /// Frees the key, and says whether it was live. The key finds nothing from then on, at any seat. It takes no memory.
     #[inline]
     pub fn free(&mut self, key: Key) -> bool {
-        // SAFETY: as in `insert`.
+        // SAFETY: as in `insert_here`.
         self.turn
-            .at_seat(|| unsafe { raw::teurlaks_seat_free(self.share.handle(), key.raw()) })
+            .at_seat(|| unsafe { raw::teurlaks_seat_free(self.lanes.handle(), key.raw()) })
             == raw::OK
     }
 
@@ -136,8 +163,8 @@ impl<T> Seat<T> {
     /// - [`Refused::Config`]: the arena has no shard of this number.
     #[inline]
     pub fn free_later(&mut self, key: Key) -> Result<(), Refused> {
-        // SAFETY: as in `insert`.
-        match unsafe { raw::teurlaks_seat_free_later(self.share.handle(), key.raw()) } {
+        // SAFETY: as in `insert_here`.
+        match unsafe { raw::teurlaks_seat_free_later(self.lanes.handle(), key.raw()) } {
             raw::OK => Ok(()),
             raw::NONE => Err(Refused::Config),
             other => Err(Refused::of(other)),
@@ -146,12 +173,12 @@ impl<T> Seat<T> {
 
     /// Hands over the keys that were left to others and wait for their block to be full. It takes no lock and no memory.
     pub fn hand_over(&mut self) {
-        // SAFETY: as in `insert`.
-        let status = unsafe { raw::teurlaks_seat_hand_over(self.share.handle()) };
+        // SAFETY: as in `insert_here`.
+        let status = unsafe { raw::teurlaks_seat_hand_over(self.lanes.handle()) };
         debug_assert_eq!(status, raw::OK, "the handle has a seat");
     }
 
-    /// Hands over as [`Seat::hand_over`] does, takes the keys that others have left to the seat's shard, as many as are seen, frees each, and says
+    /// Hands over as [`Seat::hand_over`] does, takes the keys that others have left to the seat's shards, as many as are seen, frees each, and says
     /// how many there were, with those that were not live any more.
     ///
     /// # Errors
@@ -159,17 +186,21 @@ impl<T> Seat<T> {
     /// [`Refused::OutOfMemory`] where memory was refused. What was freed before stays so, and the other keys are still there.
     pub fn tend(&mut self) -> Result<usize, Refused> {
         let mut taken = 0;
-        let tended = self.turn.at_seat(|| {
-            // SAFETY: as in `insert`.
-            let tended = unsafe { raw::teurlaks_seat_tend(self.share.handle()) };
-            taken += tended.count;
-            tended
-        });
-        done(tended.status).map(|()| taken)
+        for lane in self.lanes.all() {
+            let tended = self.turn.at_seat(|| {
+                // SAFETY: as in `insert_here`.
+                let tended = unsafe { raw::teurlaks_seat_tend(lane.handle()) };
+                taken += tended.count;
+                tended
+            });
+            done(tended.status)?;
+        }
+        Ok(taken)
     }
 
     /// Ends the seat's shard: its groups go to the pool, with their pages, from where they are folded or adopted, and it takes no value until it
-    /// [begins](Seat::begin) again. All keys stay what they are, and the seat goes on to read, set and free.
+    /// [begins](Seat::begin) again. All keys stay what they are, and the seat goes on to read, set and free. Of several shards all end or none:
+    /// where one is refused, the groups of those before it are in the pool, and all take values.
     ///
     /// # Errors
     ///
@@ -177,11 +208,15 @@ impl<T> Seat<T> {
     /// - [`Refused::PlanOpen`]: one of its groups is in the open plan;
     /// - [`Refused::OutOfMemory`]: none of these holds, and memory was refused.
     pub fn end(&mut self) -> Result<(), Refused> {
-        // SAFETY: as in `insert`.
-        done(
-            self.turn
-                .at_seat(|| unsafe { raw::teurlaks_seat_end(self.share.handle()) }),
-        )
+        for (ended, lane) in self.lanes.all().enumerate() {
+            // SAFETY: as in `insert_here`.
+            let refused = done(self.turn.at_seat(|| unsafe { raw::teurlaks_seat_end(lane.handle()) }));
+            if refused.is_err() {
+                self.begin_first(ended)?;
+                return refused;
+            }
+        }
+        Ok(())
     }
 
     /// Lets the seat's shard run again after its end, mostly in another thread, which the seat was sent to: it takes values as before, and
@@ -191,15 +226,20 @@ impl<T> Seat<T> {
     ///
     /// [`Refused::Running`]: the shard has not ended.
     pub fn begin(&mut self) -> Result<(), Refused> {
-        // SAFETY: as in `insert`.
-        done(
-            self.turn
-                .at_seat(|| unsafe { raw::teurlaks_seat_begin(self.share.handle()) }),
-        )
+        self.begin_first(self.lanes.len())
+    }
+
+    /// Lets so many of the seat's shards run again.
+    fn begin_first(&self, count: usize) -> Result<(), Refused> {
+        self.lanes.all().take(count).try_for_each(|lane| {
+            // SAFETY: as in `insert_here`.
+            done(self.turn.at_seat(|| unsafe { raw::teurlaks_seat_begin(lane.handle()) }))
+        })
     }
 
     /// Moves up to `most` groups of the seat's shard to the pool, with their pages, and says how many went: those with the fewest live keys, of
-    /// those that have one. The shard goes on.
+    /// those that have one. The shard goes on. Of several shards each moves up to its part of that number, and a refusal of one is told where
+    /// none has moved any before it.
     ///
     /// # Errors
     ///
@@ -207,25 +247,37 @@ impl<T> Seat<T> {
     /// - [`Refused::PlanOpen`]: one of its groups is in the open plan;
     /// - [`Refused::OutOfMemory`]: none of these holds, and memory was refused.
     pub fn retire(&mut self, most: usize) -> Result<usize, Refused> {
-        // SAFETY: as in `insert`.
-        let retired = self
-            .turn
-            .at_seat(|| unsafe { raw::teurlaks_seat_retire(self.share.handle(), most) });
-        done(retired.status).map(|()| retired.count)
+        let lanes = self.lanes.len();
+        let mut gone = 0;
+        for (number, lane) in self.lanes.all().enumerate() {
+            let part = most / lanes + usize::from(number < most % lanes);
+            // SAFETY: as in `insert_here`.
+            let retired = self
+                .turn
+                .at_seat(|| unsafe { raw::teurlaks_seat_retire(lane.handle(), part) });
+            match done(retired.status) {
+                Ok(()) => gone += retired.count,
+                Err(_) if gone > 0 => break,
+                Err(refused) => return Err(refused),
+            }
+        }
+        Ok(gone)
     }
 
-    /// Gives back the pages of the seat's shard on which nothing is live, and says how many went. A group of the open plan keeps its page. It takes
-    /// no memory.
+    /// Gives back the pages of the seat's shard, or of all that it has, on which nothing is live, and says how many went. A group of the open plan
+    /// keeps its page. It takes no memory.
     pub fn trim(&mut self) -> usize {
-        // SAFETY: as in `insert`.
-        let trimmed = self
-            .turn
-            .at_seat(|| unsafe { raw::teurlaks_seat_trim(self.share.handle()) });
-        debug_assert_eq!(trimmed.status, raw::OK, "a trim is not refused");
-        trimmed.count
+        let trim = |lane: &Share| {
+            // SAFETY: as in `insert_here`.
+            let trimmed = self.turn.at_seat(|| unsafe { raw::teurlaks_seat_trim(lane.handle()) });
+            debug_assert_eq!(trimmed.status, raw::OK, "a trim is not refused");
+            trimmed.count
+        };
+        self.lanes.all().map(trim).sum()
     }
 
-    /// Moves the pool's group of lowest head that has a page to the seat's shard, and gives its name.
+    /// Moves the pool's group of lowest head that has a page to the seat's shard, or to the next of several that may have a further page, and
+    /// gives its name.
     ///
     /// # Errors
     ///
@@ -235,11 +287,17 @@ impl<T> Seat<T> {
     /// - [`Refused::NothingToAdopt`]: no group of the pool has a page;
     /// - [`Refused::OutOfMemory`]: none of these holds, and memory was refused.
     pub fn adopt(&mut self) -> Result<Group, Refused> {
-        // SAFETY: as in `insert`.
-        let adopted = self
-            .turn
-            .at_seat(|| unsafe { raw::teurlaks_seat_adopt(self.share.handle()) });
-        done(adopted.status).map(|()| Group(adopted.head))
+        for _ in 0..self.lanes.len() {
+            // SAFETY: as in `insert_here`.
+            let adopted = self
+                .turn
+                .at_seat(|| unsafe { raw::teurlaks_seat_adopt(self.lanes.handle()) });
+            match done(adopted.status) {
+                Err(Refused::PagesSpent) => self.lanes.turn(),
+                answer => return answer.map(|()| Group(adopted.head)),
+            }
+        }
+        Err(Refused::PagesSpent)
     }
 }
 

@@ -1,5 +1,5 @@
 //! `shared WHO WORK THREADS CALLS`: a store that so many threads share, in a process of its own. WHO is `shared` (`teurlaks::SharedStore`), `arena`
-//! (a seat of a `teurlaks::Arena` for each thread), `mutex` (a `teurlaks::Store` behind one mutex) or `sharded-slab`. Each thread has 1,000 words
+//! (a seat of a `teurlaks::Arena` for each thread), `lanes` (the same, where each seat has four shards), `mutex` (a `teurlaks::Store` behind one mutex) or `sharded-slab`. Each thread has 1,000 words
 //! of 128 bits of its own, and WORK is `churn` (each call frees one and puts another), `own` (each reads one) or `other` (each reads one of another
 //! thread's, of all others in turn); or each has as many as it has calls, and WORK is `later`: it frees those of the next thread, by `free_later`
 //! at a seat, which tends after each 64 calls. It tells nanoseconds a call of the slowest thread, by the clock, the least of 10 rounds in which all
@@ -63,12 +63,12 @@ impl Place for &teurlaks::SharedStore<u128> {
 
 struct Seats(Mutex<teurlaks::Arena<u128>>);
 impl Seats {
-    fn new(shards: usize) -> Option<Seats> {
+    fn new(seats: usize, lanes: u32) -> Option<Seats> {
         let limits = teurlaks::Limits {
-            shards: u32::try_from(shards).ok()?,
+            shards: u32::try_from(seats).ok()?,
             ..teurlaks::Limits::default()
         };
-        Some(Seats(Mutex::new(teurlaks::Arena::open(limits).ok()?)))
+        Some(Seats(Mutex::new(teurlaks::Arena::with_lanes(limits, 256, lanes).ok()?)))
     }
 }
 impl Store for Seats {
@@ -243,7 +243,8 @@ fn round<S: Store>(store: S, work: Work, threads: usize, count: usize) -> Option
 fn of(who: &str, work: Work, threads: usize, calls: usize) -> Option<f64> {
     let rounds = (0..MOST_TRIES).filter_map(|_| match who {
         "shared" => round(teurlaks::SharedStore::new().ok()?, work, threads, calls),
-        "arena" => round(Seats::new(threads)?, work, threads, calls),
+        "arena" => round(Seats::new(threads, 1)?, work, threads, calls),
+        "lanes" => round(Seats::new(threads, 4)?, work, threads, calls),
         "mutex" => round(Locked(Mutex::new(teurlaks::Store::new().ok()?)), work, threads, calls),
         "sharded-slab" => round(sharded_slab::Slab::new(), work, threads, calls),
         _ => None,
@@ -274,7 +275,7 @@ fn main() -> ExitCode {
             ExitCode::SUCCESS
         }
         None => {
-            eprintln!("shared shared|arena|mutex|sharded-slab churn|own|other|later THREADS CALLS, with 2 threads or more for other and later");
+            eprintln!("shared shared|arena|lanes|mutex|sharded-slab churn|own|other|later THREADS CALLS, with 2 threads or more for other and later");
             ExitCode::from(2)
         }
     }

@@ -1,12 +1,10 @@
-use Rattle.std.proofs.Common.{◌≡◌, ◌≤◌, ◌+◌, ◌++◌, take, drop}
-use Rattle.arena.specs.Receipts.{AddsFrees}
+use Rattle.std.proofs.Common.{◌≤◌, ◌+◌}
+use Rattle.arena.specs.Tended.{IsFrontTended}
 use Rattle.arena.proofs.tending.try_tend_ring.Given as goal
 
-abbrev pub invariant-loop-count : goal.invariant-loop-count
-invariant-loop-count g l = record {
+abbrev pub invariant-loop : goal.invariant-loop
+invariant-loop g l = record {
+  few : l.count ≤ l.most;
   room : g.K.Receipts.room l.fn.receipts ≤ g.K.Receipts.room l.receipts + l.count;
-  ring : l.inbox.ring ≡ l.fn.inbox.ring;
-  taken : l.inbox.taken ≡ l.fn.inbox.taken ++ take l.count l.fn.inbox.known;
-  known : l.inbox.known ≡ drop l.count l.fn.inbox.known;
-  freed : AddsFrees l.worker l.section (take l.count l.fn.inbox.known) (g.K.Receipts.told l.fn.receipts) (g.K.Receipts.told l.receipts);
+  tended : IsFrontTended l.worker l.section l.count l.fn.inbox l.inbox (g.K.Receipts.told l.fn.receipts) (g.K.Receipts.told l.receipts);
 }

@@ -1,0 +1,190 @@
+//! That calls by words, of which no receipt is made, answer what the calls with receipts do, wherever the key's span is.
+ghost use Rattle.std.specs.Prelude.{◌≡◌};
+
+use crate::held::{Holding, Signals, TURNS, Three, make_three};
+use arena::{Arena, Seat, Stepped, Steward};
+use fold::Step;
+use span::{Class, Counted, Key, Object};
+use std::alloc::Global;
+use std::test::Fail;
+
+fn put(arena: &Arena<Holding<'_>, Counted>, seat: &mut Seat, word: u128) -> Option<(Key, usize)>
+    requires { seat.old.limits ≡ arena.now.limits }
+    ensures { seat.new.limits ≡ seat.old.limits }
+{
+    match seat.try_put_words(arena, Class::C16, &[word]) {
+        Ok(Ok(put)) => Some(put),
+        _ => None,
+    }
+}
+
+fn set(
+    arena: &Arena<Holding<'_>, Counted>,
+    seat: &mut Seat,
+    key: &Key,
+    word: u128,
+) -> Option<(bool, usize)>
+    requires { seat.old.limits ≡ arena.now.limits }
+    ensures { seat.new.limits ≡ seat.old.limits }
+{
+    match seat.try_set_words(arena, key, &[word]) {
+        Ok(Ok(set)) => Some(set),
+        _ => None,
+    }
+}
+
+fn free(arena: &Arena<Holding<'_>, Counted>, seat: &mut Seat, key: &Key) -> Option<(bool, usize)>
+    requires { seat.old.limits ≡ arena.now.limits }
+    ensures { seat.new.limits ≡ seat.old.limits }
+{
+    seat.try_free_untold(arena, key).ok()
+}
+
+// How many words a look-up finds, the first of them, and how many changes the log of the key's span has.
+fn found(
+    arena: &Arena<Holding<'_>, Counted>,
+    seat: &mut Seat,
+    key: &Key,
+) -> Option<(Option<usize>, u128, usize)>
+    requires { seat.old.limits ≡ arena.now.limits }
+    ensures { seat.new.limits ≡ seat.old.limits }
+{
+    let mut room = [0u128];
+    match seat.try_get_words(arena, key, &mut room) {
+        Ok((words, at)) => Some((words, room[0], at)),
+        Err(_) => None,
+    }
+}
+
+// Whether a look-up with a receipt finds the word, and one by words does so after as many changes.
+fn finds(arena: &Arena<Holding<'_>, Counted>, seat: &mut Seat, key: &Key, word: u128) -> bool
+    requires { seat.old.limits ≡ arena.now.limits }
+    ensures { seat.new.limits ≡ seat.old.limits }
+{
+    match seat.try_get(arena, key) {
+        Ok((object, receipt)) => {
+            object == Some(Object::c16(word))
+                && found(arena, seat, key) == Some((Some(1), word, receipt.at))
+        }
+        Err(_) => false,
+    }
+}
+
+// Finds the word, and sets the key to the next one: whether it did, and after how many changes.
+fn visit(
+    arena: &Arena<Holding<'_>, Counted>,
+    seat: &mut Seat,
+    key: &Key,
+    word: u8,
+) -> Option<(bool, usize)>
+    requires { seat.old.limits ≡ arena.now.limits }
+    ensures { seat.new.limits ≡ seat.old.limits }
+{
+    let word = u128::from(word);
+    if !finds(arena, seat, key, word) {
+        return None;
+    }
+    set(arena, seat, key, word + 1)
+}
+
+// Whether the group of the one seat was folded onto that of the other, which has a key at the lowest slot.
+fn folds(
+    arena: &Arena<Holding<'_>, Counted>,
+    from: &mut Seat,
+    onto: &mut Seat,
+    steward: &mut Steward,
+) -> bool
+    requires from { from.old.limits ≡ arena.now.limits }
+    requires onto { onto.old.limits ≡ arena.now.limits }
+    requires steward { steward.old.limits ≡ arena.now.limits }
+    ensures from { from.new.limits ≡ from.old.limits }
+    ensures onto { onto.new.limits ≡ onto.old.limits }
+{
+    put(arena, onto, 1).is_some()
+        && from.try_retire(arena, 4) == Ok(Ok(1))
+        && matches!(arena.try_mark(steward), Ok(Ok(_)))
+        && matches!(
+            arena.try_step(steward),
+            Ok(Ok(Stepped::Taken(_, _, Step::Folded)))
+        )
+        && arena.try_close(steward) == Ok(true)
+}
+
+// After how many changes two keys were put, and the first of them was freed; what the visits answered of the second, in the shard
+// that opened its span, in the pool, in a shard that adopted it and in one onto whose group it was folded; what two frees of it
+// answered then, and a set; and what a look-up finds.
+type Answers = (
+    [usize; 2],
+    [(bool, usize); 5],
+    [(bool, usize); 3],
+    (Option<usize>, u128, usize),
+);
+
+fn answers(
+    arena: &Arena<Holding<'_>, Counted>,
+    first: &mut Seat,
+    second: &mut Seat,
+    third: &mut Seat,
+    steward: &mut Steward,
+) -> Option<Answers>
+    requires first { first.old.limits ≡ arena.now.limits }
+    requires second { second.old.limits ≡ arena.now.limits }
+    requires third { third.old.limits ≡ arena.now.limits }
+    requires steward { steward.old.limits ≡ arena.now.limits }
+{
+    let (low, at_low) = put(arena, first, 6)?;
+    let (key, at_key) = put(arena, first, 7)?;
+    let freed = free(arena, second, &low)?;
+    let at_home = visit(arena, second, &key, 7)?;
+    if first.try_end(arena) != Ok(Ok(())) {
+        return None;
+    }
+    let in_pool = visit(arena, second, &key, 8)?;
+    if !matches!(second.try_adopt(arena), Ok(Ok(_))) {
+        return None;
+    }
+    let adopted = visit(arena, third, &key, 9)?;
+    if !folds(arena, second, third, steward) {
+        return None;
+    }
+    let folded = visit(arena, first, &key, 10)?;
+    let gone = [
+        free(arena, first, &key)?,
+        free(arena, second, &key)?,
+        set(arena, third, &key, 5)?,
+    ];
+    let none = found(arena, third, &key)?;
+    Some((
+        [at_low, at_key],
+        [freed, at_home, in_pool, adopted, folded],
+        gone,
+        none,
+    ))
+}
+
+// The same of a new arena, whose gate holds nobody.
+fn answered(alloc: Global) -> Option<Answers> {
+    let signals = Signals::new();
+    let gate = Holding {
+        signals: &signals,
+        shard: 0,
+        turns: TURNS,
+    };
+    let Three {
+        arena,
+        mut first,
+        mut second,
+        mut third,
+        mut steward,
+    } = make_three(alloc, gate)?;
+    answers(&arena, &mut first, &mut second, &mut third, &mut steward)
+}
+
+#[test]
+fn answer_as_calls_with_receipts(rt: HostRuntime) -> Result<(), Fail> {
+    let visits = [(true, 2), (true, 3), (true, 4), (true, 5), (true, 6)];
+    let gone = [(true, 7), (false, 8), (false, 8)];
+    let wanted = ([0, 1], visits, gone, (None, 0, 8));
+    assert_eq!(rt; answered(rt.alloc()), Some(wanted));
+    Ok(())
+}
