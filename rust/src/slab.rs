@@ -124,8 +124,8 @@ impl<T> Slab<T> {
     }
 
     /// How many values it may hold at once at most: as many as there are slots on the pages that the shards which have not ended may have.
-    /// It is not what it has memory for. Fewer fit where slots have spent their generations, or shards the pages that they open in their
-    /// life.
+    /// It is not what it has memory for. Fewer fit where slots have given out all their generations, or shards have opened all spans
+    /// that they open in their life.
     #[must_use]
     pub fn capacity(&self) -> usize {
         self.core.running_shards() * self.core.limits().pages as usize * values::Values::<T>::SLOTS

@@ -13,6 +13,7 @@ use Rattle.span.proofs.LegalLogs.{puts_of-empty}
 use Rattle.span.proofs.OfClass.{Fits-replay}
 use Rattle.audit.specs.Changes.{AreAfter, AreIssued, slot_of, left_by, generation_of, issued_by}
 use Rattle.audit.proofs.Replies.{generation_more, get_none}
+use Rattle.bitmap.specs.declared.bits.TheConstants.{SLOTS}
 
 pub IsOfClass-at : (class : Class) (changes : List Change) (at : ℕ) (change : Change) → IsOfClass class changes → slice_get changes at ≡ Some change → IsChangeOf class change
 IsOfClass-at class [] at change of_class is = absurd cc
@@ -41,7 +42,8 @@ read_zeros n slot = elim (cases_lt slot n) [
 pub issued_none : (n slot : ℕ) → get_or (replicate n 0) slot 0 ≡ puts_of slot []
 issued_none n slot = read_zeros n slot ∙ sym (puts_of-empty slot)
 
-pub AreAfter-more : (before : List Change) (c : Change) (held : List (Option ℕ)) (s : ℕ) (left : Option ℕ) → length held ≡ 256 → s ≡ slot_of c → left ≡ option_map generation_of (left_by c)
+pub AreAfter-more : (before : List Change) (c : Change) (held : List (Option ℕ)) (s : ℕ) (left : Option ℕ) → length held ≡ SLOTS → s ≡ slot_of c
+    → left ≡ option_map generation_of (left_by c)
     → AreAfter before held → AreAfter (before ++ c ∷ []) (set held s left)
 AreAfter-more before c held s left long is_slot is_left after q fits = elim (cases_eq q s) [
   | inl same ↦
@@ -92,7 +94,7 @@ puts_more gens before (Change.Put slot generation value) legal q = elim (cases_e
 puts_more gens before (Change.Set slot generation value) legal q = puts_of-set before slot generation value q ∙ puts_same before q slot
 puts_more gens before (Change.Free slot generation) legal q = puts_of-free before slot generation q ∙ puts_same before q slot
 
-pub AreIssued-more : (gens : ℕ) (before : List Change) (c : Change) (issued : List ℕ) (s last next : ℕ) → length issued ≡ 256 → s < 256 → s ≡ slot_of c
+pub AreIssued-more : (gens : ℕ) (before : List Change) (c : Change) (issued : List ℕ) (s last next : ℕ) → length issued ≡ SLOTS → s < SLOTS → s ≡ slot_of c
     → last ≡ get_or issued s 0 → next ≡ issued_by c last
     → AreIssued before issued → IsLegalAfter gens before c → AreIssued (before ++ c ∷ []) (set issued s next)
 AreIssued-more gens before c issued s last next long small is_slot is_last is_next is legal q fits =

@@ -1,5 +1,5 @@
 -- The numbers that parts of 256 have.
-use Rattle.std.proofs.Common.{◌≡◌, ℕ, ◌+◌, ◌-◌, ◌*◌, ◌/◌, ◌%◌, ◌<◌, ◌≤◌, ◌⊎◌, [], Bool, true, false, Option, Some, None, ◌&&◌, ◌||◌, not, nat_lt, List, length, get_or, set, get_or-set_same, get_or-set_other, ◌∙◌, ap, sym, refl, inl, inr, arith, lt-ltb, le-ltb, eq-eqb}
+use Rattle.std.proofs.Common.{◌≡◌, ℕ, ◌+◌, ◌-◌, ◌*◌, ◌/◌, ◌%◌, ◌<◌, ◌≤◌, ◌⊎◌, [], false, Option, Some, None, ◌&&◌, ◌||◌, not, nat_lt, List, length, get_or, set, get_or-set_same, get_or-set_other, ◌∙◌, ap, sym, refl, inl, inr, arith, lt-ltb, le-ltb, eq-eqb}
 use Rattle.std.specs.Ordering.{nat_cmp, eq_by_cmp}
 use Rattle.std.specs.Cmp.{nat_cmp_total, unsigned_tied}
 use Rattle.std.specs.FinSet.{contains, empty, insert, remove, contains-empty, contains-insert, contains-remove}
@@ -11,114 +11,141 @@ use Rattle.std.specs.Prelude.{Err, IfSome, IsOk, MatchOption, Ok, Result, if◌t
 use Rattle.bitmap.specs.Parts.{HasNoneIn, IsLowestIn, has_number, numbers_in}
 use Rattle.bitmap.specs.Slots.{SlotSet, IsLowest}
 use Rattle.bitmap.specs.Words.{contains-slots_where, same_slots}
+use Rattle.bitmap.specs.declared.bits.TheConstants.{SLOTS}
 
-has_number-past : (parts : List SlotSet) (q : ℕ) → 256 * length parts ≤ q → has_number parts q ≡ false
-has_number-past parts q past = rw (get_or_past parts (q / 256) empty (omega arith)) (contains-empty nat_cmp (q % 256))
+has_number-past : (parts : List SlotSet) (q : ℕ) → SLOTS * length parts ≤ q → has_number parts q ≡ false
+has_number-past parts q past = rw (get_or_past parts (q / SLOTS) empty (omega arith)) (contains-empty nat_cmp (q % SLOTS))
 
 pub contains-numbers_in : (parts : List SlotSet) (q : ℕ) → contains (numbers_in parts) q ≡ has_number parts q
 unfolding numbers_in
-contains-numbers_in parts q = contains-slots_where (has_number parts) (256 * length parts) q ∙ each (cases_lt q (256 * length parts))
+contains-numbers_in parts q = contains-slots_where (has_number parts) (SLOTS * length parts) q ∙ each (cases_lt q (SLOTS * length parts))
   where
-    each : (q < 256 * length parts) ⊎ (256 * length parts ≤ q) → (has_number parts q && nat_lt q (256 * length parts)) ≡ has_number parts q
-    each (inl low) = rw (lt-ltb q (256 * length parts) low) (and-true (has_number parts q))
+    each : (q < SLOTS * length parts) ⊎ (SLOTS * length parts ≤ q) → (has_number parts q && nat_lt q (SLOTS * length parts)) ≡ has_number parts q
+    each (inl low) = rw (lt-ltb q (SLOTS * length parts) low) (and-true (has_number parts q))
     each (inr high) = rw (has_number-past parts q high) refl
 
 -- a number past the last part is in none
-pub contains-past : (parts : List SlotSet) (q : ℕ) → length parts ≤ q / 256 → contains (numbers_in parts) q ≡ false
+pub contains-past : (parts : List SlotSet) (q : ℕ) → length parts ≤ q / SLOTS → contains (numbers_in parts) q ≡ false
 contains-past parts q past = contains-numbers_in parts q ∙ has_number-past parts q (omega arith)
 
 -- an element that was read, whatever stands past the end
 read_part : (parts : List SlotSet) (at : ℕ) (past : SlotSet) → at < length parts → get_or parts at empty ≡ get_or parts at past
 read_part parts at past within = get_or_from_slice_get parts at (get_or parts at past) empty (slice_get-get_or parts at past within)
 
-pub contains-part : (parts : List SlotSet) (q : ℕ) (past : SlotSet) → q / 256 < length parts → contains (get_or parts (q / 256) past) (q % 256) ≡ contains (numbers_in parts) q
-contains-part parts q past within = ap (λ s. contains s (q % 256)) (sym (read_part parts (q / 256) past within)) ∙ sym (contains-numbers_in parts q)
+pub contains-part : (parts : List SlotSet) (q : ℕ) (past : SlotSet) → q / SLOTS < length parts
+    → contains (get_or parts (q / SLOTS) past) (q % SLOTS) ≡ contains (numbers_in parts) q
+contains-part parts q past within = ap (λ s. contains s (q % SLOTS)) (sym (read_part parts (q / SLOTS) past within)) ∙ sym (contains-numbers_in parts q)
 
 -- two lists of parts have the same numbers where each part does
 pub numbers_in-alike : (a b : List SlotSet) → ((at : ℕ) → get_or a at empty ≡ get_or b at empty) → numbers_in a ≡ numbers_in b
-numbers_in-alike a b alike = same_slots _ _ (λ q. contains-numbers_in a q ∙ ap (λ s. contains s (q % 256)) (alike (q / 256)) ∙ sym (contains-numbers_in b q))
+numbers_in-alike a b alike = same_slots _ _
+    (λ q. contains-numbers_in a q ∙ ap (λ s. contains s (q % SLOTS)) (alike (q / SLOTS)) ∙ sym (contains-numbers_in b q))
 
 -- one part replaced
 module _ (parts : List SlotSet) (at : ℕ) (within : at < length parts) (new : SlotSet) where
-  pub contains-set_same : (q : ℕ) → q / 256 ≡ at → contains (numbers_in (set parts at new)) q ≡ contains new (q % 256)
+  pub contains-set_same : (q : ℕ) → q / SLOTS ≡ at → contains (numbers_in (set parts at new)) q ≡ contains new (q % SLOTS)
   contains-set_same q here = contains-numbers_in (set parts at new) q ∙ rw (here, get_or-set_same parts at new empty within) refl
 
-  pub contains-set_other : (q : ℕ) → (q / 256 ≡ at → ⊥) → contains (numbers_in (set parts at new)) q ≡ contains (numbers_in parts) q
-  contains-set_other q apart = contains-numbers_in (set parts at new) q ∙ rw (get_or-set_other parts at (q / 256) new empty apart) refl ∙ sym (contains-numbers_in parts q)
+  pub contains-set_other : (q : ℕ) → (q / SLOTS ≡ at → ⊥) → contains (numbers_in (set parts at new)) q ≡ contains (numbers_in parts) q
+  contains-set_other q apart = contains-numbers_in (set parts at new) q ∙ rw (get_or-set_other parts at (q / SLOTS) new empty apart) refl
+      ∙ sym (contains-numbers_in parts q)
 
-module _ (parts : List SlotSet) (index : ℕ) (within : index / 256 < length parts) (past : SlotSet) where
+module _ (parts : List SlotSet) (index : ℕ) (within : index / SLOTS < length parts) (past : SlotSet) where
   abbrev part : SlotSet
-  part = get_or parts (index / 256) past
+  part = get_or parts (index / SLOTS) past
 
-  part_at : (q : ℕ) → q / 256 ≡ index / 256 → contains part (q % 256) ≡ contains (numbers_in parts) q
-  part_at q here = ap (λ k. contains (get_or parts k past) (q % 256)) (sym here) ∙ contains-part parts q past (omega (arith, here, within))
+  part_at : (q : ℕ) → q / SLOTS ≡ index / SLOTS → contains part (q % SLOTS) ≡ contains (numbers_in parts) q
+  part_at q here = ap (λ k. contains (get_or parts k past) (q % SLOTS)) (sym here) ∙ contains-part parts q past (omega (arith, here, within))
 
-  same_place : (q : ℕ) → q / 256 ≡ index / 256 → q % 256 ≡ index % 256 → q ≡ index
+  same_place : (q : ℕ) → q / SLOTS ≡ index / SLOTS → q % SLOTS ≡ index % SLOTS → q ≡ index
   same_place q a b = omega (arith, a, b)
 
-  pub numbers_in-insert : numbers_in (set parts (index / 256) (insert part (index % 256))) ≡ insert (numbers_in parts) index
-  numbers_in-insert = same_slots _ _ (λ q. each q (cases_eq (q / 256) (index / 256)) (cases_eq q index) ∙ sym (contains-insert nat_cmp_total (numbers_in parts) index q))
+  pub numbers_in-insert : numbers_in (set parts (index / SLOTS) (insert part (index % SLOTS))) ≡ insert (numbers_in parts) index
+  numbers_in-insert = same_slots _ _
+      (λ q. each q (cases_eq (q / SLOTS) (index / SLOTS)) (cases_eq q index) ∙ sym (contains-insert nat_cmp_total (numbers_in parts) index q))
     where
-      each : (q : ℕ) → (q / 256 ≡ index / 256) ⊎ (q / 256 ≡ index / 256 → ⊥) → (q ≡ index) ⊎ (q ≡ index → ⊥)
-          → contains (numbers_in (set parts (index / 256) (insert part (index % 256)))) q ≡ (eq_by_cmp nat_cmp q index || contains (numbers_in parts) q)
+      each : (q : ℕ) → (q / SLOTS ≡ index / SLOTS) ⊎ (q / SLOTS ≡ index / SLOTS → ⊥) → (q ≡ index) ⊎ (q ≡ index → ⊥)
+          → contains (numbers_in (set parts (index / SLOTS) (insert part (index % SLOTS)))) q ≡ (eq_by_cmp nat_cmp q index || contains (numbers_in parts) q)
       each q (inl here) (inl same) =
-          contains-set_same parts (index / 256) within (insert part (index % 256)) q here
-          ∙ contains-insert nat_cmp_total part (index % 256) (q % 256)
-          ∙ rw (unsigned_tied (q % 256) (index % 256), eq-eqb (q % 256) (index % 256) (ap (λ n. n % 256) same), unsigned_tied q index, eq-eqb q index same) refl
+          contains-set_same parts (index / SLOTS) within (insert part (index % SLOTS)) q here
+          ∙ contains-insert nat_cmp_total part (index % SLOTS) (q % SLOTS)
+          ∙ rw (
+            unsigned_tied (q % SLOTS) (index % SLOTS),
+            eq-eqb (q % SLOTS) (index % SLOTS) (ap (λ n. n % SLOTS) same),
+            unsigned_tied q index,
+            eq-eqb q index same,
+          ) refl
       each q (inl here) (inr other) =
-          contains-set_same parts (index / 256) within (insert part (index % 256)) q here
-          ∙ contains-insert nat_cmp_total part (index % 256) (q % 256)
-          ∙ rw (unsigned_tied (q % 256) (index % 256), ne_eqb (q % 256) (index % 256) (λ e. other (same_place q here e)), unsigned_tied q index, ne_eqb q index other) (part_at q here)
-      each q (inr apart) (inl same) = absurd (apart (ap (λ n. n / 256) same))
+          contains-set_same parts (index / SLOTS) within (insert part (index % SLOTS)) q here
+          ∙ contains-insert nat_cmp_total part (index % SLOTS) (q % SLOTS)
+          ∙ rw (
+            unsigned_tied (q % SLOTS) (index % SLOTS),
+            ne_eqb (q % SLOTS) (index % SLOTS) (λ e. other (same_place q here e)),
+            unsigned_tied q index,
+            ne_eqb q index other,
+          ) (part_at q here)
+      each q (inr apart) (inl same) = absurd (apart (ap (λ n. n / SLOTS) same))
       each q (inr apart) (inr other) =
-          contains-set_other parts (index / 256) within (insert part (index % 256)) q apart
+          contains-set_other parts (index / SLOTS) within (insert part (index % SLOTS)) q apart
           ∙ rw (unsigned_tied q index, ne_eqb q index other) refl
 
-  pub numbers_in-remove : numbers_in (set parts (index / 256) (remove part (index % 256))) ≡ remove (numbers_in parts) index
-  numbers_in-remove = same_slots _ _ (λ q. each q (cases_eq (q / 256) (index / 256)) (cases_eq q index) ∙ sym (contains-remove nat_cmp_total (numbers_in parts) index q))
+  pub numbers_in-remove : numbers_in (set parts (index / SLOTS) (remove part (index % SLOTS))) ≡ remove (numbers_in parts) index
+  numbers_in-remove = same_slots _ _
+      (λ q. each q (cases_eq (q / SLOTS) (index / SLOTS)) (cases_eq q index) ∙ sym (contains-remove nat_cmp_total (numbers_in parts) index q))
     where
-      each : (q : ℕ) → (q / 256 ≡ index / 256) ⊎ (q / 256 ≡ index / 256 → ⊥) → (q ≡ index) ⊎ (q ≡ index → ⊥)
-          → contains (numbers_in (set parts (index / 256) (remove part (index % 256)))) q ≡ (not (eq_by_cmp nat_cmp q index) && contains (numbers_in parts) q)
+      each : (q : ℕ) → (q / SLOTS ≡ index / SLOTS) ⊎ (q / SLOTS ≡ index / SLOTS → ⊥) → (q ≡ index) ⊎ (q ≡ index → ⊥)
+          → contains (numbers_in (set parts (index / SLOTS) (remove part (index % SLOTS)))) q
+          ≡ (not (eq_by_cmp nat_cmp q index) && contains (numbers_in parts) q)
       each q (inl here) (inl same) =
-          contains-set_same parts (index / 256) within (remove part (index % 256)) q here
-          ∙ contains-remove nat_cmp_total part (index % 256) (q % 256)
-          ∙ rw (unsigned_tied (q % 256) (index % 256), eq-eqb (q % 256) (index % 256) (ap (λ n. n % 256) same), unsigned_tied q index, eq-eqb q index same) refl
+          contains-set_same parts (index / SLOTS) within (remove part (index % SLOTS)) q here
+          ∙ contains-remove nat_cmp_total part (index % SLOTS) (q % SLOTS)
+          ∙ rw (
+            unsigned_tied (q % SLOTS) (index % SLOTS),
+            eq-eqb (q % SLOTS) (index % SLOTS) (ap (λ n. n % SLOTS) same),
+            unsigned_tied q index,
+            eq-eqb q index same,
+          ) refl
       each q (inl here) (inr other) =
-          contains-set_same parts (index / 256) within (remove part (index % 256)) q here
-          ∙ contains-remove nat_cmp_total part (index % 256) (q % 256)
-          ∙ rw (unsigned_tied (q % 256) (index % 256), ne_eqb (q % 256) (index % 256) (λ e. other (same_place q here e)), unsigned_tied q index, ne_eqb q index other) (part_at q here)
-      each q (inr apart) (inl same) = absurd (apart (ap (λ n. n / 256) same))
+          contains-set_same parts (index / SLOTS) within (remove part (index % SLOTS)) q here
+          ∙ contains-remove nat_cmp_total part (index % SLOTS) (q % SLOTS)
+          ∙ rw (
+            unsigned_tied (q % SLOTS) (index % SLOTS),
+            ne_eqb (q % SLOTS) (index % SLOTS) (λ e. other (same_place q here e)),
+            unsigned_tied q index,
+            ne_eqb q index other,
+          ) (part_at q here)
+      each q (inr apart) (inl same) = absurd (apart (ap (λ n. n / SLOTS) same))
       each q (inr apart) (inr other) =
-          contains-set_other parts (index / 256) within (remove part (index % 256)) q apart
+          contains-set_other parts (index / SLOTS) within (remove part (index % SLOTS)) q apart
           ∙ rw (unsigned_tied q index, ne_eqb q index other) refl
 
 -- the least number of a part
 
 module _ (parts : List SlotSet) (at : ℕ) (within : at < length parts) (past : SlotSet) where
-  slot_at : (q : ℕ) → q / 256 ≡ at → contains (get_or parts at past) (q % 256) ≡ contains (numbers_in parts) q
-  slot_at q here = ap (λ k. contains (get_or parts k past) (q % 256)) (sym here) ∙ contains-part parts q past (omega (arith, here, within))
+  slot_at : (q : ℕ) → q / SLOTS ≡ at → contains (get_or parts at past) (q % SLOTS) ≡ contains (numbers_in parts) q
+  slot_at q here = ap (λ k. contains (get_or parts k past) (q % SLOTS)) (sym here) ∙ contains-part parts q past (omega (arith, here, within))
 
-  pub IsLowestIn-slot : (slot : ℕ) → slot < 256 → IsLowest (get_or parts at past) slot → IsLowestIn (numbers_in parts) at (256 * at + slot)
+  pub IsLowestIn-slot : (slot : ℕ) → slot < SLOTS → IsLowest (get_or parts at past) slot → IsLowestIn (numbers_in parts) at (SLOTS * at + slot)
   IsLowestIn-slot slot small least =
-      let place : (256 * at + slot) / 256 ≡ at = omega arith in
-      let bit : (256 * at + slot) % 256 ≡ slot = omega arith in
+      let place : (SLOTS * at + slot) / SLOTS ≡ at = omega arith in
+      let bit : (SLOTS * at + slot) % SLOTS ≡ slot = omega arith in
       record {
-        inside = sym (slot_at (256 * at + slot) place) ∙ ap (contains (get_or parts at past)) bit ∙ least.inside;
+        inside = sym (slot_at (SLOTS * at + slot) place) ∙ ap (contains (get_or parts at past)) bit ∙ least.inside;
         part_is = place;
-        lower = λ other member here. let above : slot ≤ other % 256 = least.lower (other % 256) (slot_at other here ∙ member) in omega (arith, above, here);
+        lower = λ other member here. let above : slot ≤ other % SLOTS = least.lower (other % SLOTS) (slot_at other here ∙ member) in omega (arith, above, here);
       }
 
   pub HasNoneIn-empty : get_or parts at past ≡ empty → HasNoneIn (numbers_in parts) at
-  HasNoneIn-empty none q here = sym (slot_at q here) ∙ ap (λ s. contains s (q % 256)) none ∙ contains-empty nat_cmp (q % 256)
+  HasNoneIn-empty none q here = sym (slot_at q here) ∙ ap (λ s. contains s (q % SLOTS)) none ∙ contains-empty nat_cmp (q % SLOTS)
 
 pub HasNoneIn-past : (parts : List SlotSet) (at : ℕ) → length parts ≤ at → HasNoneIn (numbers_in parts) at
 HasNoneIn-past parts at past q here = contains-past parts q (omega (arith, here, past))
 
 -- the least number of a part is one of the parts'
 pub in_room : (parts : List SlotSet) (part : ℕ) (found : Option ℕ) → MatchOption found (HasNoneIn (numbers_in parts) part) (IsLowestIn (numbers_in parts) part)
-    → IfSome found (λ n. n < 256 * length parts)
+    → IfSome found (λ n. n < SLOTS * length parts)
 in_room parts part None none = tt
-in_room parts part (Some n) lowest = elim (cases_lt n (256 * length parts)) [
+in_room parts part (Some n) lowest = elim (cases_lt n (SLOTS * length parts)) [
   | inl low ↦ low
   | inr past ↦ absurd (true≢false (sym lowest.inside ∙ contains-past parts n (omega (arith, past))))
 ]
@@ -128,21 +155,22 @@ numbers_in-none parts none = same_slots _ _ (λ q. contains-past parts q (omega 
 
 -- one part more has the numbers below the count
 pub below-part : (parts : List SlotSet) (at count : ℕ) (new : SlotSet) → at < length parts
-    → ((slot : ℕ) → slot < 256 → contains new slot ≡ nat_lt slot (count - 256 * at)) → ((q : ℕ) → q < 256 * at → contains (numbers_in parts) q ≡ nat_lt q count)
-    → (q : ℕ) → q < 256 * (at + 1) → contains (numbers_in (set parts at new)) q ≡ nat_lt q count
-below-part parts at count new within new_is before q less = elim (cases_lt q (256 * at)) [
+    → ((slot : ℕ) → slot < SLOTS → contains new slot ≡ nat_lt slot (count - SLOTS * at))
+    → ((q : ℕ) → q < SLOTS * at → contains (numbers_in parts) q ≡ nat_lt q count)
+    → (q : ℕ) → q < SLOTS * (at + 1) → contains (numbers_in (set parts at new)) q ≡ nat_lt q count
+below-part parts at count new within new_is before q less = elim (cases_lt q (SLOTS * at)) [
   | inl low ↦ contains-set_other parts at within new q (λ e. absurd (omega (arith, e, low))) ∙ before q low
-  | inr here ↦ contains-set_same parts at within new q (omega (arith, here, less)) ∙ new_is (q % 256) (omega arith) ∙ same (cases_lt q count) here
+  | inr here ↦ contains-set_same parts at within new q (omega (arith, here, less)) ∙ new_is (q % SLOTS) (omega arith) ∙ same (cases_lt q count) here
 ]
   where
-    same : (q < count) ⊎ (count ≤ q) → 256 * at ≤ q → nat_lt (q % 256) (count - 256 * at) ≡ nat_lt q count
-    same (inl low) here = lt-ltb (q % 256) (count - 256 * at) (omega (arith, low, here, less)) ∙ sym (lt-ltb q count low)
-    same (inr high) here = le-ltb (q % 256) (count - 256 * at) (omega (arith, high, here, less)) ∙ sym (le-ltb q count high)
+    same : (q < count) ⊎ (count ≤ q) → SLOTS * at ≤ q → nat_lt (q % SLOTS) (count - SLOTS * at) ≡ nat_lt q count
+    same (inl low) here = lt-ltb (q % SLOTS) (count - SLOTS * at) (omega (arith, low, here, less)) ∙ sym (lt-ltb q count low)
+    same (inr high) here = le-ltb (q % SLOTS) (count - SLOTS * at) (omega (arith, high, here, less)) ∙ sym (le-ltb q count high)
 
 -- where all parts have the numbers below the count, no other has one
-pub below-all : (parts : List SlotSet) (count : ℕ) → count ≤ 256 * length parts
-    → ((q : ℕ) → q < 256 * length parts → contains (numbers_in parts) q ≡ nat_lt q count) → (q : ℕ) → contains (numbers_in parts) q ≡ nat_lt q count
-below-all parts count few each q = elim (cases_lt q (256 * length parts)) [
+pub below-all : (parts : List SlotSet) (count : ℕ) → count ≤ SLOTS * length parts
+    → ((q : ℕ) → q < SLOTS * length parts → contains (numbers_in parts) q ≡ nat_lt q count) → (q : ℕ) → contains (numbers_in parts) q ≡ nat_lt q count
+below-all parts count few each q = elim (cases_lt q (SLOTS * length parts)) [
   | inl low ↦ each q low
   | inr past ↦ contains-past parts q (omega (arith, past)) ∙ sym (le-ltb q count (omega (arith, past, few)))
 ]

@@ -1,38 +1,40 @@
 -- The numbers of a first part and of further ones.
-use Rattle.std.proofs.Common.{◌≡◌, ℕ, ◌+◌, ◌-◌, ◌*◌, ◌/◌, ◌%◌, ◌<◌, ◌≤◌, ◌⊎◌, zero, suc, min, Bool, true, false, ◌&&◌, ◌||◌, not, nat_lt, List, ◌∷◌, length, get_or, ◌∙◌, ap, sym, refl, inl, inr, arith, lt-ltb, le-ltb, eq-eqb}
+use Rattle.std.proofs.Common.{◌≡◌, ℕ, ◌+◌, ◌-◌, ◌/◌, ◌%◌, ◌<◌, ◌≤◌, ◌⊎◌, suc, min, false, nat_lt, List, ◌∷◌, ◌∙◌, ap, sym, refl, inl, inr, arith, lt-ltb, le-ltb}
 use Rattle.std.specs.Ordering.{nat_cmp}
 use Rattle.std.specs.FinSet.{contains, empty, insert, remove, contains-empty}
 use Rattle.std.proofs.lemmas.Bool.{cases_eq, cases_lt, true≢false}
-use Rattle.bitmap.specs.Parts.{has_number, numbers_in}
+use Rattle.bitmap.specs.Parts.{numbers_in}
 use Rattle.bitmap.specs.Slots.{SlotSet, IsLowest}
 use Rattle.bitmap.specs.Words.{same_slots}
 use Rattle.bitmap.proofs.InParts.{contains-numbers_in}
 use Rattle.bitmap.proofs.Summaries.{contains-insert_other, contains-insert_same, contains-remove_other, contains-remove_same}
+use Rattle.bitmap.specs.declared.bits.TheConstants.{SLOTS}
 
-pub contains-low : (low : SlotSet) (high : List SlotSet) (q : ℕ) → q < 256 → contains (numbers_in (low ∷ high)) q ≡ contains low q
+pub contains-low : (low : SlotSet) (high : List SlotSet) (q : ℕ) → q < SLOTS → contains (numbers_in (low ∷ high)) q ≡ contains low q
 contains-low low high q small =
-    let place : q / 256 ≡ 0 = omega arith in
-    let slot : q % 256 ≡ q = omega arith in
+    let place : q / SLOTS ≡ 0 = omega arith in
+    let slot : q % SLOTS ≡ q = omega arith in
     contains-numbers_in (low ∷ high) q ∙ rw (place, slot) refl
 
-pub contains-high : (low : SlotSet) (high : List SlotSet) (q : ℕ) → 256 ≤ q → contains (numbers_in (low ∷ high)) q ≡ contains (numbers_in high) (q - 256)
+pub contains-high : (low : SlotSet) (high : List SlotSet) (q : ℕ) → SLOTS ≤ q → contains (numbers_in (low ∷ high)) q ≡ contains (numbers_in high) (q - SLOTS)
 contains-high low high q large =
-    let place : q / 256 ≡ suc ((q - 256) / 256) = omega arith in
-    let slot : q % 256 ≡ (q - 256) % 256 = omega arith in
-    contains-numbers_in (low ∷ high) q ∙ rw (place, slot) refl ∙ sym (contains-numbers_in high (q - 256))
+    let place : q / SLOTS ≡ suc ((q - SLOTS) / SLOTS) = omega arith in
+    let slot : q % SLOTS ≡ (q - SLOTS) % SLOTS = omega arith in
+    contains-numbers_in (low ∷ high) q ∙ rw (place, slot) refl ∙ sym (contains-numbers_in high (q - SLOTS))
 
 -- two lists have the same numbers where their first parts and the others have
 pub joined-same : (low : SlotSet) (a b : List SlotSet) → numbers_in a ≡ numbers_in b → numbers_in (low ∷ a) ≡ numbers_in (low ∷ b)
-joined-same low a b same = same_slots _ _ (λ q. elim (cases_lt q 256) [
+joined-same low a b same = same_slots _ _ (λ q. elim (cases_lt q SLOTS) [
   | inl small ↦ contains-low low a q small ∙ sym (contains-low low b q small)
-  | inr large ↦ contains-high low a q large ∙ ap (λ s. contains s (q - 256)) same ∙ sym (contains-high low b q large)
+  | inr large ↦ contains-high low a q large ∙ ap (λ s. contains s (q - SLOTS)) same ∙ sym (contains-high low b q large)
 ])
 
 module _ (low : SlotSet) (high : List SlotSet) (n : ℕ) where
-  pub insert-low : n < 256 → numbers_in (insert low n ∷ high) ≡ insert (numbers_in (low ∷ high)) n
-  insert-low within = same_slots _ _ (λ q. each q (cases_eq q n) (cases_lt q 256))
+  pub insert-low : n < SLOTS → numbers_in (insert low n ∷ high) ≡ insert (numbers_in (low ∷ high)) n
+  insert-low within = same_slots _ _ (λ q. each q (cases_eq q n) (cases_lt q SLOTS))
     where
-      each : (q : ℕ) → (q ≡ n) ⊎ (q ≡ n → ⊥) → (q < 256) ⊎ (256 ≤ q) → contains (numbers_in (insert low n ∷ high)) q ≡ contains (insert (numbers_in (low ∷ high)) n) q
+      each : (q : ℕ) → (q ≡ n) ⊎ (q ≡ n → ⊥) → (q < SLOTS) ⊎ (SLOTS ≤ q)
+          → contains (numbers_in (insert low n ∷ high)) q ≡ contains (insert (numbers_in (low ∷ high)) n) q
       each q (inl same) (inl small) = contains-low (insert low n) high q small ∙ ap (contains (insert low n)) same ∙ contains-insert_same low n
           ∙ sym (ap (contains (insert (numbers_in (low ∷ high)) n)) same ∙ contains-insert_same (numbers_in (low ∷ high)) n)
       each q (inl same) (inr large) = absurd (omega arith)
@@ -40,10 +42,11 @@ module _ (low : SlotSet) (high : List SlotSet) (n : ℕ) where
           ∙ sym (contains-insert_other (numbers_in (low ∷ high)) n q other ∙ contains-low low high q small)
       each q (inr other) (inr large) = contains-high (insert low n) high q large ∙ sym (contains-insert_other (numbers_in (low ∷ high)) n q other ∙ contains-high low high q large)
 
-  pub remove-low : n < 256 → numbers_in (remove low n ∷ high) ≡ remove (numbers_in (low ∷ high)) n
-  remove-low within = same_slots _ _ (λ q. each q (cases_eq q n) (cases_lt q 256))
+  pub remove-low : n < SLOTS → numbers_in (remove low n ∷ high) ≡ remove (numbers_in (low ∷ high)) n
+  remove-low within = same_slots _ _ (λ q. each q (cases_eq q n) (cases_lt q SLOTS))
     where
-      each : (q : ℕ) → (q ≡ n) ⊎ (q ≡ n → ⊥) → (q < 256) ⊎ (256 ≤ q) → contains (numbers_in (remove low n ∷ high)) q ≡ contains (remove (numbers_in (low ∷ high)) n) q
+      each : (q : ℕ) → (q ≡ n) ⊎ (q ≡ n → ⊥) → (q < SLOTS) ⊎ (SLOTS ≤ q)
+          → contains (numbers_in (remove low n ∷ high)) q ≡ contains (remove (numbers_in (low ∷ high)) n) q
       each q (inl same) (inl small) = contains-low (remove low n) high q small ∙ ap (contains (remove low n)) same ∙ contains-remove_same low n
           ∙ sym (ap (contains (remove (numbers_in (low ∷ high)) n)) same ∙ contains-remove_same (numbers_in (low ∷ high)) n)
       each q (inl same) (inr large) = absurd (omega arith)
@@ -51,74 +54,76 @@ module _ (low : SlotSet) (high : List SlotSet) (n : ℕ) where
           ∙ sym (contains-remove_other (numbers_in (low ∷ high)) n q other ∙ contains-low low high q small)
       each q (inr other) (inr large) = contains-high (remove low n) high q large ∙ sym (contains-remove_other (numbers_in (low ∷ high)) n q other ∙ contains-high low high q large)
 
-  module _ (after : List SlotSet) (large : 256 ≤ n) where
-    pub insert-high : numbers_in after ≡ insert (numbers_in high) (n - 256) → numbers_in (low ∷ after) ≡ insert (numbers_in (low ∷ high)) n
-    insert-high is = same_slots _ _ (λ q. each q (cases_eq q n) (cases_lt q 256))
+  module _ (after : List SlotSet) (large : SLOTS ≤ n) where
+    pub insert-high : numbers_in after ≡ insert (numbers_in high) (n - SLOTS) → numbers_in (low ∷ after) ≡ insert (numbers_in (low ∷ high)) n
+    insert-high is = same_slots _ _ (λ q. each q (cases_eq q n) (cases_lt q SLOTS))
       where
-        each : (q : ℕ) → (q ≡ n) ⊎ (q ≡ n → ⊥) → (q < 256) ⊎ (256 ≤ q) → contains (numbers_in (low ∷ after)) q ≡ contains (insert (numbers_in (low ∷ high)) n) q
+        each : (q : ℕ) → (q ≡ n) ⊎ (q ≡ n → ⊥) → (q < SLOTS) ⊎ (SLOTS ≤ q)
+            → contains (numbers_in (low ∷ after)) q ≡ contains (insert (numbers_in (low ∷ high)) n) q
         each q (inl same) (inl small) = absurd (omega arith)
-        each q (inl same) (inr past) = contains-high low after q past ∙ ap (λ s. contains s (q - 256)) is
-            ∙ ap (λ k. contains (insert (numbers_in high) (n - 256)) (k - 256)) same ∙ contains-insert_same (numbers_in high) (n - 256)
+        each q (inl same) (inr past) = contains-high low after q past ∙ ap (λ s. contains s (q - SLOTS)) is
+            ∙ ap (λ k. contains (insert (numbers_in high) (n - SLOTS)) (k - SLOTS)) same ∙ contains-insert_same (numbers_in high) (n - SLOTS)
             ∙ sym (ap (contains (insert (numbers_in (low ∷ high)) n)) same ∙ contains-insert_same (numbers_in (low ∷ high)) n)
         each q (inr other) (inl small) = contains-low low after q small ∙ sym (contains-insert_other (numbers_in (low ∷ high)) n q other ∙ contains-low low high q small)
-        each q (inr other) (inr past) = contains-high low after q past ∙ ap (λ s. contains s (q - 256)) is
-            ∙ contains-insert_other (numbers_in high) (n - 256) (q - 256) (λ e. other (omega (arith, e, past, large)))
+        each q (inr other) (inr past) = contains-high low after q past ∙ ap (λ s. contains s (q - SLOTS)) is
+            ∙ contains-insert_other (numbers_in high) (n - SLOTS) (q - SLOTS) (λ e. other (omega (arith, e, past, large)))
             ∙ sym (contains-insert_other (numbers_in (low ∷ high)) n q other ∙ contains-high low high q past)
 
-    pub remove-high : numbers_in after ≡ remove (numbers_in high) (n - 256) → numbers_in (low ∷ after) ≡ remove (numbers_in (low ∷ high)) n
-    remove-high is = same_slots _ _ (λ q. each q (cases_eq q n) (cases_lt q 256))
+    pub remove-high : numbers_in after ≡ remove (numbers_in high) (n - SLOTS) → numbers_in (low ∷ after) ≡ remove (numbers_in (low ∷ high)) n
+    remove-high is = same_slots _ _ (λ q. each q (cases_eq q n) (cases_lt q SLOTS))
       where
-        each : (q : ℕ) → (q ≡ n) ⊎ (q ≡ n → ⊥) → (q < 256) ⊎ (256 ≤ q) → contains (numbers_in (low ∷ after)) q ≡ contains (remove (numbers_in (low ∷ high)) n) q
+        each : (q : ℕ) → (q ≡ n) ⊎ (q ≡ n → ⊥) → (q < SLOTS) ⊎ (SLOTS ≤ q)
+            → contains (numbers_in (low ∷ after)) q ≡ contains (remove (numbers_in (low ∷ high)) n) q
         each q (inl same) (inl small) = absurd (omega arith)
-        each q (inl same) (inr past) = contains-high low after q past ∙ ap (λ s. contains s (q - 256)) is
-            ∙ ap (λ k. contains (remove (numbers_in high) (n - 256)) (k - 256)) same ∙ contains-remove_same (numbers_in high) (n - 256)
+        each q (inl same) (inr past) = contains-high low after q past ∙ ap (λ s. contains s (q - SLOTS)) is
+            ∙ ap (λ k. contains (remove (numbers_in high) (n - SLOTS)) (k - SLOTS)) same ∙ contains-remove_same (numbers_in high) (n - SLOTS)
             ∙ sym (ap (contains (remove (numbers_in (low ∷ high)) n)) same ∙ contains-remove_same (numbers_in (low ∷ high)) n)
         each q (inr other) (inl small) = contains-low low after q small ∙ sym (contains-remove_other (numbers_in (low ∷ high)) n q other ∙ contains-low low high q small)
-        each q (inr other) (inr past) = contains-high low after q past ∙ ap (λ s. contains s (q - 256)) is
-            ∙ contains-remove_other (numbers_in high) (n - 256) (q - 256) (λ e. other (omega (arith, e, past, large)))
+        each q (inr other) (inr past) = contains-high low after q past ∙ ap (λ s. contains s (q - SLOTS)) is
+            ∙ contains-remove_other (numbers_in high) (n - SLOTS) (q - SLOTS) (λ e. other (omega (arith, e, past, large)))
             ∙ sym (contains-remove_other (numbers_in (low ∷ high)) n q other ∙ contains-high low high q past)
 
 -- the least number is the first part's, where it has one
 
-pub IsLowest-low : (low : SlotSet) (high : List SlotSet) (n : ℕ) → n < 256 → IsLowest low n → IsLowest (numbers_in (low ∷ high)) n
+pub IsLowest-low : (low : SlotSet) (high : List SlotSet) (n : ℕ) → n < SLOTS → IsLowest low n → IsLowest (numbers_in (low ∷ high)) n
 IsLowest-low low high n small least = record {
   inside = contains-low low high n small ∙ least.inside;
-  lower = λ other member. elim (cases_lt other 256) [
+  lower = λ other member. elim (cases_lt other SLOTS) [
     | inl below ↦ least.lower other (sym (contains-low low high other below) ∙ member)
     | inr past ↦ omega (arith, small, past)
   ];
 }
 
-no_low : (low : SlotSet) (high : List SlotSet) (q : ℕ) → low ≡ empty → q < 256 → contains (numbers_in (low ∷ high)) q ≡ false
+no_low : (low : SlotSet) (high : List SlotSet) (q : ℕ) → low ≡ empty → q < SLOTS → contains (numbers_in (low ∷ high)) q ≡ false
 no_low low high q none small = contains-low low high q small ∙ ap (λ s. contains s q) none ∙ contains-empty nat_cmp q
 
-pub IsLowest-high : (low : SlotSet) (high : List SlotSet) (n : ℕ) → low ≡ empty → IsLowest (numbers_in high) n → IsLowest (numbers_in (low ∷ high)) (256 + n)
+pub IsLowest-high : (low : SlotSet) (high : List SlotSet) (n : ℕ) → low ≡ empty → IsLowest (numbers_in high) n → IsLowest (numbers_in (low ∷ high)) (SLOTS + n)
 IsLowest-high low high n none least = record {
-  inside = contains-high low high (256 + n) (omega arith) ∙ ap (contains (numbers_in high)) (omega arith) ∙ least.inside;
-  lower = λ other member. elim (cases_lt other 256) [
+  inside = contains-high low high (SLOTS + n) (omega arith) ∙ ap (contains (numbers_in high)) (omega arith) ∙ least.inside;
+  lower = λ other member. elim (cases_lt other SLOTS) [
     | inl below ↦ absurd (true≢false (sym member ∙ no_low low high other none below))
-    | inr past ↦ let above : n ≤ other - 256 = least.lower (other - 256) (sym (contains-high low high other past) ∙ member) in omega (arith, above, past)
+    | inr past ↦ let above : n ≤ other - SLOTS = least.lower (other - SLOTS) (sym (contains-high low high other past) ∙ member) in omega (arith, above, past)
   ];
 }
 
 pub joined-empty : (low : SlotSet) (high : List SlotSet) → low ≡ empty → numbers_in high ≡ empty → numbers_in (low ∷ high) ≡ empty
-joined-empty low high none no_high = same_slots _ _ (λ q. elim (cases_lt q 256) [
+joined-empty low high none no_high = same_slots _ _ (λ q. elim (cases_lt q SLOTS) [
   | inl small ↦ no_low low high q none small ∙ sym (contains-empty nat_cmp q)
-  | inr large ↦ contains-high low high q large ∙ ap (λ s. contains s (q - 256)) no_high ∙ contains-empty nat_cmp (q - 256) ∙ sym (contains-empty nat_cmp q)
+  | inr large ↦ contains-high low high q large ∙ ap (λ s. contains s (q - SLOTS)) no_high ∙ contains-empty nat_cmp (q - SLOTS) ∙ sym (contains-empty nat_cmp q)
 ])
 
 -- the numbers below a count
-pub joined-below : (low : SlotSet) (high : List SlotSet) (count : ℕ) → ((q : ℕ) → contains low q ≡ nat_lt q (min count 256))
-    → ((q : ℕ) → contains (numbers_in high) q ≡ nat_lt q (count - 256)) → (q : ℕ) → contains (numbers_in (low ∷ high)) q ≡ nat_lt q count
-joined-below low high count low_is high_is q = elim (cases_lt q 256) [
+pub joined-below : (low : SlotSet) (high : List SlotSet) (count : ℕ) → ((q : ℕ) → contains low q ≡ nat_lt q (min count SLOTS))
+    → ((q : ℕ) → contains (numbers_in high) q ≡ nat_lt q (count - SLOTS)) → (q : ℕ) → contains (numbers_in (low ∷ high)) q ≡ nat_lt q count
+joined-below low high count low_is high_is q = elim (cases_lt q SLOTS) [
   | inl small ↦ contains-low low high q small ∙ low_is q ∙ below (cases_lt q count) small
-  | inr large ↦ contains-high low high q large ∙ high_is (q - 256) ∙ above (cases_lt q count) large
+  | inr large ↦ contains-high low high q large ∙ high_is (q - SLOTS) ∙ above (cases_lt q count) large
 ]
   where
-    below : (q < count) ⊎ (count ≤ q) → q < 256 → nat_lt q (min count 256) ≡ nat_lt q count
-    below (inl low) small = lt-ltb q (min count 256) (omega (arith, low, small)) ∙ sym (lt-ltb q count low)
-    below (inr high) small = le-ltb q (min count 256) (omega (arith, high, small)) ∙ sym (le-ltb q count high)
+    below : (q < count) ⊎ (count ≤ q) → q < SLOTS → nat_lt q (min count SLOTS) ≡ nat_lt q count
+    below (inl low) small = lt-ltb q (min count SLOTS) (omega (arith, low, small)) ∙ sym (lt-ltb q count low)
+    below (inr high) small = le-ltb q (min count SLOTS) (omega (arith, high, small)) ∙ sym (le-ltb q count high)
 
-    above : (q < count) ⊎ (count ≤ q) → 256 ≤ q → nat_lt (q - 256) (count - 256) ≡ nat_lt q count
-    above (inl low) large = lt-ltb (q - 256) (count - 256) (omega (arith, low, large)) ∙ sym (lt-ltb q count low)
-    above (inr high) large = le-ltb (q - 256) (count - 256) (omega (arith, high, large)) ∙ sym (le-ltb q count high)
+    above : (q < count) ⊎ (count ≤ q) → SLOTS ≤ q → nat_lt (q - SLOTS) (count - SLOTS) ≡ nat_lt q count
+    above (inl low) large = lt-ltb (q - SLOTS) (count - SLOTS) (omega (arith, low, large)) ∙ sym (lt-ltb q count low)
+    above (inr high) large = le-ltb (q - SLOTS) (count - SLOTS) (omega (arith, high, large)) ∙ sym (le-ltb q count high)

@@ -1,5 +1,5 @@
 -- A set of numbers and the set of its parts that have one.
-use Rattle.std.proofs.Common.{◌≡◌, ℕ, ◌+◌, ◌*◌, ◌/◌, ◌%◌, ◌<◌, ◌≤◌, ◌⊎◌, Bool, true, false, Option, Some, None, is_some, ◌&&◌, ◌||◌, not, nat_lt, ◌∙◌, ap, sym, subst, refl, inl, inr, arith, lt-ltb, le-ltb, eq-eqb}
+use Rattle.std.proofs.Common.{◌≡◌, ℕ, ◌+◌, ◌*◌, ◌/◌, ◌<◌, ◌≤◌, ◌⊎◌, true, false, Option, Some, None, is_some, not, nat_lt, ◌∙◌, ap, sym, subst, refl, inl, inr, arith, lt-ltb, le-ltb, eq-eqb}
 use Rattle.std.specs.Ordering.{nat_cmp, eq_by_cmp}
 use Rattle.std.specs.Cmp.{nat_cmp_total, second_so, unsigned_tied}
 use Rattle.std.specs.FinSet.{contains, empty, insert, remove, contains-empty, contains-insert, contains-remove}
@@ -8,6 +8,7 @@ use Rattle.std.specs.Prelude.{MatchOption}
 use Rattle.bitmap.specs.Parts.{HasNoneIn, IsLowestIn, IsSummary}
 use Rattle.bitmap.specs.Slots.{SlotSet, IsLowest}
 use Rattle.bitmap.specs.Words.{same_slots}
+use Rattle.bitmap.specs.declared.bits.TheConstants.{SLOTS}
 
 pub contains-insert_same : (s : SlotSet) (at : ℕ) → contains (insert s at) at ≡ true
 contains-insert_same s at = contains-insert nat_cmp_total s at at ∙ rw (unsigned_tied at at, eq-eqb at at refl) refl
@@ -39,41 +40,41 @@ IsSummary-empty numbers filled none no_part = record {
 }
 
 module _ (numbers filled : SlotSet) (summary : IsSummary numbers filled) where
-  pub IsSummary-insert : (at : ℕ) → IsSummary (insert numbers at) (insert filled (at / 256))
+  pub IsSummary-insert : (at : ℕ) → IsSummary (insert numbers at) (insert filled (at / SLOTS))
   IsSummary-insert at = record {
     has = λ n member. elim (cases_eq n at) [
-      | inl same ↦ ap (λ k. contains (insert filled (at / 256)) (k / 256)) same ∙ contains-insert_same filled (at / 256)
-      | inr other ↦ kept filled (at / 256) (n / 256) (summary.has n (sym (contains-insert_other numbers at n other) ∙ member))
+      | inl same ↦ ap (λ k. contains (insert filled (at / SLOTS)) (k / SLOTS)) same ∙ contains-insert_same filled (at / SLOTS)
+      | inr other ↦ kept filled (at / SLOTS) (n / SLOTS) (summary.has n (sym (contains-insert_other numbers at n other) ∙ member))
     ];
-    some = λ part member. elim (cases_eq part (at / 256)) [
+    some = λ part member. elim (cases_eq part (at / SLOTS)) [
       | inl same ↦ (at, sym same, contains-insert_same numbers at)
       | inr other ↦
-          let (n, here, inside) = summary.some part (sym (contains-insert_other filled (at / 256) part other) ∙ member) in
+          let (n, here, inside) = summary.some part (sym (contains-insert_other filled (at / SLOTS) part other) ∙ member) in
           (n, here, kept numbers at n inside)
     ];
   }
 
   -- another number of the part is left
-  pub IsSummary-remove : (at left : ℕ) → left / 256 ≡ at / 256 → contains (remove numbers at) left ≡ true → IsSummary (remove numbers at) filled
+  pub IsSummary-remove : (at left : ℕ) → left / SLOTS ≡ at / SLOTS → contains (remove numbers at) left ≡ true → IsSummary (remove numbers at) filled
   IsSummary-remove at left here inside = record {
     has = λ n member. summary.has n (was numbers at n member);
-    some = λ part member. elim (cases_eq part (at / 256)) [
+    some = λ part member. elim (cases_eq part (at / SLOTS)) [
       | inl same ↦ (left, here ∙ sym same, inside)
       | inr other ↦
           let (n, place, is) = summary.some part member in
-          (n, place, contains-remove_other numbers at n (λ e. other (sym place ∙ ap (λ k. k / 256) e)) ∙ is)
+          (n, place, contains-remove_other numbers at n (λ e. other (sym place ∙ ap (λ k. k / SLOTS) e)) ∙ is)
     ];
   }
 
   -- none of the part is left
-  pub IsSummary-remove_last : (at : ℕ) → HasNoneIn (remove numbers at) (at / 256) → IsSummary (remove numbers at) (remove filled (at / 256))
+  pub IsSummary-remove_last : (at : ℕ) → HasNoneIn (remove numbers at) (at / SLOTS) → IsSummary (remove numbers at) (remove filled (at / SLOTS))
   IsSummary-remove_last at none = record {
-    has = λ n member. contains-remove_other filled (at / 256) (n / 256) (λ e. true≢false (sym member ∙ none n e)) ∙ summary.has n (was numbers at n member);
-    some = λ part member. elim (cases_eq part (at / 256)) [
-      | inl same ↦ absurd (true≢false (sym member ∙ ap (contains (remove filled (at / 256))) same ∙ contains-remove_same filled (at / 256)))
+    has = λ n member. contains-remove_other filled (at / SLOTS) (n / SLOTS) (λ e. true≢false (sym member ∙ none n e)) ∙ summary.has n (was numbers at n member);
+    some = λ part member. elim (cases_eq part (at / SLOTS)) [
+      | inl same ↦ absurd (true≢false (sym member ∙ ap (contains (remove filled (at / SLOTS))) same ∙ contains-remove_same filled (at / SLOTS)))
       | inr other ↦
-          let (n, place, is) = summary.some part (was filled (at / 256) part member) in
-          (n, place, contains-remove_other numbers at n (λ e. other (sym place ∙ ap (λ k. k / 256) e)) ∙ is)
+          let (n, place, is) = summary.some part (was filled (at / SLOTS) part member) in
+          (n, place, contains-remove_other numbers at n (λ e. other (sym place ∙ ap (λ k. k / SLOTS) e)) ∙ is)
     ];
   }
 
@@ -82,8 +83,8 @@ module _ (numbers filled : SlotSet) (summary : IsSummary numbers filled) where
   IsLowest-part part n least lowest = record {
     inside = lowest.inside;
     lower = λ other member.
-        let above : part ≤ other / 256 = least.lower (other / 256) (summary.has other member) in
-        elim (cases_eq (other / 256) part) [
+        let above : part ≤ other / SLOTS = least.lower (other / SLOTS) (summary.has other member) in
+        elim (cases_eq (other / SLOTS) part) [
           | inl here ↦ lowest.lower other member here
           | inr apart ↦ omega (arith, above, apart, lowest.part_is)
         ];
@@ -96,17 +97,18 @@ module _ (numbers filled : SlotSet) (summary : IsSummary numbers filled) where
   pub empty-summary : filled ≡ empty → numbers ≡ empty
   empty-summary none = same_slots _ _
       (λ q. false_from_ne_true (contains numbers q)
-      (λ member. true≢false (sym (summary.has q member) ∙ ap (λ s. contains s (q / 256)) none ∙ contains-empty nat_cmp (q / 256)))
+      (λ member. true≢false (sym (summary.has q member) ∙ ap (λ s. contains s (q / SLOTS)) none ∙ contains-empty nat_cmp (q / SLOTS)))
       ∙ sym (contains-empty nat_cmp q))
 
 -- the numbers below a count, and the parts of these
-pub IsSummary-below : (numbers filled : SlotSet) (count parts : ℕ) → count ≤ 256 * parts → 256 * parts < count + 256
+pub IsSummary-below : (numbers filled : SlotSet) (count parts : ℕ) → count ≤ SLOTS * parts → SLOTS * parts < count + SLOTS
     → ((q : ℕ) → contains numbers q ≡ nat_lt q count) → ((q : ℕ) → contains filled q ≡ nat_lt q parts) → IsSummary numbers filled
 IsSummary-below numbers filled count parts low high below parts_below = record {
-  has = λ n member. let less : n < count = ltb-true n count (sym (below n) ∙ member) in parts_below (n / 256) ∙ lt-ltb (n / 256) parts (omega (arith, less, low));
+  has = λ n member. let less : n < count = ltb-true n count (sym (below n) ∙ member) in
+      parts_below (n / SLOTS) ∙ lt-ltb (n / SLOTS) parts (omega (arith, less, low));
   some = λ part member.
       let less : part < parts = ltb-true part parts (sym (parts_below part) ∙ member) in
-      (256 * part, omega arith, below (256 * part) ∙ lt-ltb (256 * part) count (omega (arith, less, high)));
+      (SLOTS * part, omega arith, below (SLOTS * part) ∙ lt-ltb (SLOTS * part) count (omega (arith, less, high)));
 }
 
 -- the numbers below a count, and below the next
@@ -125,14 +127,16 @@ below-next s count below q = each (cases_eq q count) (cases_lt q count)
 -- what a look into the part of a number that was taken out says
 
 module _ (numbers filled : SlotSet) (summary : IsSummary numbers filled) (at : ℕ) (after : SlotSet) (after_is : after ≡ remove numbers at) where
-  pub IsSummary-left : (found : Option ℕ) → MatchOption found (HasNoneIn after (at / 256)) (IsLowestIn after (at / 256)) → is_some found ≡ true → IsSummary after filled
+  pub IsSummary-left : (found : Option ℕ) → MatchOption found (HasNoneIn after (at / SLOTS)) (IsLowestIn after (at / SLOTS)) → is_some found ≡ true
+      → IsSummary after filled
   IsSummary-left None none some = absurd (true≢false (sym some))
   IsSummary-left (Some left) lowest some = subst (λ s. IsSummary s filled) (sym after_is)
       (IsSummary-remove numbers filled summary at left lowest.part_is (ap (λ s. contains s left) (sym after_is) ∙ lowest.inside))
 
-  pub IsSummary-left_none : (found : Option ℕ) → MatchOption found (HasNoneIn after (at / 256)) (IsLowestIn after (at / 256)) → is_some found ≡ false → IsSummary after (remove filled (at / 256))
-  IsSummary-left_none None none gone = subst (λ s. IsSummary s (remove filled (at / 256))) (sym after_is)
-      (IsSummary-remove_last numbers filled summary at (subst (λ s. HasNoneIn s (at / 256)) after_is none))
+  pub IsSummary-left_none : (found : Option ℕ) → MatchOption found (HasNoneIn after (at / SLOTS)) (IsLowestIn after (at / SLOTS)) → is_some found ≡ false
+      → IsSummary after (remove filled (at / SLOTS))
+  IsSummary-left_none None none gone = subst (λ s. IsSummary s (remove filled (at / SLOTS))) (sym after_is)
+      (IsSummary-remove_last numbers filled summary at (subst (λ s. HasNoneIn s (at / SLOTS)) after_is none))
   IsSummary-left_none (Some left) lowest gone = absurd (true≢false gone)
 
 -- the least number of the least part that has one

@@ -1,4 +1,4 @@
-use Rattle.std.proofs.Common.{◌≡◌, ◌∙◌, arith, sym}
+use Rattle.std.proofs.Common.{arith}
 use Rattle.bitmap.proofs.Summaries.{IsSummary-below}
 use Rattle.bitmap.proofs.numbers.fill_levels.Goals as goal
 

@@ -1,6 +1,5 @@
-use Rattle.std.proofs.Common.{◌≡◌, arith}
 use Rattle.bitmap.proofs.InParts.{in_room}
-use Rattle.bitmap.proofs.Summaries.{IsLowest-part, empty-summary, has_some, lowest-part}
+use Rattle.bitmap.proofs.Summaries.{IsLowest-part, empty-summary, lowest-part}
 use Rattle.bitmap.proofs.numbers.lowest_of.Goals as goal
 
 pub returns-in_default-clause-lowest : goal.returns-in_default-clause-lowest

@@ -1,4 +1,4 @@
-use Rattle.std.proofs.Common.{◌/◌, ◌≡◌, ◌∙◌, arith, sym}
+use Rattle.std.proofs.Common.{◌∙◌, sym}
 use Rattle.bitmap.proofs.Summaries.{IsSummary-left, IsSummary-left_none}
 use Rattle.bitmap.proofs.numbers.strike.Goals as goal
 

@@ -1,4 +1,4 @@
-use Rattle.std.proofs.Common.{◌∙◌, ap, arith, refl}
+use Rattle.std.proofs.Common.{arith}
 use Rattle.bitmap.proofs.InParts.{below-all, below-part}
 use Rattle.bitmap.proofs.parts.fill.Goals as goal
 

@@ -1,4 +1,4 @@
-use Rattle.std.proofs.Common.{arith, sym}
+use Rattle.std.proofs.Common.{arith}
 use Rattle.bitmap.proofs.InParts.{numbers_in-resized}
 use Rattle.bitmap.proofs.parts.grow.Goals as goal
 

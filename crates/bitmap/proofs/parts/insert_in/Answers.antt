@@ -1,5 +1,4 @@
-use Rattle.std.proofs.Common.{◌∙◌, ap, arith, sym}
-use Rattle.std.specs.FinSet.{insert}
+use Rattle.std.proofs.Common.{arith}
 use Rattle.bitmap.proofs.InParts.{numbers_in-insert}
 use Rattle.bitmap.proofs.parts.insert_in.Goals as goal
 

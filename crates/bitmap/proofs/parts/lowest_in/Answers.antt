@@ -1,5 +1,4 @@
-use Rattle.std.proofs.Common.{◌≡◌, ◌∙◌, arith, rules, subst, sym}
-use Rattle.std.specs.FinSet.{empty}
+use Rattle.std.proofs.Common.{◌∙◌, arith, subst, sym}
 use Rattle.bitmap.specs.Slots.{SlotSet, IsLowest}
 use Rattle.bitmap.proofs.InParts.{HasNoneIn-empty, HasNoneIn-past, IsLowestIn-slot}
 use Rattle.bitmap.proofs.parts.lowest_in.Goals as goal

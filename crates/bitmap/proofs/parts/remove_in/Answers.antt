@@ -1,4 +1,4 @@
-use Rattle.std.proofs.Common.{◌∙◌, ap, arith, sym}
+use Rattle.std.proofs.Common.{arith}
 use Rattle.bitmap.proofs.InParts.{numbers_in-remove}
 use Rattle.bitmap.proofs.parts.remove_in.Goals as goal
 

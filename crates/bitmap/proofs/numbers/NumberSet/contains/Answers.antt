@@ -1,6 +1,4 @@
-use Rattle.std.proofs.Common.{◌∙◌, ap, arith, sym}
-use Rattle.std.specs.FinSet.{contains}
-use Rattle.bitmap.specs.Numbers.{NumbersState}
+use Rattle.std.proofs.Common.{◌∙◌, arith, sym}
 use Rattle.bitmap.proofs.Joined.{contains-high, contains-low}
 use Rattle.bitmap.proofs.numbers.NumberSet.contains.Goals as goal
 

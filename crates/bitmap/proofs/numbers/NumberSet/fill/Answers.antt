@@ -1,4 +1,3 @@
-use Rattle.std.proofs.Common.{◌≡◌, ◌-◌, ◌∙◌, arith, sym}
 use Rattle.bitmap.proofs.Joined.{joined-below}
 use Rattle.bitmap.proofs.numbers.NumberSet.fill.Goals as goal
 

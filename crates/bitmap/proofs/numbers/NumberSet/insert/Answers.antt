@@ -1,5 +1,4 @@
-use Rattle.std.proofs.Common.{◌≡◌, ◌∙◌, ◌+◌, ◌*◌, ℕ, ap, arith, refl, sym, vec_len}
-use Rattle.bitmap.specs.Numbers.{NumbersState}
+use Rattle.std.proofs.Common.{arith, refl}
 use Rattle.bitmap.proofs.Joined.{insert-high, insert-low}
 use Rattle.bitmap.proofs.numbers.NumberSet.insert.Goals as goal
 

@@ -1,4 +1,3 @@
-use Rattle.std.proofs.Common.{◌≡◌, ◌∙◌, arith, rules, sym}
 use Rattle.bitmap.proofs.Joined.{IsLowest-high, IsLowest-low, joined-empty}
 use Rattle.bitmap.proofs.numbers.NumberSet.lowest.Goals as goal
 

@@ -1,6 +1,4 @@
-use Rattle.std.proofs.Common.{◌≡◌, ◌∙◌, [], List, arith, ap, refl}
-use Rattle.std.specs.FinSet as set
-use Rattle.bitmap.specs.Slots.{SlotSet}
+use Rattle.std.proofs.Common.{arith, refl}
 use Rattle.bitmap.proofs.InParts.{numbers_in-none}
 use Rattle.bitmap.proofs.Joined.{joined-empty}
 use Rattle.bitmap.proofs.Summaries.{IsSummary-empty}

@@ -1,5 +1,4 @@
-use Rattle.std.proofs.Common.{◌≡◌, ◌∙◌, ◌+◌, ◌*◌, ℕ, ap, arith, refl, sym, vec_len}
-use Rattle.bitmap.specs.Numbers.{NumbersState}
+use Rattle.std.proofs.Common.{arith, refl}
 use Rattle.bitmap.proofs.Joined.{remove-high, remove-low}
 use Rattle.bitmap.proofs.numbers.NumberSet.remove.Goals as goal
 
