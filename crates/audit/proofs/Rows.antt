@@ -1,7 +1,7 @@
 -- Rows of sections: what is told is set in both lists, and a full row has all of its sections.
-use Rattle.std.proofs.Common.{zero, suc, ◌≡◌, ℕ, Bool, true, false, if◌then◌else◌, List, [], ◌∷◌, map, length, replicate, set, get_or, Some, None, ap, refl, ◌∙◌, arith}
+use Rattle.std.proofs.Common.{zero, suc, ◌≡◌, ℕ, ◌<◌, ◌≤◌, Bool, true, false, if◌then◌else◌, List, [], ◌∷◌, map, length, replicate, set, get_or, Some, None, ap, refl, ◌∙◌, arith}
 use Rattle.audit.specs.declared.row.Row.{Row}
-use Rattle.audit.specs.Tables.{AreFull, IsFull, filled_row, full_row, told_sections}
+use Rattle.audit.specs.Tables.{AreFull, IsFull, filled_row, told_sections}
 
 pub length-told_sections : (sections : List ℕ) (told : List Bool) → length told ≡ length sections → length (told_sections sections told) ≡ length sections
 length-told_sections [] [] same = refl
@@ -39,7 +39,7 @@ all_told (s ∷ sections) [] same full = absurd cc
 all_told (s ∷ sections) (true ∷ told) same full = ap (λ l. Some s ∷ l) (all_told sections told (omega (arith, same)) (λ at less none. full (suc at) (omega arith) none))
 all_told (s ∷ sections) (false ∷ told) same full = absurd (full 0 (omega arith) refl)
 
-pub all_full : (rows : List Row) → AreFull (map filled_row rows) → map (λ (row : Row). full_row row.sections) rows ≡ map filled_row rows
+pub all_full : (rows : List Row) → AreFull (map filled_row rows) → map (λ (row : Row). map Some row.sections.items) rows ≡ map filled_row rows
 all_full [] full = refl
 all_full (row ∷ rows) full = λ i. all_told row.sections.items row.told.items row.same_len (full 0 (filled_row row) refl) i
     ∷ all_full rows (λ j other at. full (suc j) other at) i
@@ -52,3 +52,28 @@ get_or-none_told told n at is = ap (λ l. get_or l at false) is ∙ same n at
     same zero at = refl
     same (suc n) zero = refl
     same (suc n) (suc at) = same n at
+
+-- sections that are all the same
+pub all_same : (sections : List ℕ) (section : ℕ) → ((k : ℕ) → k < length sections → get_or sections k section ≡ section) → sections ≡ replicate (length sections) section
+all_same [] section each = refl
+all_same (s ∷ sections) section each = λ i. each 0 (omega arith) i ∷ all_same sections section (λ k less. each (suc k) (omega arith)) i
+
+pub get_or-map_Some : (sections : List ℕ) (at d : ℕ) → at < length sections → Some (get_or sections at d) ≡ get_or (map Some sections) at None
+get_or-map_Some [] at d less = absurd (omega arith)
+get_or-map_Some (s ∷ sections) zero d less = refl
+get_or-map_Some (s ∷ sections) (suc at) d less = get_or-map_Some sections at d (omega arith)
+
+pub get_or-map_past : (sections : List ℕ) (at : ℕ) → length sections ≤ at → None ≡ get_or (map Some sections) at None
+get_or-map_past [] at past = refl
+get_or-map_past (s ∷ sections) zero past = absurd (omega arith)
+get_or-map_past (s ∷ sections) (suc at) past = get_or-map_past sections at (omega arith)
+
+pub get_or-same : (n at section : ℕ) → at < n → Some section ≡ get_or (map Some (replicate n section)) at None
+get_or-same zero at section less = absurd (omega arith)
+get_or-same (suc n) zero section less = refl
+get_or-same (suc n) (suc at) section less = get_or-same n at section (omega arith)
+
+pub get_or-same_past : (n at section : ℕ) → n ≤ at → None ≡ get_or (map Some (replicate n section)) at None
+get_or-same_past zero at section past = refl
+get_or-same_past (suc n) zero section past = absurd (omega arith)
+get_or-same_past (suc n) (suc at) section past = get_or-same_past n at section (omega arith)

@@ -1,5 +1,5 @@
 -- The tables of an audit: where each span's log stands, and which section made each change. No public clause cites this module.
-use Rattle.std.specs.Prelude.{◌≡◌, ℕ, ◌+◌, ◌-◌, ◌<◌, ◌≤◌, Bool, true, false, Option, Some, None, List, [], ◌∷◌, Vec, length, map, suc, if◌then◌else◌, slice_get, slice_index_or}
+use Rattle.std.specs.Prelude.{◌≡◌, ℕ, ◌+◌, ◌-◌, ◌<◌, ◌≤◌, Bool, true, false, Option, Some, None, List, [], ◌∷◌, length, map, replicate, suc, if◌then◌else◌, slice_get, slice_index_or}
 use Rattle.span.specs.declared.change.Change.{Change}
 use Rattle.span.specs.declared.id.SpanId.{SpanId}
 use Rattle.span.specs.declared.receipt.Receipt.{Receipt}
@@ -9,10 +9,11 @@ use Rattle.span.specs.KeptLogs.{kept_changes}
 use Rattle.span.specs.declared.span_log.SpanLog.{SpanLog}
 use Rattle.audit.specs.Receipts.{log_of, makes_change}
 use Rattle.audit.specs.Agreement.{CallMakes}
-use Rattle.std.specs.declared.alloc.Global.{Global}
 use Rattle.audit.specs.declared.log.LogPlace.{LogPlace}
 use Rattle.audit.specs.declared.log.LogPlaces.{LogPlaces}
 use Rattle.audit.specs.declared.row.Row.{Row}
+use Rattle.audit.specs.declared.row.Sections.{Sections}
+use Rattle.audit.specs.declared.row.Sections.TheVariants.{Same, Each}
 
 -- each place is that of a span's log, and each log has its place
 pub record ArePlaces (logs : List SpanLog) (places : List LogPlace) : Type 0 where
@@ -102,9 +103,14 @@ told_sections sections told = []
 abbrev pub filled_row : Row → List (Option ℕ)
 filled_row row = told_sections row.sections.items row.told.items
 
+-- the sections of a log's changes
+abbrev pub sections_in : Sections → List ℕ
+sections_in (Same section changes) = replicate changes section
+sections_in (Each sections) = sections.items
+
 -- a row that is full: each change has its section
-abbrev pub full_row : Vec ℕ Global → List (Option ℕ)
-full_row row = map Some row.items
+abbrev pub full_row : Sections → List (Option ℕ)
+full_row row = map Some (sections_in row)
 
 -- each place of the row has a section
 abbrev pub IsFull : List (Option ℕ) → Type 0

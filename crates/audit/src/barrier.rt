@@ -7,6 +7,7 @@ ghost use Rattle.audit.specs.Agreement.{RepliesAreRight, SectionsAreInOrder};
 ghost use Rattle.audit.specs.Tables.{AreEntered, AreFull, IsTable, StandsBetween, full_row};
 
 use crate::log::{LogPlaces, index_of};
+use crate::row::Sections;
 use crate::section::is_between;
 use span::{ReceiptList, ReceiptView, SpanLog};
 
@@ -14,7 +15,7 @@ use span::{ReceiptList, ReceiptView, SpanLog};
 fn stands_between(
     logs: &[SpanLog],
     table: &LogPlaces,
-    rows: &[Vec<u64>],
+    rows: &[Sections],
     receipt: &ReceiptView<'_>,
 ) -> bool
     requires table { IsTable logs.now table.now }
@@ -23,7 +24,7 @@ fn stands_between(
         (receipt_viewed receipt.now) }
 {
     match index_of(logs, table, receipt.key.span) {
-        Some(j) => is_between(rows[j].as_slice(), receipt.at, receipt.section),
+        Some(j) => is_between(&rows[j], receipt.at, receipt.section),
         None => true,
     }
 }
@@ -32,7 +33,7 @@ fn stands_between(
 pub fn stand_between(
     logs: &[SpanLog],
     table: &LogPlaces,
-    rows: &[Vec<u64>],
+    rows: &[Sections],
     list: &ReceiptList,
 ) -> bool
     requires table { IsTable logs.now table.now }
@@ -55,7 +56,7 @@ pub fn stand_between(
 pub fn sections_are_in_order(
     logs: &[SpanLog],
     table: &LogPlaces,
-    rows: &[Vec<u64>],
+    rows: &[Sections],
     lists: &[ReceiptList],
 ) -> bool
     requires table { IsTable logs.now table.now }

@@ -10,7 +10,7 @@ ghost use Rattle.audit.specs.Tables.{AreEntered, AreFull, HasMade, IsKnown, IsLo
 
 use crate::calls::{call_makes, makes_change};
 use crate::log::{LogPlaces, index_of};
-use crate::row::Row;
+use crate::row::{Row, Sections};
 use crate::section::{are_full, empty_rows, full_rows, mark};
 use span::{Kept, Log, ReceiptList, ReceiptView, SpanLog};
 use std::alloc::{AllocError, Global};
@@ -115,7 +115,7 @@ pub fn sections_of_changes(
     logs: &[SpanLog],
     table: &LogPlaces,
     lists: &[ReceiptList],
-) -> Result<Option<Vec<Vec<u64>>>, AllocError>
+) -> Result<Option<Vec<Sections>>, AllocError>
     requires { IsTable logs.now table.now }
     ensures len { IfOk result (λ rows. IfSome rows (λ rows. vec_len rows ≡ length logs.now)) }
     ensures entered { IfOk result (λ rows. MatchOption rows

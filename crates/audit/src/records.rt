@@ -1,6 +1,7 @@
 // What the calls of a worker are held against.
 use crate::first::Firsts;
 use crate::log::LogPlaces;
+use crate::row::Sections;
 use crate::slot::SlotChange;
 use span::SpanLog;
 
@@ -12,7 +13,7 @@ pub struct Records<'a> {
     /// Where each span's log stands.
     pub table: &'a LogPlaces,
     /// The section of each change of each log.
-    pub sections: &'a [Vec<u64>],
+    pub sections: &'a [Sections],
     /// The changes of each log by slot.
     pub orders: &'a [Vec<SlotChange>],
     /// Where those of a slot begin.

@@ -9,3 +9,12 @@ pub struct Row {
     pub(crate) told: Vec<bool>,
     ghost same_len: { length told.items ≡ length sections.items },
 }
+
+/// The sections of the changes of a log, once all were told.
+#[derive(Drop)]
+pub enum Sections {
+    /// All changes were made in this section.
+    Same { section: u64, changes: usize },
+    /// The section of each. A change takes 8 bytes.
+    Each(Vec<u64>),
+}

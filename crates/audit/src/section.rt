@@ -1,8 +1,8 @@
 // Which section made each change, as far as receipts tell.
-ghost use Rattle.std.specs.Prelude.{◌≡◌, ◌↔◌, ◌<◌, IsTrue, IfOk, [], ℕ, None, Some, false, vec_len, length, map, slice_index_or, slice_set};
-ghost use Rattle.audit.specs.Tables.{AreRowsOf, AreFull, IsFull, IsBetween, filled_row, full_row};
+ghost use Rattle.std.specs.Prelude.{◌≡◌, ◌↔◌, ◌<◌, IsTrue, IfOk, [], ℕ, None, Some, false, vec_len, length, map, replicate, slice_index_or, slice_set};
+ghost use Rattle.audit.specs.Tables.{AreRowsOf, AreFull, IsFull, IsBetween, filled_row, full_row, sections_in};
 
-use crate::row::Row;
+use crate::row::{Row, Sections};
 use span::{Log, SpanLog};
 use std::alloc::{AllocError, Global};
 
@@ -68,27 +68,74 @@ pub fn are_full(rows: &[Row]) -> bool
     true
 }
 
-/// The sections of the rows alone, as they are kept where all were told: 8 bytes a change.
-pub fn full_rows(alloc: Global, rows: Vec<Row>) -> Result<Vec<Vec<u64>>, AllocError>
+// Whether all of the sections are this one.
+fn are_same(sections: &[u64], section: u64) -> bool
+    ensures { IsTrue result → sections.now ≡ replicate (length sections.now) section }
+{
+    for other in sections {
+        if *other != section {
+            return false;
+        }
+    }
+    true
+}
+
+// The sections of a log's changes, as one where they are the same.
+fn packed(sections: Vec<u64>) -> Sections
+    ensures { sections_in result ≡ sections.items }
+{
+    if sections.is_empty() {
+        return Sections::Each(sections);
+    }
+    let section = sections[0];
+    let changes = sections.len();
+    if are_same(sections.as_slice(), section) {
+        Sections::Same { section, changes }
+    } else {
+        Sections::Each(sections)
+    }
+}
+
+/// The sections of the rows alone, as they are kept where all were told.
+pub fn full_rows(alloc: Global, rows: Vec<Row>) -> Result<Vec<Sections>, AllocError>
     ensures { IfOk result (λ full. map full_row full.items
-        ≡ map (λ row. full_row row.sections) rows.items) }
+        ≡ map (λ row. map Some row.sections.items) rows.items) }
 {
     let mut full = Vec::with_capacity(alloc, rows.len())?;
     for row in rows {
-        full.push(row.sections)?;
+        full.push(packed(row.sections))?;
     }
     Ok(full)
 }
 
+// The section of the change at the place, if there is one.
+fn section_at(row: &Sections, at: usize) -> Option<u64>
+    ensures { result ≡ slice_index_or (full_row row.now) at None }
+{
+    match row {
+        Sections::Same { section, changes } => if at < *changes { Some(*section) } else { None },
+        Sections::Each(sections) => if at < sections.len() {
+            Some(sections[at])
+        } else {
+            None
+        },
+    }
+}
+
 /// Whether the section is none lower than that of the change before the place, and none higher than
 /// that of the change at it.
-pub fn is_between(row: &[u64], at: usize, section: u64) -> bool
-    ensures { IsTrue result ↔ IsBetween (map Some row.now) at section }
+pub fn is_between(row: &Sections, at: usize, section: u64) -> bool
+    ensures { IsTrue result ↔ IsBetween (full_row row.now) at section }
 {
-    if 1 <= at && at - 1 < row.len() && section < row[at - 1] {
+    if 1 <= at
+        && let Some(before) = section_at(row, at - 1)
+        && section < before
+    {
         return false;
     }
-    if at < row.len() && row[at] < section {
+    if let Some(after) = section_at(row, at)
+        && after < section
+    {
         return false;
     }
     true

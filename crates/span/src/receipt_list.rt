@@ -109,6 +109,7 @@ impl ReceiptList {
 
     /// The same, looked for first by the number in `near`, which the last call left there: who reads a list in order, from any
     /// number on, so spares a search.
+    #[inline(always)]
     pub fn view_near(&self, place: usize, near: &mut usize) -> ReceiptView<'_>
         requires { place < length (kept_receipts self.now) }
         ensures { slice_get (kept_receipts self.now) place ≡ Some (receipt_viewed result) }

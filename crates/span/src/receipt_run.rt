@@ -107,6 +107,7 @@ pub(crate) fn run_of(receipt: &Receipt, call: StoredCall, first: usize, start: u
 }
 
 // Whether the run with this number has the place, as far as the starts of this one and the next tell.
+#[inline(always)]
 fn has_place(runs: &[ReceiptRun], place: usize, i: usize) -> bool
     ensures { IsTrue result → HasPlace runs.now place i }
 {
@@ -120,6 +121,7 @@ fn has_place(runs: &[ReceiptRun], place: usize, i: usize) -> bool
 }
 
 // The number of the run that has the place, by halving.
+#[inline(never)]
 fn search(runs: &[ReceiptRun], place: usize) -> usize
     requires first { (first : ReceiptRun) → slice_get runs.now 0 ≡ Some first → first.start ≤ place }
     requires some { 0 < length runs.now }
@@ -138,6 +140,7 @@ fn search(runs: &[ReceiptRun], place: usize) -> usize
 }
 
 /// The number of the run that has the place. `near`, and the number after it, are tried before a search.
+#[inline(always)]
 pub(crate) fn run_at(runs: &[ReceiptRun], place: usize, near: usize) -> usize
     requires first { (first : ReceiptRun) → slice_get runs.now 0 ≡ Some first → first.start ≤ place }
     requires some { 0 < length runs.now }
@@ -154,6 +157,7 @@ pub(crate) fn run_at(runs: &[ReceiptRun], place: usize, near: usize) -> usize
 }
 
 // The key of the run's call with this number.
+#[inline(always)]
 fn key_at(run: &ReceiptRun, k: usize) -> Key
     requires { run.now.slot + k < 256 }
     ensures { result ≡ key_in run.now k }
@@ -169,6 +173,7 @@ fn key_at(run: &ReceiptRun, k: usize) -> Key
 }
 
 /// The receipt of the run's call with this number, with its words lent.
+#[inline(always)]
 pub(crate) fn view_of<'a>(run: &ReceiptRun, k: usize, words: &'a [u128]) -> ReceiptView<'a>
     requires { IsRunWithin (length words.now) run.now (k + 1) }
     ensures { receipt_viewed result ≡ receipt_in words.now run.now k }
@@ -199,6 +204,7 @@ pub(crate) fn receipt_of(run: &ReceiptRun, k: usize, words: &[u128]) -> Receipt
 }
 
 // How many words the call has.
+#[inline(always)]
 fn words_in(call: StoredCall) -> usize
     ensures value { result ≡ call_width call }
     ensures few { result ≤ 16 }
@@ -242,6 +248,7 @@ pub(crate) fn stored(call: &Call) -> StoredCall
 }
 
 // The call whose words begin at the word `first`.
+#[inline(always)]
 fn call_at(call: StoredCall, words: &[u128], first: usize) -> CallView<'_>
     requires { first + call_width call ≤ length words.now }
     ensures { call_viewed result ≡ call_in call (run_from words.now first (call_width call)) }

@@ -1,6 +1,6 @@
-use Rattle.std.proofs.Common.{◌≡◌, ℕ, List, Some, map, slice_get, sym, subst, refl, arith}
+use Rattle.std.proofs.Common.{◌≡◌, Some, map, slice_get, refl, arith}
 use Rattle.span.specs.ReceiptViews.{receipt_viewed}
-use Rattle.audit.specs.Tables.{IsBetween, full_row}
+use Rattle.audit.specs.Tables.{full_row}
 use Rattle.audit.proofs.Between.{stands-to}
 use Rattle.audit.proofs.Lists.{row_at}
 use Rattle.audit.proofs.LogTable.{table_one}
@@ -14,9 +14,8 @@ returns-in-Some c =
     let row = c.index-rows-j.result in
     let found = (c.in-Some.ensures {u = tt}).found in
     let at : slice_get rows c.in-Some.j ≡ Some (full_row row) = row_at full_row c.args.rows.now c.in-Some.j row (omega (arith, (c.in-Some.ensures {u = tt}).within, c.requires.len)) c.index-rows-j.is in (
-      λ so. stands-to logs rows r c.in-Some.j (full_row row) (table_one logs c.args.table.now c.requires.table) found at
-          (subst (λ (l : List ℕ). IsBetween (map Some l) r.at r.section) c.as_slice.ensures.value (c.is_between.ensures.0 so)),
-      λ stands. c.is_between.ensures.1 (subst (λ (l : List ℕ). IsBetween (map Some l) r.at r.section) (sym c.as_slice.ensures.value) (stands c.in-Some.j found.0 (full_row row) found.1 found.2 at)),
+      λ so. stands-to logs rows r c.in-Some.j (full_row row) (table_one logs c.args.table.now c.requires.table) found at (c.is_between.ensures.0 so),
+      λ stands. c.is_between.ensures.1 (stands c.in-Some.j found.0 (full_row row) found.1 found.2 at),
     )
 
 pub returns-in-None : goal.returns-in-None
