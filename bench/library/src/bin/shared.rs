@@ -1,6 +1,6 @@
 //! `shared WHO WORK THREADS CALLS`: a store that so many threads share, in a process of its own. WHO is `shared` (`teurlaks::SharedStore`), `arena`
-//! (a seat of a `teurlaks::Arena` for each thread), `lanes` (the same, where each seat has four shards), `mutex` (a `teurlaks::Store` behind one mutex) or `sharded-slab`. Each thread has 1,000 words
-//! of 128 bits of its own, and WORK is `churn` (each call frees one and puts another), `own` (each reads one) or `other` (each reads one of another
+//! (a seat of a `teurlaks::Arena` for each thread), `arena-N` (the same, where each seat has N shards), `mutex` (a `teurlaks::Store` behind one
+//! mutex) or `sharded-slab`. Each thread has 1,000 words of 128 bits of its own, and WORK is `churn` (each call frees one and puts another), `own` (each reads one) or `other` (each reads one of another
 //! thread's, of all others in turn); or each has as many as it has calls, and WORK is `later`: it frees those of the next thread, by `free_later`
 //! at a seat, which tends after each 64 calls. It tells nanoseconds a call of the slowest thread, by the clock, the least of 10 rounds in which all
 //! threads began at once.
@@ -244,10 +244,12 @@ fn of(who: &str, work: Work, threads: usize, calls: usize) -> Option<f64> {
     let rounds = (0..MOST_TRIES).filter_map(|_| match who {
         "shared" => round(teurlaks::SharedStore::new().ok()?, work, threads, calls),
         "arena" => round(Seats::new(threads, 1)?, work, threads, calls),
-        "lanes" => round(Seats::new(threads, 4)?, work, threads, calls),
         "mutex" => round(Locked(Mutex::new(teurlaks::Store::new().ok()?)), work, threads, calls),
         "sharded-slab" => round(sharded_slab::Slab::new(), work, threads, calls),
-        _ => None,
+        _ => {
+            let lanes = who.strip_prefix("arena-")?.parse().ok()?;
+            round(Seats::new(threads, lanes)?, work, threads, calls)
+        }
     });
     rounds.take(ROUNDS).reduce(f64::min)
 }
@@ -275,7 +277,7 @@ fn main() -> ExitCode {
             ExitCode::SUCCESS
         }
         None => {
-            eprintln!("shared shared|arena|lanes|mutex|sharded-slab churn|own|other|later THREADS CALLS, with 2 threads or more for other and later");
+            eprintln!("shared shared|arena|arena-N|mutex|sharded-slab churn|own|other|later THREADS CALLS, with 2 threads or more for other and later");
             ExitCode::from(2)
         }
     }
