@@ -11,7 +11,7 @@ use Rattle.arena.proofs.session.Session.try_set_words.Goals as goal
 pub returns-in_err-set-clause-elsewhere : goal.returns-in_err-set-clause-elsewhere
 returns-in_err-set-clause-elsewhere g c =
     let elsewhere : IsElsewhere c.args.self.now.shard.value.value.groups c.args.key.now.span =
-        subst (λ shard. IsElsewhere shard.groups c.args.key.now.span) c.deref_mut.ensures.value c.in_err-set.ensures.elsewhere in
+    subst (λ shard. IsElsewhere shard.groups c.args.key.now.span) c.deref_mut.ensures.value c.in_err-set.ensures.elsewhere in
     search (rules, elsewhere)
 
 pub returns-clause-told : goal.returns-clause-told
