@@ -44,8 +44,8 @@ Arena-send G L g gate log =
     recorded_send (Arena.the_field G L g).row _ _ (Arena.the_type G L g).to_one (struct_send (shape (Arena.the_type G L g)) all)
 
 -- a session may go to another thread with its arena and its shard
-pub Session-send : (G L : RattleType) (g : Ghosts L.Denot) → IsSend G → IsSync G → IsSend L → IsSend (Session.the_row G L g)
+pub Session-send : (G L : RattleType) (g : Ghosts L.Denot) → IsSend G → IsSync G → IsSend L → IsSend (Session.the_field G L g).row
 Session-send G L g gate gate_sync log =
     let share = Arc-send (Arena.the_row G L g) (Arena-send G L g gate log) (arena_sync G L g log gate_sync) in
     let all : AllSend (fields (Session.the_type G L g)) = (share, (seat_send, (hold.the_field_send (Shard.the_row L g) (shard.the_send L g log), tt))) in
-    recorded_send (Session.the_field G L g).row _ _ (Session.the_type G L g).to_one (struct_send (shape (Session.the_type G L g)) all)
+    struct_send (shape (Session.the_type G L g)) all

@@ -31,6 +31,9 @@
 //! lets other threads run meanwhile; the other, whose name begins with `try_`, looks at a lock 50 times at most, and then answers
 //! [`Busy`], with nothing changed. It therefore returns, whatever others do, and may be linked into a static library.
 //!
+//! A seat may also keep its shard out of its lock over many calls ([`Session`]): what these do to that shard is said exactly, and they take no
+//! lock. Whoever else wants the shard waits meanwhile, or is told that another thread has it.
+//!
 //! What is done under a lock is done by one call of a shard, of the pool, `fold_one` or `mark_in` on
 //! what the lock lends ([`sections`]), so the contracts of those calls hold of it, and each look-up,
 //! put, set and free makes its receipt there. An answer stands on what was found under the lock.

@@ -32,7 +32,7 @@ use std::sync::Arc;
 /// Meanwhile whoever else wants the shard's lock waits, or is told that another thread has it: those who look up, set or free an object
 /// there, a mark, a close, a totalling, and a step whose owned group is there. A session waits for nobody: where a call needs a lock
 /// beside, it tries it, and answers [`Busy`] with nothing changed; who asked pauses, makes the call at the seat, and begins again. So two
-/// sessions never wait for each other.
+/// sessions never wait for each other. A call that waits for the lock, made by the session's own thread, would wait for ever.
 pub struct Session<G: Gate, L: Log = Kept> {
     /// The arena.
     pub arena: Arc<Arena<G, L>, Global>,
