@@ -1,8 +1,8 @@
--- An arena may go to another thread with what is behind its locks.
+-- An arena may go to another thread with what is behind its locks, and a session with its shard.
 use denote.RattleType.{RattleType}
-use denote.Param.Send.{IsSend, AllSend, recorded_send, struct_send, sendable}
+use denote.Param.Send.{IsSend, IsSync, AllSend, recorded_send, struct_send, sendable}
 use denote.Struct.Declared.{fields, shape}
-use Rattle.std.proofs.Crossing.{crosses}
+use Rattle.std.proofs.Crossing.{Arc-send, crosses}
 use Rattle.std.proofs.alloc.Global.TheSendSync as heap
 use Rattle.std.proofs.vec.Vec.TheSendSync as vec
 use Rattle.std.below.std_heap.proofs.GlobalAllocator.TheSendSync as heap_memory
@@ -17,7 +17,11 @@ use Rattle.marks.proofs.limits.Limits.TheSendSync as limits
 use Rattle.latch.proofs.latch.Latch.TheSendSync as latch
 use Rattle.latch.specs.contracts.latch.Latch
 use Rattle.arena.proofs.ring_table.RingTable.TheSendSync as table
+use Rattle.arena.proofs.arena.Arena.TheSendSync.{the_sync as arena_sync}
+use Rattle.arena.proofs.seat.Seat.TheSendSync.{the_send as seat_send}
+use Rattle.latch.proofs.hold.Hold.TheSendSync as hold
 use Rattle.arena.specs.contracts.hints.Hints
+use Rattle.arena.specs.contracts.session.Session
 use Rattle.arena.specs.contracts.arena.Arena
 
 -- the counts and the words are atomic, and own nothing
@@ -38,3 +42,10 @@ Arena-send G L g gate log =
       ),
     ) in
     recorded_send (Arena.the_field G L g).row _ _ (Arena.the_type G L g).to_one (struct_send (shape (Arena.the_type G L g)) all)
+
+-- a session may go to another thread with its arena and its shard
+pub Session-send : (G L : RattleType) (g : Ghosts L.Denot) → IsSend G → IsSync G → IsSend L → IsSend (Session.the_field G L g).row
+Session-send G L g gate gate_sync log =
+    let share = Arc-send (Arena.the_row G L g) (Arena-send G L g gate log) (arena_sync G L g log gate_sync) in
+    let all : AllSend (fields (Session.the_type G L g)) = (share, (seat_send, (hold.the_field_send (Shard.the_row L g) (shard.the_send L g log), tt))) in
+    struct_send (shape (Session.the_type G L g)) all

@@ -47,6 +47,16 @@ impl<G: Gate, L: Log> Arena<G, L> {
         }
     }
 
+    // The same for the session of this worker, whose shard does not have the span, and is out of its lock: what that shard let go is in the
+    // pool first.
+    pub(crate) fn lend_beside(&self, worker: u32, id: SpanId) -> Result<Lent<'_, L>, Busy> {
+        if self.hints.place_of(id) == Place::Shard(worker) {
+            let pool = self.pool.try_lock()?;
+            return Ok(Lent::Pool(pool));
+        }
+        self.lend(&Tries, id)
+    }
+
     // Asks all whether they have the key's span, and notes where it is; or says that it is nowhere, so that its keys find nothing.
     pub(crate) fn locate(&self, key: &Key) -> Result<bool, Busy> {
         let look = Look { key: *key };

@@ -31,6 +31,9 @@
 //! lets other threads run meanwhile; the other, whose name begins with `try_`, looks at a lock 50 times at most, and then answers
 //! [`Busy`], with nothing changed. It therefore returns, whatever others do, and may be linked into a static library.
 //!
+//! A seat may also keep its shard out of its lock over many calls ([`Session`]): what these do to that shard is said exactly, and they take no
+//! lock. Whoever else wants the shard waits meanwhile, or is told that another thread has it.
+//!
 //! What is done under a lock is done by one call of a shard, of the pool, `fold_one` or `mark_in` on
 //! what the lock lends ([`sections`]), so the contracts of those calls hold of it, and each look-up,
 //! put, set and free makes its receipt there. An answer stands on what was found under the lock.
@@ -81,6 +84,7 @@ mod replacing;
 mod ring_table;
 mod seat;
 pub mod sections;
+mod session;
 mod settling;
 mod steward;
 mod tending;
@@ -100,6 +104,7 @@ pub use outboxes::MOST_DELAY;
 pub use receipts::{Dropped, Receipts};
 pub use ring_table::RingTable;
 pub use seat::{Seat, Tended};
+pub use session::Session;
 pub use steward::Steward;
 pub use walk::Walk;
 pub use word::Word;

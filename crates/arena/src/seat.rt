@@ -424,7 +424,7 @@ impl Seat {
     }
 
     // Counts a call, where keys wait, and hands them over where it is the last that they may wait.
-    fn count_call(&mut self)
+    pub(crate) fn count_call(&mut self)
         ensures { CountsCall self.old self.new }
     {
         count_call_on(&mut self.outboxes, &mut self.delay);

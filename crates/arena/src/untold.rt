@@ -70,12 +70,25 @@ impl<G: Gate, L: Log> Arena<G, L> {
             (λ got. (found : Option Value) × WritesFound W.word found room.old got.0 room.new)) }
         ensures busy { OnErr result (room.new ≡ room.old) }
     {
-        match self.lend(&Tries, key.span)? {
-            Lent::Nowhere => Ok(Some((None, 0))),
-            Lent::Pool(pool) => Ok(get_words_pool(&*pool, key, room)),
-            Lent::Shard(shard) => Ok(get_words_in(&*shard, key, room)),
-            Lent::Nobody => Ok(None),
-        }
+        let lent = self.lend(&Tries, key.span)?;
+        Ok(get_words_lent(lent, key, room))
+    }
+
+    // The same for the session of this worker, whose shard does not have the span, where its hint says that the span is; or busy, where the
+    // span is not there.
+    #[inline(never)]
+    pub(crate) fn try_get_words_beside<W: Word>(
+        &self,
+        worker: u32,
+        key: &Key,
+        room: &mut [W],
+    ) -> Result<(Option<usize>, usize), Busy>
+        ensures words { IfOk result (λ got. (found : Option Value)
+            × WritesFound W.word found room.old got.0 room.new) }
+        ensures busy { OnErr result (room.new ≡ room.old) }
+    {
+        let lent = self.lend_beside(worker, key.span)?;
+        get_words_lent(lent, key, room).ok_or(Busy)
     }
 
     // Sets the key's object to these words in place, and tells whether it did, and how many changes stood in its span's log before.
@@ -104,11 +117,22 @@ impl<G: Gate, L: Log> Arena<G, L> {
         key: &Key,
         words: &[u128],
     ) -> Result<Result<Option<(bool, usize)>, AllocError>, Busy> {
-        match self.lend(&Tries, key.span)? {
-            Lent::Nowhere => Ok(Ok(Some((false, 0)))),
-            Lent::Pool(mut pool) => Ok(set_words_pool(&mut *pool, key, words)),
-            Lent::Shard(mut shard) => Ok(set_words_in(&mut *shard, key, words)),
-            Lent::Nobody => Ok(Ok(None)),
+        let lent = self.lend(&Tries, key.span)?;
+        Ok(set_words_lent(lent, key, words))
+    }
+
+    // The same for the session of this worker, whose shard does not have the span; or busy, where the span is not there.
+    pub(crate) fn try_set_words_beside(
+        &self,
+        worker: u32,
+        key: &Key,
+        words: &[u128],
+    ) -> Result<Result<(bool, usize), AllocError>, Busy> {
+        let lent = self.lend_beside(worker, key.span)?;
+        match set_words_lent(lent, key, words) {
+            Ok(Some(set)) => Ok(Ok(set)),
+            Ok(None) => Err(Busy),
+            Err(refused) => Ok(Err(refused)),
         }
     }
 
@@ -138,11 +162,62 @@ impl<G: Gate, L: Log> Arena<G, L> {
     // The same where its hint says that the span is, if the span is there.
     #[inline(always)]
     fn free_untold_once(&self, key: &Key) -> Result<Option<(bool, usize)>, Busy> {
-        match self.lend(&Tries, key.span)? {
-            Lent::Nowhere => Ok(Some((false, 0))),
-            Lent::Pool(mut pool) => Ok(free_untold_pool(&mut *pool, key)),
-            Lent::Shard(mut shard) => Ok(free_untold_in(&mut *shard, key)),
-            Lent::Nobody => Ok(None),
-        }
+        let lent = self.lend(&Tries, key.span)?;
+        Ok(free_untold_lent(lent, key))
+    }
+
+    // The same for the session of this worker, whose shard does not have the span; or busy, where the span is not there.
+    #[inline(never)]
+    pub(crate) fn try_free_untold_beside(
+        &self,
+        worker: u32,
+        key: &Key,
+    ) -> Result<(bool, usize), Busy> {
+        let lent = self.lend_beside(worker, key.span)?;
+        free_untold_lent(lent, key).ok_or(Busy)
+    }
+}
+
+// Looks the key up under the lock of whoever was lent, and writes the words of its object into the room; nothing where the span is not
+// there.
+#[inline(always)]
+fn get_words_lent<L: Log, W: Word>(
+    lent: Lent<'_, L>,
+    key: &Key,
+    room: &mut [W],
+) -> Option<(Option<usize>, usize)>
+    ensures { MatchOption result (room.new ≡ room.old) (λ got. (found : Option Value)
+        × WritesFound W.word found room.old got.0 room.new) }
+{
+    match lent {
+        Lent::Nowhere => Some((None, 0)),
+        Lent::Pool(pool) => get_words_pool(&*pool, key, room),
+        Lent::Shard(shard) => get_words_in(&*shard, key, room),
+        Lent::Nobody => None,
+    }
+}
+
+// The same of a set of the key to these words.
+fn set_words_lent<L: Log>(
+    lent: Lent<'_, L>,
+    key: &Key,
+    words: &[u128],
+) -> Result<Option<(bool, usize)>, AllocError> {
+    match lent {
+        Lent::Nowhere => Ok(Some((false, 0))),
+        Lent::Pool(mut pool) => set_words_pool(&mut *pool, key, words),
+        Lent::Shard(mut shard) => set_words_in(&mut *shard, key, words),
+        Lent::Nobody => Ok(None),
+    }
+}
+
+// The same of a free of the key.
+#[inline(always)]
+fn free_untold_lent<L: Log>(lent: Lent<'_, L>, key: &Key) -> Option<(bool, usize)> {
+    match lent {
+        Lent::Nowhere => Some((false, 0)),
+        Lent::Pool(mut pool) => free_untold_pool(&mut *pool, key),
+        Lent::Shard(mut shard) => free_untold_in(&mut *shard, key),
+        Lent::Nobody => None,
     }
 }

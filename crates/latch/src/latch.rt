@@ -1,9 +1,10 @@
 // The lock.
-ghost use Rattle.std.specs.Prelude.{◌≡◌, [], ◌∷◌, IfSome, None};
+ghost use Rattle.std.specs.Prelude.{◌≡◌, [], ◌∷◌, IfOk, IfSome, None};
 ghost use Rattle.atomic_table.specs.Table.{rest};
 ghost use Rattle.latch.specs.Rule.{IsKept, gave, took};
 
 use crate::guard::LatchGuard;
+use crate::hold::Hold;
 use atomic_table::{Play, Seat, Table, TableRule};
 use std::alloc::{AllocError, Global};
 use std::hint::spin_loop;
@@ -66,9 +67,9 @@ impl<T: Drop> Model for Latch<T> {
     ghost view = { λ latch. latch.table.shared.table_id };
 }
 
-// The right to give the value back. It has no bytes. In a clause it is the name of its latch's table.
-#[derive(Drop)]
-pub(crate) struct Turn<T> {
+/// The right to give the value back. It has no bytes, and nobody can let it go: it is used up where the value is given back. In a clause it
+/// is the name of its latch's table.
+pub struct Turn<T> {
     seat: Seat<Option<Box<T>>, ()>,
     ghost empty: { seat.me.1 ≡ (0, None) ∷ [] },
 }
@@ -110,21 +111,36 @@ impl<T: Drop> Latch<T> {
     // Inlined, the guard stays in registers: a call passes it through memory.
     #[inline(always)]
     pub fn try_lock(&self) -> Result<LatchGuard<'_, T>, Busy> {
+        let Hold { turn, value } = self.try_hold()?;
+        Ok(LatchGuard::new(self, turn, value))
+    }
+
+    /// The value itself, out of the latch until [`Latch::give_back`]. It takes no memory, and looks 50 times at most.
+    ///
+    /// # Errors
+    ///
+    /// [`Busy`] where another thread has the value at each look.
+    #[inline(always)]
+    pub fn try_hold(&self) -> Result<Hold<T>, Busy>
+        ensures { IfOk result (λ hold. hold.turn ≡ self.now) }
+    {
         // No other thread has it, mostly. A look before the swap would have the line of the word come twice from another processor.
         match self.take() {
-            Some((value, turn)) => Ok(LatchGuard::new(self, turn, value)),
+            Some((value, turn)) => Ok(Hold { turn, value }),
             None => self.look_again(),
         }
     }
 
-    // The guard, after the first look: a load goes before each swap, which would take the word's line from who gives the value back.
+    // The value, after the first look: a load goes before each swap, which would take the word's line from who gives the value back.
     #[inline(never)]
-    fn look_again(&self) -> Result<LatchGuard<'_, T>, Busy> {
+    fn look_again(&self) -> Result<Hold<T>, Busy>
+        ensures { IfOk result (λ hold. hold.turn ≡ self.now) }
+    {
         for _ in 1..LOOKS {
             spin_loop();
             if self.table.shared.peek(WORD) == 0 {
                 if let Some((value, turn)) = self.take() {
-                    return Ok(LatchGuard::new(self, turn, value));
+                    return Ok(Hold { turn, value });
                 }
             }
         }

@@ -5,6 +5,9 @@
 //! until it has the guard. Nobody sleeps on a latch and nobody is woken, so a static library may have one, where the kit refuses
 //! `Mutex`, whose unlock wakes a sleeper.
 //!
+//! What is to be kept over many calls is held: [`Latch::try_hold`] hands out a [`Hold`], which borrows nothing, and [`Latch::give_back`]
+//! takes it back. A hold can't be let go otherwise.
+//!
 //! ```text
 //!   word 0: the value is at home  ── try_lock: swap in 1, take the value out ──▶  word 1: a guard has it
 //!                                 ◀── the guard is dropped: put it back, store 0 ──
@@ -21,7 +24,9 @@
 #![tactic(auto)]
 
 mod guard;
+mod hold;
 mod latch;
 
 pub use guard::LatchGuard;
-pub use latch::{Busy, Latch};
+pub use hold::Hold;
+pub use latch::{Busy, Latch, Turn};

@@ -24,15 +24,17 @@ use Rattle.teurlaks_c.specs.declared.replies.TendReply.{TendReply}
 use Rattle.teurlaks_c.specs.declared.replies.RawKey.{RawKey}
 use Rattle.teurlaks_c.specs.declared.replies.RawWord.{RawWord}
 use Rattle.teurlaks_c.specs.declared.share.Share.{Share}
-use Rattle.teurlaks_c.specs.declared.share.Share.TheVariants.{Seat}
+use Rattle.teurlaks_c.specs.declared.share.Share.TheVariants.{Seat, Session}
 use Rattle.teurlaks_c.specs.declared.share.SharedSeat.{SharedSeat}
 use Rattle.teurlaks_c.specs.Calls.{SaysWords}
+use Rattle.teurlaks_c.specs.SessionCalls.{AtHeldSeat, FreesHeld, GetsHeld, HasSession, Held, InSession, PutsHeld, SetsHeld, paused}
 use Rattle.teurlaks_c.specs.Keys.{IsKeyOf, IsNoKey, IsIdOf}
 use Rattle.teurlaks_c.specs.Status.{busy, config, done, no_core, none, out_of_memory, ring_full, still_running, too_small, adopt_status, put_status, receive_status}
 
 -- the handle has no seat
 abbrev pub HasNoSeat : Option Share → Type 0
 HasNoSeat (Some (Seat seat)) = ⊥
+HasNoSeat (Some (Session session)) = ⊥
 HasNoSeat held = Unit {0}
 
 -- the seat of the handle does this and answers that, at the same arena
@@ -47,6 +49,11 @@ pub record AtSeat {Answer : Type 0} (does : SeatState → Answer → SeatState �
 -- the handle's seat is asked, where it has one
 abbrev pub Asks : {Answer : Type 0} → (SeatState → Answer → SeatState → Type 0) → Option Share → Option Answer → Option Share → Type 0
 Asks does old answer new = MatchOption answer (HasNoSeat old × (new ≡ old)) (λ answer. AtSeat does old answer new)
+
+-- the handle's seat is asked, where it has one: where it keeps no shard it does this, and in a session that
+abbrev pub AsksEither : {Answer : Type 0} → (SeatState → Answer → SeatState → Type 0) → (Held → Answer → Held → Type 0) → Option Share → Option Answer → Option Share → Type 0
+AsksEither does does_held old answer new =
+    MatchOption answer (HasNoSeat old × (new ≡ old)) (λ answer. AtSeat does old answer new ⊎ InSession does_held old answer new)
 
 -- a call that needs a lock which another thread has changes nothing; else it is one call of the seat more
 abbrev pub IsOneCall : {Answer : Type 0} → SeatState → Result Answer Busy → SeatState → Type 0
@@ -127,7 +134,7 @@ SaysInstead status says (Some stayed) = says ≡ status
 
 -- nothing is asked of the seat, and this is answered in place of what it would say
 abbrev pub AsksNothing : ℕ → Option Share → ℕ → Option Share → Type 0
-AsksNothing status old says new = (answer : _) × Asks Stays old answer new × SaysInstead status says answer
+AsksNothing status old says new = (answer : _) × AsksEither Stays (AtHeldSeat Stays) old answer new × SaysInstead status says answer
 
 -- what C reads of a put
 abbrev pub SaysPut : {Told : Type 0} → PutReply → Option (Result (Result (Key × Told) PutError) Busy) → Type 0
@@ -136,13 +143,15 @@ SaysPut says (Some (Err b)) = says.status ≡ busy
 SaysPut says (Some (Ok (Ok put))) = (says.status ≡ done) × IsKeyOf says.key put.0
 SaysPut says (Some (Ok (Err error))) = says.status ≡ put_status error
 
--- words that are no object are refused; others are put by the seat
+-- words that are no object are refused; others are put by the seat, or in its session
 abbrev pub PutsWords : Option Share → List ℕ → PutReply → Option Share → Type 0
 PutsWords old words says new =
-    (IsObject words × ((answer : _) × Asks (Puts words) old answer new × SaysPut says answer)) ⊎ ((IsObject words → ⊥) × AsksNothing config old says.status new)
+    (IsObject words × ((answer : _) × Asks (Puts words) old answer new × SaysPut says answer))
+    ⊎ ((IsObject words × ((answer : _) × InSession (PutsHeld words) old answer new × SaysPut says (Some answer)))
+    ⊎ ((IsObject words → ⊥) × AsksNothing config old says.status new))
 
 -- what C reads of a look-up, and what it leaves in the room
-abbrev pub SaysGot : List RawWord → WordsReply → List RawWord → Option (Result (Option Value × Receipt) Busy) → Type 0
+abbrev pub SaysGot : {Told : Type 0} → List RawWord → WordsReply → List RawWord → Option (Result (Option Value × Told) Busy) → Type 0
 SaysGot room says room_new None = (says.status ≡ no_core) × (says.len ≡ 0) × (room_new ≡ room)
 SaysGot room says room_new (Some (Err b)) = (says.status ≡ busy) × (says.len ≡ 0) × (room_new ≡ room)
 SaysGot room says room_new (Some (Ok got)) = SaysWords room says room_new got.0
@@ -153,10 +162,15 @@ SaysLooked most says (Err b) = (says.status ≡ busy) × (says.len ≡ 0)
 SaysLooked most says (Ok (None, at)) = (says.len ≡ 0) × (says.status ≡ none)
 SaysLooked most says (Ok (Some count, at)) = (says.len ≡ count) × (((count ≤ most) × (says.status ≡ done)) ⊎ ((most < count) × (says.status ≡ too_small)))
 
+-- the key is looked up by the seat, or in its session
+abbrev pub GetsKey : Option Share → Key → List RawWord → WordsReply → List RawWord → Option Share → Type 0
+GetsKey old key room says room_new new = ((answer : _) × Asks (Gets key) old answer new × SaysGot room says room_new answer)
+    ⊎ ((answer : _) × InSession (GetsHeld key) old answer new × SaysGot room says room_new (Some answer))
+
 -- the words of the key with these numbers, if it is live
 abbrev pub GetsWords : Option Share → RawKey → List RawWord → WordsReply → List RawWord → Option Share → Type 0
 GetsWords old raw room says room_new new = (IsNoKey raw × AsksNothing none old says.status new × (says.len ≡ 0) × (room_new ≡ room))
-    ⊎ ((key : Key) × IsKeyOf raw key × ((answer : _) × Asks (Gets key) old answer new × SaysGot room says room_new answer))
+    ⊎ ((key : Key) × IsKeyOf raw key × GetsKey old key room says room_new new)
 
 -- what C reads of a free
 abbrev pub SaysFreed : {Told : Type 0} → ℕ → Option (Result (Bool × Told) Busy) → Type 0
@@ -165,9 +179,14 @@ SaysFreed says (Some (Err b)) = says ≡ busy
 SaysFreed says (Some (Ok (true, receipt))) = says ≡ done
 SaysFreed says (Some (Ok (false, receipt))) = says ≡ none
 
+-- the key is freed by the seat, or in its session
+abbrev pub FreesBy : Option Share → Key → ℕ → Option Share → Type 0
+FreesBy old key says new = ((answer : _) × Asks (Frees key) old answer new × SaysFreed says answer)
+    ⊎ ((answer : _) × InSession (FreesHeld key) old answer new × SaysFreed says (Some answer))
+
 -- the key with these numbers is freed, if it is live
 abbrev pub FreesKey : Option Share → RawKey → ℕ → Option Share → Type 0
-FreesKey old raw says new = (IsNoKey raw × AsksNothing none old says new) ⊎ ((key : Key) × IsKeyOf raw key × ((answer : _) × Asks (Frees key) old answer new × SaysFreed says answer))
+FreesKey old raw says new = (IsNoKey raw × AsksNothing none old says new) ⊎ ((key : Key) × IsKeyOf raw key × FreesBy old key says new)
 
 -- what C reads of a set
 abbrev pub SaysSet : {Told : Type 0} → ℕ → Option (Result (Result (Bool × Told) AllocError) Busy) → Type 0
@@ -177,11 +196,16 @@ SaysSet says (Some (Ok (Err error))) = says ≡ out_of_memory
 SaysSet says (Some (Ok (Ok (true, receipt)))) = says ≡ done
 SaysSet says (Some (Ok (Ok (false, receipt)))) = says ≡ none
 
+-- the key is set to the object by the seat, or in its session
+abbrev pub SetsBy : Option Share → Key → Value → ℕ → Option Share → Type 0
+SetsBy old key words says new = ((answer : _) × Asks (Sets key words) old answer new × SaysSet says answer)
+    ⊎ ((answer : _) × InSession (SetsHeld key words) old answer new × SaysSet says (Some answer))
+
 -- words that are no object are refused; to others the key with these numbers is set, if it is live and its object has as many words
 abbrev pub SetsWords : Option Share → RawKey → List ℕ → ℕ → Option Share → Type 0
 SetsWords old raw words says new = ((IsObject words → ⊥) × AsksNothing config old says new)
     ⊎ ((IsObject words × (IsNoKey raw × AsksNothing none old says new))
-    ⊎ (IsObject words × ((key : Key) × IsKeyOf raw key × ((answer : _) × Asks (Sets key words) old answer new × SaysSet says answer))))
+    ⊎ (IsObject words × ((key : Key) × IsKeyOf raw key × SetsBy old key words says new)))
 
 -- what C reads of a retirement
 abbrev pub SaysRetired : RetireReply → Option (Result (Result ℕ ReceiveError) Busy) → Type 0
@@ -226,7 +250,8 @@ SaysLeft says (Some (Some (Err back))) = says ≡ ring_full
 
 -- the key with these numbers is left to its shard's thread, if there is one
 abbrev pub LeavesKey : Option Share → RawKey → ℕ → Option Share → Type 0
-LeavesKey old raw says new = (IsNoKey raw × AsksNothing none old says new) ⊎ ((key : Key) × IsKeyOf raw key × ((answer : _) × Asks (FreesLater key) old answer new × SaysLeft says answer))
+LeavesKey old raw says new = (IsNoKey raw × AsksNothing none old says new)
+    ⊎ ((key : Key) × IsKeyOf raw key × ((answer : _) × AsksEither (FreesLater key) (AtHeldSeat (FreesLater key)) old answer new × SaysLeft says answer))
 
 -- what C reads of a hand-over
 abbrev pub SaysHandedOver : ℕ → Option (Unit {0}) → Type 0
@@ -238,3 +263,12 @@ abbrev pub SaysTended : TendReply → Option (Result Tended AllocError) → Type
 SaysTended says None = (says.status ≡ no_core) × (says.count ≡ 0)
 SaysTended says (Some (Err error)) = (says.status ≡ out_of_memory) × (says.count ≡ 0)
 SaysTended says (Some (Ok tended)) = (says.status ≡ (if tended.is_busy then busy else done)) × (says.count ≡ tended.count)
+
+-- the handle's seat keeps its shard from now on, or another thread has it, and nothing changes
+abbrev pub HoldsShard : Option Share → ℕ → Option Share → Type 0
+HoldsShard old says new = (HasNoSeat old × (says ≡ no_core) × (new ≡ old))
+    ⊎ (((says ≡ done) × HasSession new × (paused new ≡ paused old)) ⊎ ((says ≡ busy) × (HasSession old → ⊥) × (new ≡ old)))
+
+-- the handle's seat keeps its shard no more
+abbrev pub GivesShard : Option Share → ℕ → Option Share → Type 0
+GivesShard old says new = (new ≡ paused old) × ((HasNoSeat old × (says ≡ no_core)) ⊎ ((HasNoSeat old → ⊥) × (says ≡ done)))

@@ -47,6 +47,8 @@ mod meshing;
 mod replies;
 mod seat_calls;
 mod seats;
+mod session_calls;
+mod sessions;
 mod share;
 mod share_handle;
 mod status;
@@ -69,6 +71,7 @@ pub use seats::{
     teurlaks_seat_put_words, teurlaks_seat_retire, teurlaks_seat_set_words, teurlaks_seat_tend,
     teurlaks_seat_trim,
 };
+pub use sessions::{teurlaks_seat_pause, teurlaks_seat_session};
 pub use stewards::{
     teurlaks_arena_open, teurlaks_share_drop, teurlaks_steward_certificate, teurlaks_steward_close,
     teurlaks_steward_forget, teurlaks_steward_mark, teurlaks_steward_mark_some,

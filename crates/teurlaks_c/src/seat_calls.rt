@@ -3,9 +3,11 @@ ghost use Rattle.std.specs.Prelude.{◌≡◌, MatchOption, Some, length};
 ghost use Rattle.arena.specs.Delays.{HandsOver};
 ghost use Rattle.arena.specs.Seats.{SeatState};
 ghost use Rattle.span.specs.Classes.{width_of};
+ghost use Rattle.teurlaks_c.specs.SessionCalls.{HasSession, paused};
 ghost use Rattle.teurlaks_c.specs.SeatCalls.{Asks, AtSeat, Ends, Frees, FreesLater, Gets, HasNoSeat, IsOneCall, PutsUntold, Retires, SaysGot, SaysLooked, Sets, Stays, Tends, free_told, set_told};
 
 use crate::replies::{RawWord, WordsReply};
+use crate::session_calls::pause;
 use crate::share::{Shards, Share, SharedSeat};
 use crate::share_handle::ShareHandle;
 use crate::status::{BUSY, NO_CORE, NONE, OK, TOO_SMALL};
@@ -31,83 +33,49 @@ pub(crate) trait SeatCall {
         ensures does { does self.now seat.old result seat.new };
 }
 
-/// Asks the seat of the handle, where it has one.
+/// Asks the seat of the handle, where it has one. Where it keeps its shard it gives that back before, and keeps it no more.
 #[inline(always)]
 pub(crate) fn at_seat<C: SeatCall>(
     alloc: Global,
     handle: &mut ShareHandle,
     call: &C,
 ) -> Option<C::Answer>
-    ensures { Asks (C.does call.now) handle.old.share result handle.new.share }
+    ensures { Asks (C.does call.now) (paused handle.old.share) result handle.new.share }
 {
     let Some(mut share) = replace(handle, ShareHandle::none()).into_box(alloc) else {
         return None;
     };
+    pause(&mut *share);
     let answer = ask_share(&mut *share, call);
     *handle = ShareHandle::of(share);
     answer
 }
 
-// Asks the seat, where that is what is shared.
+// Asks the seat, where that is what is shared, and keeps no shard.
 #[inline(always)]
 fn ask_share<C: SeatCall>(share: &mut Share, call: &C) -> Option<C::Answer>
+    requires { HasSession (Some share.old) → ⊥ }
     ensures { Asks (C.does call.now) (Some share.old) result (Some share.new) }
 {
     match share {
         Share::Seat(seat) => Some(ask_seat(seat, call)),
         Share::Steward(_) => None,
+        Share::Session(_) => unreachable!(),
     }
 }
 
-// Asks the seat.
+/// Asks the seat.
 #[inline(always)]
-fn ask_seat<C: SeatCall>(shared: &mut SharedSeat, call: &C) -> C::Answer
+pub(crate) fn ask_seat<C: SeatCall>(shared: &mut SharedSeat, call: &C) -> C::Answer
     ensures arena { shared.new.arena ≡ shared.old.arena }
     ensures does { C.does call.now shared.old.seat result shared.new.seat }
 {
     call.ask(&mut shared.seat, &*shared.arena)
 }
 
-/// Looks the key up at the seat of the handle, where it has one, and writes the words of its object into the room, where there is enough.
+/// Looks the key up at the seat, and writes the words of its object into the room, where there is enough.
 #[inline(always)]
-pub(crate) fn look_up_at_seat(
-    alloc: Global,
-    handle: &mut ShareHandle,
-    key: &Key,
-    room: &mut [RawWord],
-) -> WordsReply
-    ensures { (answer : _) × Asks (Gets key.now) handle.old.share answer handle.new.share
-        × SaysGot room.old result room.new answer }
-{
-    let Some(mut share) = replace(handle, ShareHandle::none()).into_box(alloc) else {
-        return WordsReply {
-            status: NO_CORE,
-            len: 0,
-        };
-    };
-    let says = look_up_at_share(&mut *share, key, room);
-    *handle = ShareHandle::of(share);
-    says
-}
-
-// The same of what is shared.
-#[inline(always)]
-fn look_up_at_share(share: &mut Share, key: &Key, room: &mut [RawWord]) -> WordsReply
-    ensures { (answer : _) × Asks (Gets key.now) (Some share.old) answer (Some share.new)
-        × SaysGot room.old result room.new answer }
-{
-    match share {
-        Share::Seat(seat) => look_up(seat, key, room),
-        Share::Steward(_) => WordsReply {
-            status: NO_CORE,
-            len: 0,
-        },
-    }
-}
-
-// The same of a seat.
-#[inline(always)]
-fn look_up(shared: &mut SharedSeat, key: &Key, room: &mut [RawWord]) -> WordsReply
+pub(crate) fn look_up(shared: &mut SharedSeat, key: &Key, room: &mut [RawWord]) -> WordsReply
     ensures arena { shared.new.arena ≡ shared.old.arena }
     ensures does { (answer : _) × Gets key.now shared.old.seat answer shared.new.seat
         × SaysGot room.old result room.new (Some answer) }
@@ -117,9 +85,9 @@ fn look_up(shared: &mut SharedSeat, key: &Key, room: &mut [RawWord]) -> WordsRep
     looked_reply(most, answer)
 }
 
-// What C reads of a look-up, where there is room for so many words.
+/// What C reads of a look-up, where there is room for so many words.
 #[inline(always)]
-fn looked_reply(most: usize, answer: Result<(Option<usize>, usize), Busy>) -> WordsReply
+pub(crate) fn looked_reply(most: usize, answer: Result<(Option<usize>, usize), Busy>) -> WordsReply
     ensures { SaysLooked most result answer }
 {
     match answer {

@@ -2,7 +2,8 @@
 ghost use Rattle.std.specs.Prelude.{◌≡◌, ◌∷◌, [], length};
 ghost use Rattle.arena.specs.Delays.{HandsOver};
 ghost use Rattle.span.specs.Classes.{width_of};
-ghost use Rattle.teurlaks_c.specs.SeatCalls.{Asks, AsksNothing, Ends, Frees, FreesKey, GetsWords, IsOneCall, LeavesKey, PutsUntold, PutsWords, Retires, SaysAdopted, SaysBegun, SaysEnded, SaysFreed, SaysHandedOver, SaysLeft, SaysPut, SaysRetired, SaysSet, SaysTended, SaysTrimmed, Sets, SetsWords, Tends};
+ghost use Rattle.teurlaks_c.specs.SeatCalls.{Asks, AsksEither, AsksNothing, Ends, FreesBy, FreesKey, GetsWords, IsOneCall, LeavesKey, PutsUntold, PutsWords, Retires, SaysAdopted, SaysBegun, SaysEnded, SaysFreed, SaysHandedOver, SaysLeft, SaysPut, SaysRetired, SaysSet, SaysTended, SaysTrimmed, SetsBy, SetsWords, Tends};
+ghost use Rattle.teurlaks_c.specs.SessionCalls.{AtHeldSeat, PutsHeld, paused};
 ghost use Rattle.teurlaks_c.specs.Status.{adopt_status, put_status, receive_status};
 ghost use Rattle.teurlaks_c.specs.Words.{words_of};
 
@@ -14,8 +15,8 @@ use crate::replies::{
 };
 use crate::seat_calls::{
     Adopt, Begin, End, Free, FreeLater, HandOver, Put, Retire, Set, Stay, Tend, Trim, at_seat,
-    look_up_at_seat,
 };
+use crate::session_calls::{at_seat_or_session, look_up_at_seat};
 use crate::share_handle::ShareHandle;
 use crate::status::{
     BUSY, CONFIG, ENDED, NO_CORE, NONE, NOTHING_TO_ADOPT, OK, OUT_OF_MEMORY, PAGES_SPENT,
@@ -106,7 +107,7 @@ pub extern "C" fn teurlaks_seat_free(alloc: Global, handle: &mut ShareHandle, ke
 /// `PLAN_OPEN` or `OUT_OF_MEMORY`; nothing has changed then.
 #[unsafe(no_mangle)]
 pub extern "C" fn teurlaks_seat_end(alloc: Global, handle: &mut ShareHandle) -> u32
-    ensures { (answer : _) × Asks Ends handle.old.share answer handle.new.share × SaysEnded result answer }
+    ensures { (answer : _) × Asks Ends (paused handle.old.share) answer handle.new.share × SaysEnded result answer }
 {
     ended_reply(at_seat(alloc, handle, &End))
 }
@@ -116,7 +117,7 @@ pub extern "C" fn teurlaks_seat_end(alloc: Global, handle: &mut ShareHandle) -> 
 /// memory.
 #[unsafe(no_mangle)]
 pub extern "C" fn teurlaks_seat_begin(alloc: Global, handle: &mut ShareHandle) -> u32
-    ensures { (answer : _) × Asks IsOneCall handle.old.share answer handle.new.share × SaysBegun result answer }
+    ensures { (answer : _) × Asks IsOneCall (paused handle.old.share) answer handle.new.share × SaysBegun result answer }
 {
     begun_reply(at_seat(alloc, handle, &Begin))
 }
@@ -129,7 +130,7 @@ pub extern "C" fn teurlaks_seat_retire(
     handle: &mut ShareHandle,
     most: usize,
 ) -> RetireReply
-    ensures { (answer : _) × Asks (Retires most) handle.old.share answer handle.new.share
+    ensures { (answer : _) × Asks (Retires most) (paused handle.old.share) answer handle.new.share
         × SaysRetired result answer }
 {
     retired_reply(at_seat(alloc, handle, &Retire { most }))
@@ -139,7 +140,7 @@ pub extern "C" fn teurlaks_seat_retire(
 /// `BUSY`. It takes no memory.
 #[unsafe(no_mangle)]
 pub extern "C" fn teurlaks_seat_trim(alloc: Global, handle: &mut ShareHandle) -> TrimReply
-    ensures { (answer : _) × Asks IsOneCall handle.old.share answer handle.new.share
+    ensures { (answer : _) × Asks IsOneCall (paused handle.old.share) answer handle.new.share
         × SaysTrimmed result answer }
 {
     trimmed_reply(at_seat(alloc, handle, &Trim))
@@ -149,7 +150,7 @@ pub extern "C" fn teurlaks_seat_trim(alloc: Global, handle: &mut ShareHandle) ->
 /// `ENDED`, `PLAN_OPEN`, `NOTHING_TO_ADOPT` or `OUT_OF_MEMORY`; nothing has changed then.
 #[unsafe(no_mangle)]
 pub extern "C" fn teurlaks_seat_adopt(alloc: Global, handle: &mut ShareHandle) -> AdoptReply
-    ensures { (answer : _) × Asks IsOneCall handle.old.share answer handle.new.share
+    ensures { (answer : _) × Asks IsOneCall (paused handle.old.share) answer handle.new.share
         × SaysAdopted result answer }
 {
     adopted_reply(at_seat(alloc, handle, &Adopt))
@@ -169,16 +170,17 @@ pub extern "C" fn teurlaks_seat_free_later(
     let Some(key) = key_of(key) else {
         return or_no_seat(NONE, alloc, handle);
     };
-    left_reply(at_seat(alloc, handle, &FreeLater { key }))
+    left_reply(at_seat_or_session(alloc, handle, &FreeLater { key }))
 }
 
 /// Hands over the keys that were left to other threads and wait for their block to be full. It takes no lock and no memory.
 #[unsafe(no_mangle)]
 pub extern "C" fn teurlaks_seat_hand_over(alloc: Global, handle: &mut ShareHandle) -> u32
-    ensures { (answer : _) × Asks (λ before _ after. HandsOver before after) handle.old.share
-        answer handle.new.share × SaysHandedOver result answer }
+    ensures { (answer : _) × AsksEither (λ before _ after. HandsOver before after)
+        (AtHeldSeat (λ before _ after. HandsOver before after)) handle.old.share answer
+        handle.new.share × SaysHandedOver result answer }
 {
-    match at_seat(alloc, handle, &HandOver) {
+    match at_seat_or_session(alloc, handle, &HandOver) {
         Some(()) => OK,
         None => NO_CORE,
     }
@@ -188,7 +190,7 @@ pub extern "C" fn teurlaks_seat_hand_over(alloc: Global, handle: &mut ShareHandl
 /// where it left off, since another thread had the lock that the next key needs: that key is still on its ring.
 #[unsafe(no_mangle)]
 pub extern "C" fn teurlaks_seat_tend(alloc: Global, handle: &mut ShareHandle) -> TendReply
-    ensures { (answer : _) × Asks Tends handle.old.share answer handle.new.share
+    ensures { (answer : _) × Asks Tends (paused handle.old.share) answer handle.new.share
         × SaysTended result answer }
 {
     tended_reply(at_seat(alloc, handle, &Tend))
@@ -203,7 +205,8 @@ fn put(
     words: &[RawWord],
 ) -> Option<Result<Result<(Key, usize), PutError>, Busy>>
     requires { length (words_of words.now) ≡ width_of class }
-    ensures { Asks (PutsUntold (words_of words.now)) handle.old.share result handle.new.share }
+    ensures { AsksEither (PutsUntold (words_of words.now)) (PutsHeld (words_of words.now))
+        handle.old.share result handle.new.share }
 {
     if let [word] = words {
         return put_one(alloc, handle, *word);
@@ -218,10 +221,11 @@ fn put_one(
     handle: &mut ShareHandle,
     word: RawWord,
 ) -> Option<Result<Result<(Key, usize), PutError>, Busy>>
-    ensures { Asks (PutsUntold (words_of (word ∷ []))) handle.old.share result handle.new.share }
+    ensures { AsksEither (PutsUntold (words_of (word ∷ []))) (PutsHeld (words_of (word ∷ [])))
+        handle.old.share result handle.new.share }
 {
     let words = [value_of(word)];
-    at_seat(
+    at_seat_or_session(
         alloc,
         handle,
         &Put {
@@ -240,13 +244,14 @@ fn put_wide(
     words: &[RawWord],
 ) -> Option<Result<Result<(Key, usize), PutError>, Busy>>
     requires { length (words_of words.now) ≡ width_of class }
-    ensures { Asks (PutsUntold (words_of words.now)) handle.old.share result handle.new.share }
+    ensures { AsksEither (PutsUntold (words_of words.now)) (PutsHeld (words_of words.now))
+        handle.old.share result handle.new.share }
 {
     let mut room = [0; 16];
     let words_len = words.len();
     let values = &mut room[..words_len];
     join_all(values, words);
-    at_seat(
+    at_seat_or_session(
         alloc,
         handle,
         &Put {
@@ -258,26 +263,24 @@ fn put_wide(
 
 // The seat sets the key to the object of these words.
 fn set(alloc: Global, handle: &mut ShareHandle, key: Key, words: &[u128]) -> u32
-    ensures { (answer : _) × Asks (Sets key words.now) handle.old.share answer handle.new.share
-        × SaysSet result answer }
+    ensures { SetsBy handle.old.share key words.now result handle.new.share }
 {
-    set_reply(at_seat(alloc, handle, &Set { key, words }))
+    set_reply(at_seat_or_session(alloc, handle, &Set { key, words }))
 }
 
 // The seat frees the key.
 #[inline(always)]
 fn free(alloc: Global, handle: &mut ShareHandle, key: Key) -> u32
-    ensures { (answer : _) × Asks (Frees key) handle.old.share answer handle.new.share
-        × SaysFreed result answer }
+    ensures { FreesBy handle.old.share key result handle.new.share }
 {
-    freed_reply(at_seat(alloc, handle, &Free { key }))
+    freed_reply(at_seat_or_session(alloc, handle, &Free { key }))
 }
 
 // That status, where the handle has a seat.
 fn or_no_seat(status: u32, alloc: Global, handle: &mut ShareHandle) -> u32
     ensures { AsksNothing status handle.old.share result handle.new.share }
 {
-    match at_seat(alloc, handle, &Stay) {
+    match at_seat_or_session(alloc, handle, &Stay) {
         Some(()) => status,
         None => NO_CORE,
     }

@@ -3,7 +3,7 @@ ghost use Rattle.std.specs.Arc.{arc_value};
 ghost use Rattle.std.specs.Prelude.{◌≡◌, All};
 
 use crate::held::Witness;
-use arena::{Arena, NoGate, Seat, Steward};
+use arena::{Arena, NoGate, Seat, Session, Steward};
 use span::Counted;
 use std::alloc::Global;
 use std::sync::Arc;
@@ -21,6 +21,13 @@ pub struct SharedSeat {
     pub ghost fits: { seat.limits ≡ (arc_value arena).limits },
 }
 
+/// A worker's seat that keeps its shard out of its lock, with a share of its arena. The shard goes back where this is dropped.
+#[derive(Drop)]
+pub struct SharedSession {
+    /// The session.
+    pub session: Session<NoGate, Counted>,
+}
+
 /// The steward of an arena, with a share of it, and what its last mark answered.
 #[derive(Drop)]
 pub struct SharedSteward {
@@ -36,11 +43,13 @@ pub struct SharedSteward {
     pub ghost seats_fit: { All (λ seat. seat.limits ≡ (arc_value arena).limits) seats.items },
 }
 
-/// What a handle has: a seat or a steward.
+/// What a handle has: a seat, which may keep its shard, or a steward.
 #[derive(Drop)]
 pub enum Share {
     /// A worker's seat.
     Seat(SharedSeat),
     /// The steward.
     Steward(SharedSteward),
+    /// A worker's seat that keeps its shard.
+    Session(SharedSession),
 }

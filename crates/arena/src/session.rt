@@ -1,0 +1,304 @@
+// A worker's shard that its seat keeps out of its lock over many calls.
+ghost use Rattle.std.specs.Arc.{arc_value};
+ghost use Rattle.std.specs.Prelude.{◌≡◌, ◌<◌, ◌↔◌, ◌∷◌, ◌++◌, [], Err, IfOk, IsOk, MatchResult, None, OnErr, OnOk, Some, false, length, slice_get, slice_index_or, slice_set, true};
+ghost use Rattle.groups.specs.Group.{IsElsewhere};
+ghost use Rattle.shard.specs.Calls.{Frees, Gets, IsSpent, Puts, Sets};
+ghost use Rattle.shard.specs.Shown.{shown};
+ghost use Rattle.shard.specs.declared.error.PutError.TheVariants as put_error;
+ghost use Rattle.shard.specs.declared.shard.Found.{Found};
+ghost use Rattle.shard.specs.declared.shard.Freed.{Freed};
+ghost use Rattle.shard.specs.declared.shard.replacing.Replaced.{Replaced};
+ghost use Rattle.span.specs.Classes.{width_of};
+ghost use Rattle.span.specs.PlainMap as plain;
+ghost use Rattle.arena.specs.Delays.{CountsCall, HandsOver, HasNoneWaiting, delay_begun};
+ghost use Rattle.arena.specs.Seats.{KeepsEnds, free_places, sent_lists};
+ghost use Rattle.arena.specs.Sessions.{LooksUp, TellsOwn};
+ghost use Rattle.arena.specs.Told.{changes_at, free_told, set_told};
+
+use crate::arena::Arena;
+use crate::gate::Gate;
+use crate::seat::Seat;
+use crate::sections::{free_untold_in, get_words_in, set_words_in};
+use crate::word::Word;
+use latch::{Busy, Hold};
+use shard::{PutError, Shard};
+use span::{Class, Kept, Key, Log};
+use std::alloc::{AllocError, Global};
+use std::sync::Arc;
+
+/// A seat that keeps its worker's shard out of its lock, with a share of the arena: from [`Session::try_begin`] until it is paused
+/// ([`Session::pause`]) or let go, its calls on what is in that shard take no lock, and what each of them does to the shard is said exactly.
+///
+/// Meanwhile whoever else wants the shard's lock waits, or is told that another thread has it: those who look up, set or free an object
+/// there, a mark, a close, a totalling, and a step whose owned group is there. A session waits for nobody: where a call needs a lock
+/// beside, it tries it, and answers [`Busy`] with nothing changed; who asked pauses, makes the call at the seat, and begins again. So two
+/// sessions never wait for each other. A call that waits for the lock, made by the session's own thread, would wait for ever.
+pub struct Session<G: Gate, L: Log = Kept> {
+    /// The arena.
+    pub arena: Arc<Arena<G, L>, Global>,
+    /// The seat.
+    pub seat: Seat,
+    /// The seat's shard, out of its lock. It goes back with the session, whether that is paused or let go.
+    pub shard: Hold<Shard<L>>,
+    ghost fits: { seat.limits ≡ (arc_value arena).limits },
+    ghost its_own: { slice_get (arc_value arena).shards.items seat.worker ≡ Some shard.turn },
+}
+
+impl<G: Gate, L: Log> Session<G, L> {
+    /// Takes the shard of the seat out of its lock. It takes no memory.
+    ///
+    /// # Errors
+    ///
+    /// The arena and the seat, handed back as they were, where another thread has the shard.
+    pub fn try_begin(
+        arena: Arc<Arena<G, L>, Global>,
+        seat: Seat,
+    ) -> Result<Session<G, L>, (Arc<Arena<G, L>, Global>, Seat)>
+        requires { seat.limits ≡ (arc_value arena).limits }
+        ensures { MatchResult result
+            (λ session. (session.arena ≡ arena) × (session.seat ≡ seat))
+            (λ back. (back.0 ≡ arena) × (back.1 ≡ seat)) }
+    {
+        let worker = seat.worker();
+        match arena.shards[worker as usize].try_hold() {
+            Ok(shard) => {
+                arena.gate.inside(worker);
+                Ok(Session { arena, seat, shard })
+            }
+            Err(Busy) => Err((arena, seat)),
+        }
+    }
+
+    /// Gives the shard back to its lock, and hands out the arena and the seat.
+    pub fn pause(self) -> (Arc<Arena<G, L>, Global>, Seat)
+        ensures arena { result.0 ≡ self.arena }
+        ensures seat { result.1 ≡ self.seat }
+    {
+        let Session { arena, seat, shard } = self;
+        let worker = seat.worker();
+        arena.shards[worker as usize].give_back(shard);
+        (arena, seat)
+    }
+
+    /// Puts the object of these words, which are as many as the class has, into the shard, as [`Shard::put_words`] does. It gives the key,
+    /// and how many changes stood in its span's log before.
+    ///
+    /// # Errors
+    ///
+    /// `Ended` exactly where the shard has ended, `PagesSpent` exactly where it has not, no open group of the class has a usable slot, and it
+    /// has as many groups as it may have pages, or has opened as many spans as it may; with `OutOfMemory` an allocation was refused.
+    /// The shard is then as it was.
+    #[inline(always)]
+    pub fn put_words(&mut self, class: Class, words: &[u128]) -> Result<(Key, usize), PutError>
+        requires { length words.now ≡ width_of class }
+        ensures ok { IfOk result (λ made. Puts self.old.shard.value.value class words.now made.0
+            made.1 self.new.shard.value.value) }
+        ensures plain { IfOk result (λ made. shown self.new.shard.value.value ≡ plain.with_put
+            (shown self.old.shard.value.value) made.0 words.now) }
+        ensures ended { (result ≡ Err put_error.Ended)
+            ↔ (self.old.shard.value.value.ended ≡ true) }
+        ensures spent { (result ≡ Err put_error.PagesSpent)
+            ↔ ((self.old.shard.value.value.ended ≡ false)
+            × IsSpent class self.old.shard.value.value) }
+        ensures err { OnErr result (self.new.shard.value.value ≡ self.old.shard.value.value) }
+        ensures seat { CountsCall self.old.seat self.new.seat }
+        ensures arena { self.new.arena ≡ self.old.arena }
+    {
+        self.seat.count_call();
+        let put = self.shard.value.put_words(class, words);
+        if let Ok((key, 0)) = &put {
+            // The span is new: whoever is handed its key finds it from now on.
+            self.arena.hints.count_opened(key.span);
+        }
+        put
+    }
+
+    /// Looks the key up in the shard, as [`Shard::get`] does, and where that does not have the key's span, in the place that may, if its lock
+    /// is to be had. The words of what is found are written into `room`, from its first place on, where there is room for all of them.
+    /// It tells how many words there are, where the key is live, and how many changes its span's log has.
+    ///
+    /// # Errors
+    ///
+    /// [`Busy`] only where the shard does not have the key's span, and another thread has the lock of the place that may, or the span is not
+    /// there either. Nothing is written then.
+    #[inline(always)]
+    pub fn try_get_words<W: Word>(
+        &mut self,
+        key: &Key,
+        room: &mut [W],
+    ) -> Result<(Option<usize>, usize), Busy>
+        ensures told { (what : Found) × Gets self.old.shard.value.value key.now what
+            × LooksUp W.word (changes_at what) ((shown self.old.shard.value.value).value_of key.now)
+            room.old result room.new }
+        ensures shard { self.new.shard ≡ self.old.shard }
+        ensures seat { OnOk result (CountsCall self.old.seat self.new.seat) }
+        ensures busy { OnErr result (self.new.seat ≡ self.old.seat) }
+        ensures arena { self.new.arena ≡ self.old.arena }
+    {
+        let worker = self.seat.worker();
+        let got = look_up(&*self.arena, worker, &*self.shard.value, key, room)?;
+        self.seat.count_call();
+        Ok(got)
+    }
+
+    /// Sets the key's object to these words in place, in the shard, as [`Shard::set`] does, and where that does not have the key's span, in
+    /// the place that may, if its lock is to be had. It tells whether it did so, and how many changes stood in the span's log before.
+    /// Words that are not as many as the key's object has are not set.
+    ///
+    /// # Errors
+    ///
+    /// [`Busy`] as that of [`Session::try_get_words`]. Else `AllocError` in place of a set that would be done, where the span's log could not
+    /// grow. Nothing is set then.
+    pub fn try_set_words(
+        &mut self,
+        key: &Key,
+        words: &[u128],
+    ) -> Result<Result<(bool, usize), AllocError>, Busy>
+        ensures told { IfOk result (λ set. IfOk set (λ told. (what : Replaced)
+            × Sets self.old.shard.value.value key.now words.now what self.new.shard.value.value
+            × TellsOwn (set_told what) told)) }
+        ensures refused { IfOk result (λ set. OnErr set
+            ((IsElsewhere self.old.shard.value.value.groups key.now.span → ⊥)
+            → plain.may_set (shown self.old.shard.value.value) key.now words.now ≡ true)) }
+        ensures err { IfOk result (λ set. OnErr set
+            (self.new.shard.value.value ≡ self.old.shard.value.value)) }
+        ensures seat { OnOk result (CountsCall self.old.seat self.new.seat) }
+        ensures elsewhere { OnErr result
+            (IsElsewhere self.old.shard.value.value.groups key.now.span) }
+        ensures busy { OnErr result ((self.new.seat ≡ self.old.seat)
+            × (self.new.shard.value.value ≡ self.old.shard.value.value)) }
+        ensures arena { self.new.arena ≡ self.old.arena }
+    {
+        let worker = self.seat.worker();
+        let set = set_words(&*self.arena, worker, &mut *self.shard.value, key, words)?;
+        self.seat.count_call();
+        Ok(set)
+    }
+
+    /// Frees the key in the shard, as [`Shard::free`] does, and where that does not have the key's span, in the place that may, if its lock
+    /// is to be had. It tells whether the key was live, and how many changes stood in its span's log before. It takes no memory.
+    ///
+    /// # Errors
+    ///
+    /// [`Busy`] as that of [`Session::try_get_words`].
+    #[inline(always)]
+    pub fn try_free(&mut self, key: &Key) -> Result<(bool, usize), Busy>
+        ensures told { IfOk result (λ told. (what : Freed)
+            × Frees self.old.shard.value.value key.now what self.new.shard.value.value
+            × TellsOwn (free_told what) told) }
+        ensures seat { OnOk result (CountsCall self.old.seat self.new.seat) }
+        ensures elsewhere { OnErr result
+            (IsElsewhere self.old.shard.value.value.groups key.now.span) }
+        ensures busy { OnErr result ((self.new.seat ≡ self.old.seat)
+            × (self.new.shard.value.value ≡ self.old.shard.value.value)) }
+        ensures arena { self.new.arena ≡ self.old.arena }
+    {
+        let worker = self.seat.worker();
+        let freed = free(&*self.arena, worker, &mut *self.shard.value, key)?;
+        self.seat.count_call();
+        Ok(freed)
+    }
+
+    /// What [`Seat::free_later`] does, at the session's seat.
+    ///
+    /// # Errors
+    ///
+    /// As those of [`Seat::free_later`].
+    pub fn free_later(&mut self, key: Key) -> Result<(), Key>
+        requires { key.span.shard < self.old.seat.limits.shards }
+        ensures sent { MatchResult result
+            (λ _. sent_lists self.new.seat
+            ≡ slice_set (sent_lists self.old.seat) key.span.shard
+            (slice_index_or (sent_lists self.old.seat) key.span.shard [] ++ key ∷ []))
+            (λ back. (back ≡ key) × (sent_lists self.new.seat ≡ sent_lists self.old.seat)) }
+        ensures succeeds { 0 < slice_index_or (free_places self.old.seat.outboxes) key.span.shard 0
+            → IsOk result }
+        ensures waits { OnOk result (self.new.seat.delay ≡ delay_begun self.old.seat.delay) }
+        ensures refused { OnErr result (HasNoneWaiting self.new.seat) }
+        ensures seat { KeepsEnds self.old.seat self.new.seat
+            × (self.new.seat.section ≡ self.old.seat.section)
+            × (self.new.seat.inboxes ≡ self.old.seat.inboxes) }
+        ensures shard { self.new.shard ≡ self.old.shard }
+        ensures arena { self.new.arena ≡ self.old.arena }
+    {
+        self.seat.free_later(key)
+    }
+
+    /// What [`Seat::hand_over`] does, at the session's seat.
+    pub fn hand_over(&mut self)
+        ensures seat { HandsOver self.old.seat self.new.seat }
+        ensures shard { self.new.shard ≡ self.old.shard }
+        ensures arena { self.new.arena ≡ self.old.arena }
+    {
+        self.seat.hand_over();
+    }
+}
+
+impl<G: Gate, L: Log> Drop for Session<G, L> {
+    fn drop(self) {
+        let Session { arena, seat, shard } = self;
+        let worker = seat.worker();
+        arena.shards[worker as usize].give_back(shard);
+    }
+}
+
+// A look-up of the worker's session in the shard that it keeps, or else in the place that may have the span.
+#[inline(always)]
+fn look_up<G: Gate, L: Log, W: Word>(
+    arena: &Arena<G, L>,
+    worker: u32,
+    shard: &Shard<L>,
+    key: &Key,
+    room: &mut [W],
+) -> Result<(Option<usize>, usize), Busy>
+    ensures { (what : Found) × Gets shard.now key.now what × LooksUp W.word (changes_at what)
+        ((shown shard.now).value_of key.now) room.old result room.new }
+{
+    match get_words_in(shard, key, room) {
+        Some(got) => Ok(got),
+        None => arena.try_get_words_beside(worker, key, room),
+    }
+}
+
+// The same of a set.
+#[inline(always)]
+fn set_words<G: Gate, L: Log>(
+    arena: &Arena<G, L>,
+    worker: u32,
+    shard: &mut Shard<L>,
+    key: &Key,
+    words: &[u128],
+) -> Result<Result<(bool, usize), AllocError>, Busy>
+    ensures told { IfOk result (λ set. IfOk set (λ told. (what : Replaced)
+        × Sets shard.old key.now words.now what shard.new × TellsOwn (set_told what) told)) }
+    ensures refused { IfOk result (λ set. OnErr set ((IsElsewhere shard.old.groups key.now.span → ⊥)
+        → plain.may_set (shown shard.old) key.now words.now ≡ true)) }
+    ensures err { IfOk result (λ set. OnErr set (shard.new ≡ shard.old)) }
+    ensures elsewhere { OnErr result (IsElsewhere shard.old.groups key.now.span) }
+    ensures busy { OnErr result (shard.new ≡ shard.old) }
+{
+    match set_words_in(shard, key, words) {
+        Ok(Some(set)) => Ok(Ok(set)),
+        Ok(None) => arena.try_set_words_beside(worker, key, words),
+        Err(refused) => Ok(Err(refused)),
+    }
+}
+
+// The same of a free.
+#[inline(always)]
+fn free<G: Gate, L: Log>(
+    arena: &Arena<G, L>,
+    worker: u32,
+    shard: &mut Shard<L>,
+    key: &Key,
+) -> Result<(bool, usize), Busy>
+    ensures told { IfOk result (λ told. (what : Freed) × Frees shard.old key.now what shard.new
+        × TellsOwn (free_told what) told) }
+    ensures elsewhere { OnErr result (IsElsewhere shard.old.groups key.now.span) }
+    ensures busy { OnErr result (shard.new ≡ shard.old) }
+{
+    match free_untold_in(shard, key) {
+        Some(freed) => Ok(freed),
+        None => arena.try_free_untold_beside(worker, key),
+    }
+}

@@ -1,0 +1,66 @@
+// A seat that keeps its shard over many calls.
+ghost use Rattle.std.specs.Prelude.{◌≡◌, Some};
+ghost use Rattle.teurlaks_c.specs.SeatCalls.{GivesShard, HoldsShard};
+
+use crate::session_calls::pause;
+use crate::share::{Share, SharedSeat, SharedSession};
+use crate::share_handle::ShareHandle;
+use crate::status::{BUSY, NO_CORE, OK};
+use arena::Session;
+use std::alloc::Global;
+use std::mem::{replace, replace_with};
+
+/// Keeps the seat's shard for its thread from now on, until `teurlaks_seat_pause`: a put, and a look-up, a set and a free of what is in that
+/// shard, take no lock then. Whoever else needs the shard's lock is answered `BUSY` meanwhile, the steward's mark among them. Where a look-up, a
+/// set or a free in the session answers `BUSY`, pause, make it again, and begin another session. Refused with `BUSY` where another thread
+/// has the shard; nothing has changed then. Where the seat keeps its shard already it is `OK`. It takes no memory.
+#[unsafe(no_mangle)]
+pub extern "C" fn teurlaks_seat_session(alloc: Global, handle: &mut ShareHandle) -> u32
+    ensures { HoldsShard handle.old.share result handle.new.share }
+{
+    let Some(mut share) = replace(handle, ShareHandle::none()).into_box(alloc) else {
+        return NO_CORE;
+    };
+    let status = replace_with(&mut *share, (), holding);
+    *handle = ShareHandle::of(share);
+    status
+}
+
+/// Lets other threads at the seat's shard again, where the seat keeps it. It takes no memory.
+#[unsafe(no_mangle)]
+pub extern "C" fn teurlaks_seat_pause(alloc: Global, handle: &mut ShareHandle) -> u32
+    ensures { GivesShard handle.old.share result handle.new.share }
+{
+    let Some(mut share) = replace(handle, ShareHandle::none()).into_box(alloc) else {
+        return NO_CORE;
+    };
+    let status = give(&mut *share);
+    *handle = ShareHandle::of(share);
+    status
+}
+
+// What is shared, with a session where that can be had, and the status that says so.
+fn holding(share: Share, _: ()) -> (Share, u32)
+    ensures { HoldsShard (Some share) result.1 (Some result.0) }
+{
+    match share {
+        Share::Seat(SharedSeat { arena, seat }) => match Session::try_begin(arena, seat) {
+            Ok(session) => (Share::Session(SharedSession { session }), OK),
+            Err((arena, seat)) => (Share::Seat(SharedSeat { arena, seat }), BUSY),
+        },
+        Share::Session(session) => (Share::Session(session), OK),
+        Share::Steward(steward) => (Share::Steward(steward), NO_CORE),
+    }
+}
+
+// The same of the end of a session.
+fn give(share: &mut Share) -> u32
+    ensures { GivesShard (Some share.old) result (Some share.new) }
+{
+    let status = match share {
+        Share::Seat(_) | Share::Session(_) => OK,
+        Share::Steward(_) => NO_CORE,
+    };
+    pause(share);
+    status
+}
