@@ -147,6 +147,15 @@ impl<T: Drop> Latch<T> {
         Err(Busy)
     }
 
+    /// Gives back what was held of this latch: from now on any thread may take it.
+    #[inline(always)]
+    pub fn give_back(&self, hold: Hold<T>)
+        requires { hold.turn ≡ self.now }
+    {
+        let Hold { turn, value } = hold;
+        self.give(turn, value);
+    }
+
     /// The guard, once no other thread has the value: between two tries it lets other threads run. It takes no memory. That its turn
     /// comes is not promised.
     pub fn lock<R: Wait>(&self, rt: &R) -> LatchGuard<'_, T> {
