@@ -6,7 +6,8 @@
    REFUSE_THREADS=1  no thread is started
    REFUSE_SHORT=1    each write takes one byte, and each read gives one
    REFUSE_EINTR=1    each read and each write is interrupted before the time that it is not
-   REFUSE_LOG=FILE   when the process ends, a line is added there: how many growths were asked for, and how many were refused
+   REFUSE_LOG=FILE   when the process ends, two lines are added there: how many growths were asked for, and how many were refused; and how
+                     many kilobytes the process had resident at most
 
    A test refuses by itself, by what no memory can meet: a request of 2^62 + N bytes, N not 0, is refused, and so is the N-th growth
    from then on; a request of 2^62 bytes ends that, and is met exactly where a growth was refused meanwhile. Where this library isn't
@@ -23,6 +24,7 @@ long syscall(long, ...);
 int open(const char *, int, ...);
 int close(int);
 int dprintf(int, const char *, ...);
+int getrusage(int, long *);
 void *dlsym(void *, const char *);
 
 enum { OF_EINTR = 4, OF_EAGAIN = 11, OF_ENOMEM = 12, OF_ENOSPC = 28 };
@@ -61,7 +63,10 @@ __attribute__((destructor)) static void end(void) {
     int file = log_name ? open(log_name, APPENDED, 0644) : -1;
     log_name = 0;
     if (file < 0) return;
-    dprintf(file, "%lu growths, %lu refused\n", growths, refused);
+    /* The system's record: two times of two numbers each, and then what was resident at most. */
+    long usage[18] = {0};
+    getrusage(0, usage);
+    dprintf(file, "%lu growths, %lu refused\n%ld kilobytes resident\n", growths, refused, usage[4]);
     close(file);
 }
 

@@ -38,7 +38,7 @@ pub trait Receipts: Drop {
         ensures room { room self.old ≤ room self.new + 1 };
 }
 
-/// A list keeps its receipts: 48 bytes for each of a free.
+/// A list keeps its receipts: 48 bytes for each of a free, or for several that follow one another.
 impl Receipts for ReceiptList {
     ghost told = { kept_receipts };
 

@@ -53,7 +53,7 @@ pub enum AuditError {
     /// The receipts do not agree with the logs: the first part that fails.
     #[error("audit: {0}")]
     Fault(AuditCause),
-    /// A table of the audit could not be allocated.
+    /// A table of the audit could not be allocated; for a log of more than 2^48 changes none can.
     #[error("out of memory")]
     OutOfMemory,
 }
@@ -93,7 +93,7 @@ fn first_fault(
 /// # Errors
 ///
 /// `Fault` where the receipts do not agree with the logs, with the first part that fails, and
-/// `OutOfMemory` where a table of the audit could not be allocated.
+/// `OutOfMemory` where a table of the audit could not be allocated, or a log has more than 2^48 changes.
 pub fn audit(alloc: Global, logs: &[SpanLog], receipts: &[ReceiptList]) -> Result<(), AuditError>
     ensures agreed { OnOk result (Agreement logs.now (map kept_receipts receipts.now)) }
     ensures histories { OnOk result (HaveHistories (map kept_receipts receipts.now)) }
