@@ -1,9 +1,11 @@
 //! Plain values that threads share, each from a seat of its own, under the locks of the proved library.
 
 mod seat;
+mod session;
 mod share;
 
 pub use seat::Seat;
+pub use session::Session;
 
 use crate::bytes::MOST_BYTES;
 use crate::core::{certificate_text, done, marked, stepped, Limits, Marked, Stepped};

@@ -1,6 +1,7 @@
 //! What a thread does at its seat.
 
-use super::share::{Share, Turn};
+use super::session::Session;
+use super::share::{Answer, Share, Turn};
 use crate::bytes::MOST_WORDS;
 use crate::core::{done, was_put, was_set};
 use crate::names::{Group, Key};
@@ -25,6 +26,8 @@ use std::ptr::NonNull;
 pub struct Seat<T> {
     share: Share,
     turn: Turn,
+    // Whether the handle has a session.
+    holds: Cell<bool>,
     // A value of any other type is none of this arena, whatever its lifetime: it is read at all seats.
     values: PhantomData<Cell<T>>,
 }
@@ -35,8 +38,89 @@ impl<T> Seat<T> {
         Seat {
             share,
             turn,
+            holds: Cell::new(false),
             values: PhantomData,
         }
+    }
+
+    /// Keeps the seat's shard for this thread over many calls, until the session is dropped: a call on what is in that shard takes no lock then,
+    /// and takes about half the time. It waits until no other thread has the shard.
+    ///
+    /// Whoever else wants the shard waits meanwhile: those who look up, set or free a value there, and the steward, whose mark, close, forgetting
+    /// and totals want all shards. So a session is for a burst of calls and is not kept while its thread does something else. A session lets go of
+    /// its shard for a moment where the steward waits, and where a call needs a lock that another thread has, so that two sessions never wait for
+    /// each other.
+    ///
+    /// ```
+    /// use teurlaks::arena::Arena;
+    /// use teurlaks::Limits;
+    ///
+    /// let mut arena = Arena::open(Limits::default())?;
+    /// let mut seat = arena.seat()?;
+    /// let mut session = seat.session();
+    /// let key = session.insert(7)?;
+    /// assert_eq!(session.get(key), Some(7));
+    /// assert!(session.free(key));
+    /// drop(session); // from now on others find the shard free
+    /// assert_eq!(seat.get(key), None);
+    /// # Ok::<(), teurlaks::Refused>(())
+    /// ```
+    pub fn session(&mut self) -> Session<'_, T> {
+        self.hold();
+        Session::new(self)
+    }
+
+    /// Keeps the shard, once no other thread has it.
+    fn hold(&self) {
+        // SAFETY: the handle has a seat, and no other call runs on it.
+        let status = self
+            .turn
+            .at_seat(|| unsafe { raw::teurlaks_seat_session(self.share.handle()) });
+        debug_assert_eq!(status, raw::OK, "the handle has a seat");
+        self.holds.set(true);
+    }
+
+    /// Lets others at the shard.
+    pub(super) fn pause(&self) {
+        // SAFETY: as in `hold`.
+        let status = unsafe { raw::teurlaks_seat_pause(self.share.handle()) };
+        debug_assert_eq!(status, raw::OK, "the handle has a seat");
+        self.holds.set(false);
+    }
+
+    /// Makes a call that goes by the session, where there is one.
+    #[inline]
+    fn ask<A: Answer>(&self, mut call: impl FnMut() -> A) -> A {
+        if !self.holds.get() {
+            return self.turn.at_seat(call);
+        }
+        if self.turn.steward_waits() {
+            return self.ask_paused(call);
+        }
+        let answer = call();
+        if answer.status() == raw::BUSY {
+            self.ask_paused(call)
+        } else {
+            answer
+        }
+    }
+
+    /// Makes a call for which the library ends the session, where there is one, and begins another.
+    fn ask_seat<A: Answer>(&self, call: impl FnMut() -> A) -> A {
+        if self.holds.get() {
+            self.ask_paused(call)
+        } else {
+            self.turn.at_seat(call)
+        }
+    }
+
+    /// Lets go of the shard, makes the call as a seat does, and keeps the shard again.
+    #[cold]
+    fn ask_paused<A: Answer>(&self, call: impl FnMut() -> A) -> A {
+        self.pause();
+        let answer = self.turn.at_seat(call);
+        self.hold();
+        answer
     }
 }
 
@@ -53,8 +137,7 @@ impl<T: Copy> Seat<T> {
     pub fn insert(&mut self, value: T) -> Result<Key, Refused> {
         was_put(as_words(value, |first, len| {
             // SAFETY: the handle has a seat, no other call runs on it, and so many words stand there.
-            self.turn
-                .at_seat(|| unsafe { raw::teurlaks_seat_put_words(self.share.handle(), first.cast(), len) })
+            self.ask(|| unsafe { raw::teurlaks_seat_put_words(self.share.handle(), first.cast(), len) })
         }))
     }
 
@@ -65,9 +148,8 @@ impl<T: Copy> Seat<T> {
         let mut words = [MaybeUninit::<u128>::uninit(); MOST_WORDS];
         let first = words.as_mut_ptr().cast();
         // SAFETY: as in `insert`, and there is room for 16 words.
-        let got = self
-            .turn
-            .at_seat(|| unsafe { raw::teurlaks_seat_get_words(self.share.handle(), key.raw(), first, MOST_WORDS) });
+        let got =
+            self.ask(|| unsafe { raw::teurlaks_seat_get_words(self.share.handle(), key.raw(), first, MOST_WORDS) });
         // SAFETY: the library is proved to find what was put or set, and at all seats only values of this type were.
         (got.status == raw::OK).then(|| unsafe { words.as_ptr().cast::<T>().read_unaligned() })
     }
@@ -81,8 +163,7 @@ impl<T: Copy> Seat<T> {
     pub fn set(&mut self, key: Key, value: T) -> Result<bool, Refused> {
         was_set(as_words(value, |first, len| {
             // SAFETY: as in `insert`.
-            self.turn
-                .at_seat(|| unsafe { raw::teurlaks_seat_set_words(self.share.handle(), key.raw(), first.cast(), len) })
+            self.ask(|| unsafe { raw::teurlaks_seat_set_words(self.share.handle(), key.raw(), first.cast(), len) })
         }))
     }
 
@@ -102,9 +183,7 @@ impl<T> Seat<T> {
     pub fn contains(&self, key: Key) -> bool {
         let none = NonNull::dangling().as_ptr();
         // SAFETY: as in `insert`, and there is no room, into which nothing is written.
-        let got = self
-            .turn
-            .at_seat(|| unsafe { raw::teurlaks_seat_get_words(self.share.handle(), key.raw(), none, 0) });
+        let got = self.ask(|| unsafe { raw::teurlaks_seat_get_words(self.share.handle(), key.raw(), none, 0) });
         got.status != raw::NONE
     }
 
@@ -112,9 +191,7 @@ impl<T> Seat<T> {
     #[inline]
     pub fn free(&mut self, key: Key) -> bool {
         // SAFETY: as in `insert`.
-        self.turn
-            .at_seat(|| unsafe { raw::teurlaks_seat_free(self.share.handle(), key.raw()) })
-            == raw::OK
+        self.ask(|| unsafe { raw::teurlaks_seat_free(self.share.handle(), key.raw()) }) == raw::OK
     }
 
     /// Leaves the key to the seat of the shard that gave it out, which frees it when it next tends ([`Seat::tend`]); until then it is live. It
@@ -153,7 +230,7 @@ impl<T> Seat<T> {
     /// [`Refused::OutOfMemory`] where memory was refused. What was freed before stays so, and the other keys are still there.
     pub fn tend(&mut self) -> Result<usize, Refused> {
         let mut taken = 0;
-        let tended = self.turn.at_seat(|| {
+        let tended = self.ask_seat(|| {
             // SAFETY: as in `insert`.
             let tended = unsafe { raw::teurlaks_seat_tend(self.share.handle()) };
             taken += tended.count;
@@ -172,10 +249,7 @@ impl<T> Seat<T> {
     /// - [`Refused::OutOfMemory`]: none of these holds, and memory was refused.
     pub fn end(&mut self) -> Result<(), Refused> {
         // SAFETY: as in `insert`.
-        done(
-            self.turn
-                .at_seat(|| unsafe { raw::teurlaks_seat_end(self.share.handle()) }),
-        )
+        done(self.ask_seat(|| unsafe { raw::teurlaks_seat_end(self.share.handle()) }))
     }
 
     /// Lets the seat's shard run again after its end, mostly in another thread, which the seat was sent to: it takes values as before, and
@@ -186,10 +260,7 @@ impl<T> Seat<T> {
     /// [`Refused::Running`]: the shard has not ended.
     pub fn begin(&mut self) -> Result<(), Refused> {
         // SAFETY: as in `insert`.
-        done(
-            self.turn
-                .at_seat(|| unsafe { raw::teurlaks_seat_begin(self.share.handle()) }),
-        )
+        done(self.ask_seat(|| unsafe { raw::teurlaks_seat_begin(self.share.handle()) }))
     }
 
     /// Moves up to `most` groups of the seat's shard to the pool, with their pages, and says how many went: those with the fewest live keys, of
@@ -202,9 +273,7 @@ impl<T> Seat<T> {
     /// - [`Refused::OutOfMemory`]: none of these holds, and memory was refused.
     pub fn retire(&mut self, most: usize) -> Result<usize, Refused> {
         // SAFETY: as in `insert`.
-        let retired = self
-            .turn
-            .at_seat(|| unsafe { raw::teurlaks_seat_retire(self.share.handle(), most) });
+        let retired = self.ask_seat(|| unsafe { raw::teurlaks_seat_retire(self.share.handle(), most) });
         done(retired.status).map(|()| retired.count)
     }
 
@@ -212,9 +281,7 @@ impl<T> Seat<T> {
     /// no memory.
     pub fn trim(&mut self) -> usize {
         // SAFETY: as in `insert`.
-        let trimmed = self
-            .turn
-            .at_seat(|| unsafe { raw::teurlaks_seat_trim(self.share.handle()) });
+        let trimmed = self.ask_seat(|| unsafe { raw::teurlaks_seat_trim(self.share.handle()) });
         debug_assert_eq!(trimmed.status, raw::OK, "a trim is not refused");
         trimmed.count
     }
@@ -230,9 +297,7 @@ impl<T> Seat<T> {
     /// - [`Refused::OutOfMemory`]: none of these holds, and memory was refused.
     pub fn adopt(&mut self) -> Result<Group, Refused> {
         // SAFETY: as in `insert`.
-        let adopted = self
-            .turn
-            .at_seat(|| unsafe { raw::teurlaks_seat_adopt(self.share.handle()) });
+        let adopted = self.ask_seat(|| unsafe { raw::teurlaks_seat_adopt(self.share.handle()) });
         done(adopted.status).map(|()| Group(adopted.head))
     }
 }
