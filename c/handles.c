@@ -62,6 +62,7 @@ static void each_key(struct teurlaks_handle *none) {
 /* What each call of a seat says of a handle without one. */
 static void each_call_of_a_seat(struct teurlaks_share_handle *none, struct teurlaks_key key) {
     struct teurlaks_word words[16] = {{7, 7}};
+    WANT(teurlaks_seat_session(none) == TEURLAKS_NO_CORE && teurlaks_seat_pause(none) == TEURLAKS_NO_CORE);
     for (size_t len = 1; len <= 16; len *= 4) {
         WANT(teurlaks_seat_put_words(none, words, len).status == TEURLAKS_NO_CORE);
         WANT(teurlaks_seat_set_words(none, key, words, len) == TEURLAKS_NO_CORE);

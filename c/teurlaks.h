@@ -288,6 +288,15 @@ uint32_t teurlaks_steward_seat(struct teurlaks_share_handle *handle, struct teur
  * of the arena goes back with its last handle. */
 void teurlaks_share_drop(struct teurlaks_share_handle *handle);
 
+/* Keeps the seat's shard for its thread from now on, until teurlaks_seat_pause: a put, and a look-up, a set and a free of what is in that shard,
+ * take no lock then. Whoever else needs the shard is answered TEURLAKS_BUSY meanwhile, the steward's mark among them. It is TEURLAKS_OK where the
+ * seat keeps its shard already, and TEURLAKS_BUSY where another thread has it. A look-up, a set or a free that is TEURLAKS_BUSY in a session
+ * needs a pause before it is made again. Every other call of a seat but teurlaks_seat_free_later and teurlaks_seat_hand_over pauses by itself. */
+uint32_t teurlaks_seat_session(struct teurlaks_share_handle *handle);
+
+/* Lets others at the seat's shard again. It is TEURLAKS_OK also where the seat did not keep it. */
+uint32_t teurlaks_seat_pause(struct teurlaks_share_handle *handle);
+
 /* As teurlaks_put_words, into the seat's shard. */
 struct teurlaks_put_reply teurlaks_seat_put_words(struct teurlaks_share_handle *handle, const struct teurlaks_word *words, size_t words_len);
 

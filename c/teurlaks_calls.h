@@ -155,6 +155,14 @@ TEURLAKS_INLINE void teurlaks_tested_share_drop(struct teurlaks_share_handle *ha
     if (handle) teurlaks_share_drop(handle);
 }
 
+TEURLAKS_INLINE uint32_t teurlaks_tested_seat_session(struct teurlaks_share_handle *handle) {
+    return handle ? teurlaks_seat_session(handle) : (uint32_t)TEURLAKS_NO_CORE;
+}
+
+TEURLAKS_INLINE uint32_t teurlaks_tested_seat_pause(struct teurlaks_share_handle *handle) {
+    return handle ? teurlaks_seat_pause(handle) : (uint32_t)TEURLAKS_NO_CORE;
+}
+
 TEURLAKS_INLINE struct teurlaks_put_reply teurlaks_tested_seat_put_words(struct teurlaks_share_handle *handle, const struct teurlaks_word *words, size_t words_len) {
     struct teurlaks_put_reply none = {TEURLAKS_NO_CORE, {0, 0, 0, 0, 0}};
     struct teurlaks_word no_word = {0, 0};
@@ -282,6 +290,8 @@ TEURLAKS_INLINE struct teurlaks_arena_totals_reply teurlaks_tested_steward_total
 #define teurlaks_arena_open teurlaks_tested_arena_open
 #define teurlaks_steward_seat teurlaks_tested_steward_seat
 #define teurlaks_share_drop teurlaks_tested_share_drop
+#define teurlaks_seat_session teurlaks_tested_seat_session
+#define teurlaks_seat_pause teurlaks_tested_seat_pause
 #define teurlaks_seat_put_words teurlaks_tested_seat_put_words
 #define teurlaks_seat_get_words teurlaks_tested_seat_get_words
 #define teurlaks_seat_set_words teurlaks_tested_seat_set_words

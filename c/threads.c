@@ -1,6 +1,6 @@
 /* Four threads with a seat each, and a steward beside them: each thread finds what it expects under keys of its own and under those that
- * others gave it, frees some later, and leaves sparse pages to the pool, which are folded meanwhile. At the end nothing is live, and no page
- * is left. -DROUNDS says how many rounds of calls each thread makes. */
+ * others gave it, frees some later, and leaves sparse pages to the pool, which are folded meanwhile. Half of them keep their shards over some
+ * calls. At the end nothing is live, and no page is left. -DROUNDS says how many rounds of calls each thread makes. */
 #define _POSIX_C_SOURCE 200809L
 #include "teurlaks.h"
 #include <pthread.h>
@@ -27,6 +27,11 @@
 #define PATIENTLY(reply, status, call)                                                                                                           \
     do reply = call;                                                                                                                             \
     while ((status) == TEURLAKS_BUSY && !sched_yield())
+
+/* The same in a session, which lets go of its shard meanwhile. */
+#define IN_SESSION(me, reply, status, call)                                                                                                      \
+    do reply = call;                                                                                                                             \
+    while ((status) == TEURLAKS_BUSY && paused(me) && !sched_yield())
 
 enum { THREADS = 4, MOST = 4096, WORDS = 4 };
 
@@ -56,6 +61,11 @@ struct worker {
 static struct worker workers[THREADS];
 static atomic_int ended;
 
+/* The threads of odd numbers keep their shards over some calls. */
+static int has_sessions(const struct worker *me) { return (me - workers) % 2 == 1; }
+
+static int paused(struct worker *me) { return teurlaks_seat_pause(&me->seat) == TEURLAKS_OK; }
+
 /* Marsaglia's xorshift. */
 static uint64_t below(uint64_t *state, uint64_t count) {
     *state ^= *state << 13;
@@ -74,7 +84,7 @@ static struct teurlaks_key put(struct worker *me) {
     struct teurlaks_word words[WORDS];
     struct teurlaks_put_reply reply;
     words_of(me->number, words);
-    PATIENTLY(reply, reply.status, teurlaks_seat_put_words(&me->seat, words, WORDS));
+    IN_SESSION(me, reply, reply.status, teurlaks_seat_put_words(&me->seat, words, WORDS));
     WANT(reply.status == TEURLAKS_OK);
     return reply.key;
 }
@@ -84,14 +94,14 @@ static void set(struct worker *me, struct kept *kept) {
     uint32_t status;
     kept->number = me->number++;
     words_of(kept->number, words);
-    PATIENTLY(status, status, teurlaks_seat_set_words(&me->seat, kept->key, words, WORDS));
+    IN_SESSION(me, status, status, teurlaks_seat_set_words(&me->seat, kept->key, words, WORDS));
     WANT(status == TEURLAKS_OK);
 }
 
 static void finds(struct worker *me, struct kept kept) {
     struct teurlaks_word words[16];
     struct teurlaks_words_reply reply;
-    PATIENTLY(reply, reply.status, teurlaks_seat_get_words(&me->seat, kept.key, words, 16));
+    IN_SESSION(me, reply, reply.status, teurlaks_seat_get_words(&me->seat, kept.key, words, 16));
     WANT(reply.status == TEURLAKS_OK && reply.len == WORDS);
     for (uint64_t i = 0; i < WORDS; i++) WANT(words[i].low == word(kept.number, i).low && words[i].high == word(kept.number, i).high);
 }
@@ -100,11 +110,11 @@ static void finds(struct worker *me, struct kept kept) {
 static void free_now(struct worker *me, struct teurlaks_key key) {
     uint32_t status;
     struct teurlaks_words_reply reply;
-    PATIENTLY(status, status, teurlaks_seat_free(&me->seat, key));
+    IN_SESSION(me, status, status, teurlaks_seat_free(&me->seat, key));
     WANT(status == TEURLAKS_OK);
-    PATIENTLY(status, status, teurlaks_seat_free(&me->seat, key));
+    IN_SESSION(me, status, status, teurlaks_seat_free(&me->seat, key));
     WANT(status == TEURLAKS_NONE);
-    PATIENTLY(reply, reply.status, teurlaks_seat_get_words(&me->seat, key, NULL, 0));
+    IN_SESSION(me, reply, reply.status, teurlaks_seat_get_words(&me->seat, key, NULL, 0));
     WANT(reply.status == TEURLAKS_NONE);
 }
 
@@ -176,6 +186,12 @@ static void tend(struct worker *me) {
 static void *work(void *at) {
     struct worker *me = at;
     for (long round = 0; round < ROUNDS; round++) {
+        /* A session is short, so that the others and the steward get on. */
+        if (has_sessions(me) && round % 32 == 0) {
+            uint32_t status;
+            PATIENTLY(status, status, teurlaks_seat_session(&me->seat));
+            WANT(status == TEURLAKS_OK && teurlaks_seat_session(&me->seat) == TEURLAKS_OK);
+        }
         put_or_free(me);
         if (me->count) {
             finds(me, me->live[below(&me->random, me->count)]);
@@ -185,7 +201,9 @@ static void *work(void *at) {
         if (to < THREADS && me->count) give(me, &workers[to].inbox);
         if (round % 64 == 0) take(me);
         if (round % 256 == 0) tend(me);
+        if (has_sessions(me) && round % 32 == 24) WANT(paused(me) && paused(me));
     }
+    WANT(paused(me));
     take(me);
     atomic_fetch_add(&ended, 1);
     return NULL;

@@ -3,10 +3,12 @@
 mod keys;
 mod lanes;
 mod seat;
+mod session;
 mod share;
 
 pub use keys::Keys;
 pub use seat::Seat;
+pub use session::Session;
 
 use crate::bytes::MOST_BYTES;
 use crate::core::{certificate_text, done, marked, stepped, Limits, Marked, Stepped};

@@ -179,6 +179,8 @@ extern "C" {
     ) -> u32;
     pub fn teurlaks_steward_seat(handle: *mut ShareHandle, out: *mut ShareHandle) -> u32;
     pub fn teurlaks_share_drop(handle: *mut ShareHandle);
+    pub fn teurlaks_seat_session(handle: *mut ShareHandle) -> u32;
+    pub fn teurlaks_seat_pause(handle: *mut ShareHandle) -> u32;
     pub fn teurlaks_seat_put_words(handle: *mut ShareHandle, words: *const RawWord, words_len: usize) -> PutReply;
     pub fn teurlaks_seat_get_words(
         handle: *mut ShareHandle,

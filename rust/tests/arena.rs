@@ -9,12 +9,79 @@ use std::sync::atomic::{AtomicBool, Ordering};
 use std::sync::Barrier;
 use std::thread;
 use std::time::Duration;
-use teurlaks::arena::{Arena, Seat, Totals};
-use teurlaks::{Key, Limits, Refused, Stepped};
+use teurlaks::arena::{Arena, Seat, Session, Totals};
+use teurlaks::{Group, Key, Limits, Refused, Stepped};
 
-/// One thread at its seat, with what it expects.
+/// What a thread does at its seat, in a session or without one.
+trait Place<const WORDS: usize> {
+    fn insert(&mut self, value: Value<WORDS>) -> Result<Key, Refused>;
+    fn get(&self, key: Key) -> Option<Value<WORDS>>;
+    fn contains(&self, key: Key) -> bool;
+    fn set(&mut self, key: Key, value: Value<WORDS>) -> Result<bool, Refused>;
+    fn remove(&mut self, key: Key) -> Option<Value<WORDS>>;
+    fn free(&mut self, key: Key) -> bool;
+    fn free_later(&mut self, key: Key) -> Result<(), Refused>;
+    fn tend(&mut self) -> Result<usize, Refused>;
+    fn trim(&mut self) -> usize;
+    fn retire(&mut self, most: usize) -> Result<usize, Refused>;
+    fn adopt(&mut self) -> Result<Group, Refused>;
+}
+
+macro_rules! place {
+    ($type:ty) => {
+        impl<const WORDS: usize> Place<WORDS> for $type {
+            fn insert(&mut self, value: Value<WORDS>) -> Result<Key, Refused> {
+                self.insert(value)
+            }
+
+            fn get(&self, key: Key) -> Option<Value<WORDS>> {
+                self.get(key)
+            }
+
+            fn contains(&self, key: Key) -> bool {
+                self.contains(key)
+            }
+
+            fn set(&mut self, key: Key, value: Value<WORDS>) -> Result<bool, Refused> {
+                self.set(key, value)
+            }
+
+            fn remove(&mut self, key: Key) -> Option<Value<WORDS>> {
+                self.remove(key)
+            }
+
+            fn free(&mut self, key: Key) -> bool {
+                self.free(key)
+            }
+
+            fn free_later(&mut self, key: Key) -> Result<(), Refused> {
+                self.free_later(key)
+            }
+
+            fn tend(&mut self) -> Result<usize, Refused> {
+                self.tend()
+            }
+
+            fn trim(&mut self) -> usize {
+                self.trim()
+            }
+
+            fn retire(&mut self, most: usize) -> Result<usize, Refused> {
+                self.retire(most)
+            }
+
+            fn adopt(&mut self) -> Result<Group, Refused> {
+                self.adopt()
+            }
+        }
+    };
+}
+
+place!(Seat<Value<WORDS>>);
+place!(Session<'_, Value<WORDS>>);
+
+/// One thread with what it expects at its seat.
 struct Worker<'i, const WORDS: usize> {
-    seat: Seat<Value<WORDS>>,
     inboxes: &'i [Handed],
     here: usize,
     random: Random,
@@ -30,10 +97,9 @@ struct Worker<'i, const WORDS: usize> {
 }
 
 impl<'i, const WORDS: usize> Worker<'i, WORDS> {
-    fn new(seat: Seat<Value<WORDS>>, inboxes: &'i [Handed], here: usize) -> Worker<'i, WORDS> {
+    fn new(inboxes: &'i [Handed], here: usize) -> Worker<'i, WORDS> {
         let number = here as u64 * 1_000_000_000;
         Worker {
-            seat,
             inboxes,
             here,
             random: Random(number + 88_172_645_463_325_252),
@@ -47,50 +113,50 @@ impl<'i, const WORDS: usize> Worker<'i, WORDS> {
     }
 
     /// Some calls, a quarter of them inserts or frees.
-    fn work(&mut self, most: usize) -> Result<(), Refused> {
+    fn work(&mut self, seat: &mut impl Place<WORDS>, most: usize) -> Result<(), Refused> {
         for turn in 0..most / 4 {
-            self.insert_or_free()?;
-            self.look_up();
-            self.change()?;
+            self.insert_or_free(seat)?;
+            self.look_up(seat);
+            self.change(seat)?;
             self.hand_key_over();
             if turn % 256 == 0 {
-                self.seat.tend()?;
+                seat.tend()?;
             }
         }
         Ok(())
     }
 
     /// Grows to as many values as it aims at, and shrinks to a twentieth of that.
-    fn insert_or_free(&mut self) -> Result<(), Refused> {
+    fn insert_or_free(&mut self, seat: &mut impl Place<WORDS>) -> Result<(), Refused> {
         if self.grows || self.live.is_empty() {
-            let key = self.seat.insert(Value::new(self.number))?;
+            let key = seat.insert(Value::new(self.number))?;
             self.live.push((key, self.number));
             self.number += 1;
             self.grows = self.live.len() < self.aim;
             return Ok(());
         }
         let (key, number) = self.live.swap_remove(self.random.below(self.live.len()));
-        self.free(key, number)?;
+        self.free(seat, key, number)?;
         self.grows = self.live.len() * 20 < self.aim;
         if self.grows {
             self.aim = 500 + self.random.below(2500);
             self.stale.drain(..self.stale.len() / 2);
-            self.give_back()?;
+            self.give_back(seat)?;
         }
         Ok(())
     }
 
     /// Now, or later, where the ring takes it.
-    fn free(&mut self, key: Key, number: u64) -> Result<(), Refused> {
+    fn free(&mut self, seat: &mut impl Place<WORDS>, key: Key, number: u64) -> Result<(), Refused> {
         match number % 3 {
-            0 => assert_eq!(self.seat.remove(key), Some(Value::new(number))),
-            1 => assert!(self.seat.free(key)),
-            _ => match self.seat.free_later(key) {
+            0 => assert_eq!(seat.remove(key), Some(Value::new(number))),
+            1 => assert!(seat.free(key)),
+            _ => match seat.free_later(key) {
                 Ok(()) => {
                     self.left.push(key);
                     return Ok(());
                 }
-                Err(Refused::RingFull) => assert!(self.seat.free(key)),
+                Err(Refused::RingFull) => assert!(seat.free(key)),
                 Err(refused) => return Err(refused),
             },
         }
@@ -99,9 +165,9 @@ impl<'i, const WORDS: usize> Worker<'i, WORDS> {
     }
 
     /// Leaves the sparse half of its pages to the pool, or takes all that is there.
-    fn give_back(&mut self) -> Result<(), Refused> {
-        self.seat.trim();
-        match self.seat.retire(60) {
+    fn give_back(&mut self, seat: &mut impl Place<WORDS>) -> Result<(), Refused> {
+        seat.trim();
+        match seat.retire(60) {
             Ok(_) | Err(Refused::PlanOpen) => {}
             Err(refused) => return Err(refused),
         }
@@ -109,7 +175,7 @@ impl<'i, const WORDS: usize> Worker<'i, WORDS> {
             return Ok(());
         }
         loop {
-            match self.seat.adopt() {
+            match seat.adopt() {
                 Ok(_) => {}
                 Err(Refused::NothingToAdopt | Refused::PlanOpen | Refused::PagesSpent) => return Ok(()),
                 Err(refused) => return Err(refused),
@@ -117,29 +183,29 @@ impl<'i, const WORDS: usize> Worker<'i, WORDS> {
         }
     }
 
-    fn look_up(&mut self) {
+    fn look_up(&mut self, seat: &mut impl Place<WORDS>) {
         if !self.live.is_empty() {
             let (key, number) = self.live[self.random.below(self.live.len())];
-            assert_eq!(self.seat.get(key), Some(Value::new(number)));
-            assert!(self.seat.contains(key));
+            assert_eq!(seat.get(key), Some(Value::new(number)));
+            assert!(seat.contains(key));
         }
         if !self.stale.is_empty() {
             let key = self.stale[self.random.below(self.stale.len())];
-            assert_eq!(self.seat.get(key), None);
-            assert!(!self.seat.contains(key));
+            assert_eq!(seat.get(key), None);
+            assert!(!seat.contains(key));
         }
     }
 
-    fn change(&mut self) -> Result<(), Refused> {
+    fn change(&mut self, seat: &mut impl Place<WORDS>) -> Result<(), Refused> {
         if !self.live.is_empty() {
             let at = self.random.below(self.live.len());
-            assert!(self.seat.set(self.live[at].0, Value::new(self.number))?);
+            assert!(seat.set(self.live[at].0, Value::new(self.number))?);
             self.live[at].1 = self.number;
             self.number += 1;
         }
         if let Some(key) = self.stale.last() {
-            assert!(!self.seat.set(*key, Value::new(0))? && !self.seat.free(*key));
-            assert_eq!(self.seat.remove(*key), None);
+            assert!(!seat.set(*key, Value::new(0))? && !seat.free(*key));
+            assert_eq!(seat.remove(*key), None);
         }
         Ok(())
     }
@@ -155,14 +221,28 @@ impl<'i, const WORDS: usize> Worker<'i, WORDS> {
     }
 }
 
+/// How the threads call.
+#[derive(Clone, Copy)]
+enum Manner {
+    /// Each call by itself.
+    Calls,
+    /// So many calls in a session, and then in another.
+    Sessions,
+    /// All calls in one session.
+    OneSession,
+}
+
+/// How many calls one of many sessions has.
+const BURST: usize = 1000;
+
 /// What a thread leaves: its seat, its live keys with the numbers of their values, and the keys that it left to others.
 type Left<const WORDS: usize> = (Seat<Value<WORDS>>, Vec<(Key, u64)>, Vec<Key>);
 
 /// So many threads make so many calls in all, each at a seat of so many shards, and a steward folds beside them. Then all is taken out.
-fn threads_find_what_they_expect<const WORDS: usize>(threads: u32, lanes: u32, calls: usize) {
+fn threads_find_what_they_expect<const WORDS: usize>(manner: Manner, threads: u32, lanes: u32, calls: usize) {
     let mut arena = Arena::with_lanes(limits(threads, 1024), 256, lanes).unwrap();
     let inboxes: Vec<Handed> = (0..threads).map(|_| Handed::default()).collect();
-    let (done, folds) = beside_a_steward::<WORDS>(&mut arena, &inboxes, calls / threads as usize);
+    let (done, folds) = beside_a_steward::<WORDS>(manner, &mut arena, &inboxes, calls / threads as usize);
     // A short run has no sparse page.
     assert!(folds > 0 || calls < 1_000_000);
     let mut seats = Vec::new();
@@ -189,6 +269,7 @@ fn threads_find_what_they_expect<const WORDS: usize>(threads: u32, lanes: u32, c
 
 /// One thread for each inbox makes so many calls. It tells what each leaves, and how many folds there were meanwhile.
 fn beside_a_steward<const WORDS: usize>(
+    manner: Manner,
     arena: &mut Arena<Value<WORDS>>,
     inboxes: &[Handed],
     calls: usize,
@@ -198,11 +279,19 @@ fn beside_a_steward<const WORDS: usize>(
         let workers: Vec<_> = seats
             .into_iter()
             .enumerate()
-            .map(|(here, seat)| {
+            .map(|(here, mut seat)| {
                 scope.spawn(move || {
-                    let mut worker = Worker::new(seat, inboxes, here);
-                    worker.work(calls).unwrap();
-                    (worker.seat, worker.live, worker.left)
+                    let mut worker = Worker::new(inboxes, here);
+                    match manner {
+                        Manner::Calls => worker.work(&mut seat, calls).unwrap(),
+                        Manner::Sessions => {
+                            for _ in 0..calls / BURST {
+                                worker.work(&mut seat.session(), BURST).unwrap();
+                            }
+                        }
+                        Manner::OneSession => worker.work(&mut seat.session(), calls).unwrap(),
+                    }
+                    (seat, worker.live, worker.left)
                 })
             })
             .collect();
@@ -235,17 +324,77 @@ fn calls() -> usize {
 
 #[test]
 fn by_four_threads() {
-    threads_find_what_they_expect::<29>(4, 1, calls() / 2);
+    threads_find_what_they_expect::<29>(Manner::Calls, 4, 1, calls() / 2);
 }
 
 #[test]
 fn by_four_threads_of_three_shards_each() {
-    threads_find_what_they_expect::<29>(4, 3, calls() / 4);
+    threads_find_what_they_expect::<29>(Manner::Calls, 4, 3, calls() / 4);
 }
 
 #[test]
 fn by_eight_threads() {
-    threads_find_what_they_expect::<7>(8, 1, calls() / 2);
+    threads_find_what_they_expect::<7>(Manner::Calls, 8, 1, calls() / 2);
+}
+
+#[test]
+fn by_four_threads_in_sessions() {
+    threads_find_what_they_expect::<29>(Manner::Sessions, 4, 3, calls() / 4);
+    threads_find_what_they_expect::<7>(Manner::OneSession, 4, 1, calls() / 4);
+}
+
+#[test]
+fn by_eight_threads_in_sessions() {
+    threads_find_what_they_expect::<7>(Manner::Sessions, 8, 1, calls() / 4);
+    threads_find_what_they_expect::<29>(Manner::OneSession, 8, 2, calls() / 4);
+}
+
+#[test]
+fn a_session_keeps_its_shard_and_lets_go_of_it() -> Result<(), Refused> {
+    let mut arena = Arena::open(limits(2, 16))?;
+    let (mut here, mut there) = (arena.seat()?, arena.seat()?);
+    let elsewhere = there.insert(1_u64)?;
+    let mut session = here.session();
+    let key = session.insert(2)?;
+    assert!(session.set(key, 3)? && session.contains(key));
+    // What is in the other shard is found there, is set and freed.
+    assert!(session.set(elsewhere, 4)?);
+    assert_eq!((session.get(key), session.get(elsewhere)), (Some(3), Some(4)));
+    assert!(session.free(elsewhere) && !session.free(elsewhere));
+    assert_eq!(session.get(elsewhere), None);
+    // What its own shard has retired is found in the pool, and its thread is not kept from it.
+    assert_eq!(session.retire(9), Ok(1));
+    assert_eq!((session.get(key), session.set(key, 5)), (Some(3), Ok(true)));
+    assert_eq!(session.adopt().map(|group| group.shard()), Ok(0));
+    assert_eq!(session.remove(key), Some(5));
+    let left = session.insert(6)?;
+    assert_eq!(session.begin(), Err(Refused::Running));
+    // Another thread that wants the shard waits until the session is dropped.
+    let waits = thread::spawn(move || (there.get(left), there));
+    thread::sleep(Duration::from_millis(10));
+    assert!(!waits.is_finished());
+    assert_eq!(session.get(left), Some(6));
+    drop(session);
+    let (found, mut there) = waits.join().unwrap();
+    assert_eq!(found, Some(6));
+    // Two sessions look into each other's shards, and neither waits for the other for ever.
+    let mine = there.insert(7)?;
+    thread::scope(|scope| {
+        for (seat, own, other) in [(&mut here, left, mine), (&mut there, mine, left)] {
+            scope.spawn(move || {
+                let session = seat.session();
+                for _ in 0..2000 {
+                    assert!(session.contains(own) && session.contains(other));
+                }
+            });
+        }
+    });
+    // A seat that is dropped in a session gives its shard back.
+    std::mem::forget(here.session());
+    assert_eq!(here.get(left), Some(6));
+    drop(here);
+    assert_eq!((there.get(left), arena.totals().live), (Some(6), 2));
+    Ok(())
 }
 
 fn limits(shards: u32, pages: u32) -> Limits {

@@ -1,8 +1,9 @@
 -- Answers of a seat, with the receipts that they stand for.
 use mathlib.Core.Logic.{inl, inr}
-use Rattle.std.proofs.Common.{◌≡◌, ◌∙◌, ℕ, Bool, true, false, List, arith, length, refl}
-use Rattle.std.specs.Prelude.{IfOk, Option, Result, Ok, Err, OnErr, OnOk, Some, None}
+use Rattle.std.proofs.Common.{◌≡◌, ◌∙◌, ℕ, Bool, true, false, List, ap, arith, length, refl}
+use Rattle.std.specs.Prelude.{◌⊎◌, IfOk, Option, Result, Ok, Err, OnErr, OnOk, Some, None}
 use Rattle.std.specs.declared.alloc.AllocError.{AllocError}
+use Rattle.span.specs.Classes.{IsObject}
 use Rattle.span.specs.Log.{Value}
 use Rattle.span.specs.declared.key.Key.{Key}
 use Rattle.span.specs.declared.receipt.Receipt.{Receipt}
@@ -11,12 +12,15 @@ use Rattle.latch.specs.declared.latch.Busy.{Busy}
 use Rattle.arena.specs.Delays.{CountsCall}
 use Rattle.arena.specs.Receipts.{get_receipt}
 use Rattle.arena.specs.Seats.{SeatState}
+use Rattle.arena.specs.Sessions.{LooksUp}
 use Rattle.arena.specs.Told.{WritesFound}
 use Rattle.teurlaks_c.specs.declared.replies.PutReply.{PutReply}
 use Rattle.teurlaks_c.specs.declared.replies.RawWord.{RawWord}
 use Rattle.teurlaks_c.specs.declared.replies.WordsReply.{WordsReply}
 use Rattle.teurlaks_c.specs.declared.share.Share.{Share}
-use Rattle.teurlaks_c.specs.SeatCalls.{Asks, Gets, SaysFreed, SaysGot, SaysLooked, SaysPut, SaysSet, free_told, put_told, set_told}
+use Rattle.teurlaks_c.specs.Calls.{SaysWords}
+use Rattle.teurlaks_c.specs.SeatCalls.{Asks, AsksEither, Gets, Puts, PutsWords, SaysFreed, SaysGot, SaysLooked, SaysPut, SaysSet, free_told, put_told, set_told}
+use Rattle.teurlaks_c.specs.SessionCalls.{AnswersOwn, Held, InSession, PutsHeld}
 use Rattle.teurlaks_c.specs.Words.{word_of}
 
 -- what a seat answers with no receipt, it answers with the one that this stands for
@@ -51,25 +55,56 @@ SaysFreed-told key says seat (Err b) is = is
 SaysFreed-told key says seat (Ok (true, at)) is = is
 SaysFreed-told key says seat (Ok (false, at)) is = is
 
+-- the same of what a seat answers that may keep its shard
+pub AsksEither-told : {A B : Type 0} (tell : SeatState → A → B) (does : SeatState → B → SeatState → Type 0) (does_held : Held → A → Held → Type 0)
+    (Says : Option A → Type 0) (SaysTold : Option B → Type 0) → (Says None → SaysTold None) → ((seat : SeatState) (a : A) → Says (Some a) → SaysTold (Some (tell seat a)))
+    → (old new : Option Share) (answer : Option A) → AsksEither (λ before a after. does before (tell before a) after) does_held old answer new → Says answer
+    → ((told : Option B) × Asks does old told new × SaysTold told) ⊎ ((a : A) × InSession does_held old a new × Says (Some a))
+AsksEither-told tell does does_held Says SaysTold none some old new None asked says = inl (None, asked, none says)
+AsksEither-told tell does does_held Says SaysTold none some old new (Some a) (inl asked) says = inl (Asks-told tell does Says SaysTold none some old new (Some a) asked says)
+AsksEither-told tell does does_held Says SaysTold none some old new (Some a) (inr asked) says = inr (a, asked, says)
+
+-- words of an object that are put, by the seat or in its session
+pub PutsWords-of : (old new : Option Share) (words : Value) (says : PutReply) → IsObject words
+    → ((told : _) × Asks (Puts words) old told new × SaysPut says told) ⊎ ((a : _) × InSession (PutsHeld words) old a new × SaysPut says (Some a)) → PutsWords old words says new
+PutsWords-of old new words says object (inl asked) = inl (object, asked)
+PutsWords-of old new words says object (inr asked) = inr (inl (object, asked))
+
+-- what C reads of a look-up that found this, whose words stand in the room
+pub SaysWords-looked : (room room_new : List RawWord) (says : WordsReply) (found : Option Value) (told : Option ℕ) (at : ℕ)
+    → WritesFound word_of found room told room_new → SaysLooked (length room) says (Ok (told, at)) → SaysWords room says room_new found
+SaysWords-looked room room_new says None None at (told, same) (len, status) = (len, status, same)
+SaysWords-looked room room_new says (Some words) None at (told, writes) looked = absurd cc
+SaysWords-looked room room_new says None (Some count) at (told, same) looked = absurd cc
+SaysWords-looked room room_new says (Some words) (Some count) at (told, inl (fits, is)) (len, inl (most, status)) =
+    let counts : count ≡ length words = cc in
+    (len ∙ counts, inl (fits, status, is))
+SaysWords-looked room room_new says (Some words) (Some count) at (told, inl (fits, is)) (len, inr (most, status)) =
+    let counts : count ≡ length words = cc in
+    absurd (omega (arith, counts, fits, most))
+SaysWords-looked room room_new says (Some words) (Some count) at (told, inr (narrow, same)) (len, inl (most, status)) =
+    let counts : count ≡ length words = cc in
+    absurd (omega (arith, counts, narrow, most))
+SaysWords-looked room room_new says (Some words) (Some count) at (told, inr (narrow, same)) (len, inr (most, status)) =
+    let counts : count ≡ length words = cc in
+    (len ∙ counts, inr (narrow, status, same))
+
 -- what a look-up by words tells is what C reads of the look-up that found this, with its receipt
 pub SaysGot-looked : (key : Key) (before after : SeatState) (room room_new : List RawWord) (says : WordsReply) (answer : Result (Option ℕ × ℕ) Busy)
     → IfOk answer (λ got. (found : Option Value) × WritesFound word_of found room got.0 room_new)
     → OnOk answer (CountsCall before after) → OnErr answer ((after ≡ before) × (room_new ≡ room)) → SaysLooked (length room) says answer
     → (told : Result (Option Value × Receipt) Busy) × Gets key before told after × SaysGot room says room_new (Some told)
 SaysGot-looked key before after room room_new says (Err b) wrote ok (same, room_same) (status, len) = (Err b, (tt, (tt, same)), (status, len, room_same))
-SaysGot-looked key before after room room_new says (Ok (None, at)) (None, (told, same)) ok err (len, status) =
-    (Ok (None, get_receipt before.worker before.section key None at), (refl, (ok, tt)), (len, status, same))
-SaysGot-looked key before after room room_new says (Ok (None, at)) (Some words, (told, writes)) ok err looked = absurd cc
-SaysGot-looked key before after room room_new says (Ok (Some count, at)) (None, (told, same)) ok err looked = absurd cc
-SaysGot-looked key before after room room_new says (Ok (Some count, at)) (Some words, (told, inl (fits, is))) ok err (len, inl (most, status)) =
-    let counts : count ≡ length words = cc in
-    (Ok (Some words, get_receipt before.worker before.section key (Some words) at), (refl, (ok, tt)), (len ∙ counts, inl (fits, status, is)))
-SaysGot-looked key before after room room_new says (Ok (Some count, at)) (Some words, (told, inl (fits, is))) ok err (len, inr (most, status)) =
-    let counts : count ≡ length words = cc in
-    absurd (omega (arith, counts, fits, most))
-SaysGot-looked key before after room room_new says (Ok (Some count, at)) (Some words, (told, inr (narrow, same))) ok err (len, inl (most, status)) =
-    let counts : count ≡ length words = cc in
-    absurd (omega (arith, counts, narrow, most))
-SaysGot-looked key before after room room_new says (Ok (Some count, at)) (Some words, (told, inr (narrow, same))) ok err (len, inr (most, status)) =
-    let counts : count ≡ length words = cc in
-    (Ok (Some words, get_receipt before.worker before.section key (Some words) at), (refl, (ok, tt)), (len ∙ counts, inr (narrow, status, same)))
+SaysGot-looked key before after room room_new says (Ok (told, at)) (found, wrote) ok err looked =
+    (Ok (found, get_receipt before.worker before.section key found at), (refl, (ok, tt)), SaysWords-looked room room_new says found told at wrote looked)
+
+-- the same in a session, whose own shard shows this value of the key
+pub SaysGot-held : (own : Option ℕ) (value : Option Value) (Counts Stays : Type 0) (room room_new : List RawWord) (says : WordsReply) (answer : Result (Option ℕ × ℕ) Busy)
+    → LooksUp word_of own value room answer room_new → OnOk answer Counts → OnErr answer Stays → SaysLooked (length room) says answer
+    → (told : Result (Option Value × ℕ) Busy) × (AnswersOwn own value told × OnOk told Counts × OnErr told Stays) × SaysGot room says room_new (Some told)
+SaysGot-held (Some at) value Counts Stays room room_new says (Err b) looks counts stays looked = absurd looks
+SaysGot-held None value Counts Stays room room_new says (Err b) same counts stays (status, len) = (Err b, (tt, tt, stays), (status, len, same))
+SaysGot-held (Some own) value Counts Stays room room_new says (Ok (told, at)) (is, wrote) counts stays looked =
+    (Ok (value, at), (ap (λ at. Ok (value, at)) is, counts, tt), SaysWords-looked room room_new says value told at wrote looked)
+SaysGot-held None value Counts Stays room room_new says (Ok (told, at)) (found, wrote) counts stays looked =
+    (Ok (found, at), (tt, counts, tt), SaysWords-looked room room_new says found told at wrote looked)

@@ -27,7 +27,7 @@ use Rattle.teurlaks_c.specs.declared.share.Share.{Share}
 use Rattle.teurlaks_c.specs.declared.share.Share.TheVariants.{Seat, Session}
 use Rattle.teurlaks_c.specs.declared.share.SharedSeat.{SharedSeat}
 use Rattle.teurlaks_c.specs.Calls.{SaysWords}
-use Rattle.teurlaks_c.specs.SessionCalls.{AtHeldSeat, FreesHeld, GetsHeld, HasSession, Held, InSession, PutsHeld, SetsHeld, paused}
+use Rattle.teurlaks_c.specs.SessionCalls.{AtHeldSeat, AtPaused, FreesHeld, GetsHeld, Held, InSession, IsHeld, IsPaused, PutsHeld, SetsHeld, StaysSeat}
 use Rattle.teurlaks_c.specs.Keys.{IsKeyOf, IsNoKey, IsIdOf}
 use Rattle.teurlaks_c.specs.Status.{busy, config, done, no_core, none, out_of_memory, ring_full, still_running, too_small, adopt_status, put_status, receive_status}
 
@@ -49,6 +49,10 @@ pub record AtSeat {Answer : Type 0} (does : SeatState → Answer → SeatState �
 -- the handle's seat is asked, where it has one
 abbrev pub Asks : {Answer : Type 0} → (SeatState → Answer → SeatState → Type 0) → Option Share → Option Answer → Option Share → Type 0
 Asks does old answer new = MatchOption answer (HasNoSeat old × (new ≡ old)) (λ answer. AtSeat does old answer new)
+
+-- the handle's seat is asked, where it has one: where it keeps its shard it gives that back before, and keeps it no more
+abbrev pub AsksPaused : {Answer : Type 0} → (SeatState → Answer → SeatState → Type 0) → Option Share → Option Answer → Option Share → Type 0
+AsksPaused does old answer new = MatchOption answer (HasNoSeat old × (new ≡ old)) (λ answer. AtSeat does old answer new ⊎ AtPaused does old answer new)
 
 -- the handle's seat is asked, where it has one: where it keeps no shard it does this, and in a session that
 abbrev pub AsksEither : {Answer : Type 0} → (SeatState → Answer → SeatState → Type 0) → (Held → Answer → Held → Type 0) → Option Share → Option Answer → Option Share → Type 0
@@ -266,9 +270,9 @@ SaysTended says (Some (Ok tended)) = (says.status ≡ (if tended.is_busy then bu
 
 -- the handle's seat keeps its shard from now on, or another thread has it, and nothing changes
 abbrev pub HoldsShard : Option Share → ℕ → Option Share → Type 0
-HoldsShard old says new = (HasNoSeat old × (says ≡ no_core) × (new ≡ old))
-    ⊎ (((says ≡ done) × HasSession new × (paused new ≡ paused old)) ⊎ ((says ≡ busy) × (HasSession old → ⊥) × (new ≡ old)))
+HoldsShard old says new =
+    (HasNoSeat old × (says ≡ no_core) × (new ≡ old)) ⊎ (((says ≡ done) × IsHeld old new) ⊎ ((says ≡ busy) × StaysSeat old new))
 
 -- the handle's seat keeps its shard no more
 abbrev pub GivesShard : Option Share → ℕ → Option Share → Type 0
-GivesShard old says new = (new ≡ paused old) × ((HasNoSeat old × (says ≡ no_core)) ⊎ ((HasNoSeat old → ⊥) × (says ≡ done)))
+GivesShard old says new = IsPaused old new × ((HasNoSeat old × (says ≡ no_core)) ⊎ ((HasNoSeat old → ⊥) × (says ≡ done)))

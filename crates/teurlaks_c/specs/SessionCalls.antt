@@ -1,5 +1,5 @@
 -- What the calls of a seat do in a session, in which it keeps its shard.
-use Rattle.std.specs.Prelude.{◌≡◌, ℕ, Bool, true, false, List, None, Ok, Err, OnErr, OnOk, Option, Result, Some, length}
+use Rattle.std.specs.Prelude.{◌≡◌, ℕ, Bool, true, false, None, Ok, Err, OnErr, OnOk, Option, Result, Some, length}
 use Rattle.std.specs.declared.alloc.AllocError.{AllocError}
 use Rattle.groups.specs.Group.{IsElsewhere}
 use Rattle.span.specs.Classes.{width_of}
@@ -21,7 +21,8 @@ use Rattle.arena.specs.Seats.{SeatState}
 use Rattle.arena.specs.Sessions.{TellsOwn}
 use Rattle.arena.specs.Told.{changes_at, free_told, set_told}
 use Rattle.teurlaks_c.specs.declared.share.Share.{Share}
-use Rattle.teurlaks_c.specs.declared.share.Share.TheVariants.{Seat, Session, Steward}
+use Rattle.teurlaks_c.specs.declared.share.Share.TheVariants.{Seat, Session}
+use Rattle.teurlaks_c.specs.declared.share.SharedSeat.{SharedSeat}
 use Rattle.teurlaks_c.specs.declared.share.SharedSession.{SharedSession}
 
 -- a session: the seat, and the shard that it keeps
@@ -32,10 +33,23 @@ pub record Held : Type 0 where
 abbrev pub held : SharedSession → Held
 held shared = record { seat = shared.session.seat; shard = shared.session.shard.value.value }
 
--- what a handle has once its session, if it has one, is over: the seat at the same arena
-abbrev pub paused : Option Share → Option Share
-paused (Some (Session shared)) = Some (Seat (record { arena = shared.session.arena; seat = shared.session.seat }))
-paused share = share
+-- the session of the handle, where it has one, is over: its seat stays, at the same arena; what has no session stays as it was
+abbrev pub IsPaused : Option Share → Option Share → Type 0
+IsPaused (Some (Session before)) new =
+    (after : SharedSeat) × (new ≡ Some (Seat after)) × (after.arena ≡ before.session.arena) × (after.seat ≡ before.session.seat)
+IsPaused old new = new ≡ old
+
+-- the seat of the handle keeps its shard, at the same arena; where it did so before it stays as it was
+abbrev pub IsHeld : Option Share → Option Share → Type 0
+IsHeld (Some (Seat before)) new =
+    (after : SharedSession) × (new ≡ Some (Session after)) × (after.session.arena ≡ before.arena) × (after.session.seat ≡ before.seat)
+IsHeld (Some (Session before)) new = new ≡ Some (Session before)
+IsHeld old new = ⊥
+
+-- the seat of the handle, which keeps no shard, stays as it was, at the same arena
+abbrev pub StaysSeat : Option Share → Option Share → Type 0
+StaysSeat (Some (Seat before)) new = (after : SharedSeat) × (new ≡ Some (Seat after)) × (after.arena ≡ before.arena) × (after.seat ≡ before.seat)
+StaysSeat old new = ⊥
 
 -- the handle has a session
 abbrev pub HasSession : Option Share → Type 0
@@ -50,6 +64,15 @@ pub record InSession {Answer : Type 0} (does : Held → Answer → Held → Type
   pub after_is : new ≡ Some (Session after)
   pub arena_is : after.session.arena ≡ before.session.arena
   pub did : does (held before) answer (held after)
+
+-- the seat of the handle gives its shard back, does this without a session and answers that, at the same arena
+pub record AtPaused {Answer : Type 0} (does : SeatState → Answer → SeatState → Type 0) (old : Option Share) (answer : Answer) (new : Option Share) : Type 0 where
+  pub before : SharedSession
+  pub after : SharedSeat
+  pub before_is : old ≡ Some (Session before)
+  pub after_is : new ≡ Some (Seat after)
+  pub arena_is : after.arena ≡ before.session.arena
+  pub did : does before.session.seat answer after.seat
 
 -- a put of an object of the class is refused for just this cause
 abbrev pub IsRefused : Class → ShardState → PutError → Type 0

@@ -18,7 +18,7 @@ use Rattle.teurlaks_c.specs.declared.replies.MarkReply.{MarkReply}
 use Rattle.teurlaks_c.specs.declared.replies.StepReply.{StepReply}
 use Rattle.teurlaks_c.specs.declared.replies.ArenaTotalsReply.{ArenaTotalsReply}
 use Rattle.teurlaks_c.specs.declared.share.Share.{Share}
-use Rattle.teurlaks_c.specs.declared.share.Share.TheVariants.{Seat, Session, Steward}
+use Rattle.teurlaks_c.specs.declared.share.Share.TheVariants.{Nothing, Seat, Session, Steward}
 use Rattle.teurlaks_c.specs.declared.share.SharedSteward.{SharedSteward}
 use Rattle.std.specs.Arc.{arc_value}
 use Rattle.teurlaks_c.specs.Calls.{CountsOf, Tells, kept}
@@ -46,6 +46,7 @@ HandsOutOf before says after None =
     (((says ≡ none) × (vec_len before.seats ≡ 0)) ⊎ (says ≡ out_of_memory)) × (after.seats.items ≡ before.seats.items)
 HandsOutOf before says after (Some (Steward other)) = ⊥
 HandsOutOf before says after (Some (Session other)) = ⊥
+HandsOutOf before says after (Some Nothing) = ⊥
 
 -- the steward of the handle hands out a seat, or has none left, or is refused memory; its arena, plan and certificate stay
 pub record HandsOutSeat (old : Option Share) (says : ℕ) (new out : Option Share) : Type 0 where

@@ -3,11 +3,10 @@ ghost use Rattle.std.specs.Prelude.{◌≡◌, MatchOption, Some, length};
 ghost use Rattle.arena.specs.Delays.{HandsOver};
 ghost use Rattle.arena.specs.Seats.{SeatState};
 ghost use Rattle.span.specs.Classes.{width_of};
-ghost use Rattle.teurlaks_c.specs.SessionCalls.{HasSession, paused};
-ghost use Rattle.teurlaks_c.specs.SeatCalls.{Asks, AtSeat, Ends, Frees, FreesLater, Gets, HasNoSeat, IsOneCall, PutsUntold, Retires, SaysGot, SaysLooked, Sets, Stays, Tends, free_told, set_told};
+ghost use Rattle.teurlaks_c.specs.SessionCalls.{AtPaused, HasSession};
+ghost use Rattle.teurlaks_c.specs.SeatCalls.{AsksPaused, AtSeat, Ends, Frees, FreesLater, Gets, HasNoSeat, IsOneCall, PutsUntold, Retires, SaysGot, SaysLooked, Sets, Stays, Tends, free_told, set_told};
 
 use crate::replies::{RawWord, WordsReply};
-use crate::session_calls::pause;
 use crate::share::{Shards, Share, SharedSeat};
 use crate::share_handle::ShareHandle;
 use crate::status::{BUSY, NO_CORE, NONE, OK, TOO_SMALL};
@@ -40,28 +39,40 @@ pub(crate) fn at_seat<C: SeatCall>(
     handle: &mut ShareHandle,
     call: &C,
 ) -> Option<C::Answer>
-    ensures { Asks (C.does call.now) (paused handle.old.share) result handle.new.share }
+    ensures { AsksPaused (C.does call.now) handle.old.share result handle.new.share }
 {
     let Some(mut share) = replace(handle, ShareHandle::none()).into_box(alloc) else {
         return None;
     };
-    pause(&mut *share);
     let answer = ask_share(&mut *share, call);
     *handle = ShareHandle::of(share);
     answer
 }
 
-// Asks the seat, where that is what is shared, and keeps no shard.
+// Asks the seat, where that is what is shared.
 #[inline(always)]
 fn ask_share<C: SeatCall>(share: &mut Share, call: &C) -> Option<C::Answer>
-    requires { HasSession (Some share.old) → ⊥ }
-    ensures { Asks (C.does call.now) (Some share.old) result (Some share.new) }
+    ensures { AsksPaused (C.does call.now) (Some share.old) result (Some share.new) }
 {
     match share {
         Share::Seat(seat) => Some(ask_seat(seat, call)),
-        Share::Steward(_) => None,
-        Share::Session(_) => unreachable!(),
+        Share::Session(_) => Some(ask_paused(share, call)),
+        Share::Steward(_) | Share::Nothing => None,
     }
+}
+
+// Asks the seat of a session, which is over then.
+fn ask_paused<C: SeatCall>(share: &mut Share, call: &C) -> C::Answer
+    requires { HasSession (Some share.old) }
+    ensures { AtPaused (C.does call.now) (Some share.old) result (Some share.new) }
+{
+    let Share::Session(session) = replace(share, Share::Nothing) else {
+        unreachable!()
+    };
+    let mut seat = session.pause();
+    let answer = ask_seat(&mut seat, call);
+    *share = Share::Seat(seat);
+    answer
 }
 
 /// Asks the seat.

@@ -2,8 +2,8 @@
 ghost use Rattle.std.specs.Prelude.{◌≡◌, ◌∷◌, [], length};
 ghost use Rattle.arena.specs.Delays.{HandsOver};
 ghost use Rattle.span.specs.Classes.{width_of};
-ghost use Rattle.teurlaks_c.specs.SeatCalls.{Asks, AsksEither, AsksNothing, Ends, FreesBy, FreesKey, GetsWords, IsOneCall, LeavesKey, PutsUntold, PutsWords, Retires, SaysAdopted, SaysBegun, SaysEnded, SaysFreed, SaysHandedOver, SaysLeft, SaysPut, SaysRetired, SaysSet, SaysTended, SaysTrimmed, SetsBy, SetsWords, Tends};
-ghost use Rattle.teurlaks_c.specs.SessionCalls.{AtHeldSeat, PutsHeld, paused};
+ghost use Rattle.teurlaks_c.specs.SeatCalls.{AsksEither, AsksNothing, AsksPaused, Ends, FreesBy, FreesKey, GetsWords, IsOneCall, LeavesKey, PutsUntold, PutsWords, Retires, SaysAdopted, SaysBegun, SaysEnded, SaysFreed, SaysHandedOver, SaysLeft, SaysPut, SaysRetired, SaysSet, SaysTended, SaysTrimmed, SetsBy, SetsWords, Tends};
+ghost use Rattle.teurlaks_c.specs.SessionCalls.{AtHeldSeat, PutsHeld};
 ghost use Rattle.teurlaks_c.specs.Status.{adopt_status, put_status, receive_status};
 ghost use Rattle.teurlaks_c.specs.Words.{words_of};
 
@@ -107,7 +107,7 @@ pub extern "C" fn teurlaks_seat_free(alloc: Global, handle: &mut ShareHandle, ke
 /// `PLAN_OPEN` or `OUT_OF_MEMORY`; nothing has changed then.
 #[unsafe(no_mangle)]
 pub extern "C" fn teurlaks_seat_end(alloc: Global, handle: &mut ShareHandle) -> u32
-    ensures { (answer : _) × Asks Ends (paused handle.old.share) answer handle.new.share × SaysEnded result answer }
+    ensures { (answer : _) × AsksPaused Ends handle.old.share answer handle.new.share × SaysEnded result answer }
 {
     ended_reply(at_seat(alloc, handle, &End))
 }
@@ -117,7 +117,7 @@ pub extern "C" fn teurlaks_seat_end(alloc: Global, handle: &mut ShareHandle) -> 
 /// memory.
 #[unsafe(no_mangle)]
 pub extern "C" fn teurlaks_seat_begin(alloc: Global, handle: &mut ShareHandle) -> u32
-    ensures { (answer : _) × Asks IsOneCall (paused handle.old.share) answer handle.new.share × SaysBegun result answer }
+    ensures { (answer : _) × AsksPaused IsOneCall handle.old.share answer handle.new.share × SaysBegun result answer }
 {
     begun_reply(at_seat(alloc, handle, &Begin))
 }
@@ -130,7 +130,7 @@ pub extern "C" fn teurlaks_seat_retire(
     handle: &mut ShareHandle,
     most: usize,
 ) -> RetireReply
-    ensures { (answer : _) × Asks (Retires most) (paused handle.old.share) answer handle.new.share
+    ensures { (answer : _) × AsksPaused (Retires most) handle.old.share answer handle.new.share
         × SaysRetired result answer }
 {
     retired_reply(at_seat(alloc, handle, &Retire { most }))
@@ -140,7 +140,7 @@ pub extern "C" fn teurlaks_seat_retire(
 /// `BUSY`. It takes no memory.
 #[unsafe(no_mangle)]
 pub extern "C" fn teurlaks_seat_trim(alloc: Global, handle: &mut ShareHandle) -> TrimReply
-    ensures { (answer : _) × Asks IsOneCall (paused handle.old.share) answer handle.new.share
+    ensures { (answer : _) × AsksPaused IsOneCall handle.old.share answer handle.new.share
         × SaysTrimmed result answer }
 {
     trimmed_reply(at_seat(alloc, handle, &Trim))
@@ -150,7 +150,7 @@ pub extern "C" fn teurlaks_seat_trim(alloc: Global, handle: &mut ShareHandle) ->
 /// `ENDED`, `PLAN_OPEN`, `NOTHING_TO_ADOPT` or `OUT_OF_MEMORY`; nothing has changed then.
 #[unsafe(no_mangle)]
 pub extern "C" fn teurlaks_seat_adopt(alloc: Global, handle: &mut ShareHandle) -> AdoptReply
-    ensures { (answer : _) × Asks IsOneCall (paused handle.old.share) answer handle.new.share
+    ensures { (answer : _) × AsksPaused IsOneCall handle.old.share answer handle.new.share
         × SaysAdopted result answer }
 {
     adopted_reply(at_seat(alloc, handle, &Adopt))
@@ -190,7 +190,7 @@ pub extern "C" fn teurlaks_seat_hand_over(alloc: Global, handle: &mut ShareHandl
 /// where it left off, since another thread had the lock that the next key needs: that key is still on its ring.
 #[unsafe(no_mangle)]
 pub extern "C" fn teurlaks_seat_tend(alloc: Global, handle: &mut ShareHandle) -> TendReply
-    ensures { (answer : _) × Asks Tends (paused handle.old.share) answer handle.new.share
+    ensures { (answer : _) × AsksPaused Tends handle.old.share answer handle.new.share
         × SaysTended result answer }
 {
     tended_reply(at_seat(alloc, handle, &Tend))

@@ -2,20 +2,20 @@
 ghost use Rattle.std.specs.Prelude.{◌≡◌, Some, length};
 ghost use Rattle.arena.specs.Delays.{HandsOver};
 ghost use Rattle.teurlaks_c.specs.SeatCalls.{AsksEither, FreesLater, GetsKey, SaysGot, Stays};
-ghost use Rattle.teurlaks_c.specs.SessionCalls.{AtHeldSeat, FreesHeld, GetsHeld, Held, InSession, PutsHeld, SetsHeld, held, paused};
+ghost use Rattle.teurlaks_c.specs.SessionCalls.{AtHeldSeat, FreesHeld, GetsHeld, Held, InSession, PutsHeld, SetsHeld, held};
 
 use crate::replies::{RawWord, WordsReply};
 use crate::seat_calls::{
     Free, FreeLater, HandOver, Put, SeatCall, Set, Stay, ask_seat, look_up, looked_reply,
 };
-use crate::share::{Share, SharedSeat, SharedSession};
+use crate::share::{Share, SharedSession};
 use crate::share_handle::ShareHandle;
 use crate::status::NO_CORE;
-use arena::{Busy, NoGate, Session};
+use arena::Busy;
 use shard::PutError;
-use span::{Counted, Key};
+use span::Key;
 use std::alloc::{AllocError, Global};
-use std::mem::{replace, replace_with};
+use std::mem::replace;
 
 /// A call of a seat that goes by its session, where it has one.
 pub(crate) trait SessionCall: SeatCall {
@@ -55,7 +55,7 @@ fn ask_either<C: SessionCall>(share: &mut Share, call: &C) -> Option<C::Answer>
     match share {
         Share::Seat(seat) => Some(ask_seat(seat, call)),
         Share::Session(session) => Some(call.ask_in_session(session)),
-        Share::Steward(_) => None,
+        Share::Steward(_) | Share::Nothing => None,
     }
 }
 
@@ -89,7 +89,7 @@ fn look_up_at_share(share: &mut Share, key: &Key, room: &mut [RawWord]) -> Words
     match share {
         Share::Seat(seat) => look_up(seat, key, room),
         Share::Session(session) => look_up_in_session(session, key, room),
-        Share::Steward(_) => WordsReply {
+        Share::Steward(_) | Share::Nothing => WordsReply {
             status: NO_CORE,
             len: 0,
         },
@@ -106,30 +106,6 @@ fn look_up_in_session(shared: &mut SharedSession, key: &Key, room: &mut [RawWord
     let most = room.len();
     let answer = shared.session.try_get_words(key, room);
     looked_reply(most, answer)
-}
-
-/// Ends the session of what is shared, where it has one: the shard goes back to its lock.
-pub(crate) fn pause(share: &mut Share)
-    ensures { Some share.new ≡ paused (Some share.old) }
-{
-    match share {
-        Share::Session(_) => replace_with(share, (), paused_share),
-        Share::Seat(_) | Share::Steward(_) => {}
-    }
-}
-
-// What is shared, with no session.
-fn paused_share(share: Share, _: ()) -> (Share, ())
-    ensures { Some result.0 ≡ paused (Some share) }
-{
-    match share {
-        Share::Session(SharedSession { session }) => {
-            let (arena, seat) = session.pause();
-            (Share::Seat(SharedSeat { arena, seat }), ())
-        }
-        Share::Seat(seat) => (Share::Seat(seat), ()),
-        Share::Steward(steward) => (Share::Steward(steward), ()),
-    }
 }
 
 impl SessionCall for Stay {

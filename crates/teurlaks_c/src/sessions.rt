@@ -2,13 +2,12 @@
 ghost use Rattle.std.specs.Prelude.{◌≡◌, Some};
 ghost use Rattle.teurlaks_c.specs.SeatCalls.{GivesShard, HoldsShard};
 
-use crate::session_calls::pause;
 use crate::share::{Share, SharedSeat, SharedSession};
 use crate::share_handle::ShareHandle;
 use crate::status::{BUSY, NO_CORE, OK};
 use arena::Session;
 use std::alloc::Global;
-use std::mem::{replace, replace_with};
+use std::mem::replace;
 
 /// Keeps the seat's shard for its thread from now on, until `teurlaks_seat_pause`: a put, and a look-up, a set and a free of what is in that
 /// shard, take no lock then. Whoever else needs the shard's lock is answered `BUSY` meanwhile, the steward's mark among them. Where a look-up, a
@@ -21,7 +20,7 @@ pub extern "C" fn teurlaks_seat_session(alloc: Global, handle: &mut ShareHandle)
     let Some(mut share) = replace(handle, ShareHandle::none()).into_box(alloc) else {
         return NO_CORE;
     };
-    let status = replace_with(&mut *share, (), holding);
+    let status = hold(&mut *share);
     *handle = ShareHandle::of(share);
     status
 }
@@ -39,8 +38,17 @@ pub extern "C" fn teurlaks_seat_pause(alloc: Global, handle: &mut ShareHandle) -
     status
 }
 
+// Makes what is shared a session, where that can be had.
+fn hold(share: &mut Share) -> u32
+    ensures { HoldsShard (Some share.old) result (Some share.new) }
+{
+    let (after, status) = holding(replace(share, Share::Nothing));
+    *share = after;
+    status
+}
+
 // What is shared, with a session where that can be had, and the status that says so.
-fn holding(share: Share, _: ()) -> (Share, u32)
+fn holding(share: Share) -> (Share, u32)
     ensures { HoldsShard (Some share) result.1 (Some result.0) }
 {
     match share {
@@ -50,6 +58,7 @@ fn holding(share: Share, _: ()) -> (Share, u32)
         },
         Share::Session(session) => (Share::Session(session), OK),
         Share::Steward(steward) => (Share::Steward(steward), NO_CORE),
+        Share::Nothing => (Share::Nothing, NO_CORE),
     }
 }
 
@@ -57,10 +66,19 @@ fn holding(share: Share, _: ()) -> (Share, u32)
 fn give(share: &mut Share) -> u32
     ensures { GivesShard (Some share.old) result (Some share.new) }
 {
-    let status = match share {
-        Share::Seat(_) | Share::Session(_) => OK,
-        Share::Steward(_) => NO_CORE,
-    };
-    pause(share);
+    let (after, status) = giving(replace(share, Share::Nothing));
+    *share = after;
     status
+}
+
+// What is shared, without a session, and the status that says so.
+fn giving(share: Share) -> (Share, u32)
+    ensures { GivesShard (Some share) result.1 (Some result.0) }
+{
+    match share {
+        Share::Session(session) => (Share::Seat(session.pause()), OK),
+        Share::Seat(seat) => (Share::Seat(seat), OK),
+        Share::Steward(steward) => (Share::Steward(steward), NO_CORE),
+        Share::Nothing => (Share::Nothing, NO_CORE),
+    }
 }

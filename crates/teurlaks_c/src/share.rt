@@ -28,6 +28,18 @@ pub struct SharedSession {
     pub session: Session<NoGate, Counted>,
 }
 
+impl SharedSession {
+    /// The seat, whose shard goes back to its lock.
+    pub(crate) fn pause(self) -> SharedSeat
+        ensures arena { result.arena ≡ self.session.arena }
+        ensures seat { result.seat ≡ self.session.seat }
+    {
+        let SharedSession { session } = self;
+        let (arena, seat) = session.pause();
+        SharedSeat { arena, seat }
+    }
+}
+
 /// The steward of an arena, with a share of it, and what its last mark answered.
 #[derive(Drop)]
 pub struct SharedSteward {
@@ -52,4 +64,6 @@ pub enum Share {
     Steward(SharedSteward),
     /// A worker's seat that keeps its shard.
     Session(SharedSession),
+    /// Nothing: a call has taken out what is shared, to make another of these of it. No call leaves it behind.
+    Nothing,
 }

@@ -52,7 +52,7 @@ fn ask_share<C: StewardCall>(share: &mut Share, call: &C) -> Option<C::Answer>
     ensures { Asks (C.does call.now) (Some share.old) result (Some share.new) }
 {
     match share {
-        Share::Seat(_) | Share::Session(_) => None,
+        Share::Seat(_) | Share::Session(_) | Share::Nothing => None,
         Share::Steward(steward) => Some(call.ask(steward)),
     }
 }

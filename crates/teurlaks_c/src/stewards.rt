@@ -155,7 +155,7 @@ fn take_seat(alloc: Global, share: &mut Share) -> Result<Box<Share>, u32>
         (λ status. LeavesSeat (Some share.old) None status (Some share.new) None) }
 {
     match share {
-        Share::Seat(_) | Share::Session(_) => Err(NO_CORE),
+        Share::Seat(_) | Share::Session(_) | Share::Nothing => Err(NO_CORE),
         Share::Steward(steward) => seat_of(alloc, steward),
     }
 }
@@ -199,7 +199,7 @@ fn boxed_seat(alloc: Global, arena: &Arc<Shards, Global>, seat: Seat) -> Result<
                     let SharedSeat { seat, .. } = shared;
                     Err(seat)
                 }
-                Share::Steward(_) | Share::Session(_) => unreachable!(),
+                Share::Steward(_) | Share::Session(_) | Share::Nothing => unreachable!(),
             }
         }
     }
@@ -286,7 +286,7 @@ fn write_last_of(alloc: Global, share: &Share, room: &mut [u8]) -> CertificateRe
     ensures { WritesLast (Some share.now) room.old result room.new }
 {
     match share {
-        Share::Seat(_) | Share::Session(_) => CertificateReply {
+        Share::Seat(_) | Share::Session(_) | Share::Nothing => CertificateReply {
             status: NO_CORE,
             len: 0,
         },

@@ -48,13 +48,14 @@ impl Lanes {
         iter::once(&self.here).chain(&self.others)
     }
 
-    /// Counts a value that this one took.
+    /// Counts a value that this one took, and says whether it is the next one's turn.
     #[inline]
-    pub fn count(&mut self) {
-        self.taken += 1;
-        if self.taken >= RUN {
-            self.turn();
+    pub fn count(&mut self) -> bool {
+        if self.others.is_empty() {
+            return false;
         }
+        self.taken += 1;
+        self.taken >= RUN
     }
 
     /// From now on it is the turn of the next one. What was left to others here is handed over, since no further call counts for it.

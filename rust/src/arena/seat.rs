@@ -2,7 +2,8 @@
 
 use super::keys::Keys;
 use super::lanes::Lanes;
-use super::share::{Share, Turn};
+use super::session::Session;
+use super::share::{Answer, Share, Turn};
 use crate::bytes::MOST_WORDS;
 use crate::core::{done, was_put, was_set};
 use crate::names::{Group, Key};
@@ -27,6 +28,8 @@ use std::ptr::NonNull;
 pub struct Seat<T> {
     lanes: Lanes,
     turn: Turn,
+    // Whether the handle whose turn it is has a session.
+    holds: Cell<bool>,
     // A value of any other type is none of this arena, whatever its lifetime: it is read at all seats.
     values: PhantomData<Cell<T>>,
 }
@@ -37,7 +40,101 @@ impl<T> Seat<T> {
         Seat {
             lanes,
             turn,
+            holds: Cell::new(false),
             values: PhantomData,
+        }
+    }
+
+    /// Keeps the seat's shard for this thread over many calls, until the session is dropped: a call on what is in that shard takes no lock then,
+    /// and takes about half the time. It waits until no other thread has the shard.
+    ///
+    /// Whoever else wants the shard waits meanwhile: those who look up, set or free a value there, and the steward, whose mark, close, forgetting
+    /// and totals want all shards. So a session is for a burst of calls and is not kept while its thread does something else. A session lets go of
+    /// its shard for a moment where the steward waits, and where a call needs a lock that another thread has, so that two sessions never wait for
+    /// each other.
+    ///
+    /// ```
+    /// use teurlaks::arena::Arena;
+    /// use teurlaks::Limits;
+    ///
+    /// let mut arena = Arena::open(Limits::default())?;
+    /// let mut seat = arena.seat()?;
+    /// let mut session = seat.session();
+    /// let key = session.insert(7)?;
+    /// assert_eq!(session.get(key), Some(7));
+    /// assert!(session.free(key));
+    /// drop(session); // from now on others find the shard free
+    /// assert_eq!(seat.get(key), None);
+    /// # Ok::<(), teurlaks::Refused>(())
+    /// ```
+    pub fn session(&mut self) -> Session<'_, T> {
+        self.hold();
+        Session::new(self)
+    }
+
+    /// Keeps the shard, once no other thread has it.
+    fn hold(&self) {
+        // SAFETY: the handle has a seat, and no other call runs on it.
+        let status = self
+            .turn
+            .at_seat(|| unsafe { raw::teurlaks_seat_session(self.lanes.handle()) });
+        debug_assert_eq!(status, raw::OK, "the handle has a seat");
+        self.holds.set(true);
+    }
+
+    /// Lets others at the shard.
+    pub(super) fn pause(&self) {
+        // SAFETY: as in `hold`.
+        let status = unsafe { raw::teurlaks_seat_pause(self.lanes.handle()) };
+        debug_assert_eq!(status, raw::OK, "the handle has a seat");
+        self.holds.set(false);
+    }
+
+    /// Makes a call that goes by the session, where there is one.
+    #[inline]
+    fn ask<A: Answer>(&self, mut call: impl FnMut() -> A) -> A {
+        if !self.holds.get() {
+            return self.turn.at_seat(call);
+        }
+        if self.turn.steward_waits() {
+            return self.ask_paused(call);
+        }
+        let answer = call();
+        if answer.status() == raw::BUSY {
+            self.ask_paused(call)
+        } else {
+            answer
+        }
+    }
+
+    /// Makes a call for which the library ends the session, where there is one, and begins another.
+    fn ask_seat<A: Answer>(&self, call: impl FnMut() -> A) -> A {
+        if self.holds.get() {
+            self.ask_paused(call)
+        } else {
+            self.turn.at_seat(call)
+        }
+    }
+
+    /// Lets go of the shard, makes the call as a seat does, and keeps the shard again.
+    #[cold]
+    fn ask_paused<A: Answer>(&self, call: impl FnMut() -> A) -> A {
+        self.pause();
+        let answer = self.turn.at_seat(call);
+        self.hold();
+        answer
+    }
+
+    /// Has the next of the seat's shards take its turn, in the session, too, where there is one.
+    #[cold]
+    fn next_lane(&mut self) {
+        let holds = self.holds.get();
+        if holds {
+            self.pause();
+        }
+        self.lanes.turn();
+        if holds {
+            self.hold();
         }
     }
 }
@@ -55,7 +152,9 @@ impl<T: Copy> Seat<T> {
     pub fn insert(&mut self, value: T) -> Result<Key, Refused> {
         match self.insert_here(value) {
             Ok(key) => {
-                self.lanes.count();
+                if self.lanes.count() {
+                    self.next_lane();
+                }
                 Ok(key)
             }
             Err(Refused::PagesSpent) => self.insert_beyond(value),
@@ -68,8 +167,7 @@ impl<T: Copy> Seat<T> {
     fn insert_here(&mut self, value: T) -> Result<Key, Refused> {
         was_put(as_words(value, |first, len| {
             // SAFETY: the handle has a seat, no other call runs on it, and so many words stand there.
-            self.turn
-                .at_seat(|| unsafe { raw::teurlaks_seat_put_words(self.lanes.handle(), first.cast(), len) })
+            self.ask(|| unsafe { raw::teurlaks_seat_put_words(self.lanes.handle(), first.cast(), len) })
         }))
     }
 
@@ -77,7 +175,7 @@ impl<T: Copy> Seat<T> {
     #[cold]
     fn insert_beyond(&mut self, value: T) -> Result<Key, Refused> {
         for _ in 1..self.lanes.len() {
-            self.lanes.turn();
+            self.next_lane();
             match self.insert_here(value) {
                 Err(Refused::PagesSpent) => {}
                 done => return done,
@@ -93,9 +191,7 @@ impl<T: Copy> Seat<T> {
         let mut words = [MaybeUninit::<u128>::uninit(); MOST_WORDS];
         let first = words.as_mut_ptr().cast();
         // SAFETY: as in `insert_here`, and there is room for 16 words.
-        let got = self
-            .turn
-            .at_seat(|| unsafe { raw::teurlaks_seat_get_words(self.lanes.handle(), key.raw(), first, MOST_WORDS) });
+        let got = self.ask(|| unsafe { raw::teurlaks_seat_get_words(self.lanes.handle(), key.raw(), first, MOST_WORDS) });
         // SAFETY: the library is proved to find what was put or set, and at all seats only values of this type were.
         (got.status == raw::OK).then(|| unsafe { words.as_ptr().cast::<T>().read_unaligned() })
     }
@@ -109,8 +205,7 @@ impl<T: Copy> Seat<T> {
     pub fn set(&mut self, key: Key, value: T) -> Result<bool, Refused> {
         was_set(as_words(value, |first, len| {
             // SAFETY: as in `insert_here`.
-            self.turn
-                .at_seat(|| unsafe { raw::teurlaks_seat_set_words(self.lanes.handle(), key.raw(), first.cast(), len) })
+            self.ask(|| unsafe { raw::teurlaks_seat_set_words(self.lanes.handle(), key.raw(), first.cast(), len) })
         }))
     }
 
@@ -130,9 +225,7 @@ impl<T> Seat<T> {
     pub fn contains(&self, key: Key) -> bool {
         let none = NonNull::dangling().as_ptr();
         // SAFETY: as in `insert_here`, and there is no room, into which nothing is written.
-        let got = self
-            .turn
-            .at_seat(|| unsafe { raw::teurlaks_seat_get_words(self.lanes.handle(), key.raw(), none, 0) });
+        let got = self.ask(|| unsafe { raw::teurlaks_seat_get_words(self.lanes.handle(), key.raw(), none, 0) });
         got.status != raw::NONE
     }
 
@@ -145,8 +238,7 @@ impl<T> Seat<T> {
     #[inline]
     pub fn free(&mut self, key: Key) -> bool {
         // SAFETY: as in `insert_here`.
-        self.turn
-            .at_seat(|| unsafe { raw::teurlaks_seat_free(self.lanes.handle(), key.raw()) })
+        self.ask(|| unsafe { raw::teurlaks_seat_free(self.lanes.handle(), key.raw()) })
             == raw::OK
     }
 
@@ -187,7 +279,7 @@ impl<T> Seat<T> {
     pub fn tend(&mut self) -> Result<usize, Refused> {
         let mut taken = 0;
         for lane in self.lanes.all() {
-            let tended = self.turn.at_seat(|| {
+            let tended = self.ask_seat(|| {
                 // SAFETY: as in `insert_here`.
                 let tended = unsafe { raw::teurlaks_seat_tend(lane.handle()) };
                 taken += tended.count;
@@ -210,7 +302,7 @@ impl<T> Seat<T> {
     pub fn end(&mut self) -> Result<(), Refused> {
         for (ended, lane) in self.lanes.all().enumerate() {
             // SAFETY: as in `insert_here`.
-            let refused = done(self.turn.at_seat(|| unsafe { raw::teurlaks_seat_end(lane.handle()) }));
+            let refused = done(self.ask_seat(|| unsafe { raw::teurlaks_seat_end(lane.handle()) }));
             if refused.is_err() {
                 self.begin_first(ended)?;
                 return refused;
@@ -233,7 +325,7 @@ impl<T> Seat<T> {
     fn begin_first(&self, count: usize) -> Result<(), Refused> {
         self.lanes.all().take(count).try_for_each(|lane| {
             // SAFETY: as in `insert_here`.
-            done(self.turn.at_seat(|| unsafe { raw::teurlaks_seat_begin(lane.handle()) }))
+            done(self.ask_seat(|| unsafe { raw::teurlaks_seat_begin(lane.handle()) }))
         })
     }
 
@@ -252,9 +344,7 @@ impl<T> Seat<T> {
         for (number, lane) in self.lanes.all().enumerate() {
             let part = most / lanes + usize::from(number < most % lanes);
             // SAFETY: as in `insert_here`.
-            let retired = self
-                .turn
-                .at_seat(|| unsafe { raw::teurlaks_seat_retire(lane.handle(), part) });
+            let retired = self.ask_seat(|| unsafe { raw::teurlaks_seat_retire(lane.handle(), part) });
             match done(retired.status) {
                 Ok(()) => gone += retired.count,
                 Err(_) if gone > 0 => break,
@@ -269,7 +359,7 @@ impl<T> Seat<T> {
     pub fn trim(&mut self) -> usize {
         let trim = |lane: &Share| {
             // SAFETY: as in `insert_here`.
-            let trimmed = self.turn.at_seat(|| unsafe { raw::teurlaks_seat_trim(lane.handle()) });
+            let trimmed = self.ask_seat(|| unsafe { raw::teurlaks_seat_trim(lane.handle()) });
             debug_assert_eq!(trimmed.status, raw::OK, "a trim is not refused");
             trimmed.count
         };
@@ -289,11 +379,9 @@ impl<T> Seat<T> {
     pub fn adopt(&mut self) -> Result<Group, Refused> {
         for _ in 0..self.lanes.len() {
             // SAFETY: as in `insert_here`.
-            let adopted = self
-                .turn
-                .at_seat(|| unsafe { raw::teurlaks_seat_adopt(self.lanes.handle()) });
+            let adopted = self.ask_seat(|| unsafe { raw::teurlaks_seat_adopt(self.lanes.handle()) });
             match done(adopted.status) {
-                Err(Refused::PagesSpent) => self.lanes.turn(),
+                Err(Refused::PagesSpent) => self.next_lane(),
                 answer => return answer.map(|()| Group(adopted.head)),
             }
         }

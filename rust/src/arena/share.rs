@@ -122,8 +122,9 @@ impl Turn {
         answer
     }
 
+    /// Whether the steward waits.
     #[inline]
-    fn steward_waits(&self) -> bool {
+    pub fn steward_waits(&self) -> bool {
         self.steward_waits.load(Ordering::Relaxed)
     }
 

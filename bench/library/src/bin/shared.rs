@@ -1,6 +1,7 @@
 //! `shared WHO WORK THREADS CALLS`: a store that so many threads share, in a process of its own. WHO is `shared` (`teurlaks::SharedStore`), `arena`
-//! (a seat of a `teurlaks::Arena` for each thread), `arena-N` (the same, where each seat has N shards), `mutex` (a `teurlaks::Store` behind one
-//! mutex) or `sharded-slab`. Each thread has 1,000 words of 128 bits of its own, and WORK is `churn` (each call frees one and puts another), `own` (each reads one) or `other` (each reads one of another
+//! (a seat of a `teurlaks::Arena` for each thread), `arena-N` (the same, where each seat has N shards), `session` (a seat of one shard, with the
+//! calls of a round in one session of each), `mutex` (a `teurlaks::Store` behind one mutex) or `sharded-slab`. Each thread has 1,000 words of 128
+//! bits of its own, and WORK is `churn` (each call frees one and puts another), `own` (each reads one) or `other` (each reads one of another
 //! thread's, of all others in turn); or each has as many as it has calls, and WORK is `later`: it frees those of the next thread, by `free_later`
 //! at a seat, which tends after each 64 calls. It tells nanoseconds a call of the slowest thread, by the clock, the least of 10 rounds in which all
 //! threads began at once.
@@ -29,7 +30,14 @@ trait Store: Sync {
 
 /// What one thread has of a store.
 trait Place {
-    type Key;
+    type Key: Copy;
+    /// The calls of one thread of a round.
+    fn calls(&mut self, work: Work, thread: usize, count: usize, keys: &[OnceLock<Vec<Self::Key>>])
+    where
+        Self: Sized,
+    {
+        calls(self, work, thread, count, keys);
+    }
     fn put(&mut self, value: u128) -> Self::Key;
     fn get(&self, key: Self::Key) -> Option<u128>;
     fn free(&mut self, key: Self::Key) -> bool;
@@ -92,6 +100,53 @@ impl Place for teurlaks::arena::Seat<u128> {
     }
     fn free_later(&mut self, key: Self::Key) {
         if teurlaks::arena::Seat::free_later(self, key).is_err() {
+            assert!(self.free(key));
+        }
+    }
+    fn rest(&mut self) {
+        self.tend().expect("it takes no memory");
+    }
+}
+
+struct Sessions(Seats);
+impl Store for Sessions {
+    type Key = teurlaks::Key;
+    type Place<'s> = InSession;
+    fn place(&self) -> InSession {
+        InSession(self.0.place())
+    }
+}
+
+struct InSession(teurlaks::arena::Seat<u128>);
+impl Place for InSession {
+    type Key = teurlaks::Key;
+    fn calls(&mut self, work: Work, thread: usize, count: usize, keys: &[OnceLock<Vec<Self::Key>>]) {
+        calls(&mut self.0.session(), work, thread, count, keys);
+    }
+    fn put(&mut self, value: u128) -> Self::Key {
+        self.0.put(value)
+    }
+    fn get(&self, key: Self::Key) -> Option<u128> {
+        self.0.get(key)
+    }
+    fn free(&mut self, key: Self::Key) -> bool {
+        self.0.free(key)
+    }
+}
+
+impl Place for teurlaks::arena::Session<'_, u128> {
+    type Key = teurlaks::Key;
+    fn put(&mut self, value: u128) -> Self::Key {
+        self.insert(value).expect("it fits the shard")
+    }
+    fn get(&self, key: Self::Key) -> Option<u128> {
+        teurlaks::arena::Session::get(self, key)
+    }
+    fn free(&mut self, key: Self::Key) -> bool {
+        teurlaks::arena::Session::free(self, key)
+    }
+    fn free_later(&mut self, key: Self::Key) {
+        if teurlaks::arena::Session::free_later(self, key).is_err() {
             assert!(self.free(key));
         }
     }
@@ -174,7 +229,7 @@ impl Gate {
 }
 
 /// The calls of one thread of a round.
-fn calls<P: Place<Key: Copy>>(place: &mut P, work: Work, thread: usize, calls: usize, keys: &[OnceLock<Vec<P::Key>>]) {
+fn calls<P: Place>(place: &mut P, work: Work, thread: usize, calls: usize, keys: &[OnceLock<Vec<P::Key>>]) {
     let others = keys.len() - 1;
     let mut random = Random::new(thread as u64 + 1);
     let of = |thread: usize| keys[thread % keys.len()].get().map_or(&[][..], Vec::as_slice);
@@ -222,7 +277,7 @@ fn round<S: Store>(store: S, work: Work, threads: usize, count: usize) -> Option
         let _ = keys[thread].set((0..values).map(|value| place.put(value as u128)).collect());
         gate.wait();
         let begun = Instant::now();
-        calls(&mut place, work, thread, count, &keys);
+        place.calls(work, thread, count, &keys);
         let took = begun.elapsed();
         // The threads stay until all are done: a shard of a thread that is gone may be another's.
         gate.wait();
@@ -244,6 +299,7 @@ fn of(who: &str, work: Work, threads: usize, calls: usize) -> Option<f64> {
     let rounds = (0..MOST_TRIES).filter_map(|_| match who {
         "shared" => round(teurlaks::SharedStore::new().ok()?, work, threads, calls),
         "arena" => round(Seats::new(threads, 1)?, work, threads, calls),
+        "session" => round(Sessions(Seats::new(threads, 1)?), work, threads, calls),
         "mutex" => round(Locked(Mutex::new(teurlaks::Store::new().ok()?)), work, threads, calls),
         "sharded-slab" => round(sharded_slab::Slab::new(), work, threads, calls),
         _ => {
@@ -277,7 +333,7 @@ fn main() -> ExitCode {
             ExitCode::SUCCESS
         }
         None => {
-            eprintln!("shared shared|arena|arena-N|mutex|sharded-slab churn|own|other|later THREADS CALLS, with 2 threads or more for other and later");
+            eprintln!("shared shared|arena|arena-N|session|mutex|sharded-slab churn|own|other|later THREADS CALLS, with 2 threads or more for other and later");
             ExitCode::from(2)
         }
     }

@@ -17,7 +17,7 @@ use Rattle.std_heap.specs.contracts.GlobalAllocator.TheImpl.{ghosts}
 use Rattle.span.proofs.log.Counted.TheSendSync.{the_send as counted}
 use Rattle.span.specs.contracts.log.Counted
 use Rattle.span.specs.contracts.log.CountedLog.TheImpl
-use Rattle.arena.proofs.Crossing.{Arena-send}
+use Rattle.arena.proofs.Crossing.{Arena-send, Session-send}
 use Rattle.arena.proofs.gate.NoGate.TheSendSync.{the_send as gate, the_sync as gate_sync}
 use Rattle.arena.specs.contracts.arena.Arena
 use Rattle.arena.specs.contracts.gate.NoGate
@@ -28,6 +28,7 @@ use Rattle.teurlaks_c.proofs.held.Witness.TheSendSync.{the_send as witness_send}
 use Rattle.teurlaks_c.specs.declared.share.Share.{Share}
 use Rattle.teurlaks_c.specs.contracts.share.Share as Content
 use Rattle.teurlaks_c.specs.contracts.share.SharedSeat as SeatContent
+use Rattle.teurlaks_c.specs.contracts.share.SharedSession as SessionContent
 use Rattle.teurlaks_c.specs.contracts.share.SharedSteward as StewardContent
 use Rattle.teurlaks_c.specs.OwnedShare.{owns_share, system}
 use Rattle.teurlaks_c.specs.contracts.share_handle.ShareHandle.{the_row, the_type}
@@ -44,11 +45,18 @@ seat_fields = (share, (seat_send, tt))
 steward_fields : AllSend (struct_fields StewardContent.the_type)
 steward_fields = (share, (steward_send, (search (sendable, crosses, witness_send) depth 60, (search (sendable, crosses, seat_send) depth 60, tt))))
 
+-- a seat that keeps its shard
+session_fields : AllSend (struct_fields SessionContent.the_type)
+session_fields = (Session-send NoGate.the_row Counted.the_row TheImpl.ghosts gate gate_sync counted, tt)
+
 content : IsSend Content.the_row
 content =
     let variants : EachSend (enum_shape Content.the_type).variants = (
       (struct_send (struct_shape SeatContent.the_type) seat_fields, tt),
-      ((struct_send (struct_shape StewardContent.the_type) steward_fields, tt), tt),
+      (
+        (struct_send (struct_shape StewardContent.the_type) steward_fields, tt),
+        ((struct_send (struct_shape SessionContent.the_type) session_fields, tt), (tt, tt)),
+      ),
     ) in
     recorded_send (Content.the_field).row _ _ (Content.the_type).to_one (enum_send (enum_shape Content.the_type) variants)
 
