@@ -1,7 +1,6 @@
 // Walks over the live keys of an arena, beside the threads that change them.
 ghost use Rattle.std.specs.Prelude.{◌≡◌, MatchOption, None, Some};
-ghost use Rattle.teurlaks_c.specs.SeatCalls.{Asks};
-ghost use Rattle.teurlaks_c.specs.SessionCalls.{paused};
+ghost use Rattle.teurlaks_c.specs.SeatCalls.{AsksPaused};
 ghost use Rattle.teurlaks_c.specs.StewardCalls.{Asks as AsksSteward};
 ghost use Rattle.teurlaks_c.specs.Walks.{GoesOn, SaysWalked, WalksAtSeat, WalksAtSteward, walk_of};
 
@@ -29,7 +28,7 @@ pub extern "C" fn teurlaks_seat_next(
     handle: &mut ShareHandle,
     walk: &mut RawWalk,
 ) -> NextReply
-    ensures { (answer : _) × Asks (WalksAtSeat (walk_of walk.old)) (paused handle.old.share) answer
+    ensures { (answer : _) × AsksPaused (WalksAtSeat (walk_of walk.old)) handle.old.share answer
         handle.new.share × SaysWalked walk.old result walk.new answer }
 {
     let call = Next {
