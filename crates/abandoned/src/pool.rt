@@ -211,9 +211,7 @@ impl<L: Log> Pool<L> {
     {
         let head = Place { head: id, place: 0 };
         let at = self.directory.place_of(id).unwrap_or(head);
-        let Some(group) = self.groups.get(at.head) else {
-            return None;
-        };
+        let group = self.groups.get(at.head)?;
         Some((group, at.place))
     }
 }

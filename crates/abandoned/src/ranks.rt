@@ -77,9 +77,7 @@ impl Ranks {
     pub(crate) fn least(&self) -> Option<u64>
         ensures { MatchOption result (self.now.ranks ≡ []) (IsLeastOf self.now.ranks) }
     {
-        let Some(Reverse(rank)) = self.heap.peek() else {
-            return None;
-        };
+        let Reverse(rank) = self.heap.peek()?;
         Some(*rank)
     }
 

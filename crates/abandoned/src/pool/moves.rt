@@ -20,9 +20,7 @@ impl<L: Log> Pool<L> {
             (IsBriefHere self.now.groups head) }
         ensures sound { IsSound self.now }
     {
-        let Some(group) = self.groups.get(head) else {
-            return None;
-        };
+        let group = self.groups.get(head)?;
         Some(group.brief())
     }
 
@@ -32,9 +30,7 @@ impl<L: Log> Pool<L> {
         ensures { MatchOption result (HasNoMember self.now.groups head place)
             (IsMemberAt self.now.groups head place) }
     {
-        let Some(group) = self.groups.get(head) else {
-            return None;
-        };
+        let group = self.groups.get(head)?;
         if place >= group.len() {
             return None;
         }
@@ -47,9 +43,7 @@ impl<L: Log> Pool<L> {
         ensures lifts { Lifts self.old head result self.new }
         ensures sound { IsSound self.new }
     {
-        let Some(group) = self.groups.remove(head) else {
-            return None;
-        };
+        let group = self.groups.remove(head)?;
         let (spans, page) = group.into_parts();
         self.directory.strike_all(spans.guests());
         Some(Whole::new(spans, page))

@@ -5,14 +5,14 @@ use Rattle.abandoned.proofs.Here.{HasSpanAt, HasSpanAt-guest}
 use Rattle.groups.proofs.KnownGuests.{IsElsewhere-guest}
 use Rattle.abandoned.proofs.pool.Pool.find.Goals as goal
 
-pub returns-in_default-clause-place : goal.returns-in_default-clause-place
-returns-in_default-clause-place g c =
-    subst (λ (p : PoolState). IsElsewhere p.groups c.args.id) c.self.view_is
+pub returns-in_err-group-clause-place : goal.returns-in_err-group-clause-place
+returns-in_err-group-clause-place g c =
+    rw (c.from_residual.ensures) (subst (λ (p : PoolState). IsElsewhere p.groups c.args.id) c.self.view_is
     (IsElsewhere-guest c.self.inside.groups.groups c.self.inside.directory.entries c.self.invariant.guests_known c.args.id c.place_of.result c.place_of.ensures
-    c.unwrap_or-at.result c.unwrap_or-at.ensures c.in_default.ensures)
+    c.unwrap_or-at.result c.unwrap_or-at.ensures c.in_err-group.ensures))
 
 pub returns-clause-place : goal.returns-clause-place
 returns-clause-place g c =
-    subst (λ (p : PoolState). HasSpanAt p.groups c.args.id c.unwrap_or-at.result.place c.in-Some.group.now) c.self.view_is
+    subst (λ (p : PoolState). HasSpanAt p.groups c.args.id c.unwrap_or-at.result.place c.in_ok-group.group.now) c.self.view_is
     (HasSpanAt-guest c.self.inside.groups.groups c.self.inside.directory.entries c.self.invariant.guests_known c.args.id c.place_of.result c.place_of.ensures
-    c.unwrap_or-at.result c.unwrap_or-at.ensures c.self.invariant.sound.ascending c.in-Some.group.now c.in-Some.ensures)
+    c.unwrap_or-at.result c.unwrap_or-at.ensures c.self.invariant.sound.ascending c.in_ok-group.group.now c.in_ok-group.ensures)

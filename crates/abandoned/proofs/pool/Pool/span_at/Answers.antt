@@ -5,9 +5,9 @@ use Rattle.abandoned.proofs.pool.Pool.span_at.Goals as goal
 
 pub returns : goal.returns
 returns g c =
-    let here = c.in-Some.ensures in (
+    let here = c.in_ok-group.ensures in (
       here.0,
-      c.in-Some.group.now,
-      subst (λ (p : PoolState). IsHeadOf p.groups c.args.head here.0 c.in-Some.group.now) c.self.view_is here.1,
+      c.in_ok-group.group.now,
+      subst (λ (p : PoolState). IsHeadOf p.groups c.args.head here.0 c.in_ok-group.group.now) c.self.view_is here.1,
       (c.span_at.result.now, c.span_at.ensures, sym c.id.ensures),
     )

@@ -4,8 +4,8 @@ use Rattle.abandoned.proofs.ranks.Ranks.least.Goals as goal
 
 pub returns : goal.returns
 returns c =
-    let some = c.in-Some.ensures.variant.0 refl in
+    let some = c.in_ok-rank.ensures.variant.0 refl in
     rw (← c.self.view_is) (
-      Contains-top (heap_items c.self.inside.heap) c.in-Some.field-0.now (omega (arith, some, c.self.inside.heap.data.ok.0)) c.in-Some.ensures.lookup,
-      All-top (heap_items c.self.inside.heap) c.in-Some.field-0.now (c.in-Some.ensures.greatest c.self.invariant.ordered),
+      Contains-top (heap_items c.self.inside.heap) c.in_ok-rank.field-0.now (omega (arith, some, c.self.inside.heap.data.ok.0)) c.in_ok-rank.ensures.lookup,
+      All-top (heap_items c.self.inside.heap) c.in_ok-rank.field-0.now (c.in_ok-rank.ensures.greatest c.self.invariant.ordered),
     )
