@@ -1,9 +1,9 @@
 //! `shared WHO WORK THREADS CALLS`: a store that so many threads share, in a process of its own. WHO is `shared` (`teurlaks::SharedStore`), `arena`
 //! (a seat of a `teurlaks::Arena` for each thread), `arena-N` (the same, where each seat has N shards), `mutex` (a `teurlaks::Store` behind one
-//! mutex) or `sharded-slab`. Each thread has 1,000 words of 128 bits of its own, and WORK is `churn` (each call frees one and puts another), `own` (each reads one) or `other` (each reads one of another
-//! thread's, of all others in turn); or each has as many as it has calls, and WORK is `later`: it frees those of the next thread, by `free_later`
-//! at a seat, which tends after each 64 calls. It tells nanoseconds a call of the slowest thread, by the clock, the least of 10 rounds in which all
-//! threads began at once.
+//! mutex) or `sharded-slab`. Each thread has 1,000 words of 128 bits of its own, and WORK is `churn` (each call frees one and puts another), `own`
+//! (each reads one) or `other` (each reads one of another thread's, of all others in turn); or each has as many as it has calls, and WORK is
+//! `later`: it frees those of the next thread, by `free_later` at a seat, which tends after each 64 calls. It tells nanoseconds a call of the
+//! slowest thread, by the clock, the least of 10 rounds in which all threads began at once.
 
 use beside::random::Random;
 use std::hint;
