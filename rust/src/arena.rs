@@ -27,9 +27,9 @@ const RING: u32 = 256;
 /// Plain values of one type, 1 to 256 bytes each, that threads share, each from a [`Seat`] of its own; and whose sparse pages are folded while they
 /// go on.
 ///
-/// An arena has a shard for each seat, and hands the seats out one by one. A thread keeps its values in the shard of its seat, and reads, sets and
-/// frees those of all shards. Whoever has the arena itself is its steward: it plans folds of the groups that seats have left to the pool
-/// ([`Seat::retire`], [`Seat::end`]) onto those of the shards, and carries them out beside the others. Every key stays valid.
+/// An arena has a shard for each seat, or several ([`Arena::with_lanes`]), and hands the seats out one by one. A thread keeps its values in the shards
+/// of its seat, and reads, sets and frees those of all. Whoever has the arena itself is its steward: it plans folds of the groups that seats have
+/// left to the pool ([`Seat::retire`], [`Seat::end`]) onto those of the shards, and carries them out beside the others. Every key stays valid.
 ///
 /// Arena and seats may be dropped in any order, each may go to a thread of its own, also one of [`std::thread::spawn`], and the memory goes with
 /// the last of them. For words, the values are `u128`, or `[u128; 4]` or `[u128; 16]`.
@@ -68,8 +68,8 @@ const RING: u32 = 256;
 /// made again where a lock was taken. That one call at a time is made on a handle its types see to, which are `Send` and not `Sync`.
 ///
 /// A [`SharedStore`](crate::SharedStore) is called by any thread through `&self`, and has locks of the standard library. An arena has proved ones,
-/// frees that wait for nobody, and folds between shards; in return each thread needs a seat. A look-up takes as long as there, a free with a put a
-/// quarter longer, and a look-up of what other threads keep three times as long where four threads do nothing else (`bench/README.md`).
+/// frees that wait for nobody, and folds between shards; in return each thread needs a seat. A look-up takes as long as there, and one of what other
+/// threads keep twice as long where four threads do nothing else, or as long where each seat has four shards (`bench/README.md`).
 pub struct Arena<T> {
     share: Share,
     turn: Turn,

@@ -71,13 +71,14 @@ module _ {worker section : ℕ} where
       }
 
   -- some keys, and then some of those that are left
-  pub front_more : (before mid after : Taking) (n h : ℕ) (r0 r r1 : List Receipt) → IsFrontTended worker section n before mid r0 r → IsFrontTended worker section h mid after r r1
-      → IsFrontTended worker section (n + h) before after r0 r1
+  pub front_more : (before mid after : Taking) (n h : ℕ) (r0 r r1 : List Receipt) → IsFrontTended worker section n before mid r0 r
+      → IsFrontTended worker section h mid after r r1 → IsFrontTended worker section (n + h) before after r0 r1
   front_more before mid after n h r0 r r1 a b =
       let keys : take n before.known ++ take h mid.known ≡ take (n + h) before.known = rw a.known (sym (take-add n h before.known)) in
       record {
         ring_is = b.ring_is ∙ a.ring_is;
-        taken = b.taken ∙ ap (λ l. l ++ take h mid.known) a.taken ∙ append_assoc before.taken (take n before.known) (take h mid.known) ∙ ap (λ l. before.taken ++ l) keys;
+        taken = b.taken ∙ ap (λ l. l ++ take h mid.known) a.taken ∙ append_assoc before.taken (take n before.known) (take h mid.known)
+            ∙ ap (λ l. before.taken ++ l) keys;
         known = b.known ∙ ap (drop h) a.known ∙ drop-drop h n before.known;
         freed = freed_run before.known mid.known n h r0 r r1 a.known a.freed b.freed;
       }

@@ -204,14 +204,7 @@ fn try_tend_at_home<G: Gate, L: Log, K: Receipts>(
     let mut shard = lock.try_lock()?;
     arena.gate.inside(worker);
     let block = most.min(BLOCK);
-    Ok(tend_front(
-        &mut *shard,
-        inbox,
-        block,
-        worker,
-        section,
-        receipts,
-    ))
+    Ok(tend_front(&mut *shard, inbox, block, worker, section, receipts))
 }
 
 // Frees at most that many of the known keys in the shard, as far as it has their spans, and takes each. It gives how many these are.

@@ -105,10 +105,7 @@ fn walk_from(raw: RawWalk) -> Walk
 }
 
 // What a step of a walk answers, as C has it.
-fn walked_reply(
-    walk: &mut RawWalk,
-    answer: Option<(Result<Option<Key>, Busy>, Walk)>,
-) -> NextReply
+fn walked_reply(walk: &mut RawWalk, answer: Option<(Result<Option<Key>, Busy>, Walk)>) -> NextReply
     ensures { SaysWalked walk.old result walk.new answer }
 {
     let Some((next, to)) = answer else {

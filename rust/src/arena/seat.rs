@@ -16,7 +16,8 @@ use std::marker::PhantomData;
 use std::mem::MaybeUninit;
 use std::ptr::NonNull;
 
-/// A thread's place at an [`Arena`](super::Arena): it keeps values in the shard of the seat, and reads, sets and frees those of all shards.
+/// A thread's place at an [`Arena`](super::Arena): it keeps values in the shard of the seat, or in several in turn, and reads, sets and frees those of
+/// all shards.
 ///
 /// It may go to another thread (`Send`), and is of one thread at a time (not `Sync`). A call that needs a lock which another thread has waits for
 /// it: it pauses, lets others run, and then sleeps for 20 microseconds at a time. Most calls hold a lock for well below a microsecond; a mark holds
@@ -144,7 +145,8 @@ impl<T: Copy> Seat<T> {
     ///
     /// # Errors
     ///
-    /// - [`Refused::PagesSpent`]: no page of the shard has a usable slot, and it may have no further one, or has opened 4,294,967,295 in its life;
+    /// - [`Refused::PagesSpent`]: no page of the shard, or of any that the seat has, has a usable slot, and it may have no further one, or has opened
+    ///   4,294,967,295 in its life;
     /// - [`Refused::Ended`]: the shard has ended;
     /// - [`Refused::OutOfMemory`]: none of these holds, and memory was refused.
     #[doc(alias = "put")]
