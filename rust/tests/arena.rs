@@ -365,7 +365,7 @@ fn a_session_keeps_its_shard_and_lets_go_of_it() -> Result<(), Refused> {
     // What its own shard has retired is found in the pool, and its thread is not kept from it.
     assert_eq!(session.retire(9), Ok(1));
     assert_eq!((session.get(key), session.set(key, 5)), (Some(3), Ok(true)));
-    assert_eq!(session.adopt().map(|group| group.shard()), Ok(0));
+    assert_eq!(session.adopt().map(|group| group.shard()), Ok(key.shard()));
     assert_eq!(session.remove(key), Some(5));
     let left = session.insert(6)?;
     assert_eq!(session.begin(), Err(Refused::Running));

@@ -213,6 +213,7 @@ fn exported() -> Declarations {
         "calls",
         "meshing",
         "seats",
+        "sessions",
         "stewards",
     ] {
         of_rust(
@@ -221,7 +222,7 @@ fn exported() -> Declarations {
             &mut declarations,
         );
     }
-    assert_eq!(declarations.functions.len(), 44);
+    assert_eq!(declarations.functions.len(), 46);
     assert_eq!(declarations.structs.len(), 19);
     declarations
 }
