@@ -87,6 +87,27 @@ fn visit(
     set(arena, seat, key, word + 1)
 }
 
+// Whether the seat's one group went to the pool.
+fn retires(arena: &Arena<Holding<'_>, Counted>, seat: &mut Seat) -> bool
+    requires { seat.old.limits ≡ arena.now.limits }
+    ensures { seat.new.limits ≡ seat.old.limits }
+{
+    seat.try_retire(arena, 4) == Ok(Ok(1))
+}
+
+// Whether there was a plan, whose first pair was folded, and which was closed.
+fn carries_out(arena: &Arena<Holding<'_>, Counted>, steward: &mut Steward) -> bool
+    requires { steward.old.limits ≡ arena.now.limits }
+{
+    let is_marked = matches!(arena.try_mark(steward), Ok(Ok(_)));
+    let is_folded = matches!(
+        arena.try_step(steward),
+        Ok(Ok(Stepped::Taken(_, _, Step::Folded)))
+    );
+    let is_closed = arena.try_close(steward) == Ok(true);
+    is_marked && is_folded && is_closed
+}
+
 // Whether the group of the one seat was folded onto that of the other, which has a key at the lowest slot.
 fn folds(
     arena: &Arena<Holding<'_>, Counted>,
@@ -100,14 +121,10 @@ fn folds(
     ensures from { from.new.limits ≡ from.old.limits }
     ensures onto { onto.new.limits ≡ onto.old.limits }
 {
-    put(arena, onto, 1).is_some()
-        && from.try_retire(arena, 4) == Ok(Ok(1))
-        && matches!(arena.try_mark(steward), Ok(Ok(_)))
-        && matches!(
-            arena.try_step(steward),
-            Ok(Ok(Stepped::Taken(_, _, Step::Folded)))
-        )
-        && arena.try_close(steward) == Ok(true)
+    let is_put = put(arena, onto, 1).is_some();
+    let is_retired = retires(arena, from);
+    let is_carried_out = carries_out(arena, steward);
+    is_put && is_retired && is_carried_out
 }
 
 // After how many changes two keys were put, and the first of them was freed; what the visits answered of the second, in the shard

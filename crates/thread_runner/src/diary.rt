@@ -232,6 +232,9 @@ fn push_all_lineless(
     ensures { OnOk result (replies.new.items ≡ replies.old.items
         ++ flat_map lineless (take count (drop first (kept_receipts receipts.now)))) }
 {
+    // Each of these places is a number, since how many there are is one.
+    let left = receipts.len() - first;
+    prove!(count <= left);
     for i in 0..count {
         push_lineless(replies, &receipts.receipt(first + i))?;
     }

@@ -47,7 +47,7 @@ impl<T> Seat<T> {
     }
 
     /// Keeps the seat's shard for this thread over many calls, until the session is dropped: a call on what is in that shard takes no lock then,
-    /// and takes about half the time. It waits until no other thread has the shard.
+    /// and takes half to two thirds of the time. It waits until no other thread has the shard.
     ///
     /// Whoever else wants the shard waits meanwhile: those who look up, set or free a value there, and the steward, whose mark, close, forgetting
     /// and totals want all shards. So a session is for a burst of calls and is not kept while its thread does something else. A session lets go of

@@ -14,7 +14,7 @@ pub new-requires : goal.new-requires
 new-requires g c =
     let gone = c.in_ok-group.ensures in
     subst IsSoundWhole (ap whole_of c.into_parts-spans.ensures)
-        (IsSoundWhole-whole_of (state_of c.self.inside) c.self.invariant.sound gone.0 c.in_ok-group.group gone.1.here)
+    (IsSoundWhole-whole_of (state_of c.self.inside) c.self.invariant.sound gone.0 c.in_ok-group.group gone.1.here)
 
 pub invariant_of-self-2 : goal.invariant_of-self-2
 invariant_of-self-2 g c =
@@ -25,7 +25,7 @@ invariant_of-self-2 g c =
       room_for_groups = omega (arith, c.self.invariant.room_for_groups, ap (λ (s : GroupsState). s.room) gone.2);
       guests_known = rw (groups_are, c.strike_all.ensures, c.guests.ensures ∙ ap (λ (g : PooledState). g.guests) (sym c.into_parts-spans.ensures))
           (KnowsGuests-remove c.self.inside.groups.groups c.self.inside.directory.entries c.self.invariant.guests_known c.self.invariant.sound.ascending gone.0
-              c.in_ok-group.group gone.1.here);
+          c.in_ok-group.group gone.1.here);
       room_for_entries = omega (arith, c.self.invariant.room_for_entries, ap (λ (d : DirectoryState). d.room) c.strike_all.ensures);
     }
 
