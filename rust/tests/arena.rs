@@ -836,3 +836,62 @@ fn handles_may_go_to_another_thread_and_are_of_one() {
     <Arena<u64> as NotIfSync<_>>::is_not_sync();
     <Seat<u64> as NotIfSync<_>>::is_not_sync();
 }
+
+/// A walk meets each key once that is live all the while, beside threads that put and free others, end, adopt and are folded.
+#[test]
+fn a_walk_meets_what_stays() -> Result<(), Refused> {
+    let mut arena = Arena::open(limits(4, 1024))?;
+    let mut here = arena.seat()?;
+    let mut staying = Vec::new();
+    let mut workers: Vec<Seat<u64>> = Vec::new();
+    for number in 0..3 {
+        let mut seat = arena.seat()?;
+        for value in 0..2000 {
+            let key = seat.insert(number)?;
+            // Sparse pages, which fold.
+            if value % 40 == number {
+                staying.push(key);
+            } else {
+                seat.free(key);
+            }
+        }
+        workers.push(seat);
+    }
+    staying.sort_unstable();
+    let done = AtomicBool::new(false);
+    thread::scope(|scope| {
+        for mut seat in workers {
+            let done = &done;
+            scope.spawn(move || {
+                while !done.load(Ordering::Relaxed) {
+                    let keys: Vec<_> = (0..300).map(|value| seat.insert(value).unwrap()).collect();
+                    for key in keys {
+                        assert!(seat.free(key));
+                    }
+                    let _ = seat.retire(4);
+                    let _ = seat.adopt();
+                }
+            });
+        }
+        let (seat, staying) = (&mut here, &staying);
+        let walker = scope.spawn(move || {
+            for _ in 0..20 {
+                let met: Vec<_> = seat.keys().collect();
+                assert!(met.windows(2).all(|keys| keys[0] < keys[1]), "none comes twice");
+                assert!(
+                    staying.iter().all(|key| met.binary_search(key).is_ok()),
+                    "each that stays is met"
+                );
+            }
+        });
+        while !walker.is_finished() {
+            let _ = arena.mesh();
+        }
+        done.store(true, Ordering::Relaxed);
+    });
+    assert!(arena.keys().eq(staying.iter().copied()));
+    assert_eq!(here.keys().count(), arena.totals().live);
+    assert!(staying.iter().all(|key| here.free(*key)));
+    assert_eq!(arena.keys().next(), None);
+    Ok(())
+}

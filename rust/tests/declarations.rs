@@ -215,6 +215,7 @@ fn exported() -> Declarations {
         "seats",
         "sessions",
         "stewards",
+        "walks",
     ] {
         of_rust(
             &read(&format!("crates/teurlaks_c/src/{file}.rt")),
@@ -222,8 +223,8 @@ fn exported() -> Declarations {
             &mut declarations,
         );
     }
-    assert_eq!(declarations.functions.len(), 46);
-    assert_eq!(declarations.structs.len(), 19);
+    assert_eq!(declarations.functions.len(), 48);
+    assert_eq!(declarations.structs.len(), 20);
     declarations
 }
 

@@ -54,7 +54,9 @@ impl Iterator for Keys<'_> {
             // SAFETY: the handle has a seat, no other call runs on it, and a walk stands there.
             Whose::Seat => self.turn.at_seat(|| unsafe { raw::teurlaks_seat_next(handle, walk) }),
             // SAFETY: the same of a steward.
-            Whose::Steward => self.turn.at_steward(|| unsafe { raw::teurlaks_steward_next(handle, walk) }),
+            Whose::Steward => self
+                .turn
+                .at_steward(|| unsafe { raw::teurlaks_steward_next(handle, walk) }),
         };
         (next.status == raw::OK).then(|| Key::of(next.key)).flatten()
     }

@@ -193,7 +193,8 @@ impl<T: Copy> Seat<T> {
         let mut words = [MaybeUninit::<u128>::uninit(); MOST_WORDS];
         let first = words.as_mut_ptr().cast();
         // SAFETY: as in `insert_here`, and there is room for 16 words.
-        let got = self.ask(|| unsafe { raw::teurlaks_seat_get_words(self.lanes.handle(), key.raw(), first, MOST_WORDS) });
+        let got =
+            self.ask(|| unsafe { raw::teurlaks_seat_get_words(self.lanes.handle(), key.raw(), first, MOST_WORDS) });
         // SAFETY: the library is proved to find what was put or set, and at all seats only values of this type were.
         (got.status == raw::OK).then(|| unsafe { words.as_ptr().cast::<T>().read_unaligned() })
     }
@@ -240,8 +241,7 @@ impl<T> Seat<T> {
     #[inline]
     pub fn free(&mut self, key: Key) -> bool {
         // SAFETY: as in `insert_here`.
-        self.ask(|| unsafe { raw::teurlaks_seat_free(self.lanes.handle(), key.raw()) })
-            == raw::OK
+        self.ask(|| unsafe { raw::teurlaks_seat_free(self.lanes.handle(), key.raw()) }) == raw::OK
     }
 
     /// Leaves the key to the seat of the shard that gave it out, which frees it when it next tends ([`Seat::tend`]); until then it is live. It
