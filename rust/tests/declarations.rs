@@ -121,7 +121,7 @@ fn of_rust(text: &str, external: bool, declarations: &mut Declarations) {
     for place in 0..tokens.len() {
         let name = || tokens[place + 1].clone();
         match tokens[place].as_str() {
-            "struct" => {
+            "struct" if tokens[place - 1] == "pub" => {
                 let fields = parts(inside(&tokens[place + 2..]).0, ",")
                     .into_iter()
                     .flat_map(rust_fields)
