@@ -349,7 +349,7 @@ hostile_use() {
     interrupted_streams
     refused_calls
     deferred_frees
-    memory_by_threads 4
+    memory_by_threads 3
 }
 
 # The names of the tests of a program of tests.

@@ -70,8 +70,12 @@ impl<G: Gate, L: Log> Arena<G, L> {
             (λ got. (found : Option Value) × WritesFound W.word found room.old got.0 room.new)) }
         ensures busy { OnErr result (room.new ≡ room.old) }
     {
-        let lent = self.lend(&Tries, key.span)?;
-        Ok(get_words_lent(lent, key, room))
+        match self.lend(&Tries, key.span)? {
+            Lent::Nowhere => Ok(Some((None, 0))),
+            Lent::Pool(pool) => Ok(get_words_pool(&*pool, key, room)),
+            Lent::Shard(shard) => Ok(get_words_in(&*shard, key, room)),
+            Lent::Nobody => Ok(None),
+        }
     }
 
     // The same for the session of this worker, whose shard does not have the span, where its hint says that the span is; or busy, where the
@@ -162,8 +166,12 @@ impl<G: Gate, L: Log> Arena<G, L> {
     // The same where its hint says that the span is, if the span is there.
     #[inline(always)]
     fn free_untold_once(&self, key: &Key) -> Result<Option<(bool, usize)>, Busy> {
-        let lent = self.lend(&Tries, key.span)?;
-        Ok(free_untold_lent(lent, key))
+        match self.lend(&Tries, key.span)? {
+            Lent::Nowhere => Ok(Some((false, 0))),
+            Lent::Pool(mut pool) => Ok(free_untold_pool(&mut *pool, key)),
+            Lent::Shard(mut shard) => Ok(free_untold_in(&mut *shard, key)),
+            Lent::Nobody => Ok(None),
+        }
     }
 
     // The same for the session of this worker, whose shard does not have the span; or busy, where the span is not there.
