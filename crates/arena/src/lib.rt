@@ -90,7 +90,7 @@ mod untold;
 mod word;
 
 pub use arena::{Arena, Stepped};
-pub use ending::{Finished, Unfinished, finish};
+pub use ending::{Finished, Unfinished, finish, take_logs};
 pub use error::{OpenError, PlanOpen};
 pub use gate::{Gate, NoGate};
 pub use latch::Busy;

@@ -16,19 +16,45 @@ use Rattle.teurlaks_c.specs.declared.replies.PutReply.{PutReply}
 use Rattle.teurlaks_c.specs.declared.replies.RawWord.{RawWord}
 use Rattle.teurlaks_c.specs.declared.replies.WordsReply.{WordsReply}
 use Rattle.teurlaks_c.specs.declared.share.Share.{Share}
-use Rattle.teurlaks_c.specs.SeatCalls.{Asks, Gets, SaysFreed, SaysGot, SaysLooked, SaysPut, SaysSet, free_told, put_told, set_told}
+use Rattle.teurlaks_c.specs.SeatCalls.{AsksTold, Gets, OrNoRoom, SaysFreed, SaysGot, SaysLooked, SaysPut, SaysSet, free_told, put_told, set_told}
 use Rattle.teurlaks_c.specs.Words.{word_of}
 
--- what a seat answers with no receipt, it answers with the one that this stands for
-pub Asks-told : {A B : Type 0} (tell : SeatState → A → B) (does : SeatState → B → SeatState → Type 0) (Says : Option A → Type 0) (SaysTold : Option B → Type 0)
+-- what a seat answers with no receipt, it answers with the one that this stands for, and a recorded seat keeps that
+pub AsksTold-told : {A B : Type 0} (tell : SeatState → A → B) (does : SeatState → B → SeatState → Type 0) (keep : SeatState → B → List Receipt)
+    → (status : ℕ) (Says : Option A → Type 0) (SaysTold : Option B → Type 0)
     → (Says None → SaysTold None) → ((seat : SeatState) (a : A) → Says (Some a) → SaysTold (Some (tell seat a)))
-    → (old new : Option Share) (answer : Option A) → Asks (λ before a after. does before (tell before a) after) old answer new → Says answer
-    → (told : Option B) × Asks does old told new × SaysTold told
-Asks-told tell does Says SaysTold none some old new None asked says = (None, asked, none says)
-Asks-told tell does Says SaysTold none some old new (Some a) asked says = (
-  Some (tell asked.before.seat a),
-  record { before = asked.before; after = asked.after; before_is = asked.before_is; after_is = asked.after_is; arena_is = asked.arena_is; did = asked.did },
+    → (old new : Option Share) (answer : Result (Option A) AllocError)
+    → AsksTold (λ before a after. does before (tell before a) after) (λ seat a. keep seat (tell seat a)) old answer new → OrNoRoom status Says answer
+    → (told : Result (Option B) AllocError) × AsksTold does keep old told new × OrNoRoom status SaysTold told
+AsksTold-told tell does keep status Says SaysTold none some old new (Ok None) asked says = (Ok None, asked, none says)
+AsksTold-told tell does keep status Says SaysTold none some old new (Ok (Some a)) (inl asked) says = (
+  Ok (Some (tell asked.before.seat a)),
+  inl (record {
+    before = asked.before;
+    after = asked.after;
+    before_is = asked.before_is;
+    after_is = asked.after_is;
+    arena_is = asked.arena_is;
+    did = asked.did;
+  }),
   some asked.before.seat a says,
+)
+AsksTold-told tell does keep status Says SaysTold none some old new (Ok (Some a)) (inr asked) says = (
+  Ok (Some (tell asked.before.kept.seat a)),
+  inr (record {
+    before = asked.before;
+    after = asked.after;
+    before_is = asked.before_is;
+    after_is = asked.after_is;
+    arena_is = asked.arena_is;
+    did = asked.did;
+  }),
+  some asked.before.kept.seat a says,
+)
+AsksTold-told tell does keep status Says SaysTold none some old new (Err error) asked says = (
+  Err error,
+  record { before = asked.before; after = asked.after; before_is = asked.before_is; after_is = asked.after_is; arena_is = asked.arena_is; did = asked.did },
+  says,
 )
 
 -- what C reads of a put, of a set and of a free says nothing of the receipt

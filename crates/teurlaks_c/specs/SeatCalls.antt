@@ -24,15 +24,18 @@ use Rattle.teurlaks_c.specs.declared.replies.TendReply.{TendReply}
 use Rattle.teurlaks_c.specs.declared.replies.RawKey.{RawKey}
 use Rattle.teurlaks_c.specs.declared.replies.RawWord.{RawWord}
 use Rattle.teurlaks_c.specs.declared.share.Share.{Share}
-use Rattle.teurlaks_c.specs.declared.share.Share.TheVariants.{Seat}
+use Rattle.teurlaks_c.specs.declared.share.Share.TheVariants.{Seat, RecordedSeat}
+use Rattle.teurlaks_c.specs.declared.recorded.RecordedSeat.{RecordedSeat as Recorded}
 use Rattle.teurlaks_c.specs.declared.share.SharedSeat.{SharedSeat}
 use Rattle.teurlaks_c.specs.Calls.{SaysWords}
+use Rattle.teurlaks_c.specs.Recorded.{AtRecorded, receipts_of}
 use Rattle.teurlaks_c.specs.Keys.{IsKeyOf, IsNoKey, IsIdOf}
 use Rattle.teurlaks_c.specs.Status.{busy, config, done, no_core, none, out_of_memory, ring_full, still_running, too_small, adopt_status, put_status, receive_status}
 
 -- the handle has no seat
 abbrev pub HasNoSeat : Option Share → Type 0
 HasNoSeat (Some (Seat seat)) = ⊥
+HasNoSeat (Some (RecordedSeat seat)) = ⊥
 HasNoSeat held = Unit {0}
 
 -- the seat of the handle does this and answers that, at the same arena
@@ -44,9 +47,25 @@ pub record AtSeat {Answer : Type 0} (does : SeatState → Answer → SeatState �
   pub arena_is : after.arena ≡ before.arena
   pub did : does before.seat answer after.seat
 
--- the handle's seat is asked, where it has one
+-- no receipt is made
+abbrev pub untold : {Answer : Type 0} → SeatState → Answer → List Receipt
+untold seat answer = []
+
+-- the handle's seat is asked, where it has one, and no receipt is made
 abbrev pub Asks : {Answer : Type 0} → (SeatState → Answer → SeatState → Type 0) → Option Share → Option Answer → Option Share → Type 0
-Asks does old answer new = MatchOption answer (HasNoSeat old × (new ≡ old)) (λ answer. AtSeat does old answer new)
+Asks does old answer new = MatchOption answer (HasNoSeat old × (new ≡ old)) (λ answer. AtSeat does old answer new ⊎ AtRecorded does untold old (Ok answer) new)
+
+-- the handle's seat is asked, where it has one; a recorded seat keeps these receipts, or asks nothing where there is no room for one
+abbrev pub AsksTold : {Answer : Type 0} → (SeatState → Answer → SeatState → Type 0) → (SeatState → Answer → List Receipt)
+    → Option Share → Result (Option Answer) AllocError → Option Share → Type 0
+AsksTold does told old (Ok None) new = HasNoSeat old × (new ≡ old)
+AsksTold does told old (Ok (Some answer)) new = AtSeat does old answer new ⊎ AtRecorded does told old (Ok answer) new
+AsksTold does told old (Err error) new = AtRecorded does told old (Err error) new
+
+-- what C reads of an answer; or that there was no room for a receipt
+abbrev pub OrNoRoom : {Answer : Type 0} → ℕ → (Option Answer → Type 0) → Result (Option Answer) AllocError → Type 0
+OrNoRoom status says (Ok answer) = says answer
+OrNoRoom status says (Err error) = status ≡ out_of_memory
 
 -- a call that needs a lock which another thread has changes nothing; else it is one call of the seat more
 abbrev pub IsOneCall : {Answer : Type 0} → SeatState → Result Answer Busy → SeatState → Type 0
@@ -68,7 +87,8 @@ Sets key value before answer after =
 
 -- the key is freed, or is not live, with the receipt of just that free
 abbrev pub Frees : Key → SeatState → Result (Bool × Receipt) Busy → SeatState → Type 0
-Frees key before answer after = IfOk answer (λ freed. freed.1 ≡ free_receipt before.worker before.section key freed.0 freed.1.at) × IsOneCall before answer after
+Frees key before answer after = IfOk answer (λ freed. freed.1 ≡ free_receipt before.worker before.section key freed.0 freed.1.at)
+    × IsOneCall before answer after
 
 -- a put's answer, with the receipt that it stands for in place of how many changes stood in the span's log
 abbrev pub put_told : Value → SeatState → Result (Result (Key × ℕ) PutError) Busy → Result (Result (Key × Receipt) PutError) Busy
@@ -91,6 +111,38 @@ abbrev pub free_told : Key → SeatState → Result (Bool × ℕ) Busy → Resul
 free_told key seat (Err b) = Err b
 free_told key seat (Ok freed) = Ok (freed.0, free_receipt seat.worker seat.section key freed.0 freed.1)
 
+-- the receipt of a put that was not refused
+abbrev pub put_kept : SeatState → Result (Result (Key × Receipt) PutError) Busy → List Receipt
+put_kept seat (Ok (Ok put)) = put.1 ∷ []
+put_kept seat answer = []
+
+-- that of a put that answers so
+abbrev pub puts_kept : Value → SeatState → Result (Result (Key × ℕ) PutError) Busy → List Receipt
+puts_kept value seat answer = put_kept seat (put_told value seat answer)
+
+-- that of a look-up
+abbrev pub got_kept : SeatState → Result (Option Value × Receipt) Busy → List Receipt
+got_kept seat (Ok got) = got.1 ∷ []
+got_kept seat (Err b) = []
+
+-- that of a set that was not refused, whether it was done or not
+abbrev pub set_kept : SeatState → Result (Result (Bool × Receipt) AllocError) Busy → List Receipt
+set_kept seat (Ok (Ok set)) = set.1 ∷ []
+set_kept seat answer = []
+
+-- that of a set that answers so
+abbrev pub sets_kept : Key → Value → SeatState → Result (Result (Bool × ℕ) AllocError) Busy → List Receipt
+sets_kept key value seat answer = set_kept seat (set_told key value seat answer)
+
+-- that of a free, whether it was done or not
+abbrev pub freed_kept : SeatState → Result (Bool × Receipt) Busy → List Receipt
+freed_kept seat (Ok freed) = freed.1 ∷ []
+freed_kept seat (Err b) = []
+
+-- that of a free that answers so
+abbrev pub frees_kept : Key → SeatState → Result (Bool × ℕ) Busy → List Receipt
+frees_kept key seat answer = freed_kept seat (free_told key seat answer)
+
 -- at most that many groups go
 abbrev pub Retires : ℕ → SeatState → Result (Result ℕ ReceiveError) Busy → SeatState → Type 0
 Retires most before answer after = IfOk answer (λ retired. IfOk retired (λ count. count ≤ most)) × IsOneCall before answer after
@@ -99,7 +151,8 @@ Retires most before answer after = IfOk answer (λ retired. IfOk retired (λ cou
 abbrev pub Ends : SeatState → Result (Result (Unit {0}) ReceiveError) Busy → SeatState → Type 0
 Ends before answer after = OnOk answer (HandsOverKeys before after) × OnErr answer (after ≡ before)
 
--- the key is left to the thread of the shard that opened its span, or the ring is full, which it is where no place is known to be free; or the arena has no such shard
+-- the key is left to the thread of the shard that opened its span, or the ring is full, which it is where no place is known to be free; or the arena has no
+-- such shard
 abbrev pub FreesLater : Key → SeatState → Option (Result (Unit {0}) Key) → SeatState → Type 0
 FreesLater key before answer after = MatchOption answer
     ((key.span.shard < before.limits.shards → ⊥) × (after ≡ before))
@@ -115,6 +168,25 @@ abbrev pub Tends : SeatState → Result Tended AllocError → SeatState → Type
 Tends before answer after =
     IfOk answer (λ tended. (told : List Receipt) × IsTended before.limits.ring_capacity before after [] told tended.count)
     × HasNoneWaiting after × KeepsEnds before after × (sending_side after ≡ sending_side before)
+
+-- the same, and to these receipts those of the frees were added
+abbrev pub TendsInto : List Receipt → SeatState → Result Tended AllocError → SeatState → List Receipt → Type 0
+TendsInto kept before answer after kept_after =
+    IfOk answer (λ tended. IsTended before.limits.ring_capacity before after kept kept_after tended.count) × OnErr answer (kept_after ≡ kept)
+    × HasNoneWaiting after × KeepsEnds before after × (sending_side after ≡ sending_side before)
+
+-- the recorded seat of the handle tends its rings, at the same arena, and keeps the receipts
+pub record TendsRecorded (old : Option Share) (answer : Result Tended AllocError) (new : Option Share) : Type 0 where
+  pub before : Recorded
+  pub after : Recorded
+  pub before_is : old ≡ Some (RecordedSeat before)
+  pub after_is : new ≡ Some (RecordedSeat after)
+  pub arena_is : after.arena ≡ before.arena
+  pub did : TendsInto (receipts_of before.kept) before.kept.seat answer after.kept.seat (receipts_of after.kept)
+
+-- the handle's seat tends its rings, where it has one
+abbrev pub AsksTend : Option Share → Option (Result Tended AllocError) → Option Share → Type 0
+AsksTend old answer new = MatchOption answer (HasNoSeat old × (new ≡ old)) (λ answer. AtSeat Tends old answer new ⊎ TendsRecorded old answer new)
 
 -- nothing is asked of the seat
 abbrev pub Stays : SeatState → Unit {0} → SeatState → Type 0
@@ -139,13 +211,19 @@ SaysPut says (Some (Ok (Err error))) = says.status ≡ put_status error
 -- words that are no object are refused; others are put by the seat
 abbrev pub PutsWords : Option Share → List ℕ → PutReply → Option Share → Type 0
 PutsWords old words says new =
-    (IsObject words × ((answer : _) × Asks (Puts words) old answer new × SaysPut says answer)) ⊎ ((IsObject words → ⊥) × AsksNothing config old says.status new)
+    (IsObject words × ((answer : _) × AsksTold (Puts words) put_kept old answer new × OrNoRoom says.status (SaysPut says) answer))
+    ⊎ ((IsObject words → ⊥) × AsksNothing config old says.status new)
 
 -- what C reads of a look-up, and what it leaves in the room
 abbrev pub SaysGot : List RawWord → WordsReply → List RawWord → Option (Result (Option Value × Receipt) Busy) → Type 0
 SaysGot room says room_new None = (says.status ≡ no_core) × (says.len ≡ 0) × (room_new ≡ room)
 SaysGot room says room_new (Some (Err b)) = (says.status ≡ busy) × (says.len ≡ 0) × (room_new ≡ room)
 SaysGot room says room_new (Some (Ok got)) = SaysWords room says room_new got.0
+
+-- the same; or there was no room for a receipt
+abbrev pub SaysGotOrNoRoom : List RawWord → WordsReply → List RawWord → Result (Option (Result (Option Value × Receipt) Busy)) AllocError → Type 0
+SaysGotOrNoRoom room says room_new (Ok answer) = SaysGot room says room_new answer
+SaysGotOrNoRoom room says room_new (Err error) = (says.status ≡ out_of_memory) × (says.len ≡ 0) × (room_new ≡ room)
 
 -- what C reads of a look-up by words, where there is room for so many
 abbrev pub SaysLooked : ℕ → WordsReply → Result (Option ℕ × ℕ) Busy → Type 0
@@ -156,7 +234,7 @@ SaysLooked most says (Ok (Some count, at)) = (says.len ≡ count) × (((count �
 -- the words of the key with these numbers, if it is live
 abbrev pub GetsWords : Option Share → RawKey → List RawWord → WordsReply → List RawWord → Option Share → Type 0
 GetsWords old raw room says room_new new = (IsNoKey raw × AsksNothing none old says.status new × (says.len ≡ 0) × (room_new ≡ room))
-    ⊎ ((key : Key) × IsKeyOf raw key × ((answer : _) × Asks (Gets key) old answer new × SaysGot room says room_new answer))
+    ⊎ ((key : Key) × IsKeyOf raw key × ((answer : _) × AsksTold (Gets key) got_kept old answer new × SaysGotOrNoRoom room says room_new answer))
 
 -- what C reads of a free
 abbrev pub SaysFreed : {Told : Type 0} → ℕ → Option (Result (Bool × Told) Busy) → Type 0
@@ -167,7 +245,8 @@ SaysFreed says (Some (Ok (false, receipt))) = says ≡ none
 
 -- the key with these numbers is freed, if it is live
 abbrev pub FreesKey : Option Share → RawKey → ℕ → Option Share → Type 0
-FreesKey old raw says new = (IsNoKey raw × AsksNothing none old says new) ⊎ ((key : Key) × IsKeyOf raw key × ((answer : _) × Asks (Frees key) old answer new × SaysFreed says answer))
+FreesKey old raw says new = (IsNoKey raw × AsksNothing none old says new)
+    ⊎ ((key : Key) × IsKeyOf raw key × ((answer : _) × AsksTold (Frees key) freed_kept old answer new × OrNoRoom says (SaysFreed says) answer))
 
 -- what C reads of a set
 abbrev pub SaysSet : {Told : Type 0} → ℕ → Option (Result (Result (Bool × Told) AllocError) Busy) → Type 0
@@ -181,7 +260,8 @@ SaysSet says (Some (Ok (Ok (false, receipt)))) = says ≡ none
 abbrev pub SetsWords : Option Share → RawKey → List ℕ → ℕ → Option Share → Type 0
 SetsWords old raw words says new = ((IsObject words → ⊥) × AsksNothing config old says new)
     ⊎ ((IsObject words × (IsNoKey raw × AsksNothing none old says new))
-    ⊎ (IsObject words × ((key : Key) × IsKeyOf raw key × ((answer : _) × Asks (Sets key words) old answer new × SaysSet says answer))))
+    ⊎ (IsObject words × ((key : Key) × IsKeyOf raw key
+    × ((answer : _) × AsksTold (Sets key words) set_kept old answer new × OrNoRoom says (SaysSet says) answer))))
 
 -- what C reads of a retirement
 abbrev pub SaysRetired : RetireReply → Option (Result (Result ℕ ReceiveError) Busy) → Type 0
@@ -226,7 +306,8 @@ SaysLeft says (Some (Some (Err back))) = says ≡ ring_full
 
 -- the key with these numbers is left to its shard's thread, if there is one
 abbrev pub LeavesKey : Option Share → RawKey → ℕ → Option Share → Type 0
-LeavesKey old raw says new = (IsNoKey raw × AsksNothing none old says new) ⊎ ((key : Key) × IsKeyOf raw key × ((answer : _) × Asks (FreesLater key) old answer new × SaysLeft says answer))
+LeavesKey old raw says new = (IsNoKey raw × AsksNothing none old says new)
+    ⊎ ((key : Key) × IsKeyOf raw key × ((answer : _) × Asks (FreesLater key) old answer new × SaysLeft says answer))
 
 -- what C reads of a hand-over
 abbrev pub SaysHandedOver : ℕ → Option (Unit {0}) → Type 0

@@ -1,0 +1,10 @@
+use Rattle.std.proofs.Common.{◌∙◌, ap, refl, subst, sym}
+use Rattle.std.specs.Prelude.{None, Ok}
+use Rattle.teurlaks_c.specs.SeatCalls.{HasNoSeat}
+use Rattle.teurlaks_c.proofs.seat_calls.look_up_at_seat.Goals as goal
+
+pub returns-in_default : goal.returns-in_default
+returns-in_default c =
+    let had = ap (λ h. h.share) (sym c.replace.ensures.value) ∙ c.in_default.ensures in
+    let none = ap (λ h. h.share) c.replace.ensures.after ∙ c.none.ensures in
+    (Ok None, (subst HasNoSeat (sym had) tt, none ∙ sym had), (refl, refl, refl))
