@@ -7,6 +7,7 @@ use crate::names::{Group, Key};
 use crate::raw;
 use crate::refused::Refused;
 use crate::store::as_words;
+use std::alloc::{handle_alloc_error, Layout};
 use std::cell::Cell;
 use std::fmt;
 use std::marker::PhantomData;
@@ -19,7 +20,7 @@ use std::ptr::NonNull;
 /// it: it pauses, lets others run, and then sleeps for 20 microseconds at a time. Most calls hold a lock for well below a microsecond; a mark holds
 /// all of them for as long as it plans. While the steward waits for a lock, each call of a seat lets others run before it begins, up to 32 times.
 ///
-/// A seat that is dropped is not handed out again. Its shard takes no further value then, and its values stay, under keys that each other seat
+/// A seat that its thread is done with goes back by [`Arena::take_back`](super::Arena::take_back). One that is dropped is not handed out again. Its shard takes no further value then, and its values stay, under keys that each other seat
 /// finds. Their pages stay too, until they are empty, so [`Seat::end`] leaves them to the pool before, from where they are folded onto others. What
 /// other threads have left to it ([`Seat::free_later`]) nobody frees any more once it is gone.
 pub struct Seat<T> {
@@ -38,6 +39,20 @@ impl<T> Seat<T> {
             values: PhantomData,
         }
     }
+
+    pub(super) fn share(&self) -> &Share {
+        &self.share
+    }
+
+    pub(super) fn turn(&self) -> &Turn {
+        &self.turn
+    }
+}
+
+/// Ends the process, where a recorded arena is refused memory for the receipt of a call that can't answer so.
+#[cold]
+fn no_room_for_a_receipt() -> ! {
+    handle_alloc_error(Layout::new::<[u64; 6]>())
 }
 
 impl<T: Copy> Seat<T> {
@@ -68,6 +83,9 @@ impl<T: Copy> Seat<T> {
         let got = self
             .turn
             .at_seat(|| unsafe { raw::teurlaks_seat_get_words(self.share.handle(), key.raw(), first, MOST_WORDS) });
+        if got.status == raw::OUT_OF_MEMORY {
+            no_room_for_a_receipt();
+        }
         // SAFETY: the library is proved to find what was put or set, and at all seats only values of this type were.
         (got.status == raw::OK).then(|| unsafe { words.as_ptr().cast::<T>().read_unaligned() })
     }
@@ -105,6 +123,9 @@ impl<T> Seat<T> {
         let got = self
             .turn
             .at_seat(|| unsafe { raw::teurlaks_seat_get_words(self.share.handle(), key.raw(), none, 0) });
+        if got.status == raw::OUT_OF_MEMORY {
+            no_room_for_a_receipt();
+        }
         got.status != raw::NONE
     }
 
@@ -112,9 +133,13 @@ impl<T> Seat<T> {
     #[inline]
     pub fn free(&mut self, key: Key) -> bool {
         // SAFETY: as in `insert`.
-        self.turn
-            .at_seat(|| unsafe { raw::teurlaks_seat_free(self.share.handle(), key.raw()) })
-            == raw::OK
+        let status = self
+            .turn
+            .at_seat(|| unsafe { raw::teurlaks_seat_free(self.share.handle(), key.raw()) });
+        if status == raw::OUT_OF_MEMORY {
+            no_room_for_a_receipt();
+        }
+        status == raw::OK
     }
 
     /// Leaves the key to the seat of the shard that gave it out, which frees it when it next tends ([`Seat::tend`]); until then it is live. It
