@@ -138,7 +138,8 @@ fn of_rust(text: &str, external: bool, declarations: &mut Declarations) {
                 };
                 declarations.functions.insert(name(), (params, result));
             }
-            "const" if place == 0 || tokens[place - 1] != "*" => {
+            // A status is seen beyond its file: `pub const`, `pub(crate) const`.
+            "const" if place > 0 && matches!(tokens[place - 1].as_str(), "pub" | ")") => {
                 declarations.statuses.insert(name(), tokens[place + 5].clone());
             }
             _ => {}
@@ -214,7 +215,10 @@ fn exported() -> Declarations {
         "meshing",
         "seats",
         "sessions",
+        "walks",
         "stewards",
+        "leaving",
+        "recorded_stewards",
     ] {
         of_rust(
             &read(&format!("crates/teurlaks_c/src/{file}.rt")),
@@ -222,7 +226,7 @@ fn exported() -> Declarations {
             &mut declarations,
         );
     }
-    assert_eq!(declarations.functions.len(), 46);
+    assert_eq!(declarations.functions.len(), 51);
     assert_eq!(declarations.structs.len(), 19);
     declarations
 }
