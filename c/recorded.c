@@ -118,6 +118,27 @@ static size_t mesh(struct teurlaks_share_handle *steward) {
     return folds;
 }
 
+/* A recorded seat has no session. A seat that is left in one gives its shard back. */
+static void sessions(struct teurlaks_share_handle *recorded, struct teurlaks_share_handle *counted) {
+    struct teurlaks_share_handle seat = {0};
+    WANT(teurlaks_seat_session(recorded) == TEURLAKS_CONFIG && teurlaks_seat_pause(recorded) == TEURLAKS_OK);
+    WANT(teurlaks_steward_seat(counted, &seat) == TEURLAKS_OK && teurlaks_seat_session(&seat) == TEURLAKS_OK);
+    WANT(teurlaks_steward_totals(counted).status == TEURLAKS_BUSY);
+    WANT(teurlaks_seat_leave(counted, &seat) == TEURLAKS_OK && teurlaks_seat_pause(&seat) == TEURLAKS_NO_CORE);
+    WANT(teurlaks_steward_totals(counted).status == TEURLAKS_OK);
+}
+
+/* Walks find all live keys, and make no receipt. */
+static void walks(struct teurlaks_share_handle *steward, struct teurlaks_share_handle *seat) {
+    struct teurlaks_walk walk = {0, 0, 0}, other = {0, 0, 0};
+    size_t live = 0;
+    while (teurlaks_steward_next(steward, &walk).status == TEURLAKS_OK) {
+        WANT(teurlaks_seat_next(seat, &other).status == TEURLAKS_OK);
+        live++;
+    }
+    WANT(teurlaks_seat_next(seat, &other).status == TEURLAKS_NONE && live == teurlaks_steward_totals(steward).live);
+}
+
 int main(void) {
     struct teurlaks_share_handle steward = {0}, other = {0}, counted = {0}, none = {0};
     WANT(teurlaks_arena_open_recorded(&steward, THREADS, 1024, 256, UINT32_MAX) == TEURLAKS_OK);
@@ -135,6 +156,8 @@ int main(void) {
     }
     for (int i = 0; i < THREADS; i++) pthread_join(workers[i].thread, NULL);
 
+    sessions(&workers[0].seat, &counted);
+    walks(&steward, &workers[0].seat);
     WANT(teurlaks_steward_forget(&steward).status == TEURLAKS_RECORDED);
     WANT(teurlaks_arena_audit(&counted) == TEURLAKS_NO_CORE && teurlaks_arena_audit(&none) == TEURLAKS_NO_CORE);
     for (int i = 0; i < THREADS; i++) {

@@ -316,11 +316,12 @@ void teurlaks_share_drop(struct teurlaks_share_handle *handle);
 
 /* Keeps the seat's shard for its thread from now on, until teurlaks_seat_pause: a put, and a look-up, a set and a free of what is in that shard,
  * take no lock then. Whoever else needs the shard is answered TEURLAKS_BUSY meanwhile, the steward's mark among them. It is TEURLAKS_OK where the
- * seat keeps its shard already, and TEURLAKS_BUSY where another thread has it. A look-up, a set or a free that is TEURLAKS_BUSY in a session
- * needs a pause before it is made again. Every other call of a seat but teurlaks_seat_free_later and teurlaks_seat_hand_over pauses by itself. */
+ * seat keeps its shard already, TEURLAKS_BUSY where another thread has it, and TEURLAKS_CONFIG at a recorded seat, whose calls make receipts. A
+ * look-up, a set or a free that is TEURLAKS_BUSY in a session needs a pause before it is made again. Every other call of a seat but
+ * teurlaks_seat_free_later and teurlaks_seat_hand_over pauses by itself. */
 uint32_t teurlaks_seat_session(struct teurlaks_share_handle *handle);
 
-/* Lets others at the seat's shard again. It is TEURLAKS_OK also where the seat did not keep it. */
+/* Lets others at the seat's shard again. It is TEURLAKS_OK also where the seat did not keep it, as a recorded one never does. */
 uint32_t teurlaks_seat_pause(struct teurlaks_share_handle *handle);
 
 /* As teurlaks_put_words, into the seat's shard. */

@@ -3,6 +3,8 @@
 mod common;
 
 use common::Random;
+use std::collections::HashSet;
+use std::mem;
 use std::sync::atomic::{AtomicUsize, Ordering};
 use std::sync::Mutex;
 use std::thread;
@@ -203,6 +205,40 @@ fn what_a_lost_seat_leaves_is_not_audited() {
     drop(two); // and its receipts
     arena.take_back(one).unwrap();
     assert_eq!(arena.audit(), Err(AuditError::Unfinished));
+}
+
+#[test]
+fn a_session_of_a_recorded_seat_keeps_no_shard() {
+    let mut arena = Arena::<u64>::open_recorded(Limits { shards: 2, ..limits() }).unwrap();
+    let (mut one, two) = (arena.seat().unwrap(), arena.seat().unwrap());
+    let mut session = one.session();
+    let key = session.insert(7).unwrap();
+    // Else each of these would wait for the end of the session.
+    assert_eq!((session.get(key), two.get(key)), (Some(7), Some(7)));
+    assert_eq!(arena.totals().live, 1);
+    assert!(arena.keys().eq([key]) && two.keys().eq([key]));
+    assert!(session.set(key, 8).unwrap() && session.free(key) && !session.contains(key));
+    drop(session);
+    for seat in [one, two] {
+        arena.take_back(seat).unwrap();
+    }
+    assert_eq!(arena.audit(), Ok(()));
+    assert_eq!(arena.keys().next(), None);
+}
+
+#[test]
+fn a_seat_goes_back_with_all_its_shards() {
+    let mut arena = Arena::<u64>::with_lanes(Limits { shards: 2, ..limits() }, 8, 3).unwrap();
+    let shards = |seat: &mut Seat<u64>| -> HashSet<u32> { (0..200).map(|n| seat.insert(n).unwrap().shard()).collect() };
+    let (mut one, two) = (arena.seat().unwrap(), arena.seat().unwrap());
+    let key = one.insert(7).unwrap();
+    let had = shards(&mut one);
+    mem::forget(one.session()); // which is not paused, but by the arena
+    arena.take_back(one).unwrap();
+    assert_eq!((two.get(key), arena.totals().live), (Some(7), 201));
+    let mut again = arena.seat().unwrap();
+    assert_eq!(arena.seat().err(), Some(Refused::NoSeatLeft));
+    assert_eq!((had.len(), shards(&mut again)), (3, had));
 }
 
 #[test]

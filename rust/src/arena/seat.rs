@@ -24,9 +24,10 @@ use std::ptr::NonNull;
 /// it: it pauses, lets others run, and then sleeps for 20 microseconds at a time. Most calls hold a lock for well below a microsecond; a mark holds
 /// all of them for as long as it plans. While the steward waits for a lock, each call of a seat lets others run before it begins, up to 32 times.
 ///
-/// A seat that its thread is done with goes back by [`Arena::take_back`](super::Arena::take_back). One that is dropped is not handed out again. Its shard takes no further value then, and its values stay, under keys that each other seat
-/// finds. Their pages stay too, until they are empty, so [`Seat::end`] leaves them to the pool before, from where they are folded onto others. What
-/// other threads have left to it ([`Seat::free_later`]) nobody frees any more once it is gone.
+/// A seat that its thread is done with goes back by [`Arena::take_back`](super::Arena::take_back). One that is dropped is not handed out again. Its
+/// shard takes no further value then, and its values stay, under keys that each other seat finds. Their pages stay too, until they are empty, so
+/// [`Seat::end`] leaves them to the pool before, from where they are folded onto others. What other threads have left to it ([`Seat::free_later`])
+/// nobody frees any more once it is gone.
 pub struct Seat<T> {
     lanes: Lanes,
     turn: Turn,
