@@ -99,7 +99,8 @@ SaysGot-looked key before after room room_new says (Ok (told, at)) (found, wrote
     (Ok (found, get_receipt before.worker before.section key found at), (refl, (ok, tt)), SaysWords-looked room room_new says found told at wrote looked)
 
 -- the same in a session, whose own shard shows this value of the key
-pub SaysGot-held : (own : Option ℕ) (value : Option Value) (Counts Stays : Type 0) (room room_new : List RawWord) (says : WordsReply) (answer : Result (Option ℕ × ℕ) Busy)
+pub SaysGot-held : (own : Option ℕ) (value : Option Value) (Counts Stays : Type 0)
+    (room room_new : List RawWord) (says : WordsReply) (answer : Result (Option ℕ × ℕ) Busy)
     → LooksUp word_of own value room answer room_new → OnOk answer Counts → OnErr answer Stays → SaysLooked (length room) says answer
     → (told : Result (Option Value × ℕ) Busy) × (AnswersOwn own value told × OnOk told Counts × OnErr told Stays) × SaysGot room says room_new (Some told)
 SaysGot-held (Some at) value Counts Stays room room_new says (Err b) looks counts stays looked = absurd looks

@@ -68,7 +68,8 @@ AsksPaused does old answer new = MatchOption answer (HasNoSeat old × (new ≡ o
     (λ answer. AtSeat does old answer new ⊎ (AtPaused does old answer new ⊎ AtRecorded does untold old (Ok answer) new))
 
 -- the handle's seat is asked, where it has one: where it keeps no shard it does this, and in a session that; a recorded seat makes no receipt
-abbrev pub AsksEither : {Answer : Type 0} → (SeatState → Answer → SeatState → Type 0) → (Held → Answer → Held → Type 0) → Option Share → Option Answer → Option Share → Type 0
+abbrev pub AsksEither : {Answer : Type 0} → (SeatState → Answer → SeatState → Type 0) → (Held → Answer → Held → Type 0)
+    → Option Share → Option Answer → Option Share → Type 0
 AsksEither does does_held old answer new = MatchOption answer (HasNoSeat old × (new ≡ old))
     (λ answer. AtSeat does old answer new ⊎ (InSession does_held old answer new ⊎ AtRecorded does untold old (Ok answer) new))
 

@@ -9,7 +9,14 @@ returns-in-Seat c =
     let does = c.look_up.ensures.does in
     inl (
       Some does.0,
-      record { before = c.in-Seat.seat; after = c.look_up.new.shared; before_is = ap Some c.in-Seat.is; after_is = refl; arena_is = c.look_up.ensures.arena; did = does.1 },
+      record {
+        before = c.in-Seat.seat;
+        after = c.look_up.new.shared;
+        before_is = ap Some c.in-Seat.is;
+        after_is = refl;
+        arena_is = c.look_up.ensures.arena;
+        did = does.1;
+      },
       does.2,
     )
 
