@@ -39,7 +39,8 @@ extern "C" {
 #endif
 
 /* What a call answers; teurlaks_strerror has it in words. From TEURLAKS_OUT_OF_MEMORY to TEURLAKS_CONFIG it is refused, and so it is with
- * TEURLAKS_RUNNING and where the handle is wrong (TEURLAKS_NO_CORE, TEURLAKS_HAS_CORE): nothing has changed then. */
+ * TEURLAKS_RUNNING, TEURLAKS_RECORDED, TEURLAKS_UNFINISHED and where the handle is wrong (TEURLAKS_NO_CORE, TEURLAKS_HAS_CORE): nothing has
+ * changed then. From TEURLAKS_LOG_FAULT on it is what an audit found. */
 enum {
     TEURLAKS_OK = 0,               /* done, or found */
     TEURLAKS_NONE = 1,             /* the key is not live; there is no certificate yet */
@@ -58,7 +59,14 @@ enum {
     TEURLAKS_NO_CORE = 14,         /* the handle has not what the call is for: none was made, or it was dropped; or there is NULL in its place */
     TEURLAKS_HAS_CORE = 15,        /* a handle that is to be given a core, a seat or a steward has one */
     TEURLAKS_BUSY = 16,            /* another thread has a lock that the call needs: nothing has changed, try again */
-    TEURLAKS_RUNNING = 17          /* the shard that is to begin again has not ended */
+    TEURLAKS_RUNNING = 17,         /* the shard that is to begin again has not ended */
+    TEURLAKS_RECORDED = 18,        /* the run is recorded, so that no log is forgotten */
+    TEURLAKS_UNFINISHED = 19,      /* a seat of the recorded arena is not back with its steward */
+    TEURLAKS_LOG_FAULT = 20,       /* of an audit: a log is not legal, or a span has two */
+    TEURLAKS_CHANGE_FAULT = 21,    /* of an audit: a change has no receipt or two, or a receipt that makes a change has none */
+    TEURLAKS_REPLY_FAULT = 22,     /* of an audit: a call was not answered as the changes before it say */
+    TEURLAKS_ORDER_FAULT = 23,     /* of an audit: the calls of a seat are not in the order of their changes */
+    TEURLAKS_BARRIER_FAULT = 24    /* of an audit: a call stands before one of an earlier section, of which there is one here */
 };
 
 /* Where a core is. Begin with `struct teurlaks_handle core = {0};`. */
@@ -281,20 +289,39 @@ struct teurlaks_arena_totals_reply {
 /* Leaves the steward of a new arena to a handle that has nothing, where it answers TEURLAKS_OK; the numbers are those of teurlaks_new. */
 uint32_t teurlaks_arena_open(struct teurlaks_share_handle *out, uint32_t shards, uint32_t page_limit, uint32_t ring_capacity, uint32_t gens);
 
-/* Leaves a seat that no handle has had to `out`, which has nothing: TEURLAKS_NONE where the steward has no further one. */
+/* The same of an arena whose run is recorded: each span keeps the log of its changes, and each seat a receipt of each put, look-up, set and free
+ * that is made at it, until teurlaks_arena_audit holds these against the logs. All calls are as those of any arena, but that those of a seat
+ * take memory for the receipt, 48 bytes and the words, and are refused with TEURLAKS_OUT_OF_MEMORY where there is none; and that nothing is
+ * forgotten (TEURLAKS_RECORDED). */
+uint32_t teurlaks_arena_open_recorded(struct teurlaks_share_handle *out, uint32_t shards, uint32_t page_limit, uint32_t ring_capacity, uint32_t gens);
+
+/* Ends a recorded arena, whose seats are all back with the steward (teurlaks_seat_leave), and holds the receipts of all seats against the logs of
+ * all spans. TEURLAKS_OK: they agree, and so each span has one history, in which every call was answered as by a plain map. Else the first part
+ * that fails, from TEURLAKS_LOG_FAULT to TEURLAKS_BARRIER_FAULT; or TEURLAKS_UNFINISHED, or TEURLAKS_BUSY where another handle has a share of
+ * the arena, and the arena goes on. Once it has ended the handle has no steward: it may be asked again, also after TEURLAKS_OUT_OF_MEMORY,
+ * and is dropped as ever. */
+uint32_t teurlaks_arena_audit(struct teurlaks_share_handle *handle);
+
+/* Leaves a seat that no handle has to `out`, which has nothing: TEURLAKS_NONE where the steward has no further one. */
 uint32_t teurlaks_steward_seat(struct teurlaks_share_handle *handle, struct teurlaks_share_handle *out);
 
-/* Gives a seat or a steward back. The seat's shard takes no further put then, unless it was ended before; its objects stay. All memory
+/* Gives a seat back to the steward of its arena, who may hand it out again: keys that wait are handed over, its shard stays as it is, and the
+ * handle `seat` has nothing then. TEURLAKS_CONFIG where the seat is of another arena. That is told by counting shares: do not leave seats of
+ * two arenas to each other's stewards at one moment. */
+uint32_t teurlaks_seat_leave(struct teurlaks_share_handle *handle, struct teurlaks_share_handle *seat);
+
+/* Drops a seat or a steward. The seat's shard takes no further put then, unless it was ended before; its objects stay. All memory
  * of the arena goes back with its last handle. */
 void teurlaks_share_drop(struct teurlaks_share_handle *handle);
 
 /* Keeps the seat's shard for its thread from now on, until teurlaks_seat_pause: a put, and a look-up, a set and a free of what is in that shard,
  * take no lock then. Whoever else needs the shard is answered TEURLAKS_BUSY meanwhile, the steward's mark among them. It is TEURLAKS_OK where the
- * seat keeps its shard already, and TEURLAKS_BUSY where another thread has it. A look-up, a set or a free that is TEURLAKS_BUSY in a session
- * needs a pause before it is made again. Every other call of a seat but teurlaks_seat_free_later and teurlaks_seat_hand_over pauses by itself. */
+ * seat keeps its shard already, TEURLAKS_BUSY where another thread has it, and TEURLAKS_CONFIG at a recorded seat, whose calls make receipts. A
+ * look-up, a set or a free that is TEURLAKS_BUSY in a session needs a pause before it is made again. Every other call of a seat but
+ * teurlaks_seat_free_later and teurlaks_seat_hand_over pauses by itself. */
 uint32_t teurlaks_seat_session(struct teurlaks_share_handle *handle);
 
-/* Lets others at the seat's shard again. It is TEURLAKS_OK also where the seat did not keep it. */
+/* Lets others at the seat's shard again. It is TEURLAKS_OK also where the seat did not keep it, as a recorded one never does. */
 uint32_t teurlaks_seat_pause(struct teurlaks_share_handle *handle);
 
 /* As teurlaks_put_words, into the seat's shard. */

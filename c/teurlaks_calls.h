@@ -31,6 +31,13 @@ TEURLAKS_INLINE const char *teurlaks_strerror(uint32_t status) {
     case TEURLAKS_HAS_CORE: return "the handle has something already: drop it first";
     case TEURLAKS_BUSY: return "another thread has a lock that the call needs: try again";
     case TEURLAKS_RUNNING: return "the shard has not ended: end it before it begins again";
+    case TEURLAKS_RECORDED: return "the run is recorded: nothing is forgotten";
+    case TEURLAKS_UNFINISHED: return "a seat is not back: have it leave for the steward first";
+    case TEURLAKS_LOG_FAULT: return "audit: a log is not legal, or a span has two";
+    case TEURLAKS_CHANGE_FAULT: return "audit: changes and receipts are not one to one";
+    case TEURLAKS_REPLY_FAULT: return "audit: a call was not answered as the changes before it say";
+    case TEURLAKS_ORDER_FAULT: return "audit: the calls of a seat are not in the order of their changes";
+    case TEURLAKS_BARRIER_FAULT: return "audit: a call stands before one of an earlier section";
     default: return "no status of this library";
     }
 }
@@ -145,6 +152,18 @@ TEURLAKS_INLINE struct teurlaks_certificate_reply teurlaks_tested_certificate(st
 
 TEURLAKS_INLINE uint32_t teurlaks_tested_arena_open(struct teurlaks_share_handle *out, uint32_t shards, uint32_t page_limit, uint32_t ring_capacity, uint32_t gens) {
     return out ? teurlaks_arena_open(out, shards, page_limit, ring_capacity, gens) : (uint32_t)TEURLAKS_NO_CORE;
+}
+
+TEURLAKS_INLINE uint32_t teurlaks_tested_arena_open_recorded(struct teurlaks_share_handle *out, uint32_t shards, uint32_t page_limit, uint32_t ring_capacity, uint32_t gens) {
+    return out ? teurlaks_arena_open_recorded(out, shards, page_limit, ring_capacity, gens) : (uint32_t)TEURLAKS_NO_CORE;
+}
+
+TEURLAKS_INLINE uint32_t teurlaks_tested_arena_audit(struct teurlaks_share_handle *handle) {
+    return handle ? teurlaks_arena_audit(handle) : (uint32_t)TEURLAKS_NO_CORE;
+}
+
+TEURLAKS_INLINE uint32_t teurlaks_tested_seat_leave(struct teurlaks_share_handle *handle, struct teurlaks_share_handle *seat) {
+    return handle && seat ? teurlaks_seat_leave(handle, seat) : (uint32_t)TEURLAKS_NO_CORE;
 }
 
 TEURLAKS_INLINE uint32_t teurlaks_tested_steward_seat(struct teurlaks_share_handle *handle, struct teurlaks_share_handle *out) {
@@ -288,6 +307,9 @@ TEURLAKS_INLINE struct teurlaks_arena_totals_reply teurlaks_tested_steward_total
 #define teurlaks_close teurlaks_tested_close
 #define teurlaks_certificate teurlaks_tested_certificate
 #define teurlaks_arena_open teurlaks_tested_arena_open
+#define teurlaks_arena_open_recorded teurlaks_tested_arena_open_recorded
+#define teurlaks_arena_audit teurlaks_tested_arena_audit
+#define teurlaks_seat_leave teurlaks_tested_seat_leave
 #define teurlaks_steward_seat teurlaks_tested_steward_seat
 #define teurlaks_share_drop teurlaks_tested_share_drop
 #define teurlaks_seat_session teurlaks_tested_seat_session

@@ -1,4 +1,4 @@
-/* The tour of a core from C, with each allocation failing in turn. Link it with -Wl,--wrap=malloc,--wrap=realloc. */
+/* The tour of a core from C, and of a recorded arena, with each allocation failing in turn. Link it with -Wl,--wrap=malloc,--wrap=realloc. */
 #include "teurlaks.h"
 #include <stdio.h>
 #include <stdlib.h>
@@ -198,14 +198,86 @@ static void tour(void) {
     WANT(!core.at);
 }
 
-int main(void) {
-    bytes_of_each_number();
+/* The call, and once more where memory was refused. A refused call was not made: the audit at the end would find one of which there is no
+ * receipt. */
+#define ONCE_MORE(reply, status, call)                                                                                                           \
+    do {                                                                                                                                         \
+        reply = call;                                                                                                                            \
+        if ((status) == TEURLAKS_OUT_OF_MEMORY) {                                                                                                \
+            WANT(has_failed);                                                                                                                    \
+            reply = call;                                                                                                                        \
+        }                                                                                                                                        \
+    } while (0)
+
+/* Two seats of a recorded arena, of which one goes through two hands. */
+static void recorded_tour(void) {
+    struct teurlaks_share_handle steward = {0}, seats[2] = {{0}, {0}};
+    struct teurlaks_word words[16];
+    struct teurlaks_put_reply put, wide;
+    struct teurlaks_words_reply got;
+    struct teurlaks_tend_reply tended;
+    struct teurlaks_mark_reply marked;
+    struct teurlaks_step_reply step;
+    uint32_t status;
+    for (size_t i = 0; i < 16; i++) words[i] = word(i);
+    ONCE_MORE(status, status, teurlaks_arena_open_recorded(&steward, 2, 4, 8, 9));
+    WANT(status == TEURLAKS_OK && teurlaks_arena_open_recorded(&steward, 2, 4, 8, 9) == TEURLAKS_HAS_CORE);
+    for (int i = 0; i < 2; i++) {
+        ONCE_MORE(status, status, teurlaks_steward_seat(&steward, &seats[i]));
+        WANT(status == TEURLAKS_OK);
+    }
+    ONCE_MORE(put, put.status, teurlaks_seat_put_words(&seats[0], words, 1));
+    ONCE_MORE(wide, wide.status, teurlaks_seat_put_words(&seats[1], words, 16));
+    WANT(put.status == TEURLAKS_OK && wide.status == TEURLAKS_OK);
+    ONCE_MORE(status, status, teurlaks_seat_set_words(&seats[0], put.key, words + 5, 1));
+    WANT(status == TEURLAKS_OK);
+    ONCE_MORE(got, got.status, teurlaks_seat_get_words(&seats[1], put.key, words, 16));
+    WANT(got.status == TEURLAKS_OK && got.len == 1 && words[0].low == 5);
+    ONCE_MORE(got, got.status, teurlaks_seat_get_words(&seats[0], wide.key, NULL, 0));
+    WANT(got.status == TEURLAKS_TOO_SMALL && got.len == 16);
+    ONCE_MORE(status, status, teurlaks_seat_end(&seats[0]));
+    WANT(status == TEURLAKS_OK);
+    ONCE_MORE(put, put.status, teurlaks_seat_put_words(&seats[1], words + 1, 1));
+    WANT(put.status == TEURLAKS_OK);
+    ONCE_MORE(marked, marked.status, teurlaks_steward_mark(&steward));
+    WANT(marked.status == TEURLAKS_OK && teurlaks_steward_forget(&steward).status == TEURLAKS_RECORDED);
+    do ONCE_MORE(step, step.status, teurlaks_steward_step(&steward));
+    while (step.status == TEURLAKS_OK);
+    WANT(step.status == TEURLAKS_NO_PAIR_LEFT && teurlaks_steward_close(&steward) == TEURLAKS_OK);
+    WANT(teurlaks_seat_free_later(&seats[0], wide.key) == TEURLAKS_OK);
+
+    WANT(teurlaks_arena_audit(&steward) == TEURLAKS_UNFINISHED);
+    ONCE_MORE(status, status, teurlaks_seat_leave(&steward, &seats[0]));
+    WANT(status == TEURLAKS_OK && !seats[0].at);
+    ONCE_MORE(status, status, teurlaks_steward_seat(&steward, &seats[0]));
+    WANT(status == TEURLAKS_OK);
+    ONCE_MORE(status, status, teurlaks_seat_free(&seats[0], put.key));
+    WANT(status == TEURLAKS_OK);
+    ONCE_MORE(tended, tended.status, teurlaks_seat_tend(&seats[1]));
+    WANT(tended.status == TEURLAKS_OK && tended.count == 1);
+    for (int i = 0; i < 2; i++) {
+        ONCE_MORE(status, status, teurlaks_seat_leave(&steward, &seats[i]));
+        WANT(status == TEURLAKS_OK);
+    }
+    ONCE_MORE(status, status, teurlaks_arena_audit(&steward));
+    WANT(status == TEURLAKS_OK);
+    teurlaks_share_drop(&steward);
+}
+
+/* The tour with each of its allocations failing in turn; how many there are. */
+static long each_failing(void (*taken)(void)) {
     long runs = 0;
     do {
         before_failure = runs++;
         has_failed = 0;
-        tour();
+        taken();
     } while (has_failed);
-    printf("the tour was taken with each of %ld allocations failing in turn\n", runs - 1);
+    return runs - 1;
+}
+
+int main(void) {
+    bytes_of_each_number();
+    long core = each_failing(tour), recorded = each_failing(recorded_tour);
+    printf("the tours were taken with each of %ld and %ld allocations failing in turn\n", core, recorded);
     return 0;
 }

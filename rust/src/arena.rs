@@ -2,11 +2,13 @@
 
 mod keys;
 mod lanes;
+mod recorded;
 mod seat;
 mod session;
 mod share;
 
 pub use keys::Keys;
+pub use recorded::{AuditCause, AuditError, NotTaken};
 pub use seat::Seat;
 pub use session::Session;
 
@@ -62,7 +64,8 @@ const RING: u32 = 256;
 ///
 /// Of each call it is proved that it returns, that it does nothing undefined, and that it is the call of the arena that it is named for, which
 /// works under its locks by calls on proved shards and a proved pool; that nothing has changed where another thread has a lock that it needs, or,
-/// of a tend, that it tells how far it came; and that a handle may go to another thread. No receipt is made here. That a call beside other threads
+/// of a tend, that it tells how far it came; and that a handle may go to another thread. No receipt is made here, but in a recorded arena
+/// ([`Arena::open_recorded`]), whose audit says of a run that is over that its calls have one history. That a call beside other threads
 /// does what the arena is asked for is tested: of this crate by threads that each find what they expect (`tests/arena.rs`), and of the calls that
 /// make receipts by runs whose receipts are audited against one history (`docs/PROMISES.md`, *Running threads*). It is tested, too, that a call is
 /// made again where a lock was taken. That one call at a time is made on a handle its types see to, which are `Send` and not `Sync`.
@@ -165,11 +168,11 @@ impl<T> Arena<T> {
         self.limits
     }
 
-    /// A seat that nobody has had. There are as many as the limits have shards.
+    /// A seat that nobody has. There are as many as the limits have shards.
     ///
     /// # Errors
     ///
-    /// - [`Refused::NoSeatLeft`]: each was handed out;
+    /// - [`Refused::NoSeatLeft`]: each is handed out, and was not [taken back](Arena::take_back);
     /// - [`Refused::OutOfMemory`]: memory was refused.
     pub fn seat(&mut self) -> Result<Seat<T>, Refused> {
         while self.next.len() < self.lanes as usize - 1 {
@@ -303,7 +306,7 @@ impl<T> Arena<T> {
     ///
     /// # Errors
     ///
-    /// [`Refused::PlanOpen`] alone, while a plan is open.
+    /// [`Refused::PlanOpen`] while a plan is open, and [`Refused::Recorded`] where the run is recorded.
     pub fn forget(&mut self) -> Result<usize, Refused> {
         // SAFETY: as in `mark_some`.
         let raw::ForgetReply { status, count } = self
@@ -338,7 +341,10 @@ impl<T> Arena<T> {
         let totals = self
             .turn
             .at_steward(|| unsafe { raw::teurlaks_steward_totals(self.share.handle()) });
-        debug_assert_eq!(totals.status, raw::OK, "totals are not refused");
+        debug_assert!(
+            matches!(totals.status, raw::OK | raw::NO_CORE),
+            "totals are refused only where the arena is over"
+        );
         Totals {
             pages: totals.pages,
             live: totals.live,

@@ -177,6 +177,15 @@ extern "C" {
         ring_capacity: u32,
         gens: u32,
     ) -> u32;
+    pub fn teurlaks_arena_open_recorded(
+        out: *mut ShareHandle,
+        shards: u32,
+        page_limit: u32,
+        ring_capacity: u32,
+        gens: u32,
+    ) -> u32;
+    pub fn teurlaks_arena_audit(handle: *mut ShareHandle) -> u32;
+    pub fn teurlaks_seat_leave(handle: *mut ShareHandle, seat: *mut ShareHandle) -> u32;
     pub fn teurlaks_steward_seat(handle: *mut ShareHandle, out: *mut ShareHandle) -> u32;
     pub fn teurlaks_share_drop(handle: *mut ShareHandle);
     pub fn teurlaks_seat_session(handle: *mut ShareHandle) -> u32;
@@ -228,10 +237,17 @@ pub const NO_PAIR_LEFT: u32 = 10;
 pub const NO_PLAN: u32 = 11;
 pub const TOO_SMALL: u32 = 12;
 pub const RING_FULL: u32 = 13;
-// A handle of this crate always has what its calls are for, and what is made goes to one without.
-#[allow(dead_code)]
+// A handle of this crate has what its calls are for, but that of a recorded arena that has ended.
 pub const NO_CORE: u32 = 14;
+// What is made goes to a handle without anything.
 #[allow(dead_code)]
 pub const HAS_CORE: u32 = 15;
 pub const BUSY: u32 = 16;
 pub const RUNNING: u32 = 17;
+pub const RECORDED: u32 = 18;
+pub const UNFINISHED: u32 = 19;
+pub const LOG_FAULT: u32 = 20;
+pub const CHANGE_FAULT: u32 = 21;
+pub const REPLY_FAULT: u32 = 22;
+pub const ORDER_FAULT: u32 = 23;
+pub const BARRIER_FAULT: u32 = 24;

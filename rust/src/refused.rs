@@ -31,6 +31,10 @@ pub enum Refused {
     RingFull,
     /// Each seat of the arena was handed out.
     NoSeatLeft,
+    /// The run of the arena is recorded, so that nothing is forgotten.
+    Recorded,
+    /// The recorded arena has ended.
+    Over,
     /// A status that no contract allows here: the archive is not the one that this crate is written for.
     Unknown(u32),
 }
@@ -49,6 +53,8 @@ impl Refused {
             raw::CONFIG => Refused::Config,
             raw::NO_PLAN => Refused::NoPlan,
             raw::RING_FULL => Refused::RingFull,
+            raw::RECORDED => Refused::Recorded,
+            raw::NO_CORE => Refused::Over,
             other => Refused::Unknown(other),
         }
     }
@@ -68,6 +74,8 @@ impl fmt::Display for Refused {
             Refused::NoPlan => "no plan is open: mark first",
             Refused::RingFull => "the ring holds as many keys as it may: tend there, or free the key here",
             Refused::NoSeatLeft => "each seat of the arena was handed out",
+            Refused::Recorded => "the run is recorded: nothing is forgotten",
+            Refused::Over => "the recorded arena has ended",
             Refused::Unknown(status) => {
                 return write!(f, "the archive answered {status}, which this crate does not know")
             }

@@ -121,7 +121,8 @@ fn of_rust(text: &str, external: bool, declarations: &mut Declarations) {
     for place in 0..tokens.len() {
         let name = || tokens[place + 1].clone();
         match tokens[place].as_str() {
-            "struct" if tokens[place - 1] == "pub" => {
+            // A struct that crosses is seen beyond its file.
+            "struct" if place > 0 && tokens[place - 1] == "pub" => {
                 let fields = parts(inside(&tokens[place + 2..]).0, ",")
                     .into_iter()
                     .flat_map(rust_fields)
@@ -138,7 +139,8 @@ fn of_rust(text: &str, external: bool, declarations: &mut Declarations) {
                 };
                 declarations.functions.insert(name(), (params, result));
             }
-            "const" if place == 0 || tokens[place - 1] != "*" => {
+            // A status is seen beyond its file: `pub const`, `pub(crate) const`.
+            "const" if place > 0 && matches!(tokens[place - 1].as_str(), "pub" | ")") => {
                 declarations.statuses.insert(name(), tokens[place + 5].clone());
             }
             _ => {}
@@ -214,8 +216,10 @@ fn exported() -> Declarations {
         "meshing",
         "seats",
         "sessions",
-        "stewards",
         "walks",
+        "stewards",
+        "leaving",
+        "recorded_stewards",
     ] {
         of_rust(
             &read(&format!("crates/teurlaks_c/src/{file}.rt")),
@@ -223,7 +227,7 @@ fn exported() -> Declarations {
             &mut declarations,
         );
     }
-    assert_eq!(declarations.functions.len(), 48);
+    assert_eq!(declarations.functions.len(), 51);
     assert_eq!(declarations.structs.len(), 20);
     declarations
 }

@@ -78,6 +78,21 @@ pub fn finish<G: Gate, K: Receipts>(
     }
 }
 
+/// Takes the logs of all spans out of an arena whose run is over, each with its greatest generation, and leaves it with no span: what
+/// [`finish`] does where its seats are not in one hand, or are not known to be the arena's own. No ring is settled: a key that was
+/// sent and not taken stays live in its span's log. Who has the arena to itself has all locks, and waits for nobody. Numbers, rings and
+/// locks stay, which is all that a clause sees of an arena.
+///
+/// # Errors
+///
+/// `AllocError` where memory for the logs was refused, or where a guard of a lock was forgotten. Every span is then where it was.
+pub fn take_logs<G: Gate>(arena: &mut Arena<G>) -> Result<Vec<SpanLog>, AllocError>
+    ensures legal { IfOk result (λ logs. AreLegal logs.items) }
+    ensures same { arena.new ≡ arena.old }
+{
+    Ok(unlock(arena)?.into_logs())
+}
+
 // What is behind the locks of the arena, once every ring is settled, and how many keys each ring had. The arena has no span
 // afterwards. All memory is taken before the first key is.
 fn settled<G: Gate, K: Receipts>(

@@ -95,7 +95,7 @@ mod walk;
 mod word;
 
 pub use arena::{Arena, Stepped};
-pub use ending::{Finished, Unfinished, finish};
+pub use ending::{Finished, Unfinished, finish, take_logs};
 pub use error::{OpenError, PlanOpen};
 pub use gate::{Gate, NoGate};
 pub use latch::Busy;

@@ -60,10 +60,9 @@ impl Unlocked {
     }
 }
 
-// Takes what is behind the locks of the arena, which has no span afterwards. Memory is taken before the first of them leaves.
-pub(crate) fn unlock<G: Gate>(arena: &mut Arena<G>) -> Result<Unlocked, AllocError>
-    ensures { (arena.new.limits ≡ arena.old.limits) × (arena.new.table ≡ arena.old.table) }
-{
+// Takes what is behind the locks of the arena, which its caller has to itself, and which has no span afterwards. Memory is taken before
+// the first of them leaves.
+pub(crate) fn unlock<G: Gate>(arena: &Arena<G>) -> Result<Unlocked, AllocError> {
     // There are 64 shards at most.
     let _ = arena.limits.shards();
     let alloc = arena.alloc;

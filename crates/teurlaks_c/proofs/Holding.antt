@@ -9,7 +9,8 @@ use Rattle.teurlaks_c.specs.declared.share.SharedSession.{SharedSession}
 use Rattle.teurlaks_c.specs.SeatCalls.{GivesShard, HoldsShard}
 use Rattle.teurlaks_c.specs.Status.{busy, done}
 
-pub HoldsShard-begun : (share : Share) (before : SharedSeat) (after : SharedSession) → share ≡ Seat before → after.session.arena ≡ before.arena → after.session.seat ≡ before.seat
+pub HoldsShard-begun : (share : Share) (before : SharedSeat) (after : SharedSession) → share ≡ Seat before
+    → after.session.arena ≡ before.arena → after.session.seat ≡ before.seat
     → HoldsShard (Some share) done (Some (Session after))
 HoldsShard-begun share before after is arena seat =
     subst (λ share. HoldsShard (Some share) done (Some (Session after))) (sym is) (inr (inl (refl, (after, refl, arena, seat))))
@@ -17,9 +18,10 @@ HoldsShard-begun share before after is arena seat =
 pub HoldsShard-busy : (share : Share) (before after : SharedSeat) → share ≡ Seat before → after.arena ≡ before.arena → after.seat ≡ before.seat
     → HoldsShard (Some share) busy (Some (Seat after))
 HoldsShard-busy share before after is arena seat =
-    subst (λ share. HoldsShard (Some share) busy (Some (Seat after))) (sym is) (inr (inr (refl, (after, refl, arena, seat))))
+    subst (λ share. HoldsShard (Some share) busy (Some (Seat after))) (sym is) (inr (inr (inl (refl, (after, refl, arena, seat)))))
 
-pub GivesShard-given : (share : Share) (before : SharedSession) (after : SharedSeat) → share ≡ Session before → after.arena ≡ before.session.arena → after.seat ≡ before.session.seat
+pub GivesShard-given : (share : Share) (before : SharedSession) (after : SharedSeat) → share ≡ Session before
+    → after.arena ≡ before.session.arena → after.seat ≡ before.session.seat
     → GivesShard (Some share) done (Some (Seat after))
 GivesShard-given share before after is arena seat =
     subst (λ share. GivesShard (Some share) done (Some (Seat after))) (sym is) ((after, refl, arena, seat), inr (λ none. none, refl))

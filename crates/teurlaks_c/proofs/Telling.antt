@@ -3,7 +3,6 @@ use mathlib.Core.Logic.{inl, inr}
 use Rattle.std.proofs.Common.{◌≡◌, ◌∙◌, ℕ, Bool, true, false, List, ap, arith, length, refl}
 use Rattle.std.specs.Prelude.{◌⊎◌, IfOk, Option, Result, Ok, Err, OnErr, OnOk, Some, None}
 use Rattle.std.specs.declared.alloc.AllocError.{AllocError}
-use Rattle.span.specs.Classes.{IsObject}
 use Rattle.span.specs.Log.{Value}
 use Rattle.span.specs.declared.key.Key.{Key}
 use Rattle.span.specs.declared.receipt.Receipt.{Receipt}
@@ -19,21 +18,37 @@ use Rattle.teurlaks_c.specs.declared.replies.RawWord.{RawWord}
 use Rattle.teurlaks_c.specs.declared.replies.WordsReply.{WordsReply}
 use Rattle.teurlaks_c.specs.declared.share.Share.{Share}
 use Rattle.teurlaks_c.specs.Calls.{SaysWords}
-use Rattle.teurlaks_c.specs.SeatCalls.{Asks, AsksEither, Gets, Puts, PutsWords, SaysFreed, SaysGot, SaysLooked, SaysPut, SaysSet, free_told, put_told, set_told}
-use Rattle.teurlaks_c.specs.SessionCalls.{AnswersOwn, Held, InSession, PutsHeld}
+use Rattle.teurlaks_c.specs.Recorded.{AtRecorded, asked_of}
+use Rattle.teurlaks_c.specs.SeatCalls.{Asks, AsksTold, Gets, OrNoRoom, SaysFreed, SaysGot, SaysLooked, SaysPut, SaysSet, free_told, put_told, set_told}
+use Rattle.teurlaks_c.specs.SessionCalls.{AnswersOwn, Held, InSession}
 use Rattle.teurlaks_c.specs.Words.{word_of}
 
--- what a seat answers with no receipt, it answers with the one that this stands for
-pub Asks-told : {A B : Type 0} (tell : SeatState → A → B) (does : SeatState → B → SeatState → Type 0) (Says : Option A → Type 0) (SaysTold : Option B → Type 0)
+-- what a seat answers with no receipt, it answers with the one that this stands for, and a recorded seat keeps that; in a session there is none
+pub AsksTold-told : {A B : Type 0} (tell : SeatState → A → B) (does : SeatState → B → SeatState → Type 0) (does_held : Held → A → Held → Type 0)
+    (keep : SeatState → B → List Receipt) (status : ℕ) (Says : Option A → Type 0) (SaysTold : Option B → Type 0)
     → (Says None → SaysTold None) → ((seat : SeatState) (a : A) → Says (Some a) → SaysTold (Some (tell seat a)))
-    → (old new : Option Share) (answer : Option A) → Asks (λ before a after. does before (tell before a) after) old answer new → Says answer
-    → (told : Option B) × Asks does old told new × SaysTold told
-Asks-told tell does Says SaysTold none some old new None asked says = (None, asked, none says)
-Asks-told tell does Says SaysTold none some old new (Some a) asked says = (
+    → (old new : Option Share) (answer : Result (Option A) AllocError)
+    → AsksTold (λ before a after. does before (tell before a) after) does_held (λ seat a. keep seat (tell seat a)) old answer new → OrNoRoom status Says answer
+    → ((told : Option B) × Asks does old told new × SaysTold told)
+    ⊎ (((a : A) × InSession does_held old a new × Says (Some a))
+    ⊎ ((told : Result B AllocError) × AtRecorded does keep old told new × OrNoRoom status SaysTold (asked_of told)))
+AsksTold-told tell does does_held keep status Says SaysTold none some old new (Ok None) asked says = inl (None, asked, none says)
+AsksTold-told tell does does_held keep status Says SaysTold none some old new (Ok (Some a)) (inl asked) says = inl (
   Some (tell asked.before.seat a),
   record { before = asked.before; after = asked.after; before_is = asked.before_is; after_is = asked.after_is; arena_is = asked.arena_is; did = asked.did },
   some asked.before.seat a says,
 )
+AsksTold-told tell does does_held keep status Says SaysTold none some old new (Ok (Some a)) (inr (inl asked)) says = inr (inl (a, asked, says))
+AsksTold-told tell does does_held keep status Says SaysTold none some old new (Ok (Some a)) (inr (inr asked)) says = inr (inr (
+  Ok (tell asked.before.kept.seat a),
+  record { before = asked.before; after = asked.after; before_is = asked.before_is; after_is = asked.after_is; arena_is = asked.arena_is; did = asked.did },
+  some asked.before.kept.seat a says,
+))
+AsksTold-told tell does does_held keep status Says SaysTold none some old new (Err error) asked says = inr (inr (
+  Err error,
+  record { before = asked.before; after = asked.after; before_is = asked.before_is; after_is = asked.after_is; arena_is = asked.arena_is; did = asked.did },
+  says,
+))
 
 -- what C reads of a put, of a set and of a free says nothing of the receipt
 pub SaysPut-told : (value : Value) (says : PutReply) (seat : SeatState) (answer : Result (Result (Key × ℕ) PutError) Busy)
@@ -54,21 +69,6 @@ pub SaysFreed-told : (key : Key) (says : ℕ) (seat : SeatState) (answer : Resul
 SaysFreed-told key says seat (Err b) is = is
 SaysFreed-told key says seat (Ok (true, at)) is = is
 SaysFreed-told key says seat (Ok (false, at)) is = is
-
--- the same of what a seat answers that may keep its shard
-pub AsksEither-told : {A B : Type 0} (tell : SeatState → A → B) (does : SeatState → B → SeatState → Type 0) (does_held : Held → A → Held → Type 0)
-    (Says : Option A → Type 0) (SaysTold : Option B → Type 0) → (Says None → SaysTold None) → ((seat : SeatState) (a : A) → Says (Some a) → SaysTold (Some (tell seat a)))
-    → (old new : Option Share) (answer : Option A) → AsksEither (λ before a after. does before (tell before a) after) does_held old answer new → Says answer
-    → ((told : Option B) × Asks does old told new × SaysTold told) ⊎ ((a : A) × InSession does_held old a new × Says (Some a))
-AsksEither-told tell does does_held Says SaysTold none some old new None asked says = inl (None, asked, none says)
-AsksEither-told tell does does_held Says SaysTold none some old new (Some a) (inl asked) says = inl (Asks-told tell does Says SaysTold none some old new (Some a) asked says)
-AsksEither-told tell does does_held Says SaysTold none some old new (Some a) (inr asked) says = inr (a, asked, says)
-
--- words of an object that are put, by the seat or in its session
-pub PutsWords-of : (old new : Option Share) (words : Value) (says : PutReply) → IsObject words
-    → ((told : _) × Asks (Puts words) old told new × SaysPut says told) ⊎ ((a : _) × InSession (PutsHeld words) old a new × SaysPut says (Some a)) → PutsWords old words says new
-PutsWords-of old new words says object (inl asked) = inl (object, asked)
-PutsWords-of old new words says object (inr asked) = inr (inl (object, asked))
 
 -- what C reads of a look-up that found this, whose words stand in the room
 pub SaysWords-looked : (room room_new : List RawWord) (says : WordsReply) (found : Option Value) (told : Option ℕ) (at : ℕ)
@@ -99,7 +99,8 @@ SaysGot-looked key before after room room_new says (Ok (told, at)) (found, wrote
     (Ok (found, get_receipt before.worker before.section key found at), (refl, (ok, tt)), SaysWords-looked room room_new says found told at wrote looked)
 
 -- the same in a session, whose own shard shows this value of the key
-pub SaysGot-held : (own : Option ℕ) (value : Option Value) (Counts Stays : Type 0) (room room_new : List RawWord) (says : WordsReply) (answer : Result (Option ℕ × ℕ) Busy)
+pub SaysGot-held : (own : Option ℕ) (value : Option Value) (Counts Stays : Type 0)
+    (room room_new : List RawWord) (says : WordsReply) (answer : Result (Option ℕ × ℕ) Busy)
     → LooksUp word_of own value room answer room_new → OnOk answer Counts → OnErr answer Stays → SaysLooked (length room) says answer
     → (told : Result (Option Value × ℕ) Busy) × (AnswersOwn own value told × OnOk told Counts × OnErr told Stays) × SaysGot room says room_new (Some told)
 SaysGot-held (Some at) value Counts Stays room room_new says (Err b) looks counts stays looked = absurd looks

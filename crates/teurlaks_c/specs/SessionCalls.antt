@@ -66,7 +66,8 @@ pub record InSession {Answer : Type 0} (does : Held → Answer → Held → Type
   pub did : does (held before) answer (held after)
 
 -- the seat of the handle gives its shard back, does this without a session and answers that, at the same arena
-pub record AtPaused {Answer : Type 0} (does : SeatState → Answer → SeatState → Type 0) (old : Option Share) (answer : Answer) (new : Option Share) : Type 0 where
+pub record AtPaused {Answer : Type 0} (does : SeatState → Answer → SeatState → Type 0)
+    (old : Option Share) (answer : Answer) (new : Option Share) : Type 0 where
   pub before : SharedSession
   pub after : SharedSeat
   pub before_is : old ≡ Some (Session before)
@@ -88,7 +89,8 @@ PutsOf class words before (Err busy) after = ⊥
 
 -- the object of these words is put so, and it is one call of the seat more
 abbrev pub PutsHeld : Value → Held → Result (Result (Key × ℕ) PutError) Busy → Held → Type 0
-PutsHeld words before answer after = ((class : Class) × (length words ≡ width_of class) × PutsOf class words before answer after) × CountsCall before.seat after.seat
+PutsHeld words before answer after =
+    ((class : Class) × (length words ≡ width_of class) × PutsOf class words before answer after) × CountsCall before.seat after.seat
 
 -- what a look-up answers of a key whose span the session's shard has: its value there, and how many changes the span's log has
 abbrev pub AnswersOwn : Option ℕ → Option Value → Result (Option Value × ℕ) Busy → Type 0
@@ -101,7 +103,8 @@ GetsHeld key before answer after =
     ((what : Found) × Gets before.shard key what × AnswersOwn (changes_at what) ((shown before.shard).value_of key) answer)
     × (after.shard ≡ before.shard) × OnOk answer (CountsCall before.seat after.seat) × OnErr answer (after.seat ≡ before.seat)
 
--- the key is set in the session's shard, and elsewhere only where that does not have its span; where memory is refused or another thread is in the way, nothing changes here
+-- the key is set in the session's shard, and elsewhere only where that does not have its span; where memory is refused
+-- or another thread is in the way, nothing changes here
 abbrev pub SetsHeld : Key → Value → Held → Result (Result (Bool × ℕ) AllocError) Busy → Held → Type 0
 SetsHeld key words before (Ok (Ok told)) after =
     ((what : Replaced) × Sets before.shard key words what after.shard × TellsOwn (set_told what) told) × CountsCall before.seat after.seat
@@ -112,7 +115,8 @@ SetsHeld key words before (Err busy) after = IsElsewhere before.shard.groups key
 
 -- the key is freed in the session's shard, and elsewhere only where that does not have its span
 abbrev pub FreesHeld : Key → Held → Result (Bool × ℕ) Busy → Held → Type 0
-FreesHeld key before (Ok told) after = ((what : Freed) × Frees before.shard key what after.shard × TellsOwn (free_told what) told) × CountsCall before.seat after.seat
+FreesHeld key before (Ok told) after =
+    ((what : Freed) × Frees before.shard key what after.shard × TellsOwn (free_told what) told) × CountsCall before.seat after.seat
 FreesHeld key before (Err busy) after = IsElsewhere before.shard.groups key.span × (after.seat ≡ before.seat) × (after.shard ≡ before.shard)
 
 -- what a call does that asks the seat alone, whose shard stays

@@ -12,6 +12,8 @@ use Rattle.marks.specs.declared.error.MarkError.{MarkError}
 use Rattle.marks.specs.declared.error.MarkError.TheVariants as mark_error
 use Rattle.fold.specs.declared.step.Step.{Step as Outcome}
 use Rattle.fold.specs.declared.step.Step.TheVariants as outcome
+use Rattle.audit.specs.declared.fault.AuditCause.{AuditCause}
+use Rattle.audit.specs.declared.fault.AuditCause.TheVariants as cause
 
 -- done, or found
 abbrev pub done : ℕ
@@ -52,6 +54,14 @@ has_core = 15
 -- the shard that is to begin again has not ended
 abbrev pub still_running : ℕ
 still_running = 17
+
+-- the run is recorded, so that nothing is forgotten
+abbrev pub recorded : ℕ
+recorded = 18
+
+-- a seat is not back
+abbrev pub unfinished : ℕ
+unfinished = 19
 
 -- the status that stands for the refusal
 abbrev pub refusal_status : Refusal → ℕ
@@ -107,3 +117,11 @@ status_of_outcome outcome.Folded = 0
 status_of_outcome outcome.Emptied = 9
 status_of_outcome outcome.Absent = 1
 status_of_outcome outcome.Clash = 1
+
+-- for the part of the agreement that fails first
+abbrev pub cause_status : AuditCause → ℕ
+cause_status cause.Log = 20
+cause_status cause.Change = 21
+cause_status cause.Reply = 22
+cause_status cause.Order = 23
+cause_status cause.Barrier = 24

@@ -1,5 +1,5 @@
 -- What the calls on the steward of an arena do.
-use Rattle.std.specs.Prelude.{◌≡◌, ℕ, List, Bool, true, false, Option, Some, None, Result, Ok, Err, IfOk, IsErr, IsSome, ◌↔◌, OnErr, OnOk, MatchOption, is_some, ◌++◌, ◌∷◌, [], ◌⊎◌, vec_len}
+use Rattle.std.specs.Prelude.{◌≡◌, ℕ, All, List, Bool, true, false, Option, Some, None, Result, Ok, Err, IfOk, IsErr, IsSome, ◌↔◌, OnErr, OnOk, MatchOption, is_some, ◌++◌, ◌∷◌, [], ◌⊎◌, vec_len}
 use Rattle.std.specs.declared.alloc.AllocError.{AllocError}
 use Rattle.certificate.specs.declared.certificate.Certificate.{Certificate}
 use Rattle.certificate.specs.Plans.{IsBestPlanOf, IsShortOf}
@@ -18,25 +18,43 @@ use Rattle.teurlaks_c.specs.declared.replies.MarkReply.{MarkReply}
 use Rattle.teurlaks_c.specs.declared.replies.StepReply.{StepReply}
 use Rattle.teurlaks_c.specs.declared.replies.ArenaTotalsReply.{ArenaTotalsReply}
 use Rattle.teurlaks_c.specs.declared.share.Share.{Share}
-use Rattle.teurlaks_c.specs.declared.share.Share.TheVariants.{Nothing, Seat, Session, Steward}
+use Rattle.teurlaks_c.specs.declared.share.Share.TheVariants.{Seat, Steward, RecordedSeat, RecordedSteward}
+use Rattle.teurlaks_c.specs.declared.share.Keeper.{Keeper}
 use Rattle.teurlaks_c.specs.declared.share.SharedSteward.{SharedSteward}
+use Rattle.teurlaks_c.specs.declared.recorded.KeptSeat.{KeptSeat}
+use Rattle.teurlaks_c.specs.declared.recorded.RecordedSteward.{RecordedSteward as Recorder}
 use Rattle.std.specs.Arc.{arc_value}
 use Rattle.teurlaks_c.specs.Calls.{CountsOf, Tells, kept}
 use Rattle.teurlaks_c.specs.Keys.{IsIdOf}
-use Rattle.teurlaks_c.specs.Status.{busy, done, has_core, no_core, no_pair_left, no_plan, out_of_memory, mark_status, refusal_status, status_of_outcome, none}
+use Rattle.teurlaks_c.specs.Recorded.{receipts_of}
+use Rattle.teurlaks_c.specs.Status.{busy, done, has_core, no_core, no_pair_left, no_plan, out_of_memory, mark_status, refusal_status, status_of_outcome, none, recorded}
 
 -- the handle has no steward
 abbrev pub HasNoSteward : Option Share → Type 0
 HasNoSteward (Some (Steward steward)) = ⊥
+HasNoSteward (Some (RecordedSteward steward)) = ⊥
 HasNoSteward held = Unit {0}
 
 -- a steward of a new arena of these numbers, with a seat for each shard, no plan and no certificate
 pub record HasNewArena (limits : Limits) (new : Option Share) : Type 0 where
   pub steward : SharedSteward
   pub is : new ≡ Some (Steward steward)
-  pub state : steward.steward ≡ record { limits = limits; plan = None }
-  pub last : steward.last ≡ None
+  pub state : steward.keeper.steward ≡ record { limits = limits; plan = None }
+  pub last : steward.keeper.last ≡ None
   pub seats : vec_len steward.seats ≡ limits.shards
+
+-- none of the seats has kept a receipt
+abbrev pub HaveNoReceipt : List KeptSeat → Type 0
+HaveNoReceipt seats = All (λ kept. receipts_of kept ≡ []) seats
+
+-- the same of an arena whose run is recorded, of which nothing is recorded yet
+pub record HasNewRecord (limits : Limits) (new : Option Share) : Type 0 where
+  pub steward : Recorder
+  pub is : new ≡ Some (RecordedSteward steward)
+  pub state : steward.keeper.steward ≡ record { limits = limits; plan = None }
+  pub last : steward.keeper.last ≡ None
+  pub seats : vec_len steward.seats ≡ limits.shards
+  pub none : HaveNoReceipt steward.seats.items
 
 -- a seat is handed out, which leaves the steward's list; or there is none left; or memory is refused, and the list is as it was
 abbrev pub HandsOutOf : SharedSteward → ℕ → SharedSteward → Option Share → Type 0
@@ -44,9 +62,15 @@ HandsOutOf before says after (Some (Seat seat)) =
     (says ≡ done) × (arc_value seat.arena ≡ arc_value before.arena) × (before.seats.items ≡ after.seats.items ++ seat.seat ∷ [])
 HandsOutOf before says after None =
     (((says ≡ none) × (vec_len before.seats ≡ 0)) ⊎ (says ≡ out_of_memory)) × (after.seats.items ≡ before.seats.items)
-HandsOutOf before says after (Some (Steward other)) = ⊥
-HandsOutOf before says after (Some (Session other)) = ⊥
-HandsOutOf before says after (Some Nothing) = ⊥
+HandsOutOf before says after (Some other) = ⊥
+
+-- the same of a seat with its receipts
+abbrev pub HandsOutKept : Recorder → ℕ → Recorder → Option Share → Type 0
+HandsOutKept before says after (Some (RecordedSeat seat)) =
+    (says ≡ done) × (arc_value seat.arena ≡ arc_value before.arena) × (before.seats.items ≡ after.seats.items ++ seat.kept ∷ [])
+HandsOutKept before says after None =
+    (((says ≡ none) × (vec_len before.seats ≡ 0)) ⊎ (says ≡ out_of_memory)) × (after.seats.items ≡ before.seats.items)
+HandsOutKept before says after (Some other) = ⊥
 
 -- the steward of the handle hands out a seat, or has none left, or is refused memory; its arena, plan and certificate stay
 pub record HandsOutSeat (old : Option Share) (says : ℕ) (new out : Option Share) : Type 0 where
@@ -55,31 +79,55 @@ pub record HandsOutSeat (old : Option Share) (says : ℕ) (new out : Option Shar
   pub before_is : old ≡ Some (Steward before)
   pub after_is : new ≡ Some (Steward after)
   pub arena_is : after.arena ≡ before.arena
-  pub state : after.steward ≡ before.steward
-  pub last : after.last ≡ before.last
+  pub keeper_is : after.keeper ≡ before.keeper
   pub handed : HandsOutOf before says after out
+
+-- the same of the steward of a recorded arena
+pub record HandsOutRecorded (old : Option Share) (says : ℕ) (new out : Option Share) : Type 0 where
+  pub before : Recorder
+  pub after : Recorder
+  pub before_is : old ≡ Some (RecordedSteward before)
+  pub after_is : new ≡ Some (RecordedSteward after)
+  pub arena_is : after.arena ≡ before.arena
+  pub keeper_is : after.keeper ≡ before.keeper
+  pub handed : HandsOutKept before says after out
+
+-- the handle's steward does so
+abbrev pub HandsOut : (old : Option Share) → ℕ → (new out : Option Share) → Type 0
+HandsOut old says new out = HandsOutSeat old says new out ⊎ HandsOutRecorded old says new out
 
 -- a seat of the handle's steward is left to another handle, where that has nothing and the first one has a steward
 abbrev pub LeavesSeat : (old out : Option Share) → ℕ → (new out_new : Option Share) → Type 0
 LeavesSeat old (Some taken) says new out_new = (says ≡ has_core) × (new ≡ old) × (out_new ≡ Some taken)
-LeavesSeat old None says new out_new = (HasNoSteward old × (says ≡ no_core) × (new ≡ old) × (out_new ≡ None)) ⊎ HandsOutSeat old says new out_new
+LeavesSeat old None says new out_new = (HasNoSteward old × (says ≡ no_core) × (new ≡ old) × (out_new ≡ None)) ⊎ HandsOut old says new out_new
 
 -- the steward of the handle does this and answers that, at the same arena and with the same seats to give out
-pub record AtSteward {Answer : Type 0} (does : SharedSteward → Answer → SharedSteward → Type 0) (old : Option Share) (answer : Answer) (new : Option Share) : Type 0 where
+pub record AtSteward {Answer : Type 0} (does : Keeper → Answer → Keeper → Type 0) (old : Option Share) (answer : Answer) (new : Option Share) : Type 0 where
   pub before : SharedSteward
   pub after : SharedSteward
   pub before_is : old ≡ Some (Steward before)
   pub after_is : new ≡ Some (Steward after)
   pub arena_is : after.arena ≡ before.arena
   pub seats_are : after.seats ≡ before.seats
-  pub did : does before answer after
+  pub did : does before.keeper answer after.keeper
+
+-- the same of the steward of a recorded arena
+pub record AtRecordedSteward {Answer : Type 0} (does : Keeper → Answer → Keeper → Type 0)
+    (old : Option Share) (answer : Answer) (new : Option Share) : Type 0 where
+  pub before : Recorder
+  pub after : Recorder
+  pub before_is : old ≡ Some (RecordedSteward before)
+  pub after_is : new ≡ Some (RecordedSteward after)
+  pub arena_is : after.arena ≡ before.arena
+  pub seats_are : after.seats ≡ before.seats
+  pub did : does before.keeper answer after.keeper
 
 -- the handle's steward is asked, where it has one
-abbrev pub Asks : {Answer : Type 0} → (SharedSteward → Answer → SharedSteward → Type 0) → Option Share → Option Answer → Option Share → Type 0
-Asks does old answer new = MatchOption answer (HasNoSteward old × (new ≡ old)) (λ answer. AtSteward does old answer new)
+abbrev pub Asks : {Answer : Type 0} → (Keeper → Answer → Keeper → Type 0) → Option Share → Option Answer → Option Share → Type 0
+Asks does old answer new = MatchOption answer (HasNoSteward old × (new ≡ old)) (λ answer. AtSteward does old answer new ⊎ AtRecordedSteward does old answer new)
 
 -- a largest plan of what was seen is opened and its certificate kept
-pub record MarksPlan (before : SharedSteward) (says : MarkReply) (after : SharedSteward) : Type 0 where
+pub record MarksPlan (before : Keeper) (says : MarkReply) (after : Keeper) : Type 0 where
   pub found : Certificate
   pub best : IsBestPlanOf found.snapshot found.plan
   pub short : IsShortOf found.snapshot found.plan found.short
@@ -89,34 +137,31 @@ pub record MarksPlan (before : SharedSteward) (says : MarkReply) (after : Shared
   pub begins : after.steward ≡ begun before.steward found.plan
 
 -- a plan is opened, or the mark is refused or meets another thread's lock, and then plan and certificate are as they were
-abbrev pub Marks : SharedSteward → Result (Result MarkReply MarkError) Busy → SharedSteward → Type 0
+abbrev pub Marks : Keeper → Result (Result MarkReply MarkError) Busy → Keeper → Type 0
 Marks before answer after =
     IfOk answer (λ made. IfOk made (λ says. MarksPlan before says after) × OnErr made ((after.steward ≡ before.steward) × (after.last ≡ before.last)))
     × OnErr answer ((after.steward ≡ before.steward) × (after.last ≡ before.last))
 
 -- the next pair is carried out, or there is none, or memory is refused, or another thread has a lock
-abbrev pub TakesStep : SharedSteward → Result (Result Stepped AllocError) Busy → SharedSteward → Type 0
+abbrev pub TakesStep : Keeper → Result (Result Stepped AllocError) Busy → Keeper → Type 0
 TakesStep before answer after =
     IfOk answer (λ step. IfOk step (λ stepped. Steps before.steward.plan stepped after.steward.plan) × OnErr step (after.steward ≡ before.steward))
     × OnErr answer (after.steward ≡ before.steward) × (after.last ≡ before.last)
 
 -- the plan is closed, or there is none, or another thread has a lock
-abbrev pub Closes : SharedSteward → Result Bool Busy → SharedSteward → Type 0
+abbrev pub Closes : Keeper → Result Bool Busy → Keeper → Type 0
 Closes before answer after =
     IfOk answer (λ closed. closed ≡ is_some before.steward.plan) × OnOk answer (after.steward ≡ record before.steward { plan = None })
     × OnErr answer (after.steward ≡ before.steward) × (after.last ≡ before.last)
 
 -- nothing of the steward changes
-abbrev pub Keeps : {Answer : Type 0} → SharedSteward → Answer → SharedSteward → Type 0
+abbrev pub Keeps : {Answer : Type 0} → Keeper → Answer → Keeper → Type 0
 Keeps before answer after = (after.steward ≡ before.steward) × (after.last ≡ before.last)
-
--- guests are forgotten, but while a plan is open, or where another thread has a lock
-abbrev pub Forgets : SharedSteward → Result (Result ℕ PlanOpen) Busy → SharedSteward → Type 0
-Forgets before answer after = IfOk answer (λ forgotten. IsErr forgotten ↔ IsSome before.steward.plan) × Keeps before answer after
 
 -- the text of the certificate that is kept is written into the room, where the handle has a steward
 abbrev pub WritesLast : Option Share → List ℕ → CertificateReply → List ℕ → Type 0
-WritesLast (Some (Steward steward)) room says room_new = Tells steward.last room says room_new
+WritesLast (Some (Steward steward)) room says room_new = Tells steward.keeper.last room says room_new
+WritesLast (Some (RecordedSteward steward)) room says room_new = Tells steward.keeper.last room says room_new
 WritesLast held room says room_new = (says.status ≡ no_core) × (says.len ≡ 0) × (room_new ≡ room)
 
 -- what C reads of a mark
@@ -131,7 +176,8 @@ abbrev pub SaysStepped : StepReply → Option (Result (Result Stepped AllocError
 SaysStepped says None = says.status ≡ no_core
 SaysStepped says (Some (Err b)) = says.status ≡ busy
 SaysStepped says (Some (Ok (Err error))) = says.status ≡ out_of_memory
-SaysStepped says (Some (Ok (Ok (Taken abandoned owned outcome)))) = (says.status ≡ status_of_outcome outcome) × IsIdOf says.abandoned abandoned × IsIdOf says.owned owned
+SaysStepped says (Some (Ok (Ok (Taken abandoned owned outcome)))) = (says.status ≡ status_of_outcome outcome) × IsIdOf says.abandoned abandoned
+    × IsIdOf says.owned owned
 SaysStepped says (Some (Ok (Ok NoPairLeft))) = says.status ≡ no_pair_left
 SaysStepped says (Some (Ok (Ok NoPlan))) = says.status ≡ no_plan
 
@@ -143,11 +189,17 @@ SaysClosed says (Some (Ok true)) = says ≡ done
 SaysClosed says (Some (Ok false)) = says ≡ no_plan
 
 -- what C reads of a forgetting
-abbrev pub SaysForgotten : ForgetReply → Option (Result (Result ℕ PlanOpen) Busy) → Type 0
-SaysForgotten says None = (says.status ≡ no_core) × (says.count ≡ 0)
-SaysForgotten says (Some (Err b)) = (says.status ≡ busy) × (says.count ≡ 0)
-SaysForgotten says (Some (Ok (Ok count))) = (says.status ≡ done) × (says.count ≡ count)
-SaysForgotten says (Some (Ok (Err refused))) = (says.status ≡ refusal_status PlanIsOpen) × (says.count ≡ 0)
+abbrev pub SaysForgotten : ForgetReply → Result (Result ℕ PlanOpen) Busy → Type 0
+SaysForgotten says (Err b) = (says.status ≡ busy) × (says.count ≡ 0)
+SaysForgotten says (Ok (Ok count)) = (says.status ≡ done) × (says.count ≡ count)
+SaysForgotten says (Ok (Err refused)) = (says.status ≡ refusal_status PlanIsOpen) × (says.count ≡ 0)
+
+-- guests are forgotten, but while a plan is open, or where another thread has a lock; never where the run is recorded
+abbrev pub ForgetsAll : Option Share → ForgetReply → Type 0
+ForgetsAll (Some (Steward steward)) says =
+    (answer : Result (Result ℕ PlanOpen) Busy) × IfOk answer (λ forgotten. IsErr forgotten ↔ IsSome steward.keeper.steward.plan) × SaysForgotten says answer
+ForgetsAll (Some (RecordedSteward steward)) says = (says.status ≡ recorded) × (says.count ≡ 0)
+ForgetsAll held says = (says.status ≡ no_core) × (says.count ≡ 0)
 
 -- what C reads of totals
 abbrev pub SaysTotals : ArenaTotalsReply → Option (Result Totals Busy) → Type 0

@@ -7,7 +7,7 @@ use Rattle.arena.specs.Walks.{HasGoneOn, IsAhead, walk_after}
 use Rattle.arena.specs.declared.walk.Walk.{Walk}
 use Rattle.teurlaks_c.specs.declared.replies.NextReply.{NextReply}
 use Rattle.teurlaks_c.specs.declared.replies.RawWalk.{RawWalk}
-use Rattle.teurlaks_c.specs.declared.share.SharedSteward.{SharedSteward}
+use Rattle.teurlaks_c.specs.declared.share.Keeper.{Keeper}
 use Rattle.teurlaks_c.specs.Keys.{IsKeyOf}
 use Rattle.teurlaks_c.specs.Status.{busy, done, no_core, none}
 
@@ -23,8 +23,8 @@ GoesOn from (next, to) = HasGoneOn from to × IfOk next (λ found. IfSome found 
 abbrev pub WalksAtSeat : Walk → SeatState → Result (Option Key) Busy × Walk → SeatState → Type 0
 WalksAtSeat from before answer after = (after ≡ before) × GoesOn from answer
 
--- it goes on at a steward, which stays as it is
-abbrev pub WalksAtSteward : Walk → SharedSteward → Result (Option Key) Busy × Walk → SharedSteward → Type 0
+-- it goes on at a steward, whose plan and certificate stay as they are
+abbrev pub WalksAtSteward : Walk → Keeper → Result (Option Key) Busy × Walk → Keeper → Type 0
 WalksAtSteward from before answer after = (after ≡ before) × GoesOn from answer
 
 -- what C reads of it

@@ -2,7 +2,7 @@
 //!
 //! A [`Handle`] is what a caller keeps of a core: one word, which it never looks into. It begins as zero; `teurlaks_new` leaves a core
 //! to it, each other call works on that core, and `teurlaks_drop` gives its memory back. What the handle owns stands in its type, so
-//! the contracts of the calls are plain facts on the core before and after. Logs are only counted.
+//! the contracts of the calls are plain facts on the core before and after. Its logs are only counted.
 //!
 //! ```text
 //!   C, Rust, ..      struct teurlaks { void *at; }
@@ -15,7 +15,11 @@
 //! A [`ShareHandle`](share_handle::ShareHandle) is the same for threads: it has a seat of an arena, or its steward, each with a share of the
 //! arena, which goes with the last of them. Its calls (`seats.rt`, `stewards.rt`) wait for nobody: where another thread has a lock that a call
 //! needs, it answers `BUSY`, with nothing changed. Both kinds of handle may go to another thread, which is proved (`Send`); a call has its
-//! handle to itself.
+//! handle to itself. A seat that its thread is done with goes back to the steward (`leaving.rt`).
+//!
+//! An arena may be *recorded* (`recorded.rt`): it keeps its logs, and each seat the receipts of its calls, which are the calls of any arena
+//! (`recorded_calls.rt`). Once all seats are back the steward ends it, and has the receipts held against the logs (`recorded_stewards.rt`):
+//! `OK` says that each span has one history.
 //!
 //! Nothing is asked of a handle: one that has no core, since none was made or it was dropped, is null, and each call tests it. It answers the
 //! status `NO_CORE` then, whatever else it is given; `teurlaks_totals` counts nothing, and `teurlaks_drop` does nothing.
@@ -43,7 +47,11 @@ mod calls;
 mod handle;
 mod held;
 mod keys;
+mod leaving;
 mod meshing;
+mod recorded;
+mod recorded_calls;
+mod recorded_stewards;
 mod replies;
 mod seat_calls;
 mod seats;
@@ -61,10 +69,12 @@ pub use calls::{
     teurlaks_drop, teurlaks_free, teurlaks_get, teurlaks_get_words, teurlaks_new, teurlaks_next,
     teurlaks_put, teurlaks_put_words, teurlaks_set, teurlaks_set_words, teurlaks_totals,
 };
+pub use leaving::teurlaks_seat_leave;
 pub use meshing::{
     teurlaks_adopt, teurlaks_begin, teurlaks_certificate, teurlaks_close, teurlaks_end,
     teurlaks_forget, teurlaks_mark, teurlaks_retire, teurlaks_step, teurlaks_trim,
 };
+pub use recorded_stewards::{teurlaks_arena_audit, teurlaks_arena_open_recorded};
 pub use seats::{
     teurlaks_seat_adopt, teurlaks_seat_begin, teurlaks_seat_end, teurlaks_seat_free,
     teurlaks_seat_free_later, teurlaks_seat_get_words, teurlaks_seat_hand_over,

@@ -2,18 +2,19 @@
 ghost use Rattle.std.specs.Prelude.{◌≡◌, MatchOption, Some, length};
 ghost use Rattle.arena.specs.Delays.{HandsOver};
 ghost use Rattle.arena.specs.Seats.{SeatState};
-ghost use Rattle.span.specs.Classes.{width_of};
+ghost use Rattle.span.specs.Classes.{IsObject, width_of};
 ghost use Rattle.teurlaks_c.specs.SessionCalls.{AtPaused, HasSession};
-ghost use Rattle.teurlaks_c.specs.SeatCalls.{AsksPaused, AtSeat, Ends, Frees, FreesLater, Gets, HasNoSeat, IsOneCall, PutsUntold, Retires, SaysGot, SaysLooked, Sets, Stays, Tends, free_told, set_told};
+ghost use Rattle.teurlaks_c.specs.SeatCalls.{AsksPaused, AtSeat, Ends, Frees, FreesLater, Gets, HasNoSeat, IsOneCall, PutsUntold, Retires, SaysGot, SaysLooked, Sets, Stays, free_told, set_told};
 
+use crate::recorded::RecordedSeat;
 use crate::replies::{RawWord, WordsReply};
-use crate::share::{Shards, Share, SharedSeat};
+use crate::share::{Share, SharedSeat};
 use crate::share_handle::ShareHandle;
-use crate::status::{BUSY, NO_CORE, NONE, OK, TOO_SMALL};
+use crate::status::{BUSY, NONE, OK, TOO_SMALL};
 use abandoned::{AdoptError, ReceiveError};
-use arena::{Busy, Dropped, Seat, Tended};
+use arena::{Arena, Busy, NoGate, Seat};
 use shard::PutError;
-use span::{Class, Key, SpanId};
+use span::{Class, Key, Log, SpanId};
 use std::alloc::{AllocError, Global};
 use std::mem::replace;
 
@@ -26,13 +27,14 @@ pub(crate) trait SeatCall {
     ghost does: { Self → SeatState → Self.Answer → SeatState → Type 0 };
 
     /// Makes the call.
-    fn ask(&self, seat: &mut Seat, arena: &Shards) -> Self::Answer
+    fn ask<L: Log>(&self, seat: &mut Seat, arena: &Arena<NoGate, L>) -> Self::Answer
         requires { seat.old.limits ≡ arena.now.limits }
         ensures limits { seat.new.limits ≡ seat.old.limits }
         ensures does { does self.now seat.old result seat.new };
 }
 
-/// Asks the seat of the handle, where it has one. Where it keeps its shard it gives that back before, and keeps it no more.
+/// Asks the seat of the handle, where it has one, what no receipt is made of. Where it keeps its shard it gives that back before, and keeps
+/// it no more.
 #[inline(always)]
 pub(crate) fn at_seat<C: SeatCall>(
     alloc: Global,
@@ -57,7 +59,11 @@ fn ask_share<C: SeatCall>(share: &mut Share, call: &C) -> Option<C::Answer>
     match share {
         Share::Seat(seat) => Some(ask_seat(seat, call)),
         Share::Session(_) => Some(ask_paused(share, call)),
-        Share::Steward(_) | Share::Nothing => None,
+        Share::RecordedSeat(seat) => Some(ask_recorded_seat(seat, call)),
+        Share::Steward(_) => None,
+        Share::RecordedSteward(_) => None,
+        Share::Run(_) => None,
+        Share::Nothing => None,
     }
 }
 
@@ -82,6 +88,22 @@ pub(crate) fn ask_seat<C: SeatCall>(shared: &mut SharedSeat, call: &C) -> C::Ans
     ensures does { C.does call.now shared.old.seat result shared.new.seat }
 {
     call.ask(&mut shared.seat, &*shared.arena)
+}
+
+/// Asks the seat of a recorded arena, which makes no receipt.
+pub(crate) fn ask_recorded_seat<C: SeatCall>(shared: &mut RecordedSeat, call: &C) -> C::Answer
+    ensures arena { shared.new.arena ≡ shared.old.arena }
+    ensures receipts { shared.new.kept.receipts ≡ shared.old.kept.receipts }
+    ensures does { C.does call.now shared.old.kept.seat result shared.new.kept.seat }
+{
+    call.ask(&mut shared.kept.seat, &*shared.arena)
+}
+
+/// What C reads where nothing was looked up.
+pub(crate) fn not_looked(status: u32) -> WordsReply
+    ensures { (result.status ≡ status) × (result.len ≡ 0) }
+{
+    WordsReply { status, len: 0 }
 }
 
 /// Looks the key up at the seat, and writes the words of its object into the room, where there is enough.
@@ -126,7 +148,7 @@ impl SeatCall for Stay {
 
     ghost does = { λ call. Stays };
 
-    fn ask(&self, _seat: &mut Seat, _arena: &Shards) {}
+    fn ask<L: Log>(&self, _seat: &mut Seat, _arena: &Arena<NoGate, L>) {}
 }
 
 /// A put of the object of these words.
@@ -143,7 +165,11 @@ impl SeatCall for Put<'_> {
     ghost does = { λ call. PutsUntold call.words.now };
 
     #[inline(always)]
-    fn ask(&self, seat: &mut Seat, arena: &Shards) -> Result<Result<(Key, usize), PutError>, Busy> {
+    fn ask<L: Log>(
+        &self,
+        seat: &mut Seat,
+        arena: &Arena<NoGate, L>,
+    ) -> Result<Result<(Key, usize), PutError>, Busy> {
         seat.try_put_words(arena, self.class, self.words)
     }
 }
@@ -153,6 +179,7 @@ impl SeatCall for Put<'_> {
 pub(crate) struct Set<'a> {
     pub(crate) key: Key,
     pub(crate) words: &'a [u128],
+    pub(crate) ghost object: { IsObject words.now },
 }
 
 impl SeatCall for Set<'_> {
@@ -161,10 +188,10 @@ impl SeatCall for Set<'_> {
     ghost does = { λ call before answer after. Sets call.key call.words.now before
         (set_told call.key call.words.now before answer) after };
 
-    fn ask(
+    fn ask<L: Log>(
         &self,
         seat: &mut Seat,
-        arena: &Shards,
+        arena: &Arena<NoGate, L>,
     ) -> Result<Result<(bool, usize), AllocError>, Busy> {
         seat.try_set_words(arena, &self.key, self.words)
     }
@@ -183,7 +210,11 @@ impl SeatCall for Free {
         (free_told call.key before answer) after };
 
     #[inline(always)]
-    fn ask(&self, seat: &mut Seat, arena: &Shards) -> Result<(bool, usize), Busy> {
+    fn ask<L: Log>(
+        &self,
+        seat: &mut Seat,
+        arena: &Arena<NoGate, L>,
+    ) -> Result<(bool, usize), Busy> {
         seat.try_free_untold(arena, &self.key)
     }
 }
@@ -197,7 +228,11 @@ impl SeatCall for End {
 
     ghost does = { λ call. Ends };
 
-    fn ask(&self, seat: &mut Seat, arena: &Shards) -> Result<Result<(), ReceiveError>, Busy> {
+    fn ask<L: Log>(
+        &self,
+        seat: &mut Seat,
+        arena: &Arena<NoGate, L>,
+    ) -> Result<Result<(), ReceiveError>, Busy> {
         seat.try_end(arena)
     }
 }
@@ -212,7 +247,7 @@ impl SeatCall for Begin {
 
     ghost does = { λ call. IsOneCall };
 
-    fn ask(&self, seat: &mut Seat, arena: &Shards) -> Result<bool, Busy> {
+    fn ask<L: Log>(&self, seat: &mut Seat, arena: &Arena<NoGate, L>) -> Result<bool, Busy> {
         seat.try_begin(arena)
     }
 }
@@ -228,7 +263,11 @@ impl SeatCall for Retire {
 
     ghost does = { λ call. Retires call.most };
 
-    fn ask(&self, seat: &mut Seat, arena: &Shards) -> Result<Result<usize, ReceiveError>, Busy> {
+    fn ask<L: Log>(
+        &self,
+        seat: &mut Seat,
+        arena: &Arena<NoGate, L>,
+    ) -> Result<Result<usize, ReceiveError>, Busy> {
         seat.try_retire(arena, self.most)
     }
 }
@@ -242,7 +281,7 @@ impl SeatCall for Trim {
 
     ghost does = { λ call. IsOneCall };
 
-    fn ask(&self, seat: &mut Seat, arena: &Shards) -> Result<usize, Busy> {
+    fn ask<L: Log>(&self, seat: &mut Seat, arena: &Arena<NoGate, L>) -> Result<usize, Busy> {
         seat.try_trim(arena)
     }
 }
@@ -256,7 +295,11 @@ impl SeatCall for Adopt {
 
     ghost does = { λ call. IsOneCall };
 
-    fn ask(&self, seat: &mut Seat, arena: &Shards) -> Result<Result<SpanId, AdoptError>, Busy> {
+    fn ask<L: Log>(
+        &self,
+        seat: &mut Seat,
+        arena: &Arena<NoGate, L>,
+    ) -> Result<Result<SpanId, AdoptError>, Busy> {
         seat.try_adopt(arena)
     }
 }
@@ -273,7 +316,7 @@ impl SeatCall for FreeLater {
 
     ghost does = { λ call. FreesLater call.key };
 
-    fn ask(&self, seat: &mut Seat, _arena: &Shards) -> Option<Result<(), Key>> {
+    fn ask<L: Log>(&self, seat: &mut Seat, _arena: &Arena<NoGate, L>) -> Option<Result<(), Key>> {
         if !seat.has_shard_of(&self.key) {
             return None;
         }
@@ -290,22 +333,7 @@ impl SeatCall for HandOver {
 
     ghost does = { λ call before _ after. HandsOver before after };
 
-    fn ask(&self, seat: &mut Seat, _arena: &Shards) {
+    fn ask<L: Log>(&self, seat: &mut Seat, _arena: &Arena<NoGate, L>) {
         seat.hand_over();
-    }
-}
-
-/// A tending of the seat's rings, of whose frees no receipt is kept.
-#[derive(Drop)]
-pub(crate) struct Tend;
-
-impl SeatCall for Tend {
-    type Answer = Result<Tended, AllocError>;
-
-    ghost does = { λ call. Tends };
-
-    fn ask(&self, seat: &mut Seat, arena: &Shards) -> Result<Tended, AllocError> {
-        let mut receipts = Dropped::new();
-        seat.try_tend(arena, &mut receipts)
     }
 }

@@ -1,8 +1,8 @@
 // The calls of a seat, for the thread that has its handle.
 ghost use Rattle.std.specs.Prelude.{◌≡◌, ◌∷◌, [], length};
 ghost use Rattle.arena.specs.Delays.{HandsOver};
-ghost use Rattle.span.specs.Classes.{width_of};
-ghost use Rattle.teurlaks_c.specs.SeatCalls.{AsksEither, AsksNothing, AsksPaused, Ends, FreesBy, FreesKey, GetsWords, IsOneCall, LeavesKey, PutsUntold, PutsWords, Retires, SaysAdopted, SaysBegun, SaysEnded, SaysFreed, SaysHandedOver, SaysLeft, SaysPut, SaysRetired, SaysSet, SaysTended, SaysTrimmed, SetsBy, SetsWords, Tends};
+ghost use Rattle.span.specs.Classes.{IsObject, width_of};
+ghost use Rattle.teurlaks_c.specs.SeatCalls.{AsksEither, AsksNothing, AsksPaused, AsksTend, AsksTold, Ends, FreesBy, FreesKey, GetsWords, IsOneCall, LeavesKey, OrNoRoom, PutsUntold, PutsWords, Retires, SaysAdopted, SaysBegun, SaysEnded, SaysFreed, SaysHandedOver, SaysLeft, SaysPut, SaysRetired, SaysSet, SaysTended, SaysTrimmed, SetsBy, SetsWords, puts_kept};
 ghost use Rattle.teurlaks_c.specs.SessionCalls.{AtHeldSeat, PutsHeld};
 ghost use Rattle.teurlaks_c.specs.Status.{adopt_status, put_status, receive_status};
 ghost use Rattle.teurlaks_c.specs.Words.{words_of};
@@ -10,11 +10,12 @@ ghost use Rattle.teurlaks_c.specs.Words.{words_of};
 use crate::calls::no_key;
 use crate::keys::{key_of, raw_of, raw_span};
 use crate::meshing::no_span;
+use crate::recorded_calls::{tell_at_seat, tend_at_seat};
 use crate::replies::{
     AdoptReply, PutReply, RawKey, RawWord, RetireReply, TendReply, TrimReply, WordsReply,
 };
 use crate::seat_calls::{
-    Adopt, Begin, End, Free, FreeLater, HandOver, Put, Retire, Set, Stay, Tend, Trim, at_seat,
+    Adopt, Begin, End, Free, FreeLater, HandOver, Put, Retire, Set, Stay, Trim, at_seat,
 };
 use crate::session_calls::{at_seat_or_session, look_up_at_seat};
 use crate::share_handle::ShareHandle;
@@ -31,6 +32,9 @@ use std::alloc::{AllocError, Global};
 
 /// Keeps an object of 1, 4 or 16 words in the seat's shard, and answers its key. Refused with `BUSY`, `PAGES_SPENT`, `ENDED` or
 /// `OUT_OF_MEMORY`; where the words are of another number, with `CONFIG`. Nothing has changed then.
+///
+/// A recorded seat keeps a receipt of each put, look-up, set and free, and of each free that it tends: where there is no room for it the
+/// call answers `OUT_OF_MEMORY`, and is not made.
 #[unsafe(no_mangle)]
 pub extern "C" fn teurlaks_seat_put_words(
     alloc: Global,
@@ -45,7 +49,7 @@ pub extern "C" fn teurlaks_seat_put_words(
             key: no_key(),
         };
     };
-    put_reply(put(alloc, handle, class, words))
+    told_put_reply(put(alloc, handle, class, words))
 }
 
 /// Writes the words of the key's object, where it is live, into `words`, from its first on, and answers how many they are. `BUSY` where
@@ -92,7 +96,8 @@ pub extern "C" fn teurlaks_seat_set_words(
     set(alloc, handle, key, values)
 }
 
-/// Frees the key, where it is live, which `OK` says; else it answers `NONE`, or `BUSY`, and nothing changes. It takes no memory.
+/// Frees the key, where it is live, which `OK` says; else it answers `NONE`, or `BUSY`, and nothing changes. It takes no memory, but for
+/// the receipt of a recorded seat.
 #[unsafe(no_mangle)]
 pub extern "C" fn teurlaks_seat_free(alloc: Global, handle: &mut ShareHandle, key: RawKey) -> u32
     ensures { FreesKey handle.old.share key result handle.new.share }
@@ -190,10 +195,10 @@ pub extern "C" fn teurlaks_seat_hand_over(alloc: Global, handle: &mut ShareHandl
 /// where it left off, since another thread had the lock that the next key needs: that key is still on its ring.
 #[unsafe(no_mangle)]
 pub extern "C" fn teurlaks_seat_tend(alloc: Global, handle: &mut ShareHandle) -> TendReply
-    ensures { (answer : _) × AsksPaused Tends handle.old.share answer handle.new.share
+    ensures { (answer : _) × AsksTend handle.old.share answer handle.new.share
         × SaysTended result answer }
 {
-    tended_reply(at_seat(alloc, handle, &Tend))
+    tended_reply(tend_at_seat(alloc, handle))
 }
 
 // The seat keeps the object of these words, which are as many as the class has. One word is by far the most frequent.
@@ -203,10 +208,10 @@ fn put(
     handle: &mut ShareHandle,
     class: Class,
     words: &[RawWord],
-) -> Option<Result<Result<(Key, usize), PutError>, Busy>>
+) -> Result<Option<Result<Result<(Key, usize), PutError>, Busy>>, AllocError>
     requires { length (words_of words.now) ≡ width_of class }
-    ensures { AsksEither (PutsUntold (words_of words.now)) (PutsHeld (words_of words.now))
-        handle.old.share result handle.new.share }
+    ensures { AsksTold (PutsUntold (words_of words.now)) (PutsHeld (words_of words.now))
+        (puts_kept (words_of words.now)) handle.old.share result handle.new.share }
 {
     if let [word] = words {
         return put_one(alloc, handle, *word);
@@ -220,12 +225,12 @@ fn put_one(
     alloc: Global,
     handle: &mut ShareHandle,
     word: RawWord,
-) -> Option<Result<Result<(Key, usize), PutError>, Busy>>
-    ensures { AsksEither (PutsUntold (words_of (word ∷ []))) (PutsHeld (words_of (word ∷ [])))
-        handle.old.share result handle.new.share }
+) -> Result<Option<Result<Result<(Key, usize), PutError>, Busy>>, AllocError>
+    ensures { AsksTold (PutsUntold (words_of (word ∷ []))) (PutsHeld (words_of (word ∷ [])))
+        (puts_kept (words_of (word ∷ []))) handle.old.share result handle.new.share }
 {
     let words = [value_of(word)];
-    at_seat_or_session(
+    tell_at_seat(
         alloc,
         handle,
         &Put {
@@ -242,16 +247,16 @@ fn put_wide(
     handle: &mut ShareHandle,
     class: Class,
     words: &[RawWord],
-) -> Option<Result<Result<(Key, usize), PutError>, Busy>>
+) -> Result<Option<Result<Result<(Key, usize), PutError>, Busy>>, AllocError>
     requires { length (words_of words.now) ≡ width_of class }
-    ensures { AsksEither (PutsUntold (words_of words.now)) (PutsHeld (words_of words.now))
-        handle.old.share result handle.new.share }
+    ensures { AsksTold (PutsUntold (words_of words.now)) (PutsHeld (words_of words.now))
+        (puts_kept (words_of words.now)) handle.old.share result handle.new.share }
 {
     let mut room = [0; 16];
     let words_len = words.len();
     let values = &mut room[..words_len];
     join_all(values, words);
-    at_seat_or_session(
+    tell_at_seat(
         alloc,
         handle,
         &Put {
@@ -263,9 +268,10 @@ fn put_wide(
 
 // The seat sets the key to the object of these words.
 fn set(alloc: Global, handle: &mut ShareHandle, key: Key, words: &[u128]) -> u32
+    requires { IsObject words.now }
     ensures { SetsBy handle.old.share key words.now result handle.new.share }
 {
-    set_reply(at_seat_or_session(alloc, handle, &Set { key, words }))
+    told_set_reply(tell_at_seat(alloc, handle, &Set { key, words }))
 }
 
 // The seat frees the key.
@@ -273,7 +279,7 @@ fn set(alloc: Global, handle: &mut ShareHandle, key: Key, words: &[u128]) -> u32
 fn free(alloc: Global, handle: &mut ShareHandle, key: Key) -> u32
     ensures { FreesBy handle.old.share key result handle.new.share }
 {
-    freed_reply(at_seat_or_session(alloc, handle, &Free { key }))
+    told_free_reply(tell_at_seat(alloc, handle, &Free { key }))
 }
 
 // That status, where the handle has a seat.
@@ -315,6 +321,45 @@ fn tended_reply(answer: Option<Result<Tended, AllocError>>) -> TendReply
             status: NO_CORE,
             count: 0,
         },
+    }
+}
+
+// What C reads of a put, of which a recorded seat keeps a receipt.
+#[inline(always)]
+fn told_put_reply(
+    answer: Result<Option<Result<Result<(Key, usize), PutError>, Busy>>, AllocError>,
+) -> PutReply
+    ensures { OrNoRoom result.status (SaysPut result) answer }
+{
+    match answer {
+        Ok(answer) => put_reply(answer),
+        Err(AllocError) => PutReply {
+            status: OUT_OF_MEMORY,
+            key: no_key(),
+        },
+    }
+}
+
+// What C reads of a set, of which a recorded seat keeps a receipt.
+fn told_set_reply(
+    answer: Result<Option<Result<Result<(bool, usize), AllocError>, Busy>>, AllocError>,
+) -> u32
+    ensures { OrNoRoom result (SaysSet result) answer }
+{
+    match answer {
+        Ok(answer) => set_reply(answer),
+        Err(AllocError) => OUT_OF_MEMORY,
+    }
+}
+
+// What C reads of a free, of which a recorded seat keeps a receipt.
+#[inline(always)]
+fn told_free_reply(answer: Result<Option<Result<(bool, usize), Busy>>, AllocError>) -> u32
+    ensures { OrNoRoom result (SaysFreed result) answer }
+{
+    match answer {
+        Ok(answer) => freed_reply(answer),
+        Err(AllocError) => OUT_OF_MEMORY,
     }
 }
 

@@ -4,9 +4,11 @@ ghost use Rattle.arena.specs.Delays.{HandsOver};
 ghost use Rattle.teurlaks_c.specs.SeatCalls.{AsksEither, FreesLater, GetsKey, SaysGot, Stays};
 ghost use Rattle.teurlaks_c.specs.SessionCalls.{AtHeldSeat, FreesHeld, GetsHeld, Held, InSession, PutsHeld, SetsHeld, held};
 
+use crate::recorded_calls::look_up_recorded;
 use crate::replies::{RawWord, WordsReply};
 use crate::seat_calls::{
-    Free, FreeLater, HandOver, Put, SeatCall, Set, Stay, ask_seat, look_up, looked_reply,
+    Free, FreeLater, HandOver, Put, SeatCall, Set, Stay, ask_recorded_seat, ask_seat, look_up,
+    looked_reply, not_looked,
 };
 use crate::share::{Share, SharedSession};
 use crate::share_handle::ShareHandle;
@@ -28,7 +30,7 @@ pub(crate) trait SessionCall: SeatCall {
         ensures does { does_held self.now (held shared.old) result (held shared.new) };
 }
 
-/// Asks the seat of the handle, where it has one, in its session, where it keeps its shard.
+/// Asks the seat of the handle, where it has one, in its session, where it keeps its shard. No receipt is made.
 #[inline(always)]
 pub(crate) fn at_seat_or_session<C: SessionCall>(
     alloc: Global,
@@ -55,7 +57,11 @@ fn ask_either<C: SessionCall>(share: &mut Share, call: &C) -> Option<C::Answer>
     match share {
         Share::Seat(seat) => Some(ask_seat(seat, call)),
         Share::Session(session) => Some(call.ask_in_session(session)),
-        Share::Steward(_) | Share::Nothing => None,
+        Share::RecordedSeat(seat) => Some(ask_recorded_seat(seat, call)),
+        Share::Steward(_) => None,
+        Share::RecordedSteward(_) => None,
+        Share::Run(_) => None,
+        Share::Nothing => None,
     }
 }
 
@@ -89,10 +95,11 @@ fn look_up_at_share(share: &mut Share, key: &Key, room: &mut [RawWord]) -> Words
     match share {
         Share::Seat(seat) => look_up(seat, key, room),
         Share::Session(session) => look_up_in_session(session, key, room),
-        Share::Steward(_) | Share::Nothing => WordsReply {
-            status: NO_CORE,
-            len: 0,
-        },
+        Share::RecordedSeat(seat) => look_up_recorded(seat, key, room),
+        Share::Steward(_) => not_looked(NO_CORE),
+        Share::RecordedSteward(_) => not_looked(NO_CORE),
+        Share::Run(_) => not_looked(NO_CORE),
+        Share::Nothing => not_looked(NO_CORE),
     }
 }
 

@@ -4,7 +4,7 @@ ghost use Rattle.teurlaks_c.specs.SeatCalls.{GivesShard, HoldsShard};
 
 use crate::share::{Share, SharedSeat, SharedSession};
 use crate::share_handle::ShareHandle;
-use crate::status::{BUSY, NO_CORE, OK};
+use crate::status::{BUSY, CONFIG, NO_CORE, OK};
 use arena::Session;
 use std::alloc::Global;
 use std::mem::replace;
@@ -12,7 +12,8 @@ use std::mem::replace;
 /// Keeps the seat's shard for its thread from now on, until `teurlaks_seat_pause`: a put, and a look-up, a set and a free of what is in that
 /// shard, take no lock then. Whoever else needs the shard's lock is answered `BUSY` meanwhile, the steward's mark among them. Where a look-up, a
 /// set or a free in the session answers `BUSY`, pause, make it again, and begin another session. Refused with `BUSY` where another thread
-/// has the shard; nothing has changed then. Where the seat keeps its shard already it is `OK`. It takes no memory.
+/// has the shard, or with `CONFIG` at a recorded seat, whose calls all make receipts; nothing has changed then. Where the seat keeps its shard
+/// already it is `OK`. It takes no memory.
 #[unsafe(no_mangle)]
 pub extern "C" fn teurlaks_seat_session(alloc: Global, handle: &mut ShareHandle) -> u32
     ensures { HoldsShard handle.old.share result handle.new.share }
@@ -25,7 +26,7 @@ pub extern "C" fn teurlaks_seat_session(alloc: Global, handle: &mut ShareHandle)
     status
 }
 
-/// Lets other threads at the seat's shard again, where the seat keeps it. It takes no memory.
+/// Lets other threads at the seat's shard again, where the seat keeps it, which a recorded seat never does. It takes no memory.
 #[unsafe(no_mangle)]
 pub extern "C" fn teurlaks_seat_pause(alloc: Global, handle: &mut ShareHandle) -> u32
     ensures { GivesShard handle.old.share result handle.new.share }
@@ -57,7 +58,10 @@ fn holding(share: Share) -> (Share, u32)
             Err((arena, seat)) => (Share::Seat(SharedSeat { arena, seat }), BUSY),
         },
         Share::Session(session) => (Share::Session(session), OK),
+        Share::RecordedSeat(seat) => (Share::RecordedSeat(seat), CONFIG),
         Share::Steward(steward) => (Share::Steward(steward), NO_CORE),
+        Share::RecordedSteward(steward) => (Share::RecordedSteward(steward), NO_CORE),
+        Share::Run(run) => (Share::Run(run), NO_CORE),
         Share::Nothing => (Share::Nothing, NO_CORE),
     }
 }
@@ -78,7 +82,10 @@ fn giving(share: Share) -> (Share, u32)
     match share {
         Share::Session(session) => (Share::Seat(session.pause()), OK),
         Share::Seat(seat) => (Share::Seat(seat), OK),
+        Share::RecordedSeat(seat) => (Share::RecordedSeat(seat), OK),
         Share::Steward(steward) => (Share::Steward(steward), NO_CORE),
+        Share::RecordedSteward(steward) => (Share::RecordedSteward(steward), NO_CORE),
+        Share::Run(run) => (Share::Run(run), NO_CORE),
         Share::Nothing => (Share::Nothing, NO_CORE),
     }
 }

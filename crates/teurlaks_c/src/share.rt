@@ -3,6 +3,7 @@ ghost use Rattle.std.specs.Arc.{arc_value};
 ghost use Rattle.std.specs.Prelude.{◌≡◌, All};
 
 use crate::held::Witness;
+use crate::recorded::{RecordedRun, RecordedSeat, RecordedSteward};
 use arena::{Arena, NoGate, Seat, Session, Steward};
 use span::Counted;
 use std::alloc::Global;
@@ -40,22 +41,30 @@ impl SharedSession {
     }
 }
 
-/// The steward of an arena, with a share of it, and what its last mark answered.
+/// Who keeps the open plan of an arena, and what its last mark answered.
 #[derive(Drop)]
-pub struct SharedSteward {
-    /// The arena.
-    pub arena: Arc<Shards, Global>,
+pub struct Keeper {
     /// The keeper of the open plan.
     pub steward: Steward,
     /// The certificate of the last mark that was not refused.
     pub last: Option<Witness>,
+}
+
+/// The steward of an arena, with a share of it.
+#[derive(Drop)]
+pub struct SharedSteward {
+    /// The arena.
+    pub arena: Arc<Shards, Global>,
+    /// Its plan, and the last mark.
+    pub keeper: Keeper,
     /// The seats that no thread has.
     pub seats: Vec<Seat>,
-    pub ghost fits: { steward.limits ≡ (arc_value arena).limits },
+    pub ghost fits: { keeper.steward.limits ≡ (arc_value arena).limits },
     pub ghost seats_fit: { All (λ seat. seat.limits ≡ (arc_value arena).limits) seats.items },
 }
 
-/// What a handle has: a seat, which may keep its shard, or a steward.
+/// What a handle has: a seat, which may keep its shard, or a steward of an arena, whose run is recorded or is not; or a recorded run that is
+/// over.
 #[derive(Drop)]
 pub enum Share {
     /// A worker's seat.
@@ -64,6 +73,12 @@ pub enum Share {
     Steward(SharedSteward),
     /// A worker's seat that keeps its shard.
     Session(SharedSession),
+    /// A worker's seat, with its receipts.
+    RecordedSeat(RecordedSeat),
+    /// The steward of an arena whose run is recorded.
+    RecordedSteward(RecordedSteward),
+    /// What is left of such an arena.
+    Run(RecordedRun),
     /// Nothing: a call has taken out what is shared, to make another of these of it. No call leaves it behind.
     Nothing,
 }

@@ -58,6 +58,27 @@ pub(crate) const BUSY: u32 = 16;
 /// Refused: the shard has not ended, so it can't begin again.
 pub(crate) const RUNNING: u32 = 17;
 
+/// Refused: the run is recorded, so that no log is forgotten.
+pub(crate) const RECORDED: u32 = 18;
+
+/// Refused: a seat is not back yet, so that the run is not over.
+pub(crate) const UNFINISHED: u32 = 19;
+
+/// The receipts do not agree with the logs: a log is not legal, or a span has two.
+pub(crate) const LOG_FAULT: u32 = 20;
+
+/// The receipts do not agree with the logs: a change has no receipt or two, or a receipt that makes a change has none.
+pub(crate) const CHANGE_FAULT: u32 = 21;
+
+/// The receipts do not agree with the logs: a call was not answered as the changes before it say.
+pub(crate) const REPLY_FAULT: u32 = 22;
+
+/// The receipts do not agree with the logs: the calls of a seat are not in the order of their changes.
+pub(crate) const ORDER_FAULT: u32 = 23;
+
+/// The receipts do not agree with the logs: a call stands before one of an earlier section.
+pub(crate) const BARRIER_FAULT: u32 = 24;
+
 /// The status that stands for the refusal.
 #[inline(always)]
 pub(crate) fn status_of(refusal: Refusal) -> u32

@@ -1,18 +1,20 @@
 // What is asked of the steward of a handle, and what it answers.
 ghost use Rattle.std.specs.Prelude.{◌≡◌, Some};
 ghost use Rattle.certificate.specs.Text.{IsWritable};
-ghost use Rattle.teurlaks_c.specs.declared.share.SharedSteward.{SharedSteward};
+ghost use Rattle.teurlaks_c.specs.declared.share.Keeper.{Keeper};
 ghost use Rattle.teurlaks_c.specs.Calls.{CountsOf, kept};
-ghost use Rattle.teurlaks_c.specs.StewardCalls.{Asks, Closes, Forgets, Keeps, Marks, TakesStep};
+ghost use Rattle.teurlaks_c.specs.StewardCalls.{Asks, Closes, Keeps, Marks, TakesStep};
 
 use crate::held::Witness;
 use crate::meshing::marked;
+use crate::recorded::RecordedSteward;
 use crate::replies::MarkReply;
-use crate::share::{Share, SharedSteward};
+use crate::share::{Keeper, Share, SharedSteward};
 use crate::share_handle::ShareHandle;
-use arena::{Busy, PlanOpen, Stepped, Totals};
+use arena::{Arena, Busy, NoGate, Stepped, Totals};
 use certificate::Certificate;
 use marks::MarkError;
+use span::Log;
 use std::alloc::{AllocError, Global};
 use std::mem::replace;
 
@@ -22,13 +24,13 @@ pub(crate) trait StewardCall {
     type Answer;
 
     /// What it does.
-    ghost does: { Self → SharedSteward → Self.Answer → SharedSteward → Type 0 };
+    ghost does: { Self → Keeper → Self.Answer → Keeper → Type 0 };
 
     /// Makes the call.
-    fn ask(&self, shared: &mut SharedSteward) -> Self::Answer
-        ensures arena { shared.new.arena ≡ shared.old.arena }
-        ensures seats { shared.new.seats ≡ shared.old.seats }
-        ensures does { does self.now shared.old result shared.new };
+    fn ask<L: Log>(&self, arena: &Arena<NoGate, L>, keeper: &mut Keeper) -> Self::Answer
+        requires { keeper.old.steward.limits ≡ arena.now.limits }
+        ensures limits { keeper.new.steward.limits ≡ keeper.old.steward.limits }
+        ensures does { does self.now keeper.old result keeper.new };
 }
 
 /// Asks the steward of the handle, where it has one.
@@ -52,9 +54,32 @@ fn ask_share<C: StewardCall>(share: &mut Share, call: &C) -> Option<C::Answer>
     ensures { Asks (C.does call.now) (Some share.old) result (Some share.new) }
 {
     match share {
-        Share::Seat(_) | Share::Session(_) | Share::Nothing => None,
-        Share::Steward(steward) => Some(call.ask(steward)),
+        Share::Steward(steward) => Some(ask_steward(steward, call)),
+        Share::RecordedSteward(steward) => Some(ask_recorded_steward(steward, call)),
+        Share::Seat(_) => None,
+        Share::Session(_) => None,
+        Share::RecordedSeat(_) => None,
+        Share::Run(_) => None,
+        Share::Nothing => None,
     }
+}
+
+// Asks the steward.
+fn ask_steward<C: StewardCall>(shared: &mut SharedSteward, call: &C) -> C::Answer
+    ensures arena { shared.new.arena ≡ shared.old.arena }
+    ensures seats { shared.new.seats ≡ shared.old.seats }
+    ensures does { C.does call.now shared.old.keeper result shared.new.keeper }
+{
+    call.ask(&*shared.arena, &mut shared.keeper)
+}
+
+// Asks the steward of a recorded arena.
+fn ask_recorded_steward<C: StewardCall>(shared: &mut RecordedSteward, call: &C) -> C::Answer
+    ensures arena { shared.new.arena ≡ shared.old.arena }
+    ensures seats { shared.new.seats ≡ shared.old.seats }
+    ensures does { C.does call.now shared.old.keeper result shared.new.keeper }
+{
+    call.ask(&*shared.arena, &mut shared.keeper)
 }
 
 /// A mark of all groups.
@@ -66,9 +91,13 @@ impl StewardCall for Mark {
 
     ghost does = { λ call. Marks };
 
-    fn ask(&self, shared: &mut SharedSteward) -> Result<Result<MarkReply, MarkError>, Busy> {
-        match shared.arena.try_mark(&mut shared.steward)? {
-            Ok(certificate) => Ok(Ok(keep(&mut shared.last, certificate))),
+    fn ask<L: Log>(
+        &self,
+        arena: &Arena<NoGate, L>,
+        keeper: &mut Keeper,
+    ) -> Result<Result<MarkReply, MarkError>, Busy> {
+        match arena.try_mark(&mut keeper.steward)? {
+            Ok(certificate) => Ok(Ok(keep(&mut keeper.last, certificate))),
             Err(refusal) => Ok(Err(refusal)),
         }
     }
@@ -83,9 +112,13 @@ impl StewardCall for MarkSome {
 
     ghost does = { λ call. Marks };
 
-    fn ask(&self, shared: &mut SharedSteward) -> Result<Result<MarkReply, MarkError>, Busy> {
-        match shared.arena.try_mark_some(&mut shared.steward)? {
-            Ok(certificate) => Ok(Ok(keep(&mut shared.last, certificate))),
+    fn ask<L: Log>(
+        &self,
+        arena: &Arena<NoGate, L>,
+        keeper: &mut Keeper,
+    ) -> Result<Result<MarkReply, MarkError>, Busy> {
+        match arena.try_mark_some(&mut keeper.steward)? {
+            Ok(certificate) => Ok(Ok(keep(&mut keeper.last, certificate))),
             Err(refusal) => Ok(Err(refusal)),
         }
     }
@@ -100,8 +133,12 @@ impl StewardCall for Step {
 
     ghost does = { λ call. TakesStep };
 
-    fn ask(&self, shared: &mut SharedSteward) -> Result<Result<Stepped, AllocError>, Busy> {
-        shared.arena.try_step(&mut shared.steward)
+    fn ask<L: Log>(
+        &self,
+        arena: &Arena<NoGate, L>,
+        keeper: &mut Keeper,
+    ) -> Result<Result<Stepped, AllocError>, Busy> {
+        arena.try_step(&mut keeper.steward)
     }
 }
 
@@ -114,22 +151,8 @@ impl StewardCall for Close {
 
     ghost does = { λ call. Closes };
 
-    fn ask(&self, shared: &mut SharedSteward) -> Result<bool, Busy> {
-        shared.arena.try_close(&mut shared.steward)
-    }
-}
-
-/// A forgetting of guests in which no slot is live.
-#[derive(Drop)]
-pub(crate) struct Forget;
-
-impl StewardCall for Forget {
-    type Answer = Result<Result<usize, PlanOpen>, Busy>;
-
-    ghost does = { λ call. Forgets };
-
-    fn ask(&self, shared: &mut SharedSteward) -> Result<Result<usize, PlanOpen>, Busy> {
-        shared.arena.try_forget(&shared.steward)
+    fn ask<L: Log>(&self, arena: &Arena<NoGate, L>, keeper: &mut Keeper) -> Result<bool, Busy> {
+        arena.try_close(&mut keeper.steward)
     }
 }
 
@@ -142,8 +165,8 @@ impl StewardCall for CountAll {
 
     ghost does = { λ call. Keeps };
 
-    fn ask(&self, shared: &mut SharedSteward) -> Result<Totals, Busy> {
-        shared.arena.try_totals()
+    fn ask<L: Log>(&self, arena: &Arena<NoGate, L>, _keeper: &mut Keeper) -> Result<Totals, Busy> {
+        arena.try_totals()
     }
 }
 

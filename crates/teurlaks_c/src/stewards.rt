@@ -5,19 +5,20 @@ ghost use Rattle.arena.specs.declared.error.OpenError.TheVariants as open_error;
 ghost use Rattle.teurlaks_c.specs.declared.share.SharedSeat.{SharedSeat};
 ghost use Rattle.teurlaks_c.specs.declared.share.Share.TheVariants as shares;
 ghost use Rattle.marks.specs.Numbers.{AreWithin, limits_of};
-ghost use Rattle.teurlaks_c.specs.Status.{config, has_core, mark_status, status_of_outcome};
-ghost use Rattle.teurlaks_c.specs.StewardCalls.{Asks, Closes, Forgets, HandsOutOf, HandsOutSeat, HasNewArena, Keeps, LeavesSeat, Marks, SaysClosed, SaysForgotten, SaysMarked, SaysStepped, SaysTotals, TakesStep, WritesLast};
+ghost use Rattle.teurlaks_c.specs.Status.{config, has_core, mark_status, no_core, status_of_outcome};
+ghost use Rattle.teurlaks_c.specs.StewardCalls.{Asks, Closes, ForgetsAll, HandsOut, HandsOutOf, HasNewArena, Keeps, LeavesSeat, Marks, SaysClosed, SaysForgotten, SaysMarked, SaysStepped, SaysTotals, TakesStep, WritesLast};
 
 use crate::keys::raw_span;
 use crate::meshing::{unmarked, unstepped, write_last};
+use crate::recorded_stewards::kept_seat_of;
 use crate::replies::{ArenaTotalsReply, CertificateReply, ForgetReply, MarkReply, StepReply};
-use crate::share::{Shards, Share, SharedSeat, SharedSteward};
+use crate::share::{Keeper, Shards, Share, SharedSeat, SharedSteward};
 use crate::share_handle::ShareHandle;
 use crate::status::{
     BUSY, CONFIG, EMPTIED, HAS_CORE, NO_CORE, NO_PAIR_LEFT, NO_PLAN, NONE, OK, OUT_OF_MEMORY,
-    PLAN_OPEN, TOO_MANY,
+    PLAN_OPEN, RECORDED, TOO_MANY,
 };
-use crate::steward_calls::{Close, CountAll, Forget, Mark, MarkSome, Step, at_steward};
+use crate::steward_calls::{Close, CountAll, Mark, MarkSome, Step, at_steward};
 use arena::{Arena, Busy, NoGate, OpenError, PlanOpen, Seat, Stepped, Totals};
 use fold::Step as Outcome;
 use marks::MarkError;
@@ -79,10 +80,10 @@ fn opened(
 ) -> Result<SharedSteward, OpenError>
     ensures config { IsErrOf result open_error.Config
         ↔ (AreWithin (limits_of shards page_limit ring_capacity gens) → ⊥) }
-    ensures new { IfOk result (λ shared. (shared.steward ≡ record {
+    ensures new { IfOk result (λ shared. (shared.keeper.steward ≡ record {
       limits = limits_of shards page_limit ring_capacity gens;
       plan = None;
-    }) × (shared.last ≡ None) × (vec_len shared.seats ≡ shards)) }
+    }) × (shared.keeper.last ≡ None) × (vec_len shared.seats ≡ shards)) }
 {
     let (arena, seats, steward) = Arena::open_with_log(
         alloc,
@@ -95,16 +96,19 @@ fn opened(
     let Ok(arena) = Arc::new(alloc, arena) else {
         return Err(OpenError::OutOfMemory);
     };
-    Ok(SharedSteward {
-        arena,
+    let keeper = Keeper {
         steward,
         last: None,
+    };
+    Ok(SharedSteward {
+        arena,
+        keeper,
         seats,
     })
 }
 
-/// Gives the share back: the memory of the arena goes with the last of its shares. A seat does not come back:
-/// its shard takes no further put, and its objects stay.
+/// Gives the share back: the memory of the arena goes with the last of its shares. A seat does not come back, but by
+/// `teurlaks_seat_leave`: its shard takes no further put, and its objects stay.
 #[unsafe(no_mangle)]
 pub extern "C" fn teurlaks_share_drop(alloc: Global, handle: &mut ShareHandle)
     ensures { handle.new.share ≡ None }
@@ -137,7 +141,7 @@ pub extern "C" fn teurlaks_steward_seat(
 // A seat of the handle's steward, in a box of its own, or the status that says why there is none.
 fn hand_out(alloc: Global, handle: &mut ShareHandle) -> Result<Box<Share>, u32>
     ensures { MatchResult result
-        (λ seat. HandsOutSeat handle.old.share 0 handle.new.share (Some seat.value))
+        (λ seat. HandsOut handle.old.share 0 handle.new.share (Some seat.value))
         (λ status. LeavesSeat handle.old.share None status handle.new.share None) }
 {
     let Some(mut share) = replace(handle, ShareHandle::none()).into_box(alloc) else {
@@ -151,12 +155,17 @@ fn hand_out(alloc: Global, handle: &mut ShareHandle) -> Result<Box<Share>, u32>
 // The same of what is shared.
 fn take_seat(alloc: Global, share: &mut Share) -> Result<Box<Share>, u32>
     ensures { MatchResult result
-        (λ seat. HandsOutSeat (Some share.old) 0 (Some share.new) (Some seat.value))
+        (λ seat. HandsOut (Some share.old) 0 (Some share.new) (Some seat.value))
         (λ status. LeavesSeat (Some share.old) None status (Some share.new) None) }
 {
     match share {
-        Share::Seat(_) | Share::Session(_) | Share::Nothing => Err(NO_CORE),
         Share::Steward(steward) => seat_of(alloc, steward),
+        Share::RecordedSteward(steward) => kept_seat_of(alloc, steward),
+        Share::Seat(_) => Err(NO_CORE),
+        Share::Session(_) => Err(NO_CORE),
+        Share::RecordedSeat(_) => Err(NO_CORE),
+        Share::Run(_) => Err(NO_CORE),
+        Share::Nothing => Err(NO_CORE),
     }
 }
 
@@ -166,7 +175,7 @@ fn seat_of(alloc: Global, steward: &mut SharedSteward) -> Result<Box<Share>, u32
         (λ seat. HandsOutOf steward.old 0 steward.new (Some seat.value))
         (λ status. HandsOutOf steward.old status steward.new None) }
     ensures same { (steward.new.arena ≡ steward.old.arena)
-        × (steward.new.steward ≡ steward.old.steward) × (steward.new.last ≡ steward.old.last) }
+        × (steward.new.keeper ≡ steward.old.keeper) }
 {
     let Some(seat) = steward.seats.pop() else {
         return Err(NONE);
@@ -199,7 +208,7 @@ fn boxed_seat(alloc: Global, arena: &Arc<Shards, Global>, seat: Seat) -> Result<
                     let SharedSeat { seat, .. } = shared;
                     Err(seat)
                 }
-                Share::Steward(_) | Share::Session(_) | Share::Nothing => unreachable!(),
+                _ => unreachable!(),
             }
         }
     }
@@ -248,14 +257,36 @@ pub extern "C" fn teurlaks_steward_close(alloc: Global, handle: &mut ShareHandle
 }
 
 /// Forgets the spans that can never be live again, with their generations, as `Arena::forget` does; the count is how many went. Nothing
-/// else changes that a caller sees. Refused with `BUSY`, or with `PLAN_OPEN` while a plan is open; nothing has changed then. It takes no
-/// memory.
+/// else changes that a caller sees. Refused with `BUSY`, with `PLAN_OPEN` while a plan is open, or with `RECORDED` where the run is
+/// recorded, since its audit needs each log; nothing has changed then. It takes no memory.
 #[unsafe(no_mangle)]
 pub extern "C" fn teurlaks_steward_forget(alloc: Global, handle: &mut ShareHandle) -> ForgetReply
-    ensures { (answer : _) × Asks Forgets handle.old.share answer handle.new.share
-        × SaysForgotten result answer }
+    ensures same { handle.new.share ≡ handle.old.share }
+    ensures forgets { ForgetsAll handle.old.share result }
 {
-    forgotten_reply(at_steward(alloc, handle, &Forget))
+    let Some(share) = replace(handle, ShareHandle::none()).into_box(alloc) else {
+        return unforgotten(NO_CORE);
+    };
+    let says = forget_of(&*share);
+    *handle = ShareHandle::of(share);
+    says
+}
+
+// The same of what is shared.
+fn forget_of(share: &Share) -> ForgetReply
+    ensures { ForgetsAll (Some share.now) result }
+{
+    match share {
+        Share::Steward(steward) => {
+            forgotten_reply(steward.arena.try_forget(&steward.keeper.steward))
+        }
+        Share::RecordedSteward(_) => unforgotten(RECORDED),
+        Share::Seat(_) => unforgotten(NO_CORE),
+        Share::Session(_) => unforgotten(NO_CORE),
+        Share::RecordedSeat(_) => unforgotten(NO_CORE),
+        Share::Run(_) => unforgotten(NO_CORE),
+        Share::Nothing => unforgotten(NO_CORE),
+    }
 }
 
 /// Writes the text of the last mark's certificate into `text`, from its first byte on, and answers how long it is. `NONE` where no mark
@@ -286,11 +317,23 @@ fn write_last_of(alloc: Global, share: &Share, room: &mut [u8]) -> CertificateRe
     ensures { WritesLast (Some share.now) room.old result room.new }
 {
     match share {
-        Share::Seat(_) | Share::Session(_) | Share::Nothing => CertificateReply {
-            status: NO_CORE,
-            len: 0,
-        },
-        Share::Steward(steward) => write_last(alloc, &steward.last, room),
+        Share::Steward(steward) => write_last(alloc, &steward.keeper.last, room),
+        Share::RecordedSteward(steward) => write_last(alloc, &steward.keeper.last, room),
+        Share::Seat(_) => unwritten(),
+        Share::Session(_) => unwritten(),
+        Share::RecordedSeat(_) => unwritten(),
+        Share::Run(_) => unwritten(),
+        Share::Nothing => unwritten(),
+    }
+}
+
+// What C reads where there is no steward, and so no certificate.
+fn unwritten() -> CertificateReply
+    ensures { (result.status ≡ no_core) × (result.len ≡ 0) }
+{
+    CertificateReply {
+        status: NO_CORE,
+        len: 0,
     }
 }
 
@@ -372,15 +415,20 @@ fn closed_reply(answer: Option<Result<bool, Busy>>) -> u32
 }
 
 // What C reads of a forgetting.
-fn forgotten_reply(answer: Option<Result<Result<usize, PlanOpen>, Busy>>) -> ForgetReply
+fn forgotten_reply(answer: Result<Result<usize, PlanOpen>, Busy>) -> ForgetReply
     ensures { SaysForgotten result answer }
 {
-    let status = match answer {
-        Some(Ok(Ok(count))) => return ForgetReply { status: OK, count },
-        Some(Ok(Err(PlanOpen))) => PLAN_OPEN,
-        Some(Err(Busy)) => BUSY,
-        None => NO_CORE,
-    };
+    match answer {
+        Ok(Ok(count)) => ForgetReply { status: OK, count },
+        Ok(Err(PlanOpen)) => unforgotten(PLAN_OPEN),
+        Err(Busy) => unforgotten(BUSY),
+    }
+}
+
+// What C reads where nothing is forgotten.
+fn unforgotten(status: u32) -> ForgetReply
+    ensures { (result.status ≡ status) × (result.count ≡ 0) }
+{
     ForgetReply { status, count: 0 }
 }
 

@@ -8,12 +8,12 @@ use crate::calls::no_key;
 use crate::keys::raw_of;
 use crate::replies::{NextReply, RawWalk};
 use crate::seat_calls::{SeatCall, at_seat};
-use crate::share::{Shards, SharedSteward};
+use crate::share::Keeper;
 use crate::share_handle::ShareHandle;
 use crate::status::{BUSY, NO_CORE, NONE, OK};
 use crate::steward_calls::{StewardCall, at_steward};
-use arena::{Busy, Seat, Walk};
-use span::Key;
+use arena::{Arena, Busy, NoGate, Seat, Walk};
+use span::{Key, Log};
 use std::alloc::Global;
 
 /// The live key of the arena that comes next in the walk, behind which the walk stands from now on; all zeros are the beginning of a
@@ -21,7 +21,7 @@ use std::alloc::Global;
 /// goes on from there.
 ///
 /// A walk meets no key twice, and each that is live from its beginning to its end; a key that is put or freed meanwhile it may meet or
-/// not. It takes no memory.
+/// not. It takes no memory, and no receipt is made of it.
 #[unsafe(no_mangle)]
 pub extern "C" fn teurlaks_seat_next(
     alloc: Global,
@@ -64,7 +64,11 @@ impl SeatCall for Next {
 
     ghost does = { λ call. WalksAtSeat call.from };
 
-    fn ask(&self, _seat: &mut Seat, arena: &Shards) -> (Result<Option<Key>, Busy>, Walk) {
+    fn ask<L: Log>(
+        &self,
+        _seat: &mut Seat,
+        arena: &Arena<NoGate, L>,
+    ) -> (Result<Option<Key>, Busy>, Walk) {
         go_on(self.from, arena)
     }
 }
@@ -74,13 +78,17 @@ impl StewardCall for Next {
 
     ghost does = { λ call. WalksAtSteward call.from };
 
-    fn ask(&self, shared: &mut SharedSteward) -> (Result<Option<Key>, Busy>, Walk) {
-        go_on(self.from, &*shared.arena)
+    fn ask<L: Log>(
+        &self,
+        arena: &Arena<NoGate, L>,
+        _keeper: &mut Keeper,
+    ) -> (Result<Option<Key>, Busy>, Walk) {
+        go_on(self.from, arena)
     }
 }
 
 // A step of the walk from there, and where it stands then.
-fn go_on(from: Walk, arena: &Shards) -> (Result<Option<Key>, Busy>, Walk)
+fn go_on<L: Log>(from: Walk, arena: &Arena<NoGate, L>) -> (Result<Option<Key>, Busy>, Walk)
     ensures { GoesOn from result }
 {
     let mut walk = from;

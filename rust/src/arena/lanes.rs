@@ -48,6 +48,20 @@ impl Lanes {
         iter::once(&self.here).chain(&self.others)
     }
 
+    /// Has each of them go back by this call, until it answers another status than `OK`. Those that are left then go on, and the last that is left is
+    /// there in any case.
+    pub fn leave(&mut self, mut call: impl FnMut(*mut raw::ShareHandle) -> u32) -> u32 {
+        while let Some(other) = self.others.last() {
+            let status = call(other.handle());
+            if status != raw::OK {
+                return status;
+            }
+            self.others.pop();
+            self.next = 0;
+        }
+        call(self.handle())
+    }
+
     /// Counts a value that this one took, and says whether it is the next one's turn.
     #[inline]
     pub fn count(&mut self) -> bool {

@@ -10,6 +10,7 @@ use crate::names::{Group, Key};
 use crate::raw;
 use crate::refused::Refused;
 use crate::store::as_words;
+use std::alloc::{handle_alloc_error, Layout};
 use std::cell::Cell;
 use std::fmt;
 use std::marker::PhantomData;
@@ -23,9 +24,10 @@ use std::ptr::NonNull;
 /// it: it pauses, lets others run, and then sleeps for 20 microseconds at a time. Most calls hold a lock for well below a microsecond; a mark holds
 /// all of them for as long as it plans. While the steward waits for a lock, each call of a seat lets others run before it begins, up to 32 times.
 ///
-/// A seat that is dropped is not handed out again. Its shard takes no further value then, and its values stay, under keys that each other seat
-/// finds. Their pages stay too, until they are empty, so [`Seat::end`] leaves them to the pool before, from where they are folded onto others. What
-/// other threads have left to it ([`Seat::free_later`]) nobody frees any more once it is gone.
+/// A seat that its thread is done with goes back by [`Arena::take_back`](super::Arena::take_back). One that is dropped is not handed out again. Its
+/// shard takes no further value then, and its values stay, under keys that each other seat finds. Their pages stay too, until they are empty, so
+/// [`Seat::end`] leaves them to the pool before, from where they are folded onto others. What other threads have left to it ([`Seat::free_later`])
+/// nobody frees any more once it is gone.
 pub struct Seat<T> {
     lanes: Lanes,
     turn: Turn,
@@ -54,6 +56,9 @@ impl<T> Seat<T> {
     /// its shard for a moment where the steward waits, and where a call needs a lock that another thread has, so that two sessions never wait for
     /// each other.
     ///
+    /// In a recorded arena ([`Arena::open_recorded`](super::Arena::open_recorded)) a session keeps no shard, and makes its calls as the seat does,
+    /// each with its receipt.
+    ///
     /// ```
     /// use teurlaks::arena::Arena;
     /// use teurlaks::Limits;
@@ -73,14 +78,14 @@ impl<T> Seat<T> {
         Session::new(self)
     }
 
-    /// Keeps the shard, once no other thread has it.
+    /// Keeps the shard, once no other thread has it. A recorded seat keeps none.
     fn hold(&self) {
         // SAFETY: the handle has a seat, and no other call runs on it.
         let status = self
             .turn
             .at_seat(|| unsafe { raw::teurlaks_seat_session(self.lanes.handle()) });
-        debug_assert_eq!(status, raw::OK, "the handle has a seat");
-        self.holds.set(true);
+        debug_assert!(matches!(status, raw::OK | raw::CONFIG), "the handle has a seat");
+        self.holds.set(status == raw::OK);
     }
 
     /// Lets others at the shard.
@@ -138,6 +143,20 @@ impl<T> Seat<T> {
             self.hold();
         }
     }
+
+    pub(super) fn lanes(&mut self) -> &mut Lanes {
+        &mut self.lanes
+    }
+
+    pub(super) fn turn(&self) -> &Turn {
+        &self.turn
+    }
+}
+
+/// Ends the process, where a recorded arena is refused memory for the receipt of a call that can't answer so.
+#[cold]
+fn no_room_for_a_receipt() -> ! {
+    handle_alloc_error(Layout::new::<[u64; 6]>())
 }
 
 impl<T: Copy> Seat<T> {
@@ -195,6 +214,9 @@ impl<T: Copy> Seat<T> {
         // SAFETY: as in `insert_here`, and there is room for 16 words.
         let got =
             self.ask(|| unsafe { raw::teurlaks_seat_get_words(self.lanes.handle(), key.raw(), first, MOST_WORDS) });
+        if got.status == raw::OUT_OF_MEMORY {
+            no_room_for_a_receipt();
+        }
         // SAFETY: the library is proved to find what was put or set, and at all seats only values of this type were.
         (got.status == raw::OK).then(|| unsafe { words.as_ptr().cast::<T>().read_unaligned() })
     }
@@ -229,6 +251,9 @@ impl<T> Seat<T> {
         let none = NonNull::dangling().as_ptr();
         // SAFETY: as in `insert_here`, and there is no room, into which nothing is written.
         let got = self.ask(|| unsafe { raw::teurlaks_seat_get_words(self.lanes.handle(), key.raw(), none, 0) });
+        if got.status == raw::OUT_OF_MEMORY {
+            no_room_for_a_receipt();
+        }
         got.status != raw::NONE
     }
 
@@ -241,7 +266,11 @@ impl<T> Seat<T> {
     #[inline]
     pub fn free(&mut self, key: Key) -> bool {
         // SAFETY: as in `insert_here`.
-        self.ask(|| unsafe { raw::teurlaks_seat_free(self.lanes.handle(), key.raw()) }) == raw::OK
+        let status = self.ask(|| unsafe { raw::teurlaks_seat_free(self.lanes.handle(), key.raw()) });
+        if status == raw::OUT_OF_MEMORY {
+            no_room_for_a_receipt();
+        }
+        status == raw::OK
     }
 
     /// Leaves the key to the seat of the shard that gave it out, which frees it when it next tends ([`Seat::tend`]); until then it is live. It

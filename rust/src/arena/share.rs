@@ -96,6 +96,11 @@ impl Turn {
         }
     }
 
+    /// Whether both are of one arena.
+    pub fn is_of(&self, other: &Turn) -> bool {
+        Arc::ptr_eq(&self.steward_waits, &other.steward_waits)
+    }
+
     /// Makes the call of a seat, again and again while another thread has a lock that it needs: it has changed nothing then.
     #[inline]
     pub fn at_seat<A: Answer>(&self, mut call: impl FnMut() -> A) -> A {

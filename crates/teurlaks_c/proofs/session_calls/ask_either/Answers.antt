@@ -1,6 +1,7 @@
 use mathlib.Core.Logic.{inl, inr}
 use Rattle.std.proofs.Common.{ap, refl}
 use Rattle.std.specs.Prelude.{Some}
+use Rattle.teurlaks_c.proofs.Recording.{asked_untold}
 use Rattle.teurlaks_c.proofs.session_calls.ask_either.Goals as goal
 
 pub returns-in-Seat : goal.returns-in-Seat
@@ -14,11 +15,18 @@ returns-in-Seat g c = inl (record {
 })
 
 pub returns-in-Session : goal.returns-in-Session
-returns-in-Session g c = inr (record {
+returns-in-Session g c = inr (inl (record {
   before = c.in-Session.session;
   after = c.ask_in_session.new.shared;
   before_is = ap Some c.in-Session.is;
   after_is = refl;
   arena_is = c.ask_in_session.ensures.arena;
   did = c.ask_in_session.ensures.does;
-})
+}))
+
+pub returns-in-RecordedSeat : goal.returns-in-RecordedSeat
+returns-in-RecordedSeat g c =
+    let asked = c.ask_recorded_seat.ensures in
+    inr (inr (asked_untold (g.C.SeatCall.does c.args.call.now) (Some c.args.share.now) c.in-RecordedSeat.seat c.ask_recorded_seat.new.shared
+    (ap Some c.in-RecordedSeat.is)
+    asked.arena asked.receipts c.ask_recorded_seat.result asked.does))

@@ -1,6 +1,7 @@
 use mathlib.Core.Logic.{inl, inr}
-use Rattle.std.proofs.Common.{ap, refl}
-use Rattle.std.specs.Prelude.{Some}
+use Rattle.std.proofs.Common.{ap, refl, subst, sym}
+use Rattle.std.specs.Prelude.{None, Some}
+use Rattle.teurlaks_c.specs.SeatCalls.{HasNoSeat}
 use Rattle.teurlaks_c.proofs.session_calls.look_up_at_share.Goals as goal
 
 pub returns-in-Seat : goal.returns-in-Seat
@@ -8,14 +9,21 @@ returns-in-Seat c =
     let does = c.look_up.ensures.does in
     inl (
       Some does.0,
-      record { before = c.in-Seat.seat; after = c.look_up.new.shared; before_is = ap Some c.in-Seat.is; after_is = refl; arena_is = c.look_up.ensures.arena; did = does.1 },
+      record {
+        before = c.in-Seat.seat;
+        after = c.look_up.new.shared;
+        before_is = ap Some c.in-Seat.is;
+        after_is = refl;
+        arena_is = c.look_up.ensures.arena;
+        did = does.1;
+      },
       does.2,
     )
 
 pub returns-in-Session : goal.returns-in-Session
 returns-in-Session c =
     let does = c.look_up_in_session.ensures.does in
-    inr (
+    inr (inl (
       does.0,
       record {
         before = c.in-Session.session;
@@ -26,4 +34,38 @@ returns-in-Session c =
         did = does.1;
       },
       does.2,
-    )
+    ))
+
+pub returns-in-RecordedSeat : goal.returns-in-RecordedSeat
+returns-in-RecordedSeat c =
+    let does = c.look_up_recorded.ensures.does in
+    inr (inr (
+      does.0,
+      record {
+        before = c.in-RecordedSeat.seat;
+        after = c.look_up_recorded.new.shared;
+        before_is = ap Some c.in-RecordedSeat.is;
+        after_is = refl;
+        arena_is = c.look_up_recorded.ensures.arena;
+        did = does.1;
+      },
+      does.2,
+    ))
+
+pub returns-in-Steward : goal.returns-in-Steward
+returns-in-Steward c = inl (None, (subst (λ s. HasNoSeat (Some s)) (sym c.in-Steward.is) tt, refl), (c.not_looked.ensures.0, c.not_looked.ensures.1, refl))
+
+pub returns-in-RecordedSteward : goal.returns-in-RecordedSteward
+returns-in-RecordedSteward c = inl (
+  None,
+  (subst (λ s. HasNoSeat (Some s)) (sym c.in-RecordedSteward.is) tt, refl),
+  (c.not_looked-in-RecordedSteward.ensures.0, c.not_looked-in-RecordedSteward.ensures.1, refl),
+)
+
+pub returns-in-Run : goal.returns-in-Run
+returns-in-Run c =
+    inl (None, (subst (λ s. HasNoSeat (Some s)) (sym c.in-Run.is) tt, refl), (c.not_looked-in-Run.ensures.0, c.not_looked-in-Run.ensures.1, refl))
+
+pub returns-in-Nothing : goal.returns-in-Nothing
+returns-in-Nothing c =
+    inl (None, (subst (λ s. HasNoSeat (Some s)) (sym c.in-Nothing.is) tt, refl), (c.not_looked-in-Nothing.ensures.0, c.not_looked-in-Nothing.ensures.1, refl))

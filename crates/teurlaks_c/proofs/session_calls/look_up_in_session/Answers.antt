@@ -10,6 +10,8 @@ returns-clause-does c =
     let before = c.args.shared.now.session in
     let after = c.try_get_words-answer.new.self in
     let looked = c.try_get_words-answer.ensures in
-    let said = SaysGot-held (changes_at looked.told.0) ((shown before.shard.value.value).value_of c.args.key.now) (CountsCall before.seat after.seat) (after.seat ≡ before.seat)
-    c.args.room.now c.try_get_words-answer.new.room c.looked_reply.result c.try_get_words-answer.result looked.told.2 looked.seat looked.busy c.looked_reply.ensures in
+    let said = SaysGot-held (changes_at looked.told.0) ((shown before.shard.value.value).value_of c.args.key.now) (CountsCall before.seat after.seat)
+    (after.seat ≡ before.seat)
+    c.args.room.now c.try_get_words-answer.new.room c.looked_reply.result c.try_get_words-answer.result
+    looked.told.2 looked.seat looked.busy c.looked_reply.ensures in
     (said.0, ((looked.told.0, looked.told.1, said.1.0), ap (λ hold. hold.value.value) looked.shard, said.1.1, said.1.2), said.2)

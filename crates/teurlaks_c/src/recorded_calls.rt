@@ -1,0 +1,303 @@
+// The calls of a seat that a recorded arena keeps receipts of.
+ghost use Rattle.std.specs.Prelude.{◌≡◌, ◌++◌, ◌<◌, ◌≤◌, ℕ, IfOk, IfSome, List, OnErr, Some, length, option_to_list};
+ghost use Rattle.arena.specs.Seats.{SeatState};
+ghost use Rattle.span.specs.ReceiptLists.{kept_receipts, receipt_room, receipt_word_room};
+ghost use Rattle.span.specs.StoredReceipts.{call_words};
+ghost use Rattle.span.specs.declared.receipt.Receipt.{Receipt};
+ghost use Rattle.teurlaks_c.specs.Calls.{SaysWords};
+ghost use Rattle.teurlaks_c.specs.SeatCalls.{AsksTend, AsksTold, Gets, SaysGotOrNoRoom, Tends, TendsInto, frees_kept, got_kept, puts_kept, sets_kept};
+ghost use Rattle.teurlaks_c.specs.Recorded.{DoesKept, asked_of};
+ghost use Rattle.teurlaks_c.specs.SessionCalls.{AtPaused, HasSession};
+
+use crate::calls::tell;
+use crate::recorded::RecordedSeat;
+use crate::replies::{RawWord, WordsReply};
+use crate::seat_calls::{Free, Put, Set, ask_seat, not_looked};
+use crate::session_calls::SessionCall;
+use crate::share::{Share, SharedSeat};
+use crate::share_handle::ShareHandle;
+use crate::status::{BUSY, OUT_OF_MEMORY};
+use arena::{Busy, Dropped, Tended};
+use span::{Call, Key, Object, Receipt, ReceiptList};
+use std::alloc::{AllocError, Global};
+use std::mem::replace;
+
+/// How many words the object of a receipt has at most.
+const MOST_WORDS: usize = 16;
+
+/// A call of which a recorded seat keeps a receipt.
+pub(crate) trait ToldCall: SessionCall {
+    /// The receipts of what was answered at a seat.
+    ghost told: { Self → SeatState → Self.Answer → List Receipt };
+
+    /// The receipt of what the worker was answered in the section.
+    fn receipt(&self, worker: u32, section: u64, answer: &Self::Answer) -> Option<Receipt>
+        ensures told { (seat : SeatState) → seat.worker ≡ worker → seat.section ≡ section
+            → option_to_list result ≡ told self.now seat answer.now }
+        ensures few { IfSome result (λ receipt. length (call_words receipt.call) ≤ MOST_WORDS) };
+}
+
+/// Asks the seat of the handle, where it has one, in its session, where it keeps its shard. A recorded seat makes room for the receipt first,
+/// and keeps it.
+///
+/// # Errors
+///
+/// `AllocError` where a recorded seat was refused that room. Nothing is asked then.
+#[inline(always)]
+pub(crate) fn tell_at_seat<C: ToldCall>(
+    alloc: Global,
+    handle: &mut ShareHandle,
+    call: &C,
+) -> Result<Option<C::Answer>, AllocError>
+    ensures { AsksTold (C.does call.now) (C.does_held call.now) (C.told call.now)
+        handle.old.share result handle.new.share }
+{
+    let Some(mut share) = replace(handle, ShareHandle::none()).into_box(alloc) else {
+        return Ok(None);
+    };
+    let answer = tell_at_share(&mut *share, call);
+    *handle = ShareHandle::of(share);
+    answer
+}
+
+// The same of what is shared.
+#[inline(always)]
+fn tell_at_share<C: ToldCall>(share: &mut Share, call: &C) -> Result<Option<C::Answer>, AllocError>
+    ensures { AsksTold (C.does call.now) (C.does_held call.now) (C.told call.now)
+        (Some share.old) result (Some share.new) }
+{
+    match share {
+        Share::Seat(seat) => Ok(Some(ask_seat(seat, call))),
+        Share::Session(session) => Ok(Some(call.ask_in_session(session))),
+        Share::RecordedSeat(seat) => as_asked(tell_recorded(seat, call)),
+        Share::Steward(_) => Ok(None),
+        Share::RecordedSteward(_) => Ok(None),
+        Share::Run(_) => Ok(None),
+        Share::Nothing => Ok(None),
+    }
+}
+
+// Asks a recorded seat, which keeps the receipt, in room that is made first.
+#[inline(never)]
+fn tell_recorded<C: ToldCall>(shared: &mut RecordedSeat, call: &C) -> Result<C::Answer, AllocError>
+    ensures arena { shared.new.arena ≡ shared.old.arena }
+    ensures does { DoesKept (C.does call.now) (C.told call.now) shared.old.kept result
+        shared.new.kept }
+{
+    shared.kept.receipts.reserve(1, MOST_WORDS)?;
+    let (worker, section) = (shared.kept.seat.worker(), shared.kept.seat.section());
+    let answer = call.ask(&mut shared.kept.seat, &*shared.arena);
+    keep(
+        &mut shared.kept.receipts,
+        call.receipt(worker, section, &answer),
+    );
+    Ok(answer)
+}
+
+// What a seat that there is answers.
+fn as_asked<A>(answer: Result<A, AllocError>) -> Result<Option<A>, AllocError>
+    ensures { result ≡ asked_of answer }
+{
+    match answer {
+        Ok(answer) => Ok(Some(answer)),
+        Err(refused) => Err(refused),
+    }
+}
+
+// Keeps the receipt, if there is one, in room that was made for it.
+fn keep(receipts: &mut ReceiptList, receipt: Option<Receipt>)
+    requires room { 0 < receipt_room receipts.old }
+    requires words { MOST_WORDS ≤ receipt_word_room receipts.old }
+    requires few { IfSome receipt (λ receipt. length (call_words receipt.call) ≤ MOST_WORDS) }
+    ensures { kept_receipts receipts.new ≡ kept_receipts receipts.old ++ option_to_list receipt }
+{
+    if let Some(receipt) = receipt {
+        receipts.push_reserved(&receipt);
+    }
+}
+
+impl ToldCall for Put<'_> {
+    ghost told = { λ call. puts_kept call.words.now };
+
+    fn receipt(&self, worker: u32, section: u64, answer: &Self::Answer) -> Option<Receipt> {
+        let Ok(Ok((key, at))) = answer else {
+            return None;
+        };
+        let value = Object::of(self.class, self.words);
+        Some(Receipt {
+            key: *key,
+            worker,
+            section,
+            at: *at,
+            call: Call::Put { value },
+        })
+    }
+}
+
+impl ToldCall for Set<'_> {
+    ghost told = { λ call. sets_kept call.key call.words.now };
+
+    fn receipt(&self, worker: u32, section: u64, answer: &Self::Answer) -> Option<Receipt> {
+        let Ok(Ok((done, at))) = answer else {
+            return None;
+        };
+        let value = Object::from_words(self.words);
+        Some(Receipt {
+            key: self.key,
+            worker,
+            section,
+            at: *at,
+            call: Call::set(value, *done),
+        })
+    }
+}
+
+impl ToldCall for Free {
+    ghost told = { λ call. frees_kept call.key };
+
+    fn receipt(&self, worker: u32, section: u64, answer: &Self::Answer) -> Option<Receipt> {
+        let Ok((done, at)) = answer else {
+            return None;
+        };
+        Some(Receipt {
+            key: self.key,
+            worker,
+            section,
+            at: *at,
+            call: Call::free(*done),
+        })
+    }
+}
+
+/// Looks the key up at a recorded seat, which keeps the receipt, and writes the words of its object into the room, where there is enough.
+#[inline(never)]
+pub(crate) fn look_up_recorded(
+    shared: &mut RecordedSeat,
+    key: &Key,
+    room: &mut [RawWord],
+) -> WordsReply
+    ensures arena { shared.new.arena ≡ shared.old.arena }
+    ensures does { (answer : _) × DoesKept (Gets key.now) got_kept shared.old.kept answer shared.new.kept
+        × SaysGotOrNoRoom room.old result room.new (asked_of answer) }
+{
+    let answer = got_recorded(shared, key);
+    got_reply(answer, room)
+}
+
+// What C reads of a look-up at a recorded seat, with the words of what was found in the room where there is enough.
+fn got_reply(
+    answer: Result<Result<(Option<Object>, Receipt), Busy>, AllocError>,
+    room: &mut [RawWord],
+) -> WordsReply
+    ensures { SaysGotOrNoRoom room.old result room.new (asked_of answer) }
+{
+    match answer {
+        Ok(Ok((found, _))) => tell_found(&found, room),
+        Ok(Err(Busy)) => not_looked(BUSY),
+        Err(AllocError) => not_looked(OUT_OF_MEMORY),
+    }
+}
+
+// Looks the key up, and keeps the receipt, in room that is made first.
+fn got_recorded(
+    shared: &mut RecordedSeat,
+    key: &Key,
+) -> Result<Result<(Option<Object>, Receipt), Busy>, AllocError>
+    ensures arena { shared.new.arena ≡ shared.old.arena }
+    ensures does { DoesKept (Gets key.now) got_kept shared.old.kept result shared.new.kept }
+{
+    shared.kept.receipts.reserve(1, MOST_WORDS)?;
+    match shared.kept.seat.try_get(&*shared.arena, key) {
+        Ok((found, receipt)) => {
+            have_few_words(&found);
+            shared.kept.receipts.push_reserved(&receipt);
+            Ok(Ok((found, receipt)))
+        }
+        Err(Busy) => Ok(Err(Busy)),
+    }
+}
+
+// What the type of an object keeps: it has 16 words at most.
+fn have_few_words(found: &Option<Object>)
+    ensures { IfSome found.now (λ words. length words ≤ MOST_WORDS) }
+{
+    if let Some(object) = found {
+        let _class = object.class();
+    }
+}
+
+// What was found, as C has it, with its words in the room where there is enough.
+fn tell_found(found: &Option<Object>, room: &mut [RawWord]) -> WordsReply
+    ensures { SaysWords room.old result room.new found.now }
+{
+    match found {
+        Some(object) => tell(Some(object.words()), room),
+        None => tell(None, room),
+    }
+}
+
+/// Has the seat of the handle tend its rings, where it has one. Where it keeps its shard it gives that back before, and keeps it no more. Of
+/// the frees a recorded seat keeps receipts.
+pub(crate) fn tend_at_seat(
+    alloc: Global,
+    handle: &mut ShareHandle,
+) -> Option<Result<Tended, AllocError>>
+    ensures { AsksTend handle.old.share result handle.new.share }
+{
+    let Some(mut share) = replace(handle, ShareHandle::none()).into_box(alloc) else {
+        return None;
+    };
+    let answer = tend_at_share(&mut *share);
+    *handle = ShareHandle::of(share);
+    answer
+}
+
+// The same of what is shared.
+fn tend_at_share(share: &mut Share) -> Option<Result<Tended, AllocError>>
+    ensures { AsksTend (Some share.old) result (Some share.new) }
+{
+    match share {
+        Share::Seat(seat) => Some(tend(seat)),
+        Share::Session(_) => Some(tend_paused(share)),
+        Share::RecordedSeat(seat) => Some(tend_recorded(seat)),
+        Share::Steward(_) => None,
+        Share::RecordedSteward(_) => None,
+        Share::Run(_) => None,
+        Share::Nothing => None,
+    }
+}
+
+// Tends the rings of the seat of a session, which is over then.
+fn tend_paused(share: &mut Share) -> Result<Tended, AllocError>
+    requires { HasSession (Some share.old) }
+    ensures { AtPaused Tends (Some share.old) result (Some share.new) }
+{
+    let Share::Session(session) = replace(share, Share::Nothing) else {
+        unreachable!()
+    };
+    let mut seat = session.pause();
+    let answer = tend(&mut seat);
+    *share = Share::Seat(seat);
+    answer
+}
+
+// Tends the rings of a seat, and drops the receipts.
+fn tend(shared: &mut SharedSeat) -> Result<Tended, AllocError>
+    ensures arena { shared.new.arena ≡ shared.old.arena }
+    ensures does { Tends shared.old.seat result shared.new.seat }
+{
+    let mut receipts = Dropped::new();
+    shared.seat.try_tend(&*shared.arena, &mut receipts)
+}
+
+// Tends the rings of a recorded seat, and keeps the receipts.
+fn tend_recorded(shared: &mut RecordedSeat) -> Result<Tended, AllocError>
+    ensures arena { shared.new.arena ≡ shared.old.arena }
+    ensures does { TendsInto (kept_receipts shared.old.kept.receipts) shared.old.kept.seat result
+        shared.new.kept.seat (kept_receipts shared.new.kept.receipts) }
+{
+    shared
+        .kept
+        .seat
+        .try_tend(&*shared.arena, &mut shared.kept.receipts)
+}
