@@ -305,9 +305,9 @@ uint32_t teurlaks_arena_audit(struct teurlaks_share_handle *handle);
 /* Leaves a seat that no handle has to `out`, which has nothing: TEURLAKS_NONE where the steward has no further one. */
 uint32_t teurlaks_steward_seat(struct teurlaks_share_handle *handle, struct teurlaks_share_handle *out);
 
-/* Gives a seat back to the steward of its arena, who may hand it out again: keys that wait are handed over, its shard stays as it is, and the
- * handle `seat` has nothing then. TEURLAKS_CONFIG where the seat is of another arena. That is told by counting shares: do not leave seats of
- * two arenas to each other's stewards at one moment. */
+/* Gives a seat back to the steward of its arena, who may hand it out again: keys that wait are handed over, its shard stays as it is, where the
+ * seat keeps it others are let at it again, and the handle `seat` has nothing then. TEURLAKS_CONFIG where the seat is of another arena. That is
+ * told by counting shares: do not leave seats of two arenas to each other's stewards at one moment. */
 uint32_t teurlaks_seat_leave(struct teurlaks_share_handle *handle, struct teurlaks_share_handle *seat);
 
 /* Drops a seat or a steward. The seat's shard takes no further put then, unless it was ended before; its objects stay. All memory
