@@ -14,7 +14,7 @@ use crate::receipt_view::{CallView, ReceiptView};
 use crate::stored_receipt::{ReceiptRun, StoredCall};
 use crate::words::run;
 
-// Whether two calls are of one kind, and their objects of one class.
+// Whether two calls are of one kind that makes a change, and their objects of one class.
 fn same_call(a: StoredCall, b: StoredCall) -> bool
     ensures { IsTrue result → a ≡ b }
 {
