@@ -208,10 +208,13 @@ impl<L: Log> Spans<L> {
             (λ slot. (slot < slots_in self.now.head.class)
             × IsLowestOutside (taken self.now) slot) }
     {
-        let taken = self.occupied.union(&self.head.worn());
+        let worn = self.head.worn();
         match self.head.class() {
-            Class::C16 => taken.lowest_outside(),
-            class => taken.lowest_outside_below(class.slots()),
+            Class::C16 => self.occupied.lowest_outside_both(&worn),
+            class => self
+                .occupied
+                .union(&worn)
+                .lowest_outside_below(class.slots()),
         }
     }
 
@@ -286,6 +289,7 @@ impl<L: Log> Spans<L> {
     }
 
     /// Frees the slot in the span at the place, where it is live there at the generation. It takes no memory.
+    #[inline(always)]
     pub fn free(&mut self, place: usize, slot: u8, generation: u32) -> bool
         requires { place < length (all_spans self.old) }
         ensures found { (span : SpanState) → slice_get (all_spans self.old) place ≡ Some span
@@ -302,6 +306,7 @@ impl<L: Log> Spans<L> {
         }
     }
 
+    #[inline(always)]
     fn free_in_head(&mut self, slot: u8, generation: u32) -> bool
         ensures found { IsTrue result ↔ Holds self.old.head.log slot generation }
         ensures freed { OnTrue result (self.new ≡ record self.old {
@@ -317,6 +322,7 @@ impl<L: Log> Spans<L> {
         true
     }
 
+    #[inline(never)]
     fn free_in_guest(&mut self, at: usize, slot: u8, generation: u32) -> bool
         requires { at < length self.old.guests }
         ensures found { (span : SpanState) → slice_get self.old.guests at ≡ Some span

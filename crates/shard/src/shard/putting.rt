@@ -66,19 +66,20 @@ impl<L: Log> Shard<L> {
         if self.groups.len() >= self.page_limit || self.opened >= self.span_limit {
             return Err(PutError::PagesSpent);
         }
-        self.put_in_new(class, words)
+        let key = self.put_in_new(class, words)?;
+        Ok((key, 0))
     }
 
     // Opens a span on a new page, with the value at its first slot. The new head, its page, the list of groups and the sets of
     // those with room grow before the shard changes. No other group has room, so its own is the only one that may have.
     #[inline(never)]
-    fn put_in_new(&mut self, class: Class, words: &[u128]) -> Result<(Key, usize), PutError>
+    fn put_in_new(&mut self, class: Class, words: &[u128]) -> Result<Key, PutError>
         requires width { length words.now ≡ width_of class }
         requires full { IsFull class self.old.groups }
         requires pages { length self.old.groups < self.old.page_limit }
         requires opened { self.old.opened < self.old.span_limit }
         requires running { self.old.ended ≡ false }
-        ensures ok { IfOk result (λ made. PutsInNew self.old class words.now made.0 made.1 self.new) }
+        ensures ok { IfOk result (λ key. PutsInNew self.old class words.now key 0 self.new) }
         ensures only { IsOkUnless result PutError.OutOfMemory }
         ensures err { OnErr result (self.new ≡ self.old) }
     {
@@ -101,6 +102,6 @@ impl<L: Log> Shard<L> {
         self.group_room = self.group_room.saturating_sub(1);
         self.opened += 1;
         self.onto = None;
-        Ok((key, 0))
+        Ok(key)
     }
 }

@@ -1,5 +1,5 @@
 use Rattle.std.proofs.Common.{rules, refl, ◌≡◌, ◌∙◌, ◌<◌, ◌≤◌, ◌⊎◌, ap, arith, inl, inr, length, set, subst, sym}
-use Rattle.std.specs.Prelude.{IfOk, OnErr}
+use Rattle.std.specs.Prelude.{Err}
 use Rattle.std.proofs.lemmas.Result.{err_from_is_err_and}
 use Rattle.groups.proofs.Lists.{same_some}
 use Rattle.groups.proofs.Maps.{at_err}
@@ -13,9 +13,8 @@ use Rattle.shard.specs.State.{ShardState}
 use Rattle.shard.proofs.KeptGroups.{IsKept-same}
 use Rattle.shard.proofs.OpenGroups.{HasNoRoom-usable}
 use Rattle.shard.proofs.PutFirst.{group_here, IsKept-passed, IsKept-put, Puts-first, set-kept}
-use Rattle.shard.proofs.PutResult.{is_issued-result, IsSound-result, puts_if_new, shown-result}
 use Rattle.shard.proofs.RoomBits.{IsFull-empty, len-remove_lt}
-use Rattle.shard.proofs.ShownLogs.{is_issued-Puts, shown-Puts}
+use Rattle.shard.proofs.ShownLogs.{is_issued-Puts, IsSound-Puts, shown-Puts}
 use Rattle.shard.proofs.shard.Shard.put_words.Goals.{then-len-self-via-then-len-self, then-len-self-via-else-len-self+then-self-2}
 use Rattle.shard.proofs.shard.Shard.put_words.Goals as goal
 
@@ -178,42 +177,71 @@ put_in_new-requires-clause-full g c =
 pub put_in_new-requires-clause-running : goal.put_in_new-requires-clause-running
 put_in_new-requires-clause-running g c = ap (λ (s : ShardState). s.ended) (c.loop-index.invariant.same ∙ sym c.self.view_is) ∙ c.if-self.false
 
-sound_new : (g : _) (c : goal.After-put_in_new g) → IsSound c.args.self.now
-sound_new g c = subst IsSound c.self.view_is c.self.invariant.sound
+-- memory was refused, and the shard is as it was
+pub returns-in_err-key-2-clause-spent : goal.returns-in_err-key-2-clause-spent
+returns-in_err-key-2-clause-spent g c =
+    let same = c.loop-index.invariant.same in
+    let s = c.loop-index.self-inside in
+    let refused = err_from_is_err_and c.from_residual-in_err-key-2.result c.from_residual-in_err-key-2.ensures.1 in
+    let only = (c.in_err-key-2.ensures {u = tt}).only in (
+      (λ e. absurd (let spent = sym e ∙ (refused.1 ∙ ap Err (refused.2 ∙ only)) in search rules)),
+      λ spent. absurd (elim spent.1.1 [
+        | inl pages ↦ let few : length c.args.self.now.groups < c.args.self.now.page_limit =
+            subst (λ (s : ShardState). length s.groups < s.page_limit) same (omega (arith, c.if-len-self.false, s.groups.ok.0, c.len.ensures)) in omega (arith, pages, few)
+        | inr spans ↦ let few : c.args.self.now.opened < c.args.self.now.span_limit =
+            subst (λ (s : ShardState). s.opened < s.span_limit) same (omega (arith, c.if-self-2.false)) in omega (arith, spans, few)
+      ]),
+    )
 
-new_one : (g : _) (c : goal.After-put_in_new g)
-    → IfOk c.put_in_new.result (λ made. Puts c.args.self.now c.args.class c.args.words.now made.0 made.1 c.put_in_new.new.self)
+-- the first slot of the new span took the put
+new_one : (g : _) (c : goal.In_ok-key-2 g) → Puts c.args.self.now c.args.class c.args.words.now c.in_ok-key-2.key 0 c.put_in_new.new.self
 new_one g c =
     let s = c.loop-index.self-inside in
     let same = c.loop-index.invariant.same in
     let full : IsFull c.args.class s.groups.items =
-    IsFull-empty c.args.class s.groups.items (rooms_of s.rooms c.args.class) (c.loop-index.invariant.kept.rooms c.args.class) c.in_default.ensures.lowest in
-    puts_if_new c.args.self.now c.put_in_new.new.self c.args.class c.args.words.now c.requires c.put_in_new.result
-    (ap (λ (s : ShardState). s.ended) (sym c.self.view_is) ∙ c.if-self.false)
-    (subst (λ (s : ShardState). IsFull c.args.class s.groups) same full)
-    (subst (λ (s : ShardState). length s.groups < s.page_limit) same (omega (arith, c.if-len-self.false, s.groups.ok.0, c.len.ensures)))
-    (subst (λ (s : ShardState). s.opened < s.span_limit) same (omega (arith, c.if-self-2.false)))
-    (subst (λ (s : ShardState). IfOk c.put_in_new.result (λ made. PutsInNew s c.args.class c.args.words.now made.0 made.1 c.put_in_new.new.self)) same
-    c.put_in_new.ensures.ok)
+    IsFull-empty c.args.class s.groups.items (rooms_of s.rooms c.args.class) (c.loop-index.invariant.kept.rooms c.args.class) c.in_default.ensures.lowest in (
+      ap (λ (s : ShardState). s.ended) (sym c.self.view_is) ∙ c.if-self.false,
+      inr (
+        subst (λ (s : ShardState). IsFull c.args.class s.groups) same full,
+        subst (λ (s : ShardState). length s.groups < s.page_limit) same (omega (arith, c.if-len-self.false, s.groups.ok.0, c.len.ensures)),
+        subst (λ (s : ShardState). s.opened < s.span_limit) same (omega (arith, c.if-self-2.false)),
+        subst (λ (s : ShardState). PutsInNew s c.args.class c.args.words.now c.in_ok-key-2.key 0 c.put_in_new.new.self) same
+            (c.in_ok-key-2.ensures {u = tt}).ok,
+      ),
+    )
 
-kept_new : (g : _) (c : goal.After-put_in_new g) → OnErr c.put_in_new.result (c.put_in_new.new.self ≡ c.args.self.now)
-kept_new g c = subst (λ (s : ShardState). OnErr c.put_in_new.result (c.put_in_new.new.self ≡ s)) c.loop-index.invariant.same c.put_in_new.ensures.err
+new_few : (g : _) (c : goal.In_ok-key-2 g)
+    → (length c.args.self.now.groups < c.args.self.now.page_limit) × (c.args.self.now.opened < c.args.self.now.span_limit)
+new_few g c =
+    let s = c.loop-index.self-inside in
+    let same = c.loop-index.invariant.same in (
+      subst (λ (s : ShardState). length s.groups < s.page_limit) same (omega (arith, c.if-len-self.false, s.groups.ok.0, c.len.ensures)),
+      subst (λ (s : ShardState). s.opened < s.span_limit) same (omega (arith, c.if-self-2.false)),
+    )
+
+sound_new : (g : _) (c : goal.In_ok-key-2 g) → IsSound c.args.self.now
+sound_new g c = subst IsSound c.self.view_is c.self.invariant.sound
 
 pub returns-clause-ok : goal.returns-clause-ok
 returns-clause-ok g c = new_one g c
 
 pub returns-clause-fresh : goal.returns-clause-fresh
-returns-clause-fresh g c = is_issued-result c.args.self.now c.put_in_new.new.self c.args.class c.args.words.now c.requires c.put_in_new.result (sound_new g c)
-    (new_one g c)
+returns-clause-fresh g c =
+    is_issued-Puts c.args.self.now _ c.args.class c.args.words.now c.requires c.in_ok-key-2.key 0 (sound_new g c) (new_one g c)
 
 pub returns-clause-plain : goal.returns-clause-plain
-returns-clause-plain g c = shown-result c.args.self.now c.put_in_new.new.self c.args.class c.args.words.now c.requires c.put_in_new.result (sound_new g c)
-    (new_one g c)
+returns-clause-plain g c =
+    shown-Puts c.args.self.now _ c.args.class c.args.words.now c.requires c.in_ok-key-2.key 0 (sound_new g c) (new_one g c)
 
 pub returns-clause-sound : goal.returns-clause-sound
 returns-clause-sound g c =
-    IsSound-result c.args.self.now c.put_in_new.new.self c.args.class c.args.words.now c.requires c.put_in_new.result (sound_new g c) (new_one g c)
-    (kept_new g c)
+    IsSound-Puts c.args.self.now _ c.args.class c.args.words.now c.requires c.in_ok-key-2.key 0 (sound_new g c) (new_one g c)
 
-pub returns-clause-err : goal.returns-clause-err
-returns-clause-err g c = kept_new g c
+pub returns-clause-spent : goal.returns-clause-spent
+returns-clause-spent g c = (
+  (λ e. absurd (search rules)),
+  λ spent. absurd (elim spent.1.1 [
+    | inl pages ↦ omega (arith, pages, (new_few g c).0)
+    | inr spans ↦ omega (arith, spans, (new_few g c).1)
+  ]),
+)
