@@ -39,21 +39,21 @@ pub fn call_makes(call: CallView<'_>, key: &Key, change: ChangeView<'_>) -> bool
 {
     match (call, change) {
         (
-            CallView::Put { words: value },
+            CallView::Put { value },
             ChangeView::Put {
                 slot,
                 generation,
                 words,
             },
-        ) => { key.slot == slot && key.generation == generation && value == words }
+        ) => { key.slot == slot && key.generation == generation && value.is(words) }
         (
-            CallView::Set { words: set },
+            CallView::Set { value: set },
             ChangeView::Set {
                 slot,
                 generation,
                 words,
             },
-        ) => { key.slot == slot && key.generation == generation && set == words }
+        ) => { key.slot == slot && key.generation == generation && set.is(words) }
         (CallView::Freed, ChangeView::Free { slot, generation }) => {
             key.slot == slot && key.generation == generation
         }

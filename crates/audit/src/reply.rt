@@ -4,7 +4,7 @@ ghost use Rattle.span.specs.declared.receipt.Receipt.{Receipt};
 ghost use Rattle.span.specs.KeptLogs.{kept_changes};
 ghost use Rattle.span.specs.Log.{value_if};
 ghost use Rattle.span.specs.ReceiptLists.{kept_receipts};
-ghost use Rattle.span.specs.ReceiptViews.{call_viewed, receipt_viewed};
+ghost use Rattle.span.specs.ReceiptViews.{call_viewed, receipt_viewed, words_viewed};
 ghost use Rattle.span.specs.Views.{viewed};
 ghost use Rattle.audit.specs.Changes.{left_by};
 ghost use Rattle.audit.specs.Receipts.{CanBeSet, value_after};
@@ -15,7 +15,7 @@ ghost use Rattle.audit.specs.Tables.{IsTable};
 use crate::first::Firsts;
 use crate::log::{LogPlaces, index_of};
 use crate::slot::{SlotChange, all_by_slot, last_before};
-use span::{CallView, ChangeView, Kept, Key, Log, ReceiptList, ReceiptView, SpanLog};
+use span::{CallView, ChangeView, Kept, Key, Log, ObjectView, ReceiptList, ReceiptView, SpanLog};
 use std::alloc::{AllocError, Global};
 
 // The words that a key of the generation holds after the change of its slot, if any.
@@ -55,9 +55,10 @@ fn value_after<'a>(
     words_after(log.view(last), key.generation)
 }
 
-// Whether a key that holds these words, if any, can be set to the new ones.
-fn can_be_set(value: Option<&[u128]>, new: &[u128]) -> bool
-    ensures { IsTrue result ↔ CanBeSet (option_map (λ words. words.now) value.entry) new.now }
+// Whether a key that holds these words, if any, can be set to the new object.
+fn can_be_set(value: Option<&[u128]>, new: ObjectView<'_>) -> bool
+    ensures { IsTrue result ↔ CanBeSet (option_map (λ words. words.now) value.entry)
+        (words_viewed new.entry) }
 {
     match value {
         Some(words) => words.len() == new.len(),
@@ -72,13 +73,13 @@ fn is_answered(call: CallView<'_>, value: Option<&[u128]>) -> bool
 {
     match call {
         CallView::Put { .. } => true,
-        CallView::Found { words: found } => match value {
-            Some(words) => words == found,
+        CallView::Found { value: found } => match value {
+            Some(words) => found.is(words),
             None => false,
         },
         CallView::NotFound | CallView::NotFreed => value.is_none(),
-        CallView::Set { words: new } => can_be_set(value, new),
-        CallView::NotSet { words: new } => !can_be_set(value, new),
+        CallView::Set { value: new } => can_be_set(value, new),
+        CallView::NotSet { value: new } => !can_be_set(value, new),
         CallView::Freed => value.is_some(),
     }
 }

@@ -16,7 +16,7 @@ use std::thread::Threads;
 // At most that many threads sort.
 const SORTERS: usize = 16;
 
-/// At most that many changes of a log are sorted: more than any memory holds, since each takes 16 bytes.
+/// At most that many changes of a log are sorted: more than any memory holds, since each takes 8 bytes.
 const MOST_PLACES: usize = 1 << 48;
 
 /// Where a change stands: its slot, and its place in the log, below [`MOST_PLACES`]. It takes 8 bytes.

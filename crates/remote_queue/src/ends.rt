@@ -79,7 +79,8 @@ pub(crate) fn ring(alloc: Global, capacity: usize) -> Result<(Outbox, Inbox), Al
     Ok((Outbox { producer, waiting }, Inbox { consumer }))
 }
 
-// Hands the waiting keys over with one store. The ring has a place for each of them.
+// Hands the waiting keys over with one store. The ring has a place for each of them. It stands apart, since most keys wait.
+#[inline(never)]
 fn hand_over_by(producer: &mut Producer<Key, Global, KeysInRange>, waiting: &mut Vec<Key>)
     requires { vec_len waiting.old ≤ known_free producer.old }
     ensures ring { SameProducer producer.old producer.new }
@@ -96,6 +97,7 @@ fn hand_over_by(producer: &mut Producer<Key, Global, KeysInRange>, waiting: &mut
 }
 
 // Whether the ring has a place for one key more than that many, as far as its end knows or sees.
+#[inline(always)]
 fn has_place(producer: &mut Producer<Key, Global, KeysInRange>, waiting: usize) -> bool
     ensures looked { ProducerLooked producer.old producer.new }
     ensures value { IsTrue result ↔ (waiting < known_free producer.new) }
@@ -104,6 +106,8 @@ fn has_place(producer: &mut Producer<Key, Global, KeysInRange>, waiting: usize) 
 }
 
 // Sends the key: it waits with others until they fill a block. Where it is refused, none waits any more.
+// Inlined, as what calls it, the key stays in registers: what is handed back would go through memory.
+#[inline(always)]
 fn send_by(
     producer: &mut Producer<Key, Global, KeysInRange>,
     waiting: &mut Vec<Key>,
@@ -144,6 +148,7 @@ impl Outbox {
     ///
     /// The key, handed back, where the ring took none: each of its places was seen to hold a key, those sent in this block
     /// among them. All keys that were sent are then handed over.
+    #[inline(always)]
     pub fn send(&mut self, key: Key) -> Result<(), Key>
         ensures ring { self.new.ring ≡ self.old.ring }
         ensures sent { MatchResult result

@@ -1,54 +1,52 @@
 -- A list of receipts by runs: what is added leaves the earlier receipts as they were, and where a receipt stands.
-use Rattle.std.proofs.Common.{zero, suc, ◌≡◌, ℕ, ◌+◌, ◌-◌, ◌*◌, ◌<◌, ◌≤◌, ◌==◌, false, List, [], ◌∷◌, ◌++◌, get_or, length, Some, slice_get, ap, sym, subst, ◌∙◌, refl, inl, inr, arith}
+use Rattle.std.proofs.Common.{zero, suc, ◌≡◌, ℕ, ◌+◌, ◌-◌, ◌*◌, ◌^◌, ◌<◌, ◌≤◌, ◌==◌, false, List, [], ◌∷◌, ◌++◌, get_or, length, Some, slice_get, slice_set, ap, sym, subst, ◌∙◌, refl, inl, inr, arith}
 use mathlib.Core.HLevel.{is_prop→PathP}
 use native.Mathlib.Bridge.{le_prop}
-use native.Mathlib.Nat.{mul-le-mul_right}
 use Rattle.std.proofs.lemmas.Bool.{cases_lt}
 use Rattle.std.proofs.lemmas.List.{append-nil, append_assoc, length-append}
 use Rattle.std.proofs.lemmas.Option.{get_or_from_slice_get, same_Some, slice_get_within}
 use Rattle.span.specs.Stored.{run_from}
-use Rattle.span.specs.StoredReceipts.{AreRuns, GoesOn, HasPlace, IsNextOf, IsRunWithin, call_in, call_width, call_words, first_in, key_in, next_start, receipt_in, receipts_in, run_receipts}
+use Rattle.span.specs.StoredReceipts.{AreRuns, CountsOn, CountsUp, Follows, GoesOn, HasCall, HasPlace, IsCountedOf, IsLast, IsNextOf, IsRunWithin, MayCount}
+use Rattle.span.specs.StoredReceipts.{call_in, call_width, call_words, counted_form, counted_up, first_in, key_in, next_start, receipt_in, receipts_in, run_receipts, stride, with_call, with_last_call}
 use Rattle.span.proofs.Ids.{same_id}
 use Rattle.span.proofs.KeptWords.{run_from-last, run_from-more}
+use Rattle.span.specs.declared.limits.TheConstants.{MOST_SHARDS, MOST_SPANS}
 use Rattle.span.specs.declared.receipt.Receipt.{Receipt}
 use Rattle.span.specs.declared.stored_receipt.StoredCall.{StoredCall}
+use Rattle.span.specs.declared.stored_receipt.StoredCall.TheVariants.{Put, CountedPut, Found, NotFound, Set, CountedSet, NotSet, Freed, NotFreed}
+use Rattle.span.specs.declared.class.Class.TheVariants.{C16, C64, C256}
+use Rattle.span.specs.declared.receipt.Call.TheVariants as call
 use Rattle.span.specs.declared.stored_receipt.ReceiptRun.{ReceiptRun}
 
--- fewer calls have fewer words
-times_up : (k n width : ℕ) → k ≤ n → k * width ≤ n * width
-times_up k n width less = mul-le-mul_right width less
-
 IsRunWithin-fewer : (words : ℕ) (run : ReceiptRun) (k n : ℕ) → k ≤ n → IsRunWithin words run n → IsRunWithin words run k
-IsRunWithin-fewer words run k n less within = (
-  let s = within.0 in omega arith,
-  let p = within.1 in omega arith,
-  let w = within.2 in let up = times_up k n (call_width run.call) less in omega arith,
-)
+IsRunWithin-fewer words run k n less within j low = within j (omega arith)
 
 IsRunWithin-more : (words more : ℕ) (run : ReceiptRun) (n : ℕ) → words ≤ more → IsRunWithin words run n → IsRunWithin more run n
-IsRunWithin-more words more run n less within = (within.0, within.1, let w = within.2 in omega arith)
+IsRunWithin-more words more run n less within k low = let has = within k low in (has.0, has.1, let w = has.2 in omega arith)
 
--- where the words of a call end
-ends : (run : ReceiptRun) (k : ℕ) → run.first + (k + 1) * call_width run.call ≡ first_in run k + call_width run.call
-ends run k = omega arith
+-- one more call
+IsRunWithin-push : (words : ℕ) (run : ReceiptRun) (n : ℕ) → IsRunWithin words run n → HasCall words run n → IsRunWithin words run (n + 1)
+IsRunWithin-push words run n within has k low = elim (cases_lt k n) [
+  | inl before ↦ within k before
+  | inr last ↦ let same : n ≡ k = omega arith in subst (HasCall words run) same has
+]
 
-receipt_in-more : (words more : List ℕ) (run : ReceiptRun) (k : ℕ) → IsRunWithin (length words) run (k + 1) → receipt_in (words ++ more) run k ≡ receipt_in words run k
-receipt_in-more words more run k within =
-    let fits : first_in run k + call_width run.call ≤ length words = let w = within.2 in let e = ends run k in omega arith in
+receipt_in-more : (words more : List ℕ) (run : ReceiptRun) (k : ℕ) → HasCall (length words) run k → receipt_in (words ++ more) run k ≡ receipt_in words run k
+receipt_in-more words more run k has =
     λ i. record {
       key = key_in run k;
       worker = run.worker;
       section = run.section;
       at = run.at + k;
-      call = call_in run.call (run_from-more words more (first_in run k) (call_width run.call) fits i);
+      call = call_in run.call k (run_from-more words more (first_in run k) (call_width run.call) has.2 i);
     }
 
 run_receipts-more : (words more : List ℕ) (run : ReceiptRun) (n : ℕ) → IsRunWithin (length words) run n → run_receipts (words ++ more) run n ≡ run_receipts words run n
 run_receipts-more words more run zero within = refl
 run_receipts-more words more run (suc n) within = λ i. run_receipts-more words more run n (IsRunWithin-fewer (length words) run n (suc n) (omega arith) within) i
-    ++ receipt_in-more words more run n (IsRunWithin-fewer (length words) run (n + 1) (suc n) (omega arith) within) i ∷ []
+    ++ receipt_in-more words more run n (within n (omega arith)) i ∷ []
 
-pub receipts_in-more : (words more : List ℕ) (len start : ℕ) (runs : List ReceiptRun) → AreRuns (length words) len start runs → receipts_in (words ++ more) len runs ≡ receipts_in words len runs
+receipts_in-more : (words more : List ℕ) (len start : ℕ) (runs : List ReceiptRun) → AreRuns (length words) len start runs → receipts_in (words ++ more) len runs ≡ receipts_in words len runs
 receipts_in-more words more len start [] are = refl
 receipts_in-more words more len start (run ∷ runs) are =
     let within : IsRunWithin (length words) run (next_start len runs - run.start) = subst (λ s. IsRunWithin (length words) run (next_start len runs - s)) (sym are.0.0) are.0.2 in
@@ -92,7 +90,7 @@ get-run_receipts words run (suc n) k less = elim (cases_lt k n) [
 -- the receipt at a place that a run has, and that the run's call is within these words
 pub record Stands (words : List ℕ) (wide len start place : ℕ) (runs : List ReceiptRun) (run : ReceiptRun) : Type 0 where
   pub receipt : slice_get (receipts_in words len runs) (place - start) ≡ Some (receipt_in words run (place - run.start))
-  pub within : IsRunWithin wide run ((place - run.start) + 1)
+  pub within : HasCall wide run (place - run.start)
 
 -- the run of the place is the first, or one behind it
 stands_at : (words : List ℕ) (wide len start place i : ℕ) (runs : List ReceiptRun) (run : ReceiptRun) → AreRuns wide len start runs → start ≤ place → place < len
@@ -108,8 +106,7 @@ stands_at words wide len start place zero (first ∷ runs) run are low high at f
       receipt = ap (λ k. slice_get (receipts_in words len (first ∷ runs)) k) place_is
           ∙ get_left (run_receipts words first (next_start len runs - first.start)) (receipts_in words len runs) (place - run.start) (receipt_in words run (place - run.start))
           (get-run_receipts words first (next_start len runs - first.start) (place - run.start) fits ∙ ap (λ (r : ReceiptRun). Some (receipt_in words r (place - run.start))) same);
-      within = subst (λ (r : ReceiptRun). IsRunWithin wide r ((place - run.start) + 1)) same
-          (IsRunWithin-fewer wide first ((place - run.start) + 1) (next_start len runs - start) (let e = are.0.0 in omega arith) are.0.2);
+      within = subst (λ (r : ReceiptRun). HasCall wide r (place - run.start)) same (are.0.2 (place - run.start) (let e = are.0.0 in omega arith));
     }
   where
     before : (runs : List ReceiptRun) → place < len → ((next : ReceiptRun) → slice_get runs 0 ≡ Some next → place < next.start) → place < next_start len runs
@@ -149,12 +146,10 @@ pub not_empty : (n : ℕ) → (n == 0) ≡ false → 0 < n
 not_empty zero is = absurd cc
 not_empty (suc n) is = omega arith
 
--- the next call of a run is the receipt
-pub receipt_in-next : (words : List ℕ) (run : ReceiptRun) (k first : ℕ) (call : StoredCall) (receipt : Receipt) → IsNextOf run k first call receipt
-    → call_in call (run_from words first (call_width call)) ≡ receipt.call → receipt_in words run k ≡ receipt
-receipt_in-next words run k first call receipt next told =
-    let calls : call_in run.call (run_from words (first_in run k) (call_width run.call)) ≡ receipt.call =
-    (λ i. call_in (next.call_is i) (run_from words (next.words i) (call_width (next.call_is i)))) ∙ told in
+-- a run's call that is told to be the receipt's, which it follows
+receipt_in-told : (words : List ℕ) (run : ReceiptRun) (k : ℕ) (call : StoredCall) (receipt : Receipt) → Follows run k receipt
+    → call_in call k (run_from words (first_in (with_call run call) k) (call_width call)) ≡ receipt.call → receipt_in words (with_call run call) k ≡ receipt
+receipt_in-told words run k call receipt next calls =
     λ i. record {
       key = record {
         span = same_id (key_in run k).span receipt.key.span next.shard next.serial i;
@@ -168,29 +163,44 @@ receipt_in-next words run k first call receipt next told =
       call = calls i;
     }
 
--- a run with one more at its end
-pub receipts_in-goes_on : (words : List ℕ) (wide len start last : ℕ) (runs : List ReceiptRun) (run : ReceiptRun) → AreRuns wide len start runs → last + 1 ≡ length runs
-    → slice_get runs last ≡ Some run → receipts_in words (len + 1) runs ≡ receipts_in words len runs ++ receipt_in words run (len - run.start) ∷ []
-receipts_in-goes_on words wide len start last [] run are count at = absurd cc
-receipts_in-goes_on words wide len start zero (first ∷ []) run are count at =
-    let same : first ≡ run = same_Some first run at in
-    let up : first.start < len = let e = are.0.0 in let up = are.0.1 in omega arith in
-    let more : (len + 1) - first.start ≡ suc (len - first.start) = omega arith in
-    append-nil (run_receipts words first ((len + 1) - first.start))
-    ∙ ap (run_receipts words first) more
-    ∙ (λ i. sym (append-nil (run_receipts words first (len - first.start))) i ++ receipt_in words (same i) (len - (same i).start) ∷ [])
-receipts_in-goes_on words wide len start (suc last) (first ∷ []) run are count at = absurd cc
-receipts_in-goes_on words wide len start zero (first ∷ second ∷ runs) run are count at = absurd (omega arith)
-receipts_in-goes_on words wide len start (suc last) (first ∷ second ∷ runs) run are count at =
-    ap (λ l. run_receipts words first (second.start - first.start) ++ l) (receipts_in-goes_on words wide len second.start last (second ∷ runs) run are.1 (omega arith) at)
-    ∙ sym (append_assoc (run_receipts words first (second.start - first.start)) (receipts_in words len (second ∷ runs)) (receipt_in words run (len - run.start) ∷ []))
+-- the next call of a run is the receipt
+receipt_in-next : (words : List ℕ) (run : ReceiptRun) (k first : ℕ) (call : StoredCall) (receipt : Receipt) → IsNextOf run k first call receipt
+    → call_in call k (run_from words first (call_width call)) ≡ receipt.call → receipt_in words run k ≡ receipt
+receipt_in-next words run k first call receipt next told = receipt_in-told words run k run.call receipt next.follows
+    ((λ i. call_in (next.call_is i) k (run_from words (next.words i) (call_width (next.call_is i)))) ∙ told)
+
+next_start-last : (more len : ℕ) (second : ReceiptRun) (runs : List ReceiptRun) (call : StoredCall)
+    → next_start more (with_last_call (second ∷ runs) call) ≡ next_start len (second ∷ runs)
+next_start-last more len second [] call = refl
+next_start-last more len second (third ∷ runs) call = refl
+
+-- the last run's call is another one, by which it shows the same receipts, and one more
+receipts_in-last : (words : List ℕ) (wide len start last : ℕ) (runs : List ReceiptRun) (run : ReceiptRun) (call : StoredCall) → AreRuns wide len start runs → IsLast runs len run last
+    → run_receipts words (with_call run call) (len - run.start) ≡ run_receipts words run (len - run.start)
+    → receipts_in words (len + 1) (with_last_call runs call) ≡ receipts_in words len runs ++ receipt_in words (with_call run call) (len - run.start) ∷ []
+receipts_in-last words wide len start last [] run call are is before = absurd (let at = is.at in cc)
+receipts_in-last words wide len start zero (first ∷ []) run call are is before =
+    let same : first ≡ run = same_Some first run is.at in
+    let more : (len + 1) - run.start ≡ suc (len - run.start) = let low = is.from in omega arith in
+    (λ i. run_receipts words (with_call (same i) call) ((len + 1) - (same i).start) ++ [])
+    ∙ append-nil (run_receipts words (with_call run call) ((len + 1) - run.start))
+    ∙ ap (run_receipts words (with_call run call)) more
+    ∙ (λ i. before i ++ receipt_in words (with_call run call) (len - run.start) ∷ [])
+    ∙ (λ i. sym (append-nil (run_receipts words (sym same i) (len - (sym same i).start))) i ++ receipt_in words (with_call run call) (len - run.start) ∷ [])
+receipts_in-last words wide len start (suc last) (first ∷ []) run call are is before = absurd (let at = is.at in cc)
+receipts_in-last words wide len start zero (first ∷ second ∷ runs) run call are is before = absurd (let count = is.count in omega arith)
+receipts_in-last words wide len start (suc last) (first ∷ second ∷ runs) run call are is before =
+    let rest : IsLast (second ∷ runs) len run last = record { count = let count = is.count in omega arith; at = is.at; from = is.from } in
+    (λ i. run_receipts words first (next_start-last (len + 1) len second runs call i - first.start)
+    ++ receipts_in-last words wide len second.start last (second ∷ runs) run call are.1 rest before i)
+    ∙ sym (append_assoc (run_receipts words first (second.start - first.start)) (receipts_in words len (second ∷ runs)) (receipt_in words (with_call run call) (len - run.start) ∷ []))
 
 next_start-push : (more len : ℕ) (runs : List ReceiptRun) (run : ReceiptRun) → run.start ≡ len → next_start more (runs ++ run ∷ []) ≡ next_start len runs
 next_start-push more len [] run last = last
 next_start-push more len (first ∷ runs) run last = refl
 
 -- one more run that starts where the others end
-pub receipts_in-push : (words : List ℕ) (wide len start : ℕ) (runs : List ReceiptRun) (run : ReceiptRun) → AreRuns wide len start runs → run.start ≡ len
+receipts_in-push : (words : List ℕ) (wide len start : ℕ) (runs : List ReceiptRun) (run : ReceiptRun) → AreRuns wide len start runs → run.start ≡ len
     → receipts_in words (len + 1) (runs ++ run ∷ []) ≡ receipts_in words len runs ++ receipt_in words run 0 ∷ []
 receipts_in-push words wide len start [] run are last =
     let one : (len + 1) - run.start ≡ suc 0 = omega arith in
@@ -199,22 +209,78 @@ receipts_in-push words wide len start (first ∷ runs) run are last =
     (λ i. run_receipts words first (next_start-push (len + 1) len runs run last i - first.start) ++ receipts_in-push words wide len (next_start len runs) runs run are.1 last i)
     ∙ sym (append_assoc (run_receipts words first (next_start len runs - first.start)) (receipts_in words len runs) (receipt_in words run 0 ∷ []))
 
+-- the calls of the last run so far are within these words
+within_last : (wide len start last : ℕ) (runs : List ReceiptRun) (run : ReceiptRun) → AreRuns wide len start runs → IsLast runs len run last → IsRunWithin wide run (len - run.start)
+within_last wide len start last [] run are is = absurd (let at = is.at in cc)
+within_last wide len start zero (first ∷ []) run are is =
+    subst (λ (r : ReceiptRun). IsRunWithin wide r (len - r.start)) (same_Some first run is.at) (subst (λ s. IsRunWithin wide first (len - s)) (sym are.0.0) are.0.2)
+within_last wide len start (suc last) (first ∷ []) run are is = absurd (let at = is.at in cc)
+within_last wide len start zero (first ∷ second ∷ runs) run are is = absurd (let count = is.count in omega arith)
+within_last wide len start (suc last) (first ∷ second ∷ runs) run are is =
+    within_last wide len second.start last (second ∷ runs) run are.1 (record { count = let count = is.count in omega arith; at = is.at; from = is.from })
+
 -- the same of what ties runs to words and places
-pub AreRuns-goes_on : (wide more len start last : ℕ) (runs : List ReceiptRun) (run : ReceiptRun) → AreRuns wide len start runs → wide ≤ more → last + 1 ≡ length runs
-    → slice_get runs last ≡ Some run → IsRunWithin more run ((len - run.start) + 1) → AreRuns more (len + 1) start runs
-AreRuns-goes_on wide more len start last [] run are low count at within = absurd cc
-AreRuns-goes_on wide more len start zero (first ∷ []) run are low count at within =
-    let same : first ≡ run = same_Some first run at in
+AreRuns-last : (wide more len start last : ℕ) (runs : List ReceiptRun) (run : ReceiptRun) (call : StoredCall) → AreRuns wide len start runs → wide ≤ more → IsLast runs len run last
+    → IsRunWithin more (with_call run call) ((len - run.start) + 1) → AreRuns more (len + 1) start (with_last_call runs call)
+AreRuns-last wide more len start last [] run call are low is within = absurd (let at = is.at in cc)
+AreRuns-last wide more len start zero (first ∷ []) run call are low is within =
+    let same : first ≡ run = same_Some first run is.at in
     let e = are.0.0 in
     let up = are.0.1 in
-    let n : (len - first.start) + 1 ≡ (len + 1) - start = omega arith in
-    ((are.0.0, omega arith, subst (IsRunWithin more first) n (subst (λ (r : ReceiptRun). IsRunWithin more r ((len - r.start) + 1)) (sym same) within)), refl)
-AreRuns-goes_on wide more len start (suc last) (first ∷ []) run are low count at within = absurd cc
-AreRuns-goes_on wide more len start zero (first ∷ second ∷ runs) run are low count at within = absurd (omega arith)
-AreRuns-goes_on wide more len start (suc last) (first ∷ second ∷ runs) run are low count at within =
-    ((are.0.0, are.0.1, IsRunWithin-more wide more first (second.start - start) low are.0.2), AreRuns-goes_on wide more len second.start last (second ∷ runs) run are.1 low (omega arith) at within)
+    let n : (len - first.start) + 1 ≡ (len + 1) - start = omega arith in (
+      (
+        are.0.0,
+        omega arith,
+        subst (IsRunWithin more (with_call first call)) n (subst (λ (r : ReceiptRun). IsRunWithin more (with_call r call) ((len - r.start) + 1)) (sym same) within),
+      ),
+      refl,
+    )
+AreRuns-last wide more len start (suc last) (first ∷ []) run call are low is within = absurd (let at = is.at in cc)
+AreRuns-last wide more len start zero (first ∷ second ∷ runs) run call are low is within = absurd (let count = is.count in omega arith)
+AreRuns-last wide more len start (suc last) (first ∷ second ∷ runs) run call are low is within =
+    let rest : IsLast (second ∷ runs) len run last = record { count = let count = is.count in omega arith; at = is.at; from = is.from } in
+    let next = next_start-last (len + 1) len second runs call in (
+      (
+        are.0.0,
+        subst (λ n. start < n) (sym next) are.0.1,
+        subst (λ n. IsRunWithin more first (n - start)) (sym next) (IsRunWithin-more wide more first (second.start - start) low are.0.2),
+      ),
+      subst (λ n. AreRuns more (len + 1) n (with_last_call (second ∷ runs) call)) (sym next)
+          (AreRuns-last wide more len second.start last (second ∷ runs) run call are.1 low rest within),
+    )
 
-pub AreRuns-push : (wide more len start : ℕ) (runs : List ReceiptRun) (run : ReceiptRun) → AreRuns wide len start runs → wide ≤ more → run.start ≡ len → IsRunWithin more run 1
+-- the last run is replaced by itself with this call
+set-with_call : (runs : List ReceiptRun) (last : ℕ) (run new : ReceiptRun) (call : StoredCall) → last + 1 ≡ length runs → run ≡ get_or runs last run → new ≡ with_call run call
+    → slice_set runs last new ≡ with_last_call runs call
+set-with_call [] last run new call count read is = absurd (omega arith)
+set-with_call (first ∷ []) zero run new call count read is = (λ i. is i ∷ []) ∙ (λ i. with_call (read i) call ∷ [])
+set-with_call (first ∷ []) (suc last) run new call count read is = absurd (omega arith)
+set-with_call (first ∷ second ∷ runs) zero run new call count read is = absurd (omega arith)
+set-with_call (first ∷ second ∷ runs) (suc last) run new call count read is =
+    ap (λ l. first ∷ l) (set-with_call (second ∷ runs) last run new call (omega arith) read is)
+
+-- the last run is written with this call, and with any proofs of what its numbers are
+pub with_last_call-set : (runs : List ReceiptRun) (last : ℕ) (run : ReceiptRun) (call : StoredCall) (shard : run.shard < MOST_SHARDS) (serial : run.serial < MOST_SPANS) (generation : 1 ≤ run.generation)
+    → last + 1 ≡ length runs → run ≡ get_or runs last run
+    → slice_set runs last (record (with_call run call) { shard_in_range = shard; serial_in_range = serial; generation_in_range = generation }) ≡ with_last_call runs call
+with_last_call-set runs last run call shard serial generation count read =
+    set-with_call runs last run (record (with_call run call) { shard_in_range = shard; serial_in_range = serial; generation_in_range = generation }) call count read
+    (λ i. record (with_call run call) {
+      shard_in_range = le_prop shard run.shard_in_range i;
+      serial_in_range = le_prop serial run.serial_in_range i;
+      generation_in_range = le_prop generation run.generation_in_range i;
+    })
+
+-- where the last run's call is its own, the runs are as they were
+with_last_call-own : (len last : ℕ) (runs : List ReceiptRun) (run : ReceiptRun) → IsLast runs len run last → with_last_call runs run.call ≡ runs
+with_last_call-own len last [] run is = refl
+with_last_call-own len zero (first ∷ []) run is = let same : first ≡ run = same_Some first run is.at in λ i. with_call first (sym same i).call ∷ []
+with_last_call-own len (suc last) (first ∷ []) run is = absurd (let at = is.at in cc)
+with_last_call-own len zero (first ∷ second ∷ runs) run is = absurd (let count = is.count in omega arith)
+with_last_call-own len (suc last) (first ∷ second ∷ runs) run is =
+    ap (λ l. first ∷ l) (with_last_call-own len last (second ∷ runs) run (record { count = let count = is.count in omega arith; at = is.at; from = is.from }))
+
+AreRuns-push : (wide more len start : ℕ) (runs : List ReceiptRun) (run : ReceiptRun) → AreRuns wide len start runs → wide ≤ more → run.start ≡ len → IsRunWithin more run 1
     → AreRuns more (len + 1) start (runs ++ run ∷ [])
 AreRuns-push wide more len start [] run are low last within =
     let e : start ≡ len = are in
@@ -230,65 +296,150 @@ AreRuns-push wide more len start (first ∷ runs) run are low last within =
       subst (λ n. AreRuns more (len + 1) n (runs ++ run ∷ [])) (sym next) (AreRuns-push wide more len (next_start len runs) runs run are.1 low last within),
     )
 
--- one more call of a run is within the words behind which its own were added
-pub IsRunWithin-next : (wide more k first width : ℕ) (run : ReceiptRun) (call : StoredCall) (receipt : Receipt) → IsNextOf run k first call receipt
-    → first ≡ wide → more ≡ wide + width → call_width call ≡ width → IsRunWithin more run (k + 1)
-IsRunWithin-next wide more k first width run call receipt next last long wide_is = (
-  let s = next.slot_fits in omega arith,
-  let p = next.place_fits in omega arith,
-  let w = next.words in let e = ends run k in let c : call_width run.call ≡ width = ap call_width next.call_is ∙ wide_is in omega arith,
-)
-
 -- the call whose words were added last
-told_last : (words : List ℕ) (first : ℕ) (call : StoredCall) (receipt : Receipt) → first ≡ length words → call_width call ≡ length (call_words receipt.call)
-    → call_in call (call_words receipt.call) ≡ receipt.call → call_in call (run_from (words ++ call_words receipt.call) first (call_width call)) ≡ receipt.call
-told_last words first call receipt last wide is =
-    ap (call_in call) (ap (λ n. run_from (words ++ call_words receipt.call) n (call_width call)) last ∙ run_from-last words (call_words receipt.call) (call_width call) (sym wide)) ∙ is
+told_last : (words : List ℕ) (k first : ℕ) (call : StoredCall) (receipt : Receipt) → first ≡ length words → call_width call ≡ length (call_words receipt.call)
+    → call_in call k (call_words receipt.call) ≡ receipt.call → call_in call k (run_from (words ++ call_words receipt.call) first (call_width call)) ≡ receipt.call
+told_last words k first call receipt last wide is =
+    ap (call_in call k) (ap (λ n. run_from (words ++ call_words receipt.call) n (call_width call)) last ∙ run_from-last words (call_words receipt.call) (call_width call) (sym wide)) ∙ is
 
--- a receipt that goes on with the last run
+-- a receipt with words of its own, which are added
 module _ (words : List ℕ) (len first : ℕ) (runs : List ReceiptRun) (call : StoredCall) (receipt : Receipt) (are : AreRuns (length words) len 0 runs) (last : first ≡ length words)
-    (wide : call_width call ≡ length (call_words receipt.call)) (is : call_in call (call_words receipt.call) ≡ receipt.call) where
+    (wide : call_width call ≡ length (call_words receipt.call)) (is : (k : ℕ) → call_in call k (call_words receipt.call) ≡ receipt.call) where
   abbrev all_words : List ℕ
   all_words = words ++ call_words receipt.call
 
   long : length all_words ≡ length words + length (call_words receipt.call)
   long = length-append words (call_words receipt.call)
 
+  -- the next call of a run is within the words
+  has_next : (run : ReceiptRun) (k : ℕ) → IsNextOf run k first call receipt → HasCall (length all_words) run k
+  has_next run k next = (
+    next.follows.slot_fits,
+    next.follows.place_fits,
+    let w = next.words in let c : call_width run.call ≡ call_width call = ap call_width next.call_is in omega (arith, long),
+  )
+
+  shown : (run : ReceiptRun) (k : ℕ) → IsNextOf run k first call receipt → receipt_in all_words run k ≡ receipt
+  shown run k next = receipt_in-next all_words run k first call receipt next (told_last words k first call receipt last wide (is k))
+
+  -- it goes on with the last run
   pub runs-goes_on : GoesOn runs len first call receipt → AreRuns (length (words ++ call_words receipt.call)) (len + 1) 0 runs
-  runs-goes_on on = AreRuns-goes_on (length words) (length all_words) len 0 on.last runs on.run are (omega (arith, long)) on.count on.at
-      (IsRunWithin-next (length words) (length all_words) (len - on.run.start) first (length (call_words receipt.call)) on.run call receipt on.next last long wide)
+  runs-goes_on on =
+      let run = on.run in
+      let before = IsRunWithin-more (length words) (length all_words) run (len - run.start) (omega (arith, long)) (within_last (length words) len 0 on.last runs run are on.is_last) in
+      subst (AreRuns (length all_words) (len + 1) 0) (with_last_call-own len on.last runs run on.is_last)
+      (AreRuns-last (length words) (length all_words) len 0 on.last runs run run.call are (omega (arith, long)) on.is_last
+      (IsRunWithin-push (length all_words) run (len - run.start) before (has_next run (len - run.start) on.next)))
 
   pub receipts-goes_on : GoesOn runs len first call receipt → receipts_in (words ++ call_words receipt.call) (len + 1) runs ≡ receipts_in words len runs ++ receipt ∷ []
   receipts-goes_on on =
-      receipts_in-goes_on all_words (length words) len 0 on.last runs on.run are on.count on.at
-      ∙ (λ i. receipts_in-more words (call_words receipt.call) len 0 runs are i
-      ++ receipt_in-next all_words on.run (len - on.run.start) first call receipt on.next (told_last words first call receipt last wide is) i ∷ [])
+      let run = on.run in
+      ap (receipts_in all_words (len + 1)) (sym (with_last_call-own len on.last runs run on.is_last))
+      ∙ receipts_in-last all_words (length words) len 0 on.last runs run run.call are on.is_last refl
+      ∙ (λ i. receipts_in-more words (call_words receipt.call) len 0 runs are i ++ shown run (len - run.start) on.next i ∷ [])
 
-  -- one that begins a run of its own
+  -- it begins a run of its own
   module _ (run : ReceiptRun) (next : IsNextOf run 0 first call receipt) (start : run.start ≡ len) where
     pub runs-push : AreRuns (length (words ++ call_words receipt.call)) (len + 1) 0 (runs ++ run ∷ [])
     runs-push = AreRuns-push (length words) (length all_words) len 0 runs run are (omega (arith, long)) start
-        (IsRunWithin-next (length words) (length all_words) 0 first (length (call_words receipt.call)) run call receipt next last long wide)
+        (IsRunWithin-push (length all_words) run 0 (λ k low. absurd (omega arith)) (has_next run 0 next))
 
     pub receipts-push : receipts_in (words ++ call_words receipt.call) (len + 1) (runs ++ run ∷ []) ≡ receipts_in words len runs ++ receipt ∷ []
     receipts-push =
         receipts_in-push all_words (length words) len 0 runs run are start
-        ∙ (λ i. receipts_in-more words (call_words receipt.call) len 0 runs are i
-        ++ receipt_in-next all_words run 0 first call receipt next (told_last words first call receipt last wide is) i ∷ [])
+        ∙ (λ i. receipts_in-more words (call_words receipt.call) len 0 runs are i ++ shown run 0 next i ∷ [])
+
+-- a receipt whose word counts up: no word is added
+module _ (words : List ℕ) (len : ℕ) (runs : List ReceiptRun) (call : StoredCall) (receipt : Receipt) (are : AreRuns (length words) len 0 runs) (on : CountsOn words runs len call receipt) where
+  -- the words of a counted run are the first alone
+  has_counted : (k : ℕ) → on.run.slot + k < 256 → on.run.at + k < 2 ^ 64 → HasCall (length words) (with_call on.run call) k
+  has_counted k slot place =
+      let none : k * stride call ≡ 0 = ap (λ n. k * n) on.next.same ∙ omega arith in
+      (slot, place, let one = on.next.one in let inside = on.next.inside in omega arith)
+
+  pub runs-counted : AreRuns (length words) (len + 1) 0 (with_last_call runs call)
+  runs-counted =
+      let run = on.run in
+      let n = len - run.start in
+      let before = within_last (length words) len 0 on.last runs run are on.is_last in
+      AreRuns-last (length words) (length words) len 0 on.last runs run call are (omega arith) on.is_last
+      (IsRunWithin-push (length words) (with_call run call) n (λ k low. has_counted k (before k low).0 (before k low).1)
+      (has_counted n on.next.follows.slot_fits on.next.follows.place_fits))
+
+  pub receipts-counted : receipts_in words (len + 1) (with_last_call runs call) ≡ receipts_in words len runs ++ receipt ∷ []
+  receipts-counted =
+      let run = on.run in
+      let n = len - run.start in
+      let first : first_in (with_call run call) n ≡ run.first = let none : n * stride call ≡ 0 = ap (λ s. n * s) on.next.same ∙ omega arith in omega arith in
+      let told : call_in call n (run_from words (first_in (with_call run call) n) (call_width call)) ≡ receipt.call =
+      (λ i. call_in call n (run_from words (first i) (on.next.one i))) ∙ on.next.told in
+      receipts_in-last words (length words) len 0 on.last runs run call are on.is_last on.next.before
+      ∙ (λ i. receipts_in words len runs ++ receipt_in-told words run n call receipt on.next.follows told i ∷ [])
+
+-- a run is shown the same by another call, if it is its own, or shows the first call, which is all there is, the same
+before_shown : (words : List ℕ) (run : ReceiptRun) (k : ℕ) (call counted : StoredCall) → MayCount run.call k call counted
+    → call_in counted 0 (run_from words (first_in (with_call run counted) 0) (call_width counted)) ≡ call_in call 0 (run_from words (first_in (with_call run call) 0) (call_width call))
+    → run_receipts words (with_call run counted) k ≡ run_receipts words run k
+before_shown words run k call counted may shown = elim may [
+  | inl so ↦ ap (λ (c : StoredCall). run_receipts words (with_call run c) k) (sym so)
+  | inr one ↦ subst (λ n. run_receipts words (with_call run counted) n ≡ run_receipts words run n) (sym one.0)
+      (first_shown ∙ ap (λ (c : StoredCall). run_receipts words (with_call run c) 1) (sym one.1))
+]
+  where
+    first_shown : run_receipts words (with_call run counted) 1 ≡ run_receipts words (with_call run call) 1
+    first_shown i = record { key = key_in run 0; worker = run.worker; section = run.section; at = run.at + 0; call = shown i } ∷ []
+
+own_at : (words : List ℕ) (first : ℕ) → counted_up 0 (run_from words first 1) ≡ run_from words first 1 → counted_up 0 (run_from words (first + 0) 1) ≡ run_from words (first + 0) 1
+own_at words first own = let same : first ≡ first + 0 = omega arith in subst (λ n. counted_up 0 (run_from words n 1) ≡ run_from words n 1) same own
+
+-- a run of one call, or a counted one, is counted where the next word counts up
+pub counted_if : (words : List ℕ) (run : ReceiptRun) (k : ℕ) (call counted : StoredCall) (receipt : Receipt) → counted_form call ≡ Some counted → MayCount run.call k call counted
+    → call_in call k (call_words receipt.call) ≡ receipt.call → CountsUp words run.first k (call_words receipt.call) → Follows run k receipt → IsCountedOf words run k counted receipt
+counted_if words run k (Put C16) counted receipt form may is up follows =
+    let counts : CountedPut ≡ counted = same_Some CountedPut counted form in
+    subst (λ c. IsCountedOf words run k c receipt) counts (record {
+      follows = follows;
+      before = before_shown words run k (Put C16) CountedPut (subst (λ c. MayCount run.call k (Put C16) c) (sym counts) may) (ap call.Put (own_at words run.first up.own));
+      one = refl;
+      same = refl;
+      inside = up.inside;
+      told = ap call.Put up.word ∙ is;
+    })
+counted_if words run k (Set C16) counted receipt form may is up follows =
+    let counts : CountedSet ≡ counted = same_Some CountedSet counted form in
+    subst (λ c. IsCountedOf words run k c receipt) counts (record {
+      follows = follows;
+      before = before_shown words run k (Set C16) CountedSet (subst (λ c. MayCount run.call k (Set C16) c) (sym counts) may) (ap call.Set (own_at words run.first up.own));
+      one = refl;
+      same = refl;
+      inside = up.inside;
+      told = ap call.Set up.word ∙ is;
+    })
+counted_if words run k (Put C64) counted receipt form may is up follows = absurd cc
+counted_if words run k (Put C256) counted receipt form may is up follows = absurd cc
+counted_if words run k CountedPut counted receipt form may is up follows = absurd cc
+counted_if words run k (Found class) counted receipt form may is up follows = absurd cc
+counted_if words run k NotFound counted receipt form may is up follows = absurd cc
+counted_if words run k (Set C64) counted receipt form may is up follows = absurd cc
+counted_if words run k (Set C256) counted receipt form may is up follows = absurd cc
+counted_if words run k CountedSet counted receipt form may is up follows = absurd cc
+counted_if words run k (NotSet class) counted receipt form may is up follows = absurd cc
+counted_if words run k Freed counted receipt form may is up follows = absurd cc
+counted_if words run k NotFreed counted receipt form may is up follows = absurd cc
 
 -- the receipt at a place, by the run that was read at the number that has it
-pub record Found (words : List ℕ) (len place i : ℕ) (runs : List ReceiptRun) (run : ReceiptRun) : Type 0 where
+pub record FoundRun (words : List ℕ) (len place i : ℕ) (runs : List ReceiptRun) (run : ReceiptRun) : Type 0 where
   pub inside : i < length runs
   pub from : run.start ≤ place
-  pub within : IsRunWithin (length words) run ((place - run.start) + 1)
+  pub within : HasCall (length words) run (place - run.start)
   pub at : slice_get (receipts_in words len runs) place ≡ Some (receipt_in words run (place - run.start))
 
-pub Found-at : (words : List ℕ) (len place i : ℕ) (runs : List ReceiptRun) (run : ReceiptRun) → AreRuns (length words) len 0 runs → place < length (receipts_in words len runs)
-    → HasPlace runs place i → run ≡ get_or runs i run → Found words len place i runs run
-Found-at words len place i runs run are high has read =
+pub FoundRun-at : (words : List ℕ) (len place i : ℕ) (runs : List ReceiptRun) (run : ReceiptRun) → AreRuns (length words) len 0 runs → place < length (receipts_in words len runs)
+    → HasPlace runs place i → run ≡ get_or runs i run → FoundRun words len place i runs run
+FoundRun-at words len place i runs run are high has read =
     let same : has.run ≡ run = sym (read ∙ get_or_from_slice_get runs i has.run run has.at) in
     let there = stands words len place i runs are (let count = length-receipts_in words (length words) len 0 runs are in omega arith) has in
-    subst (Found words len place i runs) same (record {
+    subst (FoundRun words len place i runs) same (record {
       inside = slice_get_within runs i has.run has.at;
       from = has.from;
       within = there.within;

@@ -3,15 +3,16 @@ ghost use Rattle.std.specs.Prelude.{◌≡◌, ◌≤◌, ◌<◌, ◌+◌, ◌^
 ghost use Rattle.span.specs.declared.change.Change.{Change};
 ghost use Rattle.span.specs.declared.change.Change.TheVariants as change;
 ghost use Rattle.span.specs.Classes.{width_of};
-ghost use Rattle.span.specs.Stored.{AreWithin, changes_in, run_from};
+ghost use Rattle.span.specs.Stored.{AreBlocks, AreWithin, change_of, width_in, words_of};
 
+use crate::blocks::{base_of, begin_block};
 use crate::change::Change;
 use crate::class::Class;
 use crate::history::History;
 use crate::object::Object;
-use crate::stored::Stored;
+use crate::stored::{BLOCK, Kind, Stored};
 use crate::view::ChangeView;
-use crate::words::{push_words, run};
+use crate::words::{push_words, words_from};
 use std::alloc::{AllocError, Global};
 use std::marker::Model;
 
@@ -89,18 +90,22 @@ pub trait Log: Drop {
         ensures { result ≡ length (changes self.now) };
 }
 
-/// A log that keeps all its changes, and drops none: it can be read and audited. A change takes 16 bytes, and a put or a set
+/// A log that keeps all its changes, and drops none: it can be read and audited. A change takes 8 bytes, and a put or a set
 /// the words of its object besides, which stand in a list of their own.
 #[derive(Drop)]
 pub struct Kept {
     changes: Vec<Stored>,
     words: Vec<u128>,
+    // Where the words of each block of changes begin, but of the first.
+    bases: Vec<usize>,
     // The words of each put are there.
-    ghost within: { AreWithin (length words.items) changes.items },
+    ghost within: { AreWithin (length words.items) bases.items changes.items },
+    ghost blocks: { AreBlocks (length words.items) bases.items (length changes.items) },
 }
 
 impl Kept {
     ghost use Rattle.span.specs.KeptLogs.{kept_changes};
+    ghost use Rattle.span.specs.Rooms.{room_in, room_for_words};
     ghost use Rattle.span.specs.Views.{viewed};
 
     /// The change at the place, the oldest being at 0.
@@ -108,37 +113,9 @@ impl Kept {
         requires { place < length (kept_changes self.now) }
         ensures { slice_get (kept_changes self.now) place ≡ Some result }
     {
-        match self.changes[place] {
-            Stored::Put {
-                slot,
-                class,
-                generation,
-                first,
-            } => {
-                let words = run(self.words.as_slice(), first, class);
-                let value = Object::of(class, words);
-                Change::Put {
-                    slot,
-                    generation,
-                    value,
-                }
-            }
-            Stored::Set {
-                slot,
-                class,
-                generation,
-                first,
-            } => {
-                let words = run(self.words.as_slice(), first, class);
-                let value = Object::of(class, words);
-                Change::Set {
-                    slot,
-                    generation,
-                    value,
-                }
-            }
-            Stored::Free { slot, generation } => Change::Free { slot, generation },
-        }
+        let stored = self.changes[place];
+        let words = self.words_of(place, stored);
+        stored.kind.change(stored.slot, stored.generation, words)
     }
 
     /// The same, with its words lent: an object is not copied.
@@ -146,35 +123,44 @@ impl Kept {
         requires { place < length (kept_changes self.now) }
         ensures { slice_get (kept_changes self.now) place ≡ Some (viewed result) }
     {
-        match self.changes[place] {
-            Stored::Put {
-                slot,
-                class,
-                generation,
-                first,
-            } => {
-                let words = run(self.words.as_slice(), first, class);
-                ChangeView::Put {
-                    slot,
-                    generation,
-                    words,
-                }
-            }
-            Stored::Set {
-                slot,
-                class,
-                generation,
-                first,
-            } => {
-                let words = run(self.words.as_slice(), first, class);
-                ChangeView::Set {
-                    slot,
-                    generation,
-                    words,
-                }
-            }
-            Stored::Free { slot, generation } => ChangeView::Free { slot, generation },
-        }
+        let stored = self.changes[place];
+        let words = self.words_of(place, stored);
+        stored.kind.view(stored.slot, stored.generation, words)
+    }
+
+    // The words of the change that is stored at the place, or none where it is a free.
+    fn words_of(&self, place: usize, stored: Stored) -> &[u128]
+        requires { slice_get self.now.changes.items place ≡ Some stored }
+        ensures words { result.now
+            ≡ words_of self.now.words.items self.now.bases.items place stored }
+        ensures width { length result.now ≡ width_in stored.kind }
+    {
+        let Stored { kind, offset, .. } = stored;
+        let first = base_of(self.bases.as_slice(), place / BLOCK) + usize::from(offset);
+        words_from(self.words.as_slice(), first, kind.words())
+    }
+
+    // Adds a change with its words at the end, in reserved room, which needs no memory.
+    fn push(&mut self, kind: Kind, slot: u8, generation: u32, words: &[u128])
+        requires room { 0 < room_in self.old.changes self.old.bases }
+        requires word_room { length words.now ≤ room_for_words self.old.words }
+        requires width { length words.now ≡ width_in kind }
+        ensures changes { kept_changes self.new ≡ kept_changes self.old
+            ++ change_of kind slot generation words.now ∷ [] }
+        ensures room { room_in self.old.changes self.old.bases
+            ≤ room_in self.new.changes self.new.bases + 1 }
+    {
+        let first = self.words.len();
+        let block = self.changes.len() / BLOCK;
+        begin_block(&mut self.bases, block, first);
+        let offset = (first - base_of(self.bases.as_slice(), block)) as u16;
+        push_words(&mut self.words, words);
+        self.changes.push_reserved(Stored {
+            kind,
+            slot,
+            offset,
+            generation,
+        });
     }
 }
 
@@ -184,7 +170,7 @@ impl Log for Kept {
 
     ghost changes = { λ l. kept_changes l };
 
-    ghost room = { λ l. room_in l.changes };
+    ghost room = { λ l. room_in l.changes l.bases };
 
     ghost word_room = { λ l. room_for_words l.words };
 
@@ -192,44 +178,33 @@ impl Log for Kept {
         Kept {
             changes: Vec::new(alloc),
             words: Vec::new(alloc),
+            bases: Vec::new(alloc),
         }
     }
 
     fn reserve(&mut self, more: usize, words: usize) -> Result<(), AllocError> {
         self.changes.reserve(more)?;
         self.words.reserve(words)?;
+        let blocks = (self.changes.len() + more) / BLOCK;
+        self.bases.reserve(blocks - self.bases.len())?;
         Ok(())
     }
 
     fn push_put(&mut self, slot: u8, generation: u32, class: Class, words: &[u128]) {
-        let first = self.words.len();
-        push_words(&mut self.words, words);
-        self.changes.push_reserved(Stored::Put {
-            slot,
-            class,
-            generation,
-            first,
-        });
+        self.push(Kind::put(class), slot, generation, words);
     }
 
     fn reserve_set(&mut self, more: usize, words: usize) -> Result<(), AllocError> {
-        self.reserve(more, words)
+        self.reserve(more, words)?;
+        Ok(())
     }
 
     fn push_set(&mut self, slot: u8, generation: u32, class: Class, words: &[u128]) {
-        let first = self.words.len();
-        push_words(&mut self.words, words);
-        self.changes.push_reserved(Stored::Set {
-            slot,
-            class,
-            generation,
-            first,
-        });
+        self.push(Kind::set(class), slot, generation, words);
     }
 
     fn push_free(&mut self, slot: u8, generation: u32) {
-        self.changes
-            .push_reserved(Stored::Free { slot, generation });
+        self.push(Kind::Free, slot, generation, &[]);
     }
 
     fn len(&self) -> usize {

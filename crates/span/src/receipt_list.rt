@@ -3,15 +3,16 @@ ghost use Rattle.std.specs.Prelude.{◌≡◌, ◌≤◌, ◌<◌, ◌+◌, [], 
 ghost use Rattle.span.specs.StoredReceipts.{AreRuns, AreRuns-prop, call_words};
 
 use crate::receipt::Receipt;
-use crate::receipt_run::{goes_on, receipt_of, run_at, run_of, stored, view_of, words_of};
+use crate::receipt_run::{call_last, joins, receipt_of, run_at, run_of, stored, view_of, words_of};
 use crate::receipt_view::ReceiptView;
-use crate::stored_receipt::ReceiptRun;
+use crate::stored_receipt::{Joins, ReceiptRun};
 use crate::words::push_words;
 use std::alloc::{AllocError, Global};
 
 /// Receipts, in the order of their calls: what a worker keeps of its run for an audit. A receipt takes 48 bytes, and one with
 /// an object the object's words besides, which stand in a list of their own. Receipts of calls that follow one another, as those
-/// of puts on a fresh page do, take 48 bytes together, and their words.
+/// of puts on a fresh page do, take 48 bytes together, and their words. Where these are puts of one word each, or sets, whose words
+/// count up by one from call to call, the first word alone is kept, so that they take 64 bytes together.
 #[derive(Drop)]
 pub struct ReceiptList {
     runs: Vec<ReceiptRun>,
@@ -73,10 +74,24 @@ impl ReceiptList {
     {
         let first = self.words.len();
         let call = stored(&receipt.call);
-        if goes_on(self.runs.as_slice(), self.len, first, call, receipt) {
-            push_words(&mut self.words, words_of(&receipt.call));
-            self.len += 1;
-            return;
+        match joins(
+            self.runs.as_slice(),
+            self.words.as_slice(),
+            self.len,
+            call,
+            receipt,
+        ) {
+            Joins::Counted(counted) => {
+                call_last(&mut self.runs, counted);
+                self.len += 1;
+                return;
+            }
+            Joins::WithItsWords => {
+                push_words(&mut self.words, words_of(&receipt.call));
+                self.len += 1;
+                return;
+            }
+            Joins::Apart => {}
         }
         push_words(&mut self.words, words_of(&receipt.call));
         self.runs
@@ -135,5 +150,105 @@ impl ReceiptList {
             return 0;
         }
         place.saturating_mul(self.runs.len()) / self.len
+    }
+}
+
+#[cfg(test)]
+mod tests {
+    use super::*;
+    use crate::id::SpanId;
+    use crate::key::Key;
+    use crate::object::Object;
+    use crate::receipt::Call;
+    use crate::receipt_view::CallView;
+
+    // The key of the slot with this number.
+    fn key(number: u8) -> Option<Key> {
+        Key::new(SpanId::new(3, 17)?, number, 1)
+    }
+
+    // A put of this word, or a set to it.
+    fn call(word: u128, sets: bool) -> Call {
+        let value = Object::c16(word);
+        if sets {
+            Call::Set { value }
+        } else {
+            Call::Put { value }
+        }
+    }
+
+    // Adds the receipt of such a call, on the slot and at the place of this number.
+    fn add(list: &mut ReceiptList, number: u8, word: u128, sets: bool) -> Option<()> {
+        let key = key(number)?;
+        let call = call(word, sets);
+        let receipt = Receipt {
+            key,
+            worker: 2,
+            section: 5,
+            at: usize::from(number),
+            call,
+        };
+        list.push(&receipt).ok()
+    }
+
+    // The receipts of such calls, one after another.
+    fn list_of(alloc: Global, words: &[u128], sets: bool) -> Option<ReceiptList> {
+        let mut list = ReceiptList::new(alloc);
+        let mut number = 0;
+        for word in words {
+            add(&mut list, number, *word, sets)?;
+            number = u8::wrapping_add(number, 1);
+        }
+        Some(list)
+    }
+
+    // Whether the view shows a put of this word, or a set to it.
+    fn has(call: CallView<'_>, word: u128) -> bool {
+        match call {
+            CallView::Put { value } => value.len() == 1 && value.is(&[word]),
+            CallView::Set { value } => value.len() == 1 && value.is(&[word]),
+            _ => false,
+        }
+    }
+
+    // Whether the list shows the word at its place, by a view and by a copy.
+    fn shows(list: &ReceiptList, place: usize, word: u128) -> bool {
+        if list.len() <= place || !has(list.view(place).call, word) {
+            return false;
+        }
+        let receipt = list.receipt(place);
+        words_of(&receipt.call) == [word].as_slice()
+    }
+
+    // As how many runs and words the list is kept, if it shows these words.
+    fn kept(alloc: Global, words: &[u128], sets: bool) -> Option<(usize, usize)> {
+        let list = list_of(alloc, words, sets)?;
+        for i in 0..words.len() {
+            if !shows(&list, i, words[i]) {
+                return None;
+            }
+        }
+        Some((list.runs.len(), list.words.len()))
+    }
+
+    #[test]
+    fn keeps_the_first_of_words_that_count_up(rt: HostRuntime) {
+        let alloc = rt.alloc();
+        assert_eq!(rt;
+            (
+                kept(alloc, &[5, 6, 7, 8], true),
+                kept(alloc, &[5, 6, 8, 9, 3], false),
+                kept(alloc, &[7, 3, 4, 5], false),
+                kept(alloc, &[1, 2, 1, 2], true),
+                kept(alloc, &[u128::MAX - 1, u128::MAX, 0, 1], false),
+            ),
+            (
+                Some((1, 1)),
+                Some((3, 3)),
+                Some((1, 4)),
+                Some((2, 2)),
+                Some((1, 1))
+            )
+        );
     }
 }

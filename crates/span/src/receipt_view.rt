@@ -1,26 +1,27 @@
 // What a call on a key told, as it is read in place.
 use crate::key::Key;
+use crate::object_view::ObjectView;
 
-/// What a call asked of its key, and what it was answered, as [`Call`](crate::Call), whose words are lent.
+/// What a call asked of its key, and what it was answered, as [`Call`](crate::Call), whose object is not copied.
 #[derive(Clone, Copy)]
 pub enum CallView<'a> {
-    /// A put of an object of these words.
-    Put { words: &'a [u128] },
-    /// A look-up that found an object of these words.
-    Found { words: &'a [u128] },
+    /// A put of this object.
+    Put { value: ObjectView<'a> },
+    /// A look-up that found this object.
+    Found { value: ObjectView<'a> },
     /// A look-up that found nothing.
     NotFound,
-    /// A set to an object of these words that was done.
-    Set { words: &'a [u128] },
-    /// A set to an object of these words that was not done, since the key was not live, or its object had another class.
-    NotSet { words: &'a [u128] },
+    /// A set to this object that was done.
+    Set { value: ObjectView<'a> },
+    /// A set to this object that was not done, since the key was not live, or its object had another class.
+    NotSet { value: ObjectView<'a> },
     /// A free that was done.
     Freed,
     /// A free that was not done, since the key was not live.
     NotFreed,
 }
 
-/// One call on a key, as [`Receipt`](crate::Receipt), whose words are lent.
+/// One call on a key, as [`Receipt`](crate::Receipt), whose object is not copied.
 #[derive(Clone, Copy)]
 pub struct ReceiptView<'a> {
     /// The key that the call was about, or that its put gave out.

@@ -215,6 +215,7 @@ impl<L: Log> Span<L> {
 
     /// Frees the slot where it is live at the generation, and says whether it was: as [`Span::free`], for a caller
     /// that found the span by its id. Takes no memory.
+    #[inline(always)]
     pub fn free_held(&mut self, slot: u8, generation: u32) -> bool
         ensures found { IsTrue result ↔ Holds self.old.log slot generation }
         ensures freed { OnTrue result (self.new ≡ record self.old {
@@ -352,6 +353,7 @@ impl Span<Kept> {
 mod tests {
     use super::*;
     use crate::log::Counted;
+    use crate::view::ChangeView;
 
     // The id of a span, 3.17.
     fn id() -> SpanId {
@@ -445,6 +447,59 @@ mod tests {
                 (Some(300), Some((255, 301))),
                 (Some((false, false)), Some((true, true)), Some((true, true))),
                 Some((8, 256)),
+            )
+        );
+    }
+
+    // Puts each of the words in the slot, and frees it after each.
+    fn put_each(span: &mut Span<Kept>, slot: u8, words: u32) -> Option<()> {
+        for word in 0..words {
+            let (_, generation) = put(span, slot, word as u128)?;
+            frees(span, slot, generation)?;
+        }
+        Some(())
+    }
+
+    // The generation and the first word of the put at the place of the log.
+    fn put_at_place(log: &Kept, place: usize) -> Option<(u32, u128)> {
+        if place >= log.len() {
+            return None;
+        }
+        match log.view(place) {
+            ChangeView::Put {
+                generation,
+                words,
+                ..
+            } => Some((generation, *words.first()?)),
+            _ => None,
+        }
+    }
+
+    #[test]
+    fn tells_the_words_of_each_block(rt: HostRuntime) {
+        let mut span = Span::new(rt.alloc(), id(), Class::C16, u32::MAX);
+        let made = put_each(&mut span, 8, 1500);
+        let log = span.log();
+        assert_eq!(rt;
+            (
+                made,
+                (
+                    put_at_place(log, 0),
+                    put_at_place(log, 1022),
+                    put_at_place(log, 1023)
+                ),
+                (
+                    put_at_place(log, 1024),
+                    put_at_place(log, 2048),
+                    put_at_place(log, 2998)
+                ),
+                put_at_place(log, 3000),
+            ),
+            (
+                Some(()),
+                (Some((1, 0)), Some((512, 511)), None),
+                (Some((513, 512)), Some((1025, 1024)), Some((1500, 1499))),
+                None,
             )
         );
     }

@@ -11,7 +11,16 @@ pub(crate) fn run(words: &[u128], first: usize, class: Class) -> &[u128]
     ensures words { result.now ≡ run_from words.now first (width_of class) }
     ensures width { length result.now ≡ width_of class }
 {
-    &words[first..first + class.words()]
+    words_from(words, first, class.words())
+}
+
+/// So many words from the word `first` on.
+pub(crate) fn words_from(words: &[u128], first: usize, width: usize) -> &[u128]
+    requires { first + width ≤ length words.now }
+    ensures words { result.now ≡ run_from words.now first width }
+    ensures width { length result.now ≡ width }
+{
+    &words[first..first + width]
 }
 
 /// Adds words at the end, in reserved room, which needs no memory. One word is by far the most frequent.

@@ -1,8 +1,8 @@
-use Rattle.std.proofs.Common.{◌≡◌, ◌+◌, ◌∙◌, ◌-◌, ℕ, Some, List, length, slice_get, sym, subst, ap, arith}
+use Rattle.std.proofs.Common.{◌≡◌, ◌∙◌, ◌-◌, ℕ, Some, List, length, slice_get, sym, subst, ap, arith}
 use Rattle.std.proofs.lemmas.Option.{slice_get_within}
-use Rattle.span.specs.StoredReceipts.{HasPlace, IsRunWithin, receipt_in}
+use Rattle.span.specs.StoredReceipts.{HasPlace, HasCall, receipt_in}
 use Rattle.span.specs.declared.stored_receipt.ReceiptRun.{ReceiptRun}
-use Rattle.span.proofs.KeptReceipts.{Found-at, first_low}
+use Rattle.span.proofs.KeptReceipts.{FoundRun-at, first_low}
 use Rattle.span.proofs.receipt_list.ReceiptList.view_near.Goals as goal
 
 pub run_at-i-requires-clause-first : goal.run_at-i-requires-clause-first
@@ -21,18 +21,18 @@ pub overflow_sub-place : goal.overflow_sub-place
 overflow_sub-place c =
     let list = c.args.self.now in
     let has = subst (λ (l : List ReceiptRun). HasPlace l c.args.place c.run_at-i.result) c.as_slice.ensures.value c.run_at-i.ensures in
-    (Found-at list.words.items list.len c.args.place c.run_at-i.result list.runs.items c.index-run.result.now list.runs_are c.requires has c.index-run.ensures).from
+    (FoundRun-at list.words.items list.len c.args.place c.run_at-i.result list.runs.items c.index-run.result.now list.runs_are c.requires has c.index-run.ensures).from
 
 pub view_of-requires : goal.view_of-requires
 view_of-requires c =
     let list = c.args.self.now in
     let has = subst (λ (l : List ReceiptRun). HasPlace l c.args.place c.run_at-i.result) c.as_slice.ensures.value c.run_at-i.ensures in
-    let found = Found-at list.words.items list.len c.args.place c.run_at-i.result list.runs.items c.index-run.result.now list.runs_are c.requires has c.index-run.ensures in
-    subst (λ (l : List ℕ). IsRunWithin (length l) c.index-run.result.now ((c.args.place - c.index-run.result.now.start) + 1)) (sym c.as_slice-2.ensures.value) found.within
+    let found = FoundRun-at list.words.items list.len c.args.place c.run_at-i.result list.runs.items c.index-run.result.now list.runs_are c.requires has c.index-run.ensures in
+    subst (λ (l : List ℕ). HasCall (length l) c.index-run.result.now (c.args.place - c.index-run.result.now.start)) (sym c.as_slice-2.ensures.value) found.within
 
 pub returns : goal.returns
 returns c =
     let list = c.args.self.now in
     let has = subst (λ (l : List ReceiptRun). HasPlace l c.args.place c.run_at-i.result) c.as_slice.ensures.value c.run_at-i.ensures in
-    let found = Found-at list.words.items list.len c.args.place c.run_at-i.result list.runs.items c.index-run.result.now list.runs_are c.requires has c.index-run.ensures in
+    let found = FoundRun-at list.words.items list.len c.args.place c.run_at-i.result list.runs.items c.index-run.result.now list.runs_are c.requires has c.index-run.ensures in
     found.at ∙ ap (λ l. Some (receipt_in l c.index-run.result.now (c.args.place - c.index-run.result.now.start))) (sym c.as_slice-2.ensures.value) ∙ ap Some (sym c.view_of.ensures)
