@@ -12,6 +12,7 @@ use span::Key;
 pub const MOST_DELAY: u32 = 64;
 
 // Leaves the key for the shard that opened its span. Where the ring took none, all keys that wait are handed over.
+#[inline(always)]
 pub(crate) fn leave_on(
     outboxes: &mut Vec<Outbox>,
     delay: &mut Option<u32>,
@@ -55,6 +56,7 @@ pub(crate) fn leave_on(
 }
 
 // Counts the call that left a key.
+#[inline(always)]
 fn count_key_on(outboxes: &mut Vec<Outbox>, delay: &mut Option<u32>)
     requires few { IfSome delay.old (λ calls. calls < MOST_DELAY) }
     ensures len { vec_len outboxes.new ≡ vec_len outboxes.old }
@@ -74,6 +76,7 @@ fn count_key_on(outboxes: &mut Vec<Outbox>, delay: &mut Option<u32>)
 }
 
 // Counts a call of the seat, where keys wait.
+#[inline(always)]
 pub(crate) fn count_call_on(outboxes: &mut Vec<Outbox>, delay: &mut Option<u32>)
     requires few { IfSome delay.old (λ calls. calls < MOST_DELAY) }
     requires none { delay.old ≡ None → NoneWaits outboxes.old.items }
@@ -94,7 +97,9 @@ pub(crate) fn count_call_on(outboxes: &mut Vec<Outbox>, delay: &mut Option<u32>)
     }
 }
 
-// Counts one call more after so many, and hands all over where that is the last that keys may wait.
+// Counts one call more after so many, and hands all over where that is the last that keys may wait. It stands apart, so that a call has none
+// of it where no key waits.
+#[inline(never)]
 fn count_on(outboxes: &mut Vec<Outbox>, delay: &mut Option<u32>, calls: u32)
     requires { calls < MOST_DELAY }
     ensures len { vec_len outboxes.new ≡ vec_len outboxes.old }
@@ -136,6 +141,7 @@ pub(crate) fn hand_over_waiting(outboxes: &mut Vec<Outbox>, delay: &mut Option<u
 }
 
 // Sends the key to the shard that opened its span. The rings stay.
+#[inline(always)]
 fn send_on(outboxes: &mut Vec<Outbox>, key: Key) -> Result<(), Key>
     requires { key.span.shard < vec_len outboxes.old }
     ensures len { vec_len outboxes.new ≡ vec_len outboxes.old }
@@ -160,6 +166,7 @@ fn send_on(outboxes: &mut Vec<Outbox>, key: Key) -> Result<(), Key>
 }
 
 // Hands over the keys that wait at each of the ends. The rings and what was sent stay.
+#[inline(never)]
 fn hand_over_on(outboxes: &mut Vec<Outbox>)
     ensures len { vec_len outboxes.new ≡ vec_len outboxes.old }
     ensures rings { map (λ outbox. outbox.ring) outboxes.new.items

@@ -263,6 +263,7 @@ impl Seat {
     ///
     /// The key, handed back, where the ring took none: each of its places was seen to hold a key, those of the block among
     /// them. All keys that wait are then handed over.
+    #[inline(always)]
     pub fn free_later(&mut self, key: Key) -> Result<(), Key>
         requires { key.span.shard < self.old.limits.shards }
         ensures sent { MatchResult result
@@ -424,6 +425,7 @@ impl Seat {
     }
 
     // Counts a call, where keys wait, and hands them over where it is the last that they may wait.
+    #[inline(always)]
     pub(crate) fn count_call(&mut self)
         ensures { CountsCall self.old self.new }
     {

@@ -204,6 +204,7 @@ impl<G: Gate, L: Log> Session<G, L> {
     /// # Errors
     ///
     /// As those of [`Seat::free_later`].
+    #[inline(always)]
     pub fn free_later(&mut self, key: Key) -> Result<(), Key>
         requires { key.span.shard < self.old.seat.limits.shards }
         ensures sent { MatchResult result

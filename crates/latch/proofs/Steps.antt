@@ -15,9 +15,9 @@ module _ {T : Type 0} where
   takes_it slots before s kept long small = dite (ℕ_discrete (get_or s.words 16 0) 0)
       (λ free. let there = kept.2 free in (
         tt,
-        takes 0 (Some there.0),
+        takes 4 (Some there.0),
         there.1,
-        (length-set s.words 16 1 ∙ kept.0, length-set s.homes 0 _ ∙ kept.1, λ zero. absurd (taken s kept.0 zero)),
+        (length-set s.words 16 1 ∙ kept.0, length-set s.homes 4 _ ∙ kept.1, λ zero. absurd (taken s kept.0 zero)),
         λ _. (there.0, refl),
       ))
       (λ held. (
@@ -31,7 +31,7 @@ module _ {T : Type 0} where
         taken s wide zero = let one : get_or (set s.words 16 1) 16 0 ≡ 1 = get_or-set_same s.words 16 1 0 (omega arith) in absurd (omega arith)
 
   -- who has the slot, with a value, gives it back as it stores 0
-  pub gives_it : (slots id : ℕ) (me : Me (Option T) (Unit {0})) (value : T) → me.1 ≡ (0, Some value) ∷ []
+  pub gives_it : (slots id : ℕ) (me : Me (Option T) (Unit {0})) (value : T) → me.1 ≡ (4, Some value) ∷ []
       → Allows (IsKept {T = T}) slots id me 16 (λ _. 0) (λ _. gave (step slots 16 0 0 mathlib.Core.Option.none) me 0)
   gives_it slots id me value has s kept long at small = (
     tt,
@@ -39,8 +39,8 @@ module _ {T : Type 0} where
     tt,
     (
       length-set s.words 16 0 ∙ kept.0,
-      ap (λ held. length (put_back s.homes held)) has ∙ (length-set s.homes 0 _ ∙ kept.1),
-      λ _. (value, ap (λ held. get_elem? (put_back s.homes held) 0) has ∙ set_here s.homes 0 (some (Some value)) (let n = kept.1 in omega arith)),
+      ap (λ held. length (put_back s.homes held)) has ∙ (length-set s.homes 4 _ ∙ kept.1),
+      λ _. (value, ap (λ held. get_elem? (put_back s.homes held) 4) has ∙ set_here s.homes 4 (some (Some value)) (let n = kept.1 in omega arith)),
     ),
     tt,
   )

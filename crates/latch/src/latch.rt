@@ -18,6 +18,10 @@ const WORDS: usize = 32;
 
 const WORD: usize = 16;
 
+// It has 9 slots of 16 bytes, and uses the one in the middle, so that no other thread writes to its cache line: what an allocator lays beside
+// a slot that stands alone may be anybody's.
+const SLOT: usize = 4;
+
 // How often a call looks at a latch that another thread has, before it answers that, or lets others run.
 const LOOKS: u32 = 50;
 
@@ -54,7 +58,7 @@ impl<T> Play<Option<Box<T>>, ()> for Giving {
 pub struct Latch<T: Drop> {
     table: Table<Option<Box<T>>, (), (), Keeping, Global>,
     ghost words: { table.shared.table_id.words ≡ 32 },
-    ghost slots: { table.shared.table_id.slots ≡ 1 },
+    ghost slots: { table.shared.table_id.slots ≡ 9 },
 }
 
 impl<T: Drop> Model for Latch<T> {
@@ -71,7 +75,7 @@ impl<T: Drop> Model for Latch<T> {
 /// is the name of its latch's table.
 pub struct Turn<T> {
     seat: Seat<Option<Box<T>>, ()>,
-    ghost empty: { seat.me.1 ≡ (0, None) ∷ [] },
+    ghost empty: { seat.me.1 ≡ (4, None) ∷ [] },
 }
 
 impl<T> Model for Turn<T> {
@@ -89,13 +93,12 @@ impl<T: Drop> Latch<T> {
     ///
     /// # Errors
     ///
-    /// `AllocError` where memory for the box, or for the 256 bytes of words beside it, was refused.
+    /// `AllocError` where memory for the box, or for the 256 bytes of words and the 144 of slots beside it, was refused.
     pub fn new(alloc: Global, value: T) -> Result<Latch<T>, AllocError> {
         let Ok(boxed) = Box::new(alloc, value) else {
             return Err(AllocError);
         };
-        let mut slots = Vec::with_capacity(alloc, 1)?;
-        slots.push_reserved(Some(boxed));
+        let slots = vec![in alloc; None, None, None, None, Some(boxed), None, None, None, None]?;
         let words = [0u64; WORDS];
         match Table::new(alloc, &words, slots, &()) {
             Ok((table, _)) => Ok(Latch { table }),
@@ -178,7 +181,7 @@ impl<T: Drop> Latch<T> {
         if found != 0 {
             return None;
         }
-        let Some(value) = shared.exchange(&mut seat, 0, None) else {
+        let Some(value) = shared.exchange(&mut seat, SLOT, None) else {
             unreachable!()
         };
         Some((value, Turn { seat }))
@@ -191,7 +194,7 @@ impl<T: Drop> Latch<T> {
     {
         let Turn { mut seat } = turn;
         let shared = &self.table.shared;
-        let None = shared.exchange(&mut seat, 0, Some(value)) else {
+        let None = shared.exchange(&mut seat, SLOT, Some(value)) else {
             unreachable!()
         };
         shared.store::<Giving>(&mut seat, WORD, 0);

@@ -8,5 +8,5 @@ pub store-requires : goal.store-requires
 store-requires g c = (
   search rules,
   search rules,
-  gives_it _ _ _ c.args.value (ap (λ me. me.1) c.exchange.ensures.3 ∙ ap (λ held. (0, Some c.args.value) ∷ rest held) c.turn.inside.empty),
+  gives_it _ _ _ c.args.value (ap (λ me. me.1) c.exchange.ensures.3 ∙ ap (λ held. (4, Some c.args.value) ∷ rest held) c.turn.inside.empty),
 )
