@@ -29,6 +29,7 @@ taken_after (Steward old) (Steward mid) (Seat left) (RecordedSteward after) same
 taken_after (Steward old) (Steward mid) (Seat left) (Run after) same taken = absurd taken
 taken_after (Steward old) (Steward mid) (Seat left) Nothing same taken = absurd taken
 taken_after (Steward old) (Steward mid) (Seat left) (Steward after) same taken = record {
+  fits = rw (← same.0) taken.fits;
   back = taken.back;
   arena_is = taken.arena_is ∙ same.0;
   keeper_is = taken.keeper_is ∙ same.1;
@@ -42,6 +43,7 @@ taken_after (Steward old) (Steward mid) (Session left) (RecordedSteward after) s
 taken_after (Steward old) (Steward mid) (Session left) (Run after) same taken = absurd taken
 taken_after (Steward old) (Steward mid) (Session left) Nothing same taken = absurd taken
 taken_after (Steward old) (Steward mid) (Session left) (Steward after) same taken = record {
+  fits = rw (← same.0) taken.fits;
   back = taken.back;
   arena_is = taken.arena_is ∙ same.0;
   keeper_is = taken.keeper_is ∙ same.1;
@@ -69,6 +71,7 @@ taken_after (RecordedSteward old) (RecordedSteward mid) (RecordedSeat left) (Rec
 taken_after (RecordedSteward old) (RecordedSteward mid) (RecordedSeat left) (Run after) same taken = absurd taken
 taken_after (RecordedSteward old) (RecordedSteward mid) (RecordedSeat left) Nothing same taken = absurd taken
 taken_after (RecordedSteward old) (RecordedSteward mid) (RecordedSeat left) (RecordedSteward after) same taken = record {
+  fits = rw (← same.0) taken.fits;
   back = taken.back;
   arena_is = taken.arena_is ∙ same.0;
   keeper_is = taken.keeper_is ∙ same.1;
@@ -98,10 +101,22 @@ pub weighed_seat : (before after : SharedSteward) (share : Share) (left : Shared
     → WeighsSeat before left.seat answer after → Weighs (Steward before) share answer (Steward after)
 weighed_seat before after share left (Ok u) is weighs = subst (λ s. Weighs (Steward before) s (Ok u) (Steward after)) (sym is) weighs
 weighed_seat before after share left (Err says) is (same, why) =
-    subst (λ s. Weighs (Steward before) s (Err says) (Steward after)) (sym is) (same, inr why)
+    subst (λ s. Weighs (Steward before) s (Err says) (Steward after)) (sym is) (
+      same,
+      elim why [
+        | inl config ↦ inr (inl (λ none. none, λ none. none, config))
+        | inr memory ↦ inr (inr memory)
+      ],
+    )
 
 pub weighed_session : (before after : SharedSteward) (share : Share) (left : SharedSession) (answer : Result (Unit {0}) ℕ) → share ≡ Session left
     → WeighsSeat before left.session.seat answer after → Weighs (Steward before) share answer (Steward after)
 weighed_session before after share left (Ok u) is weighs = subst (λ s. Weighs (Steward before) s (Ok u) (Steward after)) (sym is) weighs
 weighed_session before after share left (Err says) is (same, why) =
-    subst (λ s. Weighs (Steward before) s (Err says) (Steward after)) (sym is) (same, inr why)
+    subst (λ s. Weighs (Steward before) s (Err says) (Steward after)) (sym is) (
+      same,
+      elim why [
+        | inl config ↦ inr (inl (λ none. none, λ none. none, config))
+        | inr memory ↦ inr (inr memory)
+      ],
+    )

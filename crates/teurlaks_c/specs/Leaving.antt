@@ -14,8 +14,10 @@ use Rattle.teurlaks_c.specs.SeatCalls.{HasNoSeat}
 use Rattle.teurlaks_c.specs.Status.{config, done, no_core, out_of_memory}
 use Rattle.teurlaks_c.specs.StewardCalls.{HasNoSteward}
 
--- the seat stands last among those that the steward has to give out, with all that waited handed over; nothing else of the steward changes
+-- the seat, which is of the steward's numbers, stands last among those that the steward has to give out, with all that waited handed over; nothing else of
+-- the steward changes
 pub record TakesSeat (before : SharedSteward) (seat : SeatState) (after : SharedSteward) : Type 0 where
+  pub fits : seat.limits ≡ (arc_value before.arena).limits
   pub back : SeatState
   pub arena_is : after.arena ≡ before.arena
   pub keeper_is : after.keeper ≡ before.keeper
@@ -24,6 +26,7 @@ pub record TakesSeat (before : SharedSteward) (seat : SeatState) (after : Shared
 
 -- the same of a recorded seat, with its receipts
 pub record TakesKept (before : Recorder) (seat : Recorded) (after : Recorder) : Type 0 where
+  pub fits : seat.kept.seat.limits ≡ (arc_value before.arena).limits
   pub back : KeptSeat
   pub arena_is : after.arena ≡ before.arena
   pub keeper_is : after.keeper ≡ before.keeper
@@ -45,9 +48,17 @@ IsSameSteward (RecordedSteward before) (RecordedSteward after) = (after.arena �
     × (after.seats.items ≡ before.seats.items)
 IsSameSteward before after = after ≡ before
 
--- why a seat is not taken: there is no steward, or no seat; or the seat is of another arena; or memory is refused
+-- the seat, also one that keeps its shard, is of an arena of the steward's kind and numbers
+abbrev pub AreAlike : Share → Share → Type 0
+AreAlike (Steward steward) (Seat left) = left.seat.limits ≡ (arc_value steward.arena).limits
+AreAlike (Steward steward) (Session left) = left.session.seat.limits ≡ (arc_value steward.arena).limits
+AreAlike (RecordedSteward steward) (RecordedSeat seat) = seat.kept.seat.limits ≡ (arc_value steward.arena).limits
+AreAlike steward seat = ⊥
+
+-- why a seat is not taken: there is no steward, or no seat; or there are both, and the seat is of another arena; or the two are alike, and memory is refused
 abbrev pub IsNotTaken : Share → Share → ℕ → Type 0
-IsNotTaken steward seat says = ((HasNoSteward (Some steward) ⊎ HasNoSeat (Some seat)) × (says ≡ no_core)) ⊎ ((says ≡ config) ⊎ (says ≡ out_of_memory))
+IsNotTaken steward seat says = ((HasNoSteward (Some steward) ⊎ HasNoSeat (Some seat)) × (says ≡ no_core))
+    ⊎ (((HasNoSteward (Some steward) → ⊥) × (HasNoSeat (Some seat) → ⊥) × (says ≡ config)) ⊎ (AreAlike steward seat × (says ≡ out_of_memory)))
 
 -- the seat of one handle goes back to the steward of the other, and its own handle has nothing then; or all is as it was
 abbrev pub LeavesFor : (old seat : Option Share) → ℕ → (new seat_new : Option Share) → Type 0
@@ -77,4 +88,5 @@ Weighs steward seat answer after = IsSameSteward steward after × MatchResult an
 -- the steward is as it was, and may take the seat; or the seat is of another arena, or memory is refused
 abbrev pub WeighsSeat : SharedSteward → SeatState → Result (Unit {0}) ℕ → SharedSteward → Type 0
 WeighsSeat steward seat answer after = IsSameSteward (Steward steward) (Steward after)
-    × MatchResult answer (λ ready. MayTakeSeat after seat) (λ says. (says ≡ config) ⊎ (says ≡ out_of_memory))
+    × MatchResult answer (λ ready. MayTakeSeat after seat)
+    (λ says. (says ≡ config) ⊎ ((seat.limits ≡ (arc_value steward.arena).limits) × (says ≡ out_of_memory)))

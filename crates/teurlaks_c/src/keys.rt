@@ -17,12 +17,13 @@ pub(crate) fn key_of(raw: RawKey) -> Option<Key>
         slot,
         reserved,
     } = raw;
-    if reserved != 0 {
-        return None;
-    }
     let Some(span) = SpanId::new(u32::from(shard), serial) else {
         return None;
     };
+    // Asked behind the shard, whose bytes stand beside these: the compiler tests both at once.
+    if reserved != 0 {
+        return None;
+    }
     Key::new(span, slot, generation)
 }
 

@@ -5,15 +5,16 @@ ghost use Rattle.span.specs.ReceiptLists.{kept_receipts, receipt_room, receipt_w
 ghost use Rattle.span.specs.StoredReceipts.{call_words};
 ghost use Rattle.span.specs.declared.receipt.Receipt.{Receipt};
 ghost use Rattle.teurlaks_c.specs.Calls.{SaysWords};
-ghost use Rattle.teurlaks_c.specs.SeatCalls.{AsksTend, AsksTold, Gets, SaysGotOrNoRoom, Tends, TendsInto, frees_kept, got_kept, puts_kept, sets_kept};
+ghost use Rattle.teurlaks_c.specs.SeatCalls.{AsksTend, AsksTold, Gets, OrNoRoom, SaysGotOrNoRoom, Tends, TendsInto, frees_kept, got_kept, puts_kept, sets_kept};
 ghost use Rattle.teurlaks_c.specs.Recorded.{DoesKept, asked_of};
 ghost use Rattle.teurlaks_c.specs.SessionCalls.{AtPaused, HasSession};
+ghost use Rattle.teurlaks_c.specs.Status.{out_of_memory};
 
 use crate::calls::tell;
 use crate::recorded::RecordedSeat;
-use crate::replies::{RawWord, WordsReply};
+use crate::replies::{PutReply, RawWord, WordsReply};
 use crate::seat_calls::{Free, Put, Set, ask_seat, not_looked};
-use crate::session_calls::SessionCall;
+use crate::session_calls::{SessionCall, not_put};
 use crate::share::{Share, SharedSeat};
 use crate::share_handle::ShareHandle;
 use crate::status::{BUSY, OUT_OF_MEMORY};
@@ -26,63 +27,78 @@ use std::mem::replace;
 const MOST_WORDS: usize = 16;
 
 /// A call of which a recorded seat keeps a receipt.
-pub(crate) trait ToldCall: SessionCall {
+pub(crate) trait ToldCall: SessionCall + Copy {
     /// The receipts of what was answered at a seat.
     ghost told: { Self → SeatState → Self.Answer → List Receipt };
+
+    /// The status of what C reads.
+    ghost status: { Self.Reply → ℕ };
 
     /// The receipt of what the worker was answered in the section.
     fn receipt(&self, worker: u32, section: u64, answer: &Self::Answer) -> Option<Receipt>
         ensures told { (seat : SeatState) → seat.worker ≡ worker → seat.section ≡ section
             → option_to_list result ≡ told self.now seat answer.now }
         ensures few { IfSome result (λ receipt. length (call_words receipt.call) ≤ MOST_WORDS) };
+
+    /// What C reads where there is no room for the receipt.
+    fn no_room(&self) -> Self::Reply
+        ensures { status result ≡ out_of_memory };
 }
 
-/// Asks the seat of the handle, where it has one, in its session, where it keeps its shard. A recorded seat makes room for the receipt first,
-/// and keeps it.
-///
-/// # Errors
-///
-/// `AllocError` where a recorded seat was refused that room. Nothing is asked then.
+/// Asks the seat of the handle, where it has one, in its session, where it keeps its shard, and makes what C reads of it. A recorded seat
+/// makes room for the receipt first, and keeps it; where it was refused that room, nothing is asked.
 #[inline(always)]
 pub(crate) fn tell_at_seat<C: ToldCall>(
     alloc: Global,
     handle: &mut ShareHandle,
     call: &C,
-) -> Result<Option<C::Answer>, AllocError>
-    ensures { AsksTold (C.does call.now) (C.does_held call.now) (C.told call.now)
-        handle.old.share result handle.new.share }
+) -> C::Reply
+    ensures { (answer : _) × AsksTold (C.does call.now) (C.does_held call.now) (C.told call.now)
+        handle.old.share answer handle.new.share
+        × OrNoRoom (C.status result) (C.says call.now result) answer }
 {
     let Some(mut share) = replace(handle, ShareHandle::none()).into_box(alloc) else {
-        return Ok(None);
+        return call.no_seat();
     };
-    let answer = tell_at_share(&mut *share, call);
+    let reply = tell_at_share(&mut *share, call);
     *handle = ShareHandle::of(share);
-    answer
+    reply
 }
 
 // The same of what is shared.
 #[inline(always)]
-fn tell_at_share<C: ToldCall>(share: &mut Share, call: &C) -> Result<Option<C::Answer>, AllocError>
-    ensures { AsksTold (C.does call.now) (C.does_held call.now) (C.told call.now)
-        (Some share.old) result (Some share.new) }
+fn tell_at_share<C: ToldCall>(share: &mut Share, call: &C) -> C::Reply
+    ensures { (answer : _) × AsksTold (C.does call.now) (C.does_held call.now) (C.told call.now)
+        (Some share.old) answer (Some share.new)
+        × OrNoRoom (C.status result) (C.says call.now result) answer }
 {
     match share {
-        Share::Seat(seat) => Ok(Some(ask_seat(seat, call))),
-        Share::Session(session) => Ok(Some(call.ask_in_session(session))),
-        Share::RecordedSeat(seat) => as_asked(tell_recorded(seat, call)),
-        Share::Steward(_) => Ok(None),
-        Share::RecordedSteward(_) => Ok(None),
-        Share::Run(_) => Ok(None),
-        Share::Nothing => Ok(None),
+        Share::Seat(seat) => call.reply(ask_seat(seat, call)),
+        Share::Session(session) => call.reply(call.ask_in_session(session)),
+        Share::RecordedSeat(seat) => tell_at_recorded(seat, call),
+        Share::Steward(_) => call.no_seat(),
+        Share::RecordedSteward(_) => call.no_seat(),
+        Share::Run(_) => call.no_seat(),
+        Share::Nothing => call.no_seat(),
     }
+}
+
+// The same of a recorded seat. What the call and its answer take in memory is there for such a seat alone, and stays out of the way of others.
+#[inline(always)]
+fn tell_at_recorded<C: ToldCall>(shared: &mut RecordedSeat, call: &C) -> C::Reply
+    ensures arena { shared.new.arena ≡ shared.old.arena }
+    ensures does { (answer : _) × DoesKept (C.does call.now) (C.told call.now) shared.old.kept answer
+        shared.new.kept × OrNoRoom (C.status result) (C.says call.now result) (asked_of answer) }
+{
+    let answer = tell_recorded(shared, *call);
+    told_reply(call, answer)
 }
 
 // Asks a recorded seat, which keeps the receipt, in room that is made first.
 #[inline(never)]
-fn tell_recorded<C: ToldCall>(shared: &mut RecordedSeat, call: &C) -> Result<C::Answer, AllocError>
+fn tell_recorded<C: ToldCall>(shared: &mut RecordedSeat, call: C) -> Result<C::Answer, AllocError>
     ensures arena { shared.new.arena ≡ shared.old.arena }
-    ensures does { DoesKept (C.does call.now) (C.told call.now) shared.old.kept result
-        shared.new.kept }
+    ensures does { DoesKept (C.does call) (C.told call) shared.old.kept result shared.new.kept }
 {
     shared.kept.receipts.reserve(1, MOST_WORDS)?;
     let (worker, section) = (shared.kept.seat.worker(), shared.kept.seat.section());
@@ -94,13 +110,14 @@ fn tell_recorded<C: ToldCall>(shared: &mut RecordedSeat, call: &C) -> Result<C::
     Ok(answer)
 }
 
-// What a seat that there is answers.
-fn as_asked<A>(answer: Result<A, AllocError>) -> Result<Option<A>, AllocError>
-    ensures { result ≡ asked_of answer }
+// What C reads of what a recorded seat answers.
+#[inline(always)]
+fn told_reply<C: ToldCall>(call: &C, answer: Result<C::Answer, AllocError>) -> C::Reply
+    ensures { OrNoRoom (C.status result) (C.says call.now result) (asked_of answer) }
 {
     match answer {
-        Ok(answer) => Ok(Some(answer)),
-        Err(refused) => Err(refused),
+        Ok(answer) => call.reply(answer),
+        Err(AllocError) => call.no_room(),
     }
 }
 
@@ -119,6 +136,8 @@ fn keep(receipts: &mut ReceiptList, receipt: Option<Receipt>)
 impl ToldCall for Put<'_> {
     ghost told = { λ call. puts_kept call.words.now };
 
+    ghost status = { λ reply. reply.status };
+
     fn receipt(&self, worker: u32, section: u64, answer: &Self::Answer) -> Option<Receipt> {
         let Ok(Ok((key, at))) = answer else {
             return None;
@@ -132,10 +151,16 @@ impl ToldCall for Put<'_> {
             call: Call::Put { value },
         })
     }
+
+    fn no_room(&self) -> PutReply {
+        not_put(OUT_OF_MEMORY)
+    }
 }
 
 impl ToldCall for Set<'_> {
     ghost told = { λ call. sets_kept call.key call.words.now };
+
+    ghost status = { λ reply. reply };
 
     fn receipt(&self, worker: u32, section: u64, answer: &Self::Answer) -> Option<Receipt> {
         let Ok(Ok((done, at))) = answer else {
@@ -150,10 +175,16 @@ impl ToldCall for Set<'_> {
             call: Call::set(value, *done),
         })
     }
+
+    fn no_room(&self) -> u32 {
+        OUT_OF_MEMORY
+    }
 }
 
 impl ToldCall for Free {
     ghost told = { λ call. frees_kept call.key };
+
+    ghost status = { λ reply. reply };
 
     fn receipt(&self, worker: u32, section: u64, answer: &Self::Answer) -> Option<Receipt> {
         let Ok((done, at)) = answer else {
@@ -166,6 +197,10 @@ impl ToldCall for Free {
             at: *at,
             call: Call::free(*done),
         })
+    }
+
+    fn no_room(&self) -> u32 {
+        OUT_OF_MEMORY
     }
 }
 

@@ -139,9 +139,11 @@ pub(crate) fn looked_reply(most: usize, answer: Result<(Option<usize>, usize), B
     }
 }
 
-/// Nothing, where what is asked for names no key or no object.
+/// Nothing, where what is asked for names no key or no object, which the status says.
 #[derive(Drop)]
-pub(crate) struct Stay;
+pub(crate) struct Stay {
+    pub(crate) status: u32,
+}
 
 impl SeatCall for Stay {
     type Answer = ();
@@ -152,7 +154,7 @@ impl SeatCall for Stay {
 }
 
 /// A put of the object of these words.
-#[derive(Drop)]
+#[derive(Clone, Copy)]
 pub(crate) struct Put<'a> {
     pub(crate) class: Class,
     pub(crate) words: &'a [u128],
@@ -175,7 +177,7 @@ impl SeatCall for Put<'_> {
 }
 
 /// A set of the key to the object of these words, in place.
-#[derive(Drop)]
+#[derive(Clone, Copy)]
 pub(crate) struct Set<'a> {
     pub(crate) key: Key,
     pub(crate) words: &'a [u128],
@@ -198,7 +200,7 @@ impl SeatCall for Set<'_> {
 }
 
 /// A free of the key.
-#[derive(Drop)]
+#[derive(Clone, Copy)]
 pub(crate) struct Free {
     pub(crate) key: Key,
 }
@@ -316,6 +318,7 @@ impl SeatCall for FreeLater {
 
     ghost does = { λ call. FreesLater call.key };
 
+    #[inline(always)]
     fn ask<L: Log>(&self, seat: &mut Seat, _arena: &Arena<NoGate, L>) -> Option<Result<(), Key>> {
         if !seat.has_shard_of(&self.key) {
             return None;

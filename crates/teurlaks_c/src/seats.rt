@@ -1,32 +1,30 @@
 // The calls of a seat, for the thread that has its handle.
-ghost use Rattle.std.specs.Prelude.{◌≡◌, ◌∷◌, [], length};
+ghost use Rattle.std.specs.Prelude.{◌≡◌, ◌∷◌, ◌≤◌, [], length};
 ghost use Rattle.arena.specs.Delays.{HandsOver};
 ghost use Rattle.span.specs.Classes.{IsObject, width_of};
-ghost use Rattle.teurlaks_c.specs.SeatCalls.{AsksEither, AsksNothing, AsksPaused, AsksTend, AsksTold, Ends, FreesBy, FreesKey, GetsWords, IsOneCall, LeavesKey, OrNoRoom, PutsUntold, PutsWords, Retires, SaysAdopted, SaysBegun, SaysEnded, SaysFreed, SaysHandedOver, SaysLeft, SaysPut, SaysRetired, SaysSet, SaysTended, SaysTrimmed, SetsBy, SetsWords, puts_kept};
-ghost use Rattle.teurlaks_c.specs.SessionCalls.{AtHeldSeat, PutsHeld};
-ghost use Rattle.teurlaks_c.specs.Status.{adopt_status, put_status, receive_status};
+ghost use Rattle.teurlaks_c.specs.SeatCalls.{AsksEither, AsksNothing, AsksPaused, AsksTend, Ends, FreesBy, FreesKey, GetsWords, IsOneCall, LeavesKey, PutsBy, PutsWords, Retires, SaysAdopted, SaysBegun, SaysEnded, SaysHandedOver, SaysRetired, SaysTended, SaysTrimmed, SetsBy, SetsWords};
+ghost use Rattle.teurlaks_c.specs.SessionCalls.{AtHeldSeat};
+ghost use Rattle.teurlaks_c.specs.Status.{adopt_status, receive_status};
 ghost use Rattle.teurlaks_c.specs.Words.{words_of};
 
-use crate::calls::no_key;
-use crate::keys::{key_of, raw_of, raw_span};
+use crate::keys::{key_of, raw_span};
 use crate::meshing::no_span;
 use crate::recorded_calls::{tell_at_seat, tend_at_seat};
 use crate::replies::{
     AdoptReply, PutReply, RawKey, RawWord, RetireReply, TendReply, TrimReply, WordsReply,
 };
 use crate::seat_calls::{
-    Adopt, Begin, End, Free, FreeLater, HandOver, Put, Retire, Set, Stay, Trim, at_seat,
+    Adopt, Begin, End, Free, FreeLater, HandOver, Put, Retire, Set, Stay, Trim, at_seat, not_looked,
 };
-use crate::session_calls::{at_seat_or_session, look_up_at_seat};
+use crate::session_calls::{at_seat_or_session, look_up_at_seat, not_put};
 use crate::share_handle::ShareHandle;
 use crate::status::{
     BUSY, CONFIG, ENDED, NO_CORE, NONE, NOTHING_TO_ADOPT, OK, OUT_OF_MEMORY, PAGES_SPENT,
-    PLAN_OPEN, RING_FULL, RUNNING,
+    PLAN_OPEN, RUNNING,
 };
 use crate::words::{class_for, join_all, value_of};
 use abandoned::{AdoptError, ReceiveError};
 use arena::{Busy, Tended};
-use shard::PutError;
 use span::{Class, Key, SpanId};
 use std::alloc::{AllocError, Global};
 
@@ -44,12 +42,9 @@ pub extern "C" fn teurlaks_seat_put_words(
     ensures { PutsWords handle.old.share (words_of words.now) result handle.new.share }
 {
     let Some(class) = class_for(words) else {
-        return PutReply {
-            status: or_no_seat(CONFIG, alloc, handle),
-            key: no_key(),
-        };
+        return not_put(or_no_seat(CONFIG, alloc, handle));
     };
-    told_put_reply(put(alloc, handle, class, words))
+    put(alloc, handle, class, words)
 }
 
 /// Writes the words of the key's object, where it is live, into `words`, from its first on, and answers how many they are. `BUSY` where
@@ -65,10 +60,7 @@ pub extern "C" fn teurlaks_seat_get_words(
     ensures { GetsWords handle.old.share key words.old result words.new handle.new.share }
 {
     let Some(key) = key_of(key) else {
-        return WordsReply {
-            status: or_no_seat(NONE, alloc, handle),
-            len: 0,
-        };
+        return not_looked(or_no_seat(NONE, alloc, handle));
     };
     look_up_at_seat(alloc, handle, &key, words)
 }
@@ -90,10 +82,7 @@ pub extern "C" fn teurlaks_seat_set_words(
     let Some(key) = key_of(key) else {
         return or_no_seat(NONE, alloc, handle);
     };
-    let mut room = [0; 16];
-    let values = &mut room[..words.len()];
-    join_all(values, words);
-    set(alloc, handle, key, values)
+    set(alloc, handle, key, words)
 }
 
 /// Frees the key, where it is live, which `OK` says; else it answers `NONE`, or `BUSY`, and nothing changes. It takes no memory, but for
@@ -175,7 +164,7 @@ pub extern "C" fn teurlaks_seat_free_later(
     let Some(key) = key_of(key) else {
         return or_no_seat(NONE, alloc, handle);
     };
-    left_reply(at_seat_or_session(alloc, handle, &FreeLater { key }))
+    at_seat_or_session(alloc, handle, &FreeLater { key })
 }
 
 /// Hands over the keys that were left to other threads and wait for their block to be full. It takes no lock and no memory.
@@ -185,10 +174,7 @@ pub extern "C" fn teurlaks_seat_hand_over(alloc: Global, handle: &mut ShareHandl
         (AtHeldSeat (λ before _ after. HandsOver before after)) handle.old.share answer
         handle.new.share × SaysHandedOver result answer }
 {
-    match at_seat_or_session(alloc, handle, &HandOver) {
-        Some(()) => OK,
-        None => NO_CORE,
-    }
+    at_seat_or_session(alloc, handle, &HandOver)
 }
 
 /// Takes the keys that other threads have left to the seat's shard, as many as are seen, and frees each; the count is how many. `BUSY`
@@ -203,75 +189,100 @@ pub extern "C" fn teurlaks_seat_tend(alloc: Global, handle: &mut ShareHandle) ->
 
 // The seat keeps the object of these words, which are as many as the class has. One word is by far the most frequent.
 #[inline(always)]
-fn put(
-    alloc: Global,
-    handle: &mut ShareHandle,
-    class: Class,
-    words: &[RawWord],
-) -> Result<Option<Result<Result<(Key, usize), PutError>, Busy>>, AllocError>
+fn put(alloc: Global, handle: &mut ShareHandle, class: Class, words: &[RawWord]) -> PutReply
     requires { length (words_of words.now) ≡ width_of class }
-    ensures { AsksTold (PutsUntold (words_of words.now)) (PutsHeld (words_of words.now))
-        (puts_kept (words_of words.now)) handle.old.share result handle.new.share }
+    ensures { PutsBy handle.old.share (words_of words.now) result handle.new.share }
 {
     if let [word] = words {
         return put_one(alloc, handle, *word);
     }
-    put_wide(alloc, handle, class, words)
+    put_wider(alloc, handle, class, words)
 }
 
 // The seat keeps the object of this word.
 #[inline(always)]
-fn put_one(
-    alloc: Global,
-    handle: &mut ShareHandle,
-    word: RawWord,
-) -> Result<Option<Result<Result<(Key, usize), PutError>, Busy>>, AllocError>
-    ensures { AsksTold (PutsUntold (words_of (word ∷ []))) (PutsHeld (words_of (word ∷ [])))
-        (puts_kept (words_of (word ∷ []))) handle.old.share result handle.new.share }
+fn put_one(alloc: Global, handle: &mut ShareHandle, word: RawWord) -> PutReply
+    ensures { PutsBy handle.old.share (words_of (word ∷ [])) result handle.new.share }
 {
     let words = [value_of(word)];
-    tell_at_seat(
-        alloc,
-        handle,
-        &Put {
-            class: Class::C16,
-            words: &words,
-        },
-    )
+    put_values(alloc, handle, Class::C16, &words)
 }
 
-// The same of an object of any class. It has room for the widest, which is kept out of the way of one word.
-#[inline(never)]
-fn put_wide(
-    alloc: Global,
-    handle: &mut ShareHandle,
-    class: Class,
-    words: &[RawWord],
-) -> Result<Option<Result<Result<(Key, usize), PutError>, Busy>>, AllocError>
+// The same of an object of any class. What it answers has a place in memory of its own, so that what one word's put answers needs none.
+#[inline(always)]
+fn put_wider(alloc: Global, handle: &mut ShareHandle, class: Class, words: &[RawWord]) -> PutReply
     requires { length (words_of words.now) ≡ width_of class }
-    ensures { AsksTold (PutsUntold (words_of words.now)) (PutsHeld (words_of words.now))
-        (puts_kept (words_of words.now)) handle.old.share result handle.new.share }
+    ensures { PutsBy handle.old.share (words_of words.now) result handle.new.share }
+{
+    let PutReply { status, key } = put_wide(alloc, handle, class, words);
+    PutReply { status, key }
+}
+
+// The same. It has room for the widest, which is kept out of the way of one word.
+#[inline(never)]
+fn put_wide(alloc: Global, handle: &mut ShareHandle, class: Class, words: &[RawWord]) -> PutReply
+    requires { length (words_of words.now) ≡ width_of class }
+    ensures { PutsBy handle.old.share (words_of words.now) result handle.new.share }
 {
     let mut room = [0; 16];
     let words_len = words.len();
     let values = &mut room[..words_len];
     join_all(values, words);
-    tell_at_seat(
-        alloc,
-        handle,
-        &Put {
-            class,
-            words: values,
-        },
-    )
+    put_values(alloc, handle, class, values)
 }
 
-// The seat sets the key to the object of these words.
-fn set(alloc: Global, handle: &mut ShareHandle, key: Key, words: &[u128]) -> u32
+// The same of these words as they are kept.
+#[inline(always)]
+fn put_values(alloc: Global, handle: &mut ShareHandle, class: Class, words: &[u128]) -> PutReply
+    requires { length words.now ≡ width_of class }
+    ensures { PutsBy handle.old.share words.now result handle.new.share }
+{
+    tell_at_seat(alloc, handle, &Put { class, words })
+}
+
+// The seat sets the key to the object of these words. One word is by far the most frequent.
+#[inline(always)]
+fn set(alloc: Global, handle: &mut ShareHandle, key: Key, words: &[RawWord]) -> u32
+    requires most { length words.now ≤ 16 }
+    requires object { IsObject (words_of words.now) }
+    ensures { SetsBy handle.old.share key (words_of words.now) result handle.new.share }
+{
+    if let [word] = words {
+        return set_one(alloc, handle, key, *word);
+    }
+    set_wide(alloc, handle, key, words)
+}
+
+// The seat sets the key to the object of this word.
+#[inline(always)]
+fn set_one(alloc: Global, handle: &mut ShareHandle, key: Key, word: RawWord) -> u32
+    requires { IsObject (words_of (word ∷ [])) }
+    ensures { SetsBy handle.old.share key (words_of (word ∷ [])) result handle.new.share }
+{
+    let words = [value_of(word)];
+    set_values(alloc, handle, key, &words)
+}
+
+// The same of an object of any class. It has room for the widest, which is kept out of the way of one word.
+#[inline(never)]
+fn set_wide(alloc: Global, handle: &mut ShareHandle, key: Key, words: &[RawWord]) -> u32
+    requires most { length words.now ≤ 16 }
+    requires object { IsObject (words_of words.now) }
+    ensures { SetsBy handle.old.share key (words_of words.now) result handle.new.share }
+{
+    let mut room = [0; 16];
+    let values = &mut room[..words.len()];
+    join_all(values, words);
+    set_values(alloc, handle, key, values)
+}
+
+// The same of these words as they are kept.
+#[inline(always)]
+fn set_values(alloc: Global, handle: &mut ShareHandle, key: Key, words: &[u128]) -> u32
     requires { IsObject words.now }
     ensures { SetsBy handle.old.share key words.now result handle.new.share }
 {
-    told_set_reply(tell_at_seat(alloc, handle, &Set { key, words }))
+    tell_at_seat(alloc, handle, &Set { key, words })
 }
 
 // The seat frees the key.
@@ -279,29 +290,15 @@ fn set(alloc: Global, handle: &mut ShareHandle, key: Key, words: &[u128]) -> u32
 fn free(alloc: Global, handle: &mut ShareHandle, key: Key) -> u32
     ensures { FreesBy handle.old.share key result handle.new.share }
 {
-    told_free_reply(tell_at_seat(alloc, handle, &Free { key }))
+    tell_at_seat(alloc, handle, &Free { key })
 }
 
 // That status, where the handle has a seat.
+#[inline(never)]
 fn or_no_seat(status: u32, alloc: Global, handle: &mut ShareHandle) -> u32
     ensures { AsksNothing status handle.old.share result handle.new.share }
 {
-    match at_seat_or_session(alloc, handle, &Stay) {
-        Some(()) => status,
-        None => NO_CORE,
-    }
-}
-
-// What C reads of a deferred free.
-fn left_reply(answer: Option<Option<Result<(), Key>>>) -> u32
-    ensures { SaysLeft result answer }
-{
-    match answer {
-        Some(Some(Ok(()))) => OK,
-        Some(Some(Err(_))) => RING_FULL,
-        Some(None) => NONE,
-        None => NO_CORE,
-    }
+    at_seat_or_session(alloc, handle, &Stay { status })
 }
 
 // What C reads of a tending.
@@ -321,93 +318,6 @@ fn tended_reply(answer: Option<Result<Tended, AllocError>>) -> TendReply
             status: NO_CORE,
             count: 0,
         },
-    }
-}
-
-// What C reads of a put, of which a recorded seat keeps a receipt.
-#[inline(always)]
-fn told_put_reply(
-    answer: Result<Option<Result<Result<(Key, usize), PutError>, Busy>>, AllocError>,
-) -> PutReply
-    ensures { OrNoRoom result.status (SaysPut result) answer }
-{
-    match answer {
-        Ok(answer) => put_reply(answer),
-        Err(AllocError) => PutReply {
-            status: OUT_OF_MEMORY,
-            key: no_key(),
-        },
-    }
-}
-
-// What C reads of a set, of which a recorded seat keeps a receipt.
-fn told_set_reply(
-    answer: Result<Option<Result<Result<(bool, usize), AllocError>, Busy>>, AllocError>,
-) -> u32
-    ensures { OrNoRoom result (SaysSet result) answer }
-{
-    match answer {
-        Ok(answer) => set_reply(answer),
-        Err(AllocError) => OUT_OF_MEMORY,
-    }
-}
-
-// What C reads of a free, of which a recorded seat keeps a receipt.
-#[inline(always)]
-fn told_free_reply(answer: Result<Option<Result<(bool, usize), Busy>>, AllocError>) -> u32
-    ensures { OrNoRoom result (SaysFreed result) answer }
-{
-    match answer {
-        Ok(answer) => freed_reply(answer),
-        Err(AllocError) => OUT_OF_MEMORY,
-    }
-}
-
-// What C reads of a put.
-#[inline(always)]
-fn put_reply(answer: Option<Result<Result<(Key, usize), PutError>, Busy>>) -> PutReply
-    ensures { SaysPut result answer }
-{
-    let status = match answer {
-        Some(Ok(Ok((key, _)))) => {
-            return PutReply {
-                status: OK,
-                key: raw_of(key),
-            };
-        }
-        Some(Ok(Err(error))) => put_status_of(error),
-        Some(Err(Busy)) => BUSY,
-        None => NO_CORE,
-    };
-    PutReply {
-        status,
-        key: no_key(),
-    }
-}
-
-// What C reads of a set.
-fn set_reply(answer: Option<Result<Result<(bool, usize), AllocError>, Busy>>) -> u32
-    ensures { SaysSet result answer }
-{
-    match answer {
-        Some(Ok(Ok((true, _)))) => OK,
-        Some(Ok(Ok((false, _)))) => NONE,
-        Some(Ok(Err(AllocError))) => OUT_OF_MEMORY,
-        Some(Err(Busy)) => BUSY,
-        None => NO_CORE,
-    }
-}
-
-// What C reads of a free.
-#[inline(always)]
-fn freed_reply(answer: Option<Result<(bool, usize), Busy>>) -> u32
-    ensures { SaysFreed result answer }
-{
-    match answer {
-        Some(Ok((true, _))) => OK,
-        Some(Ok((false, _))) => NONE,
-        Some(Err(Busy)) => BUSY,
-        None => NO_CORE,
     }
 }
 
@@ -491,17 +401,6 @@ fn adopted_reply(answer: Option<Result<Result<SpanId, AdoptError>, Busy>>) -> Ad
     AdoptReply {
         status,
         head: no_span(),
-    }
-}
-
-// The status that stands for a refused put.
-fn put_status_of(error: PutError) -> u32
-    ensures { result ≡ put_status error }
-{
-    match error {
-        PutError::OutOfMemory => OUT_OF_MEMORY,
-        PutError::PagesSpent => PAGES_SPENT,
-        PutError::Ended => ENDED,
     }
 }
 

@@ -1,33 +1,51 @@
 // What is asked of the seat of a handle that may keep its shard, and what it answers.
-ghost use Rattle.std.specs.Prelude.{◌≡◌, Some, length};
+ghost use Rattle.std.specs.Prelude.{◌≡◌, None, Option, Some, length};
 ghost use Rattle.arena.specs.Delays.{HandsOver};
-ghost use Rattle.teurlaks_c.specs.SeatCalls.{AsksEither, FreesLater, GetsKey, SaysGot, Stays};
+ghost use Rattle.teurlaks_c.specs.SeatCalls.{AsksEither, FreesLater, GetsKey, SaysFreed, SaysGot, SaysHandedOver, SaysInstead, SaysLeft, SaysPut, SaysSet, Stays};
 ghost use Rattle.teurlaks_c.specs.SessionCalls.{AtHeldSeat, FreesHeld, GetsHeld, Held, InSession, PutsHeld, SetsHeld, held};
+ghost use Rattle.teurlaks_c.specs.Status.{put_status};
 
+use crate::calls::no_key;
+use crate::keys::raw_of;
 use crate::recorded_calls::look_up_recorded;
-use crate::replies::{RawWord, WordsReply};
+use crate::replies::{PutReply, RawWord, WordsReply};
 use crate::seat_calls::{
     Free, FreeLater, HandOver, Put, SeatCall, Set, Stay, ask_recorded_seat, ask_seat, look_up,
     looked_reply, not_looked,
 };
 use crate::share::{Share, SharedSession};
 use crate::share_handle::ShareHandle;
-use crate::status::NO_CORE;
+use crate::status::{BUSY, ENDED, NO_CORE, NONE, OK, OUT_OF_MEMORY, PAGES_SPENT, RING_FULL};
 use arena::Busy;
 use shard::PutError;
 use span::Key;
 use std::alloc::{AllocError, Global};
 use std::mem::replace;
 
-/// A call of a seat that goes by its session, where it has one.
+/// A call of a seat that goes by its session, where it has one. What C reads of it is made where it is answered: no answer of either kind
+/// of seat is handed on as one of any.
 pub(crate) trait SessionCall: SeatCall {
-    /// What it does there.
+    /// What C reads of it.
+    type Reply;
+
+    /// What it does in a session.
     ghost does_held: { Self → Held → Self.Answer → Held → Type 0 };
 
-    /// Makes the call.
+    /// What C reads of an answer, or where the handle has no seat.
+    ghost says: { Self → Self.Reply → Option Self.Answer → Type 0 };
+
+    /// Makes the call in a session.
     fn ask_in_session(&self, shared: &mut SharedSession) -> Self::Answer
         ensures arena { shared.new.session.arena ≡ shared.old.session.arena }
         ensures does { does_held self.now (held shared.old) result (held shared.new) };
+
+    /// What C reads of the answer.
+    fn reply(&self, answer: Self::Answer) -> Self::Reply
+        ensures { says self.now result (Some answer) };
+
+    /// What C reads where the handle has no seat.
+    fn no_seat(&self) -> Self::Reply
+        ensures { says self.now result None };
 }
 
 /// Asks the seat of the handle, where it has one, in its session, where it keeps its shard. No receipt is made.
@@ -36,32 +54,32 @@ pub(crate) fn at_seat_or_session<C: SessionCall>(
     alloc: Global,
     handle: &mut ShareHandle,
     call: &C,
-) -> Option<C::Answer>
-    ensures { AsksEither (C.does call.now) (C.does_held call.now) handle.old.share result
-        handle.new.share }
+) -> C::Reply
+    ensures { (answer : _) × AsksEither (C.does call.now) (C.does_held call.now) handle.old.share answer
+        handle.new.share × C.says call.now result answer }
 {
     let Some(mut share) = replace(handle, ShareHandle::none()).into_box(alloc) else {
-        return None;
+        return call.no_seat();
     };
-    let answer = ask_either(&mut *share, call);
+    let reply = ask_either(&mut *share, call);
     *handle = ShareHandle::of(share);
-    answer
+    reply
 }
 
 // Asks the seat, where that is what is shared.
 #[inline(always)]
-fn ask_either<C: SessionCall>(share: &mut Share, call: &C) -> Option<C::Answer>
-    ensures { AsksEither (C.does call.now) (C.does_held call.now) (Some share.old) result
-        (Some share.new) }
+fn ask_either<C: SessionCall>(share: &mut Share, call: &C) -> C::Reply
+    ensures { (answer : _) × AsksEither (C.does call.now) (C.does_held call.now) (Some share.old) answer
+        (Some share.new) × C.says call.now result answer }
 {
     match share {
-        Share::Seat(seat) => Some(ask_seat(seat, call)),
-        Share::Session(session) => Some(call.ask_in_session(session)),
-        Share::RecordedSeat(seat) => Some(ask_recorded_seat(seat, call)),
-        Share::Steward(_) => None,
-        Share::RecordedSteward(_) => None,
-        Share::Run(_) => None,
-        Share::Nothing => None,
+        Share::Seat(seat) => call.reply(ask_seat(seat, call)),
+        Share::Session(session) => call.reply(call.ask_in_session(session)),
+        Share::RecordedSeat(seat) => call.reply(ask_recorded_seat(seat, call)),
+        Share::Steward(_) => call.no_seat(),
+        Share::RecordedSteward(_) => call.no_seat(),
+        Share::Run(_) => call.no_seat(),
+        Share::Nothing => call.no_seat(),
     }
 }
 
@@ -116,13 +134,29 @@ fn look_up_in_session(shared: &mut SharedSession, key: &Key, room: &mut [RawWord
 }
 
 impl SessionCall for Stay {
+    type Reply = u32;
+
     ghost does_held = { λ call. AtHeldSeat Stays };
 
+    ghost says = { λ call. SaysInstead call.status };
+
     fn ask_in_session(&self, _shared: &mut SharedSession) {}
+
+    fn reply(&self, _answer: ()) -> u32 {
+        self.status
+    }
+
+    fn no_seat(&self) -> u32 {
+        NO_CORE
+    }
 }
 
 impl SessionCall for Put<'_> {
+    type Reply = PutReply;
+
     ghost does_held = { λ call. PutsHeld call.words.now };
+
+    ghost says = { λ call. SaysPut };
 
     #[inline(always)]
     fn ask_in_session(
@@ -131,10 +165,30 @@ impl SessionCall for Put<'_> {
     ) -> Result<Result<(Key, usize), PutError>, Busy> {
         Ok(shared.session.put_words(self.class, self.words))
     }
+
+    #[inline(always)]
+    fn reply(&self, answer: Result<Result<(Key, usize), PutError>, Busy>) -> PutReply {
+        match answer {
+            Ok(Ok((key, _))) => PutReply {
+                status: OK,
+                key: raw_of(key),
+            },
+            Ok(Err(error)) => not_put(put_status_of(error)),
+            Err(Busy) => not_put(BUSY),
+        }
+    }
+
+    fn no_seat(&self) -> PutReply {
+        not_put(NO_CORE)
+    }
 }
 
 impl SessionCall for Set<'_> {
+    type Reply = u32;
+
     ghost does_held = { λ call. SetsHeld call.key call.words.now };
+
+    ghost says = { λ call. SaysSet };
 
     fn ask_in_session(
         &self,
@@ -142,32 +196,115 @@ impl SessionCall for Set<'_> {
     ) -> Result<Result<(bool, usize), AllocError>, Busy> {
         shared.session.try_set_words(&self.key, self.words)
     }
+
+    #[inline(always)]
+    fn reply(&self, answer: Result<Result<(bool, usize), AllocError>, Busy>) -> u32 {
+        match answer {
+            Ok(Ok((true, _))) => OK,
+            Ok(Ok((false, _))) => NONE,
+            Ok(Err(AllocError)) => OUT_OF_MEMORY,
+            Err(Busy) => BUSY,
+        }
+    }
+
+    fn no_seat(&self) -> u32 {
+        NO_CORE
+    }
 }
 
 impl SessionCall for Free {
+    type Reply = u32;
+
     ghost does_held = { λ call. FreesHeld call.key };
+
+    ghost says = { λ call. SaysFreed };
 
     #[inline(always)]
     fn ask_in_session(&self, shared: &mut SharedSession) -> Result<(bool, usize), Busy> {
         shared.session.try_free(&self.key)
     }
+
+    #[inline(always)]
+    fn reply(&self, answer: Result<(bool, usize), Busy>) -> u32 {
+        match answer {
+            Ok((true, _)) => OK,
+            Ok((false, _)) => NONE,
+            Err(Busy) => BUSY,
+        }
+    }
+
+    fn no_seat(&self) -> u32 {
+        NO_CORE
+    }
 }
 
 impl SessionCall for FreeLater {
+    type Reply = u32;
+
     ghost does_held = { λ call. AtHeldSeat (FreesLater call.key) };
 
+    ghost says = { λ call. SaysLeft };
+
+    #[inline(always)]
     fn ask_in_session(&self, shared: &mut SharedSession) -> Option<Result<(), Key>> {
         if !shared.session.seat.has_shard_of(&self.key) {
             return None;
         }
         Some(shared.session.free_later(self.key))
     }
+
+    #[inline(always)]
+    fn reply(&self, answer: Option<Result<(), Key>>) -> u32 {
+        match answer {
+            Some(Ok(())) => OK,
+            Some(Err(_)) => RING_FULL,
+            None => NONE,
+        }
+    }
+
+    fn no_seat(&self) -> u32 {
+        NO_CORE
+    }
 }
 
 impl SessionCall for HandOver {
+    type Reply = u32;
+
     ghost does_held = { λ call. AtHeldSeat (λ before _ after. HandsOver before after) };
+
+    ghost says = { λ call. SaysHandedOver };
 
     fn ask_in_session(&self, shared: &mut SharedSession) {
         shared.session.hand_over();
+    }
+
+    fn reply(&self, _answer: ()) -> u32 {
+        OK
+    }
+
+    fn no_seat(&self) -> u32 {
+        NO_CORE
+    }
+}
+
+/// What C reads of a put that is refused.
+#[inline(always)]
+pub(crate) fn not_put(status: u32) -> PutReply
+    ensures { result.status ≡ status }
+{
+    PutReply {
+        status,
+        key: no_key(),
+    }
+}
+
+// The status that stands for a refused put.
+fn put_status_of(error: PutError) -> u32
+    ensures { result ≡ put_status error }
+{
+    match error {
+        PutError::OutOfMemory => OUT_OF_MEMORY,
+        PutError::PagesSpent => PAGES_SPENT,
+        PutError::Ended => ENDED,
     }
 }

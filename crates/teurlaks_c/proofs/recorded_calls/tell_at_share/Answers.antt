@@ -1,36 +1,58 @@
 use mathlib.Core.Logic.{inl, inr}
 use Rattle.std.proofs.Common.{ap, refl, subst, sym}
-use Rattle.std.specs.Prelude.{Some}
-use Rattle.teurlaks_c.specs.SeatCalls.{AsksTold}
-use Rattle.teurlaks_c.specs.declared.share.Share.TheVariants.{RecordedSeat}
+use Rattle.std.specs.Prelude.{None, Ok, Some}
+use Rattle.teurlaks_c.specs.Recorded.{asked_of}
+use Rattle.teurlaks_c.specs.SeatCalls.{HasNoSeat}
 use Rattle.teurlaks_c.proofs.Recording.{asked_told}
 use Rattle.teurlaks_c.proofs.recorded_calls.tell_at_share.Goals as goal
 
 pub returns-in-Seat : goal.returns-in-Seat
-returns-in-Seat g c = inl (record {
-  before = c.in-Seat.seat;
-  after = c.ask_seat.new.shared;
-  before_is = ap Some c.in-Seat.is;
-  after_is = refl;
-  arena_is = c.ask_seat.ensures.arena;
-  did = c.ask_seat.ensures.does;
-})
+returns-in-Seat g c = (
+  Ok (Some c.ask_seat.result),
+  inl (record {
+    before = c.in-Seat.seat;
+    after = c.ask_seat.new.shared;
+    before_is = ap Some c.in-Seat.is;
+    after_is = refl;
+    arena_is = c.ask_seat.ensures.arena;
+    did = c.ask_seat.ensures.does;
+  }),
+  c.reply.ensures,
+)
 
 pub returns-in-Session : goal.returns-in-Session
-returns-in-Session g c = inr (inl (record {
-  before = c.in-Session.session;
-  after = c.ask_in_session.new.shared;
-  before_is = ap Some c.in-Session.is;
-  after_is = refl;
-  arena_is = c.ask_in_session.ensures.arena;
-  did = c.ask_in_session.ensures.does;
-}))
+returns-in-Session g c = (
+  Ok (Some c.ask_in_session.result),
+  inr (inl (record {
+    before = c.in-Session.session;
+    after = c.ask_in_session.new.shared;
+    before_is = ap Some c.in-Session.is;
+    after_is = refl;
+    arena_is = c.ask_in_session.ensures.arena;
+    did = c.ask_in_session.ensures.does;
+  })),
+  c.reply-in-Session.ensures,
+)
 
 pub returns-in-RecordedSeat : goal.returns-in-RecordedSeat
 returns-in-RecordedSeat g c =
-    let does = g.C.SeatCall.does c.args.call.now in
-    let held = g.C.SessionCall.does_held c.args.call.now in
-    let told = g.C.ToldCall.told c.args.call.now in
-    subst (λ answer. AsksTold does held told (Some c.args.share.now) answer (Some (RecordedSeat c.tell_recorded.new.shared))) (sym c.as_asked.ensures)
-    (asked_told does held told (Some c.args.share.now) c.in-RecordedSeat.seat c.tell_recorded.new.shared (ap Some c.in-RecordedSeat.is)
-    c.tell_recorded.ensures.arena c.tell_recorded.result c.tell_recorded.ensures.does)
+    let does = c.tell_at_recorded.ensures.does in (
+      asked_of does.0,
+      asked_told (g.C.SeatCall.does c.args.call.now) (g.C.SessionCall.does_held c.args.call.now) (g.C.ToldCall.told c.args.call.now)
+          (Some c.args.share.now) c.in-RecordedSeat.seat c.tell_at_recorded.new.shared (ap Some c.in-RecordedSeat.is) c.tell_at_recorded.ensures.arena
+          does.0 does.1,
+      does.2,
+    )
+
+pub returns-in-Steward : goal.returns-in-Steward
+returns-in-Steward g c = (Ok None, (subst (λ s. HasNoSeat (Some s)) (sym c.in-Steward.is) tt, refl), c.no_seat.ensures)
+
+pub returns-in-RecordedSteward : goal.returns-in-RecordedSteward
+returns-in-RecordedSteward g c =
+    (Ok None, (subst (λ s. HasNoSeat (Some s)) (sym c.in-RecordedSteward.is) tt, refl), c.no_seat-in-RecordedSteward.ensures)
+
+pub returns-in-Run : goal.returns-in-Run
+returns-in-Run g c = (Ok None, (subst (λ s. HasNoSeat (Some s)) (sym c.in-Run.is) tt, refl), c.no_seat-in-Run.ensures)
+
+pub returns-in-Nothing : goal.returns-in-Nothing
+returns-in-Nothing g c = (Ok None, (subst (λ s. HasNoSeat (Some s)) (sym c.in-Nothing.is) tt, refl), c.no_seat-in-Nothing.ensures)
