@@ -2,16 +2,8 @@
  * answers them, with its pointers to words and bytes there or NULL. With TEURLAKS_UNTESTED it is the archive that answers, and no pointer is
  * NULL. */
 #include "teurlaks.h"
-#include <stdio.h>
+#include "wanted.h"
 #include <stdlib.h>
-
-#define WANT(holds)                                                                                                                              \
-    do {                                                                                                                                         \
-        if (!(holds)) {                                                                                                                          \
-            printf("handles.c:%d: %s\n", __LINE__, #holds);                                                                                      \
-            exit(1);                                                                                                                             \
-        }                                                                                                                                        \
-    } while (0)
 
 static const struct teurlaks_word one = {1, 2};
 

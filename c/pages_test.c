@@ -1,6 +1,7 @@
 /* Tests of pages.c: that pages leave the process, that no byte has two holders, whatever threads ask, and what comes of refusals.
  * Link it with -Wl,--wrap=malloc,--wrap=mmap,--wrap=mprotect. With -DFEW it is built for a range of 4,096 pages, which is spent. The word
  * `mmap` or `mprotect` has that refused. With -DWATCHED=1, under a sanitizer or valgrind, resident size is not looked at. */
+#include "wanted.h"
 #include <pthread.h>
 #include <stdint.h>
 #include <stdio.h>
@@ -33,14 +34,6 @@ void *__wrap_mmap(void *at, size_t size, int protection, int flags, int file, lo
 int __wrap_mprotect(void *at, size_t size, int protection) { return refuse_mprotect ? -1 : __real_mprotect(at, size, protection); }
 
 void *__wrap_malloc(size_t size) { return refuse_malloc ? NULL : __real_malloc(size); }
-
-#define WANT(holds)                                                                                                                    \
-    do {                                                                                                                               \
-        if (!(holds)) {                                                                                                                \
-            printf("pages_test.c:%d: %s\n", __LINE__, #holds);                                                                         \
-            exit(1);                                                                                                                   \
-        }                                                                                                                              \
-    } while (0)
 
 /* Marsaglia's xorshift. */
 static uint32_t next(uint64_t *state) {

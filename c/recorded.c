@@ -3,6 +3,7 @@
  * how many calls each thread makes. */
 #define _POSIX_C_SOURCE 200809L
 #include "teurlaks.h"
+#include "wanted.h"
 #include <pthread.h>
 #include <sched.h>
 #include <stdatomic.h>
@@ -13,19 +14,6 @@
 #ifndef ROUNDS
 #define ROUNDS 20000
 #endif
-
-#define WANT(holds)                                                                                                                              \
-    do {                                                                                                                                         \
-        if (!(holds)) {                                                                                                                          \
-            printf("recorded.c:%d: %s\n", __LINE__, #holds);                                                                                     \
-            exit(1);                                                                                                                             \
-        }                                                                                                                                        \
-    } while (0)
-
-/* The call, again and again while another thread has a lock that it needs. */
-#define PATIENTLY(reply, status, call)                                                                                                           \
-    do reply = call;                                                                                                                             \
-    while ((status) == TEURLAKS_BUSY && !sched_yield())
 
 enum { THREADS = 4, SHARED = 64 };
 

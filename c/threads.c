@@ -3,6 +3,7 @@
  * calls. At the end nothing is live, and no page is left. -DROUNDS says how many rounds of calls each thread makes. */
 #define _POSIX_C_SOURCE 200809L
 #include "teurlaks.h"
+#include "wanted.h"
 #include <pthread.h>
 #include <sched.h>
 #include <stdatomic.h>
@@ -14,19 +15,6 @@
 #ifndef ROUNDS
 #define ROUNDS 200000
 #endif
-
-#define WANT(holds)                                                                                                                              \
-    do {                                                                                                                                         \
-        if (!(holds)) {                                                                                                                          \
-            printf("threads.c:%d: %s\n", __LINE__, #holds);                                                                                      \
-            exit(1);                                                                                                                             \
-        }                                                                                                                                        \
-    } while (0)
-
-/* The call, again and again while another thread has a lock that it needs: it has changed nothing then. */
-#define PATIENTLY(reply, status, call)                                                                                                           \
-    do reply = call;                                                                                                                             \
-    while ((status) == TEURLAKS_BUSY && !sched_yield())
 
 /* The same in a session, which lets go of its shard meanwhile. */
 #define IN_SESSION(me, reply, status, call)                                                                                                      \

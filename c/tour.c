@@ -1,5 +1,6 @@
 /* The tour of a core from C, and of a recorded arena, with each allocation failing in turn. Link it with -Wl,--wrap=malloc,--wrap=realloc. */
 #include "teurlaks.h"
+#include "wanted.h"
 #include <stdio.h>
 #include <stdlib.h>
 #include <string.h>
@@ -19,14 +20,6 @@ static int fails(void) {
 
 void *__wrap_malloc(size_t size) { return fails() ? NULL : __real_malloc(size); }
 void *__wrap_realloc(void *block, size_t size) { return fails() ? NULL : __real_realloc(block, size); }
-
-#define WANT(holds)                                                                                                                              \
-    do {                                                                                                                                         \
-        if (!(holds)) {                                                                                                                          \
-            printf("tour.c:%d: %s\n", __LINE__, #holds);                                                                                         \
-            exit(1);                                                                                                                             \
-        }                                                                                                                                        \
-    } while (0)
 
 /* The call, and once more where memory was refused: the totals are as they were, since a refusal changes nothing. */
 #define AGAIN(reply, status, call)                                                                                                               \

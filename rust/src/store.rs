@@ -365,7 +365,16 @@ impl<T> Store<T> {
 /// Lends the words of the least object that holds the value, and how many they are.
 #[inline]
 pub(crate) fn as_words<T: Copy, R>(value: T, keep: impl FnOnce(*const u128, usize) -> R) -> R {
-    let mut words = [MaybeUninit::<u128>::uninit(); MOST_WORDS];
+    let mut words = [MaybeUninit::uninit(); MOST_WORDS];
+    let len = write_words(&mut words, value);
+    keep(words.as_ptr().cast(), len)
+}
+
+/// Writes the words of the least object that holds the value into the first of these, and says how many they are.
+// A call of it would have the value go through memory once more.
+#[allow(clippy::inline_always)]
+#[inline(always)]
+pub(crate) fn write_words<T: Copy>(words: &mut [MaybeUninit<u128>; MOST_WORDS], value: T) -> usize {
     let first = words.as_mut_ptr().cast::<u128>();
     let len = words_for(size_of::<T>());
     // SAFETY: the words have room for the value, whatever its alignment. Those that it does not fill are zeros before; bytes within the value
@@ -374,7 +383,7 @@ pub(crate) fn as_words<T: Copy, R>(value: T, keep: impl FnOnce(*const u128, usiz
         first.write_bytes(0, len);
         first.cast::<T>().write_unaligned(value);
     }
-    keep(first, len)
+    len
 }
 
 impl<T: Copy> Default for Store<T> {

@@ -9,7 +9,7 @@ use crate::core::{done, was_put, was_set};
 use crate::names::{Group, Key};
 use crate::raw;
 use crate::refused::Refused;
-use crate::store::as_words;
+use crate::store::write_words;
 use std::alloc::{handle_alloc_error, Layout};
 use std::cell::Cell;
 use std::fmt;
@@ -97,7 +97,9 @@ impl<T> Seat<T> {
     }
 
     /// Makes a call that goes by the session, where there is one.
-    #[inline]
+    // Inlined, its answer stays in registers: a free with a put takes 40 instructions less of some 400.
+    #[allow(clippy::inline_always)]
+    #[inline(always)]
     fn ask<A: Answer>(&self, mut call: impl FnMut() -> A) -> A {
         if !self.holds.get() {
             return self.turn.at_seat(call);
@@ -168,8 +170,10 @@ impl<T: Copy> Seat<T> {
     ///   4,294,967,295 in its life;
     /// - [`Refused::Ended`]: the shard has ended;
     /// - [`Refused::OutOfMemory`]: none of these holds, and memory was refused.
+    // Inlined, as `ask` is.
     #[doc(alias = "put")]
-    #[inline]
+    #[allow(clippy::inline_always)]
+    #[inline(always)]
     pub fn insert(&mut self, value: T) -> Result<Key, Refused> {
         match self.insert_here(value) {
             Ok(key) => {
@@ -184,12 +188,15 @@ impl<T: Copy> Seat<T> {
     }
 
     /// Keeps a value in the shard whose turn it is.
-    #[inline]
+    // Inlined, as `ask` is.
+    #[allow(clippy::inline_always)]
+    #[inline(always)]
     fn insert_here(&mut self, value: T) -> Result<Key, Refused> {
-        was_put(as_words(value, |first, len| {
-            // SAFETY: the handle has a seat, no other call runs on it, and so many words stand there.
-            self.ask(|| unsafe { raw::teurlaks_seat_put_words(self.lanes.handle(), first.cast(), len) })
-        }))
+        let mut words = [MaybeUninit::uninit(); MOST_WORDS];
+        let len = write_words(&mut words, value);
+        let first = words.as_ptr().cast();
+        // SAFETY: the handle has a seat, no other call runs on it, and so many words stand there.
+        was_put(self.ask(|| unsafe { raw::teurlaks_seat_put_words(self.lanes.handle(), first, len) }))
     }
 
     /// Keeps a value in the next of the seat's other shards that has room, whose turn it is then.
@@ -228,10 +235,11 @@ impl<T: Copy> Seat<T> {
     /// As of [`Core::set`](crate::Core::set).
     #[inline]
     pub fn set(&mut self, key: Key, value: T) -> Result<bool, Refused> {
-        was_set(as_words(value, |first, len| {
-            // SAFETY: as in `insert_here`.
-            self.ask(|| unsafe { raw::teurlaks_seat_set_words(self.lanes.handle(), key.raw(), first.cast(), len) })
-        }))
+        let mut words = [MaybeUninit::uninit(); MOST_WORDS];
+        let len = write_words(&mut words, value);
+        let first = words.as_ptr().cast();
+        // SAFETY: as in `insert_here`.
+        was_set(self.ask(|| unsafe { raw::teurlaks_seat_set_words(self.lanes.handle(), key.raw(), first, len) }))
     }
 
     /// Frees the key, and gives its value, where it was live: that of a moment before, which another thread may have set since. Of threads that take
