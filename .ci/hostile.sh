@@ -248,11 +248,11 @@ kilobytes_of() {
     REFUSE_LOG=$PWD/log LD_PRELOAD=$PWD/refuse.so "$built" run ${2:+"$2"} "$1" >out 2>err && sed -n 's/ kilobytes resident$//p' log
 }
 
-# Counts that a replay by threads of 1,048,576 live keys of four threads has at most PART times as much resident as the serial one, whose
-# logs are only counted and whose calls have no receipts.
+# Counts that a replay by threads of 16,777,216 live keys, as many as there may be, of 64 threads has at most PART times as much resident as the
+# serial one, whose logs are only counted and whose calls have no receipts.
 memory_by_threads() {
     local part=$1 serial threads shard
-    { printf 'mesh 1\nshards 4\npages 1024\nring 1\ngens 1\n' && for shard in {0..3}; do echo "$shard fill a$shard 262144 0"; done; } >keys
+    { printf 'mesh 1\nshards 64\npages 1024\nring 1\ngens 1\n' && for shard in {0..63}; do echo "$shard fill a$shard 262144 0"; done; } >keys
     serial=$(kilobytes_of keys --serial) threads=$(kilobytes_of keys)
     if [ -n "$serial" ] && [ -n "$threads" ] && [ "$threads" -le $((part * serial)) ]; then
         pass
@@ -349,7 +349,7 @@ hostile_use() {
     interrupted_streams
     refused_calls
     deferred_frees
-    memory_by_threads 3
+    memory_by_threads 2
 }
 
 # The names of the tests of a program of tests.
