@@ -1,4 +1,4 @@
-//! Rows of bits, graphs, certificates and plans at work: what no clause of theirs says.
+//! Sets of slots, rows of bits, graphs, certificates and plans at work: what no clause of theirs says.
 //!
 //! What is tested is that calls succeed with ample memory, that one which was refused memory succeeds the second time, and
 //! answers that were worked out by hand. All of it is compiled for tests alone, over the proved libraries, so that none of them
@@ -7,7 +7,7 @@
 //! # Examples
 //!
 //! ```text
-//! rt test plan_tests      proves the tests of `lane_kernels`, `mesh_graph`, `certificate` and `augment`, and runs them
+//! rt test plan_tests      proves the tests of `bitmap`, `lane_kernels`, `mesh_graph`, `certificate` and `augment`, and runs them
 //! ```
 #![tactic(auto)]
 
@@ -19,3 +19,5 @@ mod graphs;
 mod kernels;
 #[cfg(test)]
 mod plans;
+#[cfg(test)]
+mod sets;

@@ -32,8 +32,6 @@
 mod ends;
 mod error;
 mod rings;
-#[cfg(test)]
-mod tests;
 
 pub use ends::{Inbox, KeysInRange, Outbox, finish};
 pub use error::LinkError;

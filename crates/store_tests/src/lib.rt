@@ -1,4 +1,4 @@
-//! Pages, shards, pools, folds and cores at work: what no clause of theirs says.
+//! Spans, pages, shards, pools, folds and cores at work: what no clause of theirs says.
 //!
 //! What is tested is that calls succeed with ample memory, that one which was refused memory has changed nothing and succeeds
 //! the second time, and answers that were worked out by hand. All of it is compiled for tests alone, over the proved libraries,
@@ -7,7 +7,7 @@
 //! # Examples
 //!
 //! ```text
-//! rt test store_tests     proves the tests of `page`, `shard`, `abandoned`, `fold` and `arena_core`, and runs them
+//! rt test store_tests     proves the tests of `span`, `page`, `shard`, `abandoned`, `fold` and `arena_core`, and runs them
 //! ```
 #![tactic(auto)]
 
@@ -23,3 +23,5 @@ mod pages;
 mod pools;
 #[cfg(test)]
 mod shards;
+#[cfg(test)]
+mod spans;

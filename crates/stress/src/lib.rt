@@ -6,13 +6,12 @@
 //! worker, with a mark after each, or with marks all the while. An audit that passed whatever it is shown would pass these runs
 //! too, so lists that differ from a log in one thing stand beside them, and so do calls in series, whose answers are known.
 //!
-//! All of it is compiled for tests alone, over the proved libraries, so that neither `arena` nor `audit` is proved once more for
-//! its tests.
+//! All of it is compiled for tests alone, over the proved libraries, so that none of them is proved once more for its tests.
 //!
 //! # Examples
 //!
 //! ```text
-//! rt test stress      proves the tests of `arena` and `audit`, and runs them, eight workers beside a steward among them
+//! rt test stress      proves the tests of `remote_queue`, `arena` and `audit`, and runs them, eight workers beside a steward among them
 //! ```
 #![tactic(auto)]
 
@@ -28,6 +27,8 @@ mod gates;
 mod held;
 #[cfg(test)]
 mod places;
+#[cfg(test)]
+mod rings;
 #[cfg(test)]
 mod rooms;
 #[cfg(test)]

@@ -2,7 +2,7 @@
 ghost use Rattle.std.specs.Prelude.{◌≡◌, All, IfOk, IfSome, vec_len};
 ghost use Rattle.remote_queue.specs.Rings.{AreTransposed, inbox_rings, outbox_rings};
 
-use crate::{Inbox, LinkError, Links, Outbox, finish, link};
+use remote_queue::{Inbox, LinkError, Links, Outbox, finish, link};
 use span::{Key, SpanId};
 use std::alloc::Global;
 use std::test::Fail;

@@ -1,6 +1,6 @@
 use Rattle.std.proofs.Common.{arith, ◌≡◌, sym, ◌∙◌, Some}
-use Rattle.remote_queue.proofs.Single.{first_cell}
-use Rattle.remote_queue.proofs.tests.ends.Goals as goal
+use Rattle.stress.proofs.Single.{first_cell}
+use Rattle.stress.proofs.rings.ends.Goals as goal
 
 pub returns : goal.returns
 returns c =
