@@ -1,9 +1,8 @@
-//! What no clause says, and no example of `examples/` shows: sinks, files and allocations that fail, and what is told of it.
+//! What no clause says, and neither an example of `examples/` nor `.ci/hostile.sh` shows: sinks and allocations that fail, and what is told of it.
 ghost use Rattle.std.specs.Prelude.{None};
 
 use trace_runner::{CheckError, ReplayError, Sink, SinkFailed, check_text, replay_serial};
 
-mod files;
 mod refused;
 mod sink;
 mod store;

@@ -1,7 +1,7 @@
-//! Sinks over a writer and in memory.
+//! Sinks over a writer.
 use std::alloc::Global;
 use std::io::{self, Write};
-use trace_runner::{Memory, Out, Sink, SinkFailed, give};
+use trace_runner::{Out, Sink, SinkFailed, give};
 
 const TEXT: &[u8] = b"end pages 0 live 0 calls 0\n";
 
@@ -60,11 +60,4 @@ fn one_byte_a_write(rt: HostRuntime) {
         assert!(rt; takes_front(rt.alloc(), taken, false), "at {taken}");
         assert!(rt; takes_front(rt.alloc(), taken, true), "at {taken}");
     }
-}
-
-#[test]
-fn in_memory(rt: HostRuntime) {
-    let mut memory = Memory::new(rt.alloc());
-    let given = (give(&mut memory, TEXT), give(&mut memory, b""));
-    assert_eq!(rt; (given, memory.bytes.as_slice()), ((Ok(()), Ok(())), TEXT));
 }

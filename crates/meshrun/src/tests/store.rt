@@ -99,9 +99,3 @@ fn saves_to_the_disk(rt: HostRuntime) -> Result<(), Fail> {
     assert_eq!(rt; text.as_slice(), b"short".as_slice());
     Ok(())
 }
-
-#[test]
-fn no_such_folder(rt: HostRuntime) {
-    let saved = save(&mut Disk::new(&rt), Some("no_such_folder/a.cert"), b"text");
-    assert!(rt; saved.is_err());
-}
