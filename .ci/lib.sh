@@ -5,8 +5,9 @@ top=$(cd "$(dirname "${BASH_SOURCE[0]}")/.." && pwd)
 program="$top/crates/meshrun/out/meshrun"
 built_from="$program.sources"
 archive="$top/crates/teurlaks_c/out/libteurlaks_c.a"
-# What a gate that passed proved: the sum of its sources.
+# What a gate that passed proved: the sum of its sources; and a file that was made before it.
 gate_from="$top/crates/teurlaks_c/out/gate.sources"
+gate_begun="$top/crates/teurlaks_c/out/gate.begun"
 
 # The kit's command.
 find_rt() {
@@ -45,9 +46,34 @@ keep_sum() {
     if [ "$(sum_of_sources)" = "$1" ]; then sum_of_build >"$built_from"; fi
 }
 
-# To be called behind `rt ci`, with the sum of the sources before it, where it has proved all crates.
+# The libraries that the archive stands on, of the repository and of the kit.
+libraries_of_archive() {
+    sed -n 's/^teurlaks_c staticlib: *//p' "$top/crates.txt"
+}
+
+# The library that the kit has built of a crate.
+library_of() {
+    echo "$top/crates/$1/out/rlib/$1.rlib"
+}
+
+# To be called behind `rt ci`, where it has proved all crates, with the sum of the sources before it and a file that was made before it.
 keep_gate_sum() {
-    if [ "$(sum_of_sources)" = "$1" ]; then echo "$1" >"$gate_from"; fi
+    if [ "$(sum_of_sources)" = "$1" ]; then
+        cp -p "$2" "$gate_begun"
+        echo "$1" >"$gate_from"
+    fi
+}
+
+# Whether the libraries are those that the gate has built: what was built before `rt ci` comes back when it ends, in the place of what it has
+# built itself, and a later check may have built one of other sources.
+are_of_gate() {
+    local name built
+    for name in $(libraries_of_archive); do
+        built=$(library_of "$name")/format
+        if [ -d "$top/crates/$name" ] && { [ ! "$built" -nt "$gate_begun" ] || [ ! "$gate_from" -nt "$built" ]; }; then
+            return 1
+        fi
+    done
 }
 
 # The archive's sum, the sources', and what was said of its proof, as `make_archive` keeps them beside it.
@@ -64,10 +90,10 @@ archive_is_current() {
 words_of_archive() {
     local kit=$1 name rlib
     words=(--crate-name teurlaks_c src/lib.rt --crate-type staticlib --links teurlaks_c= -L "dependency=$kit/rlibs")
-    for name in std $(sed -n 's/^teurlaks_c staticlib: *//p' "$top/crates.txt"); do
+    for name in std $(libraries_of_archive); do
         rlib=$kit/rlibs/$name.rlib
         if [ -d "$top/crates/$name" ]; then
-            rlib=$top/crates/$name/out/rlib/$name.rlib
+            rlib=$(library_of "$name")
             words+=(-L "dependency=${rlib%/*}")
         fi
         words+=(--extern "$name=$rlib")
@@ -79,7 +105,7 @@ words_of_archive() {
 # proves every crate below once more.
 archive_over_gate() {
     local kit words
-    [ -f "$gate_from" ] && [ "$(cat "$gate_from")" = "$(sum_of_sources)" ] || return
+    [ -f "$gate_from" ] && [ "$(cat "$gate_from")" = "$(sum_of_sources)" ] && are_of_gate || return
     kit=$(dirname "$(dirname "$(readlink -f "$1")")")
     words_of_archive "$kit"
     (cd "$top/crates/teurlaks_c" && "$kit/bin/rattle" build "${words[@]}" --jobs "$(nproc)" -o "$archive")
