@@ -1,4 +1,4 @@
-# What `meshrun` and `check` share. Nothing here is meant to be called alone.
+# What `meshrun`, `check`, `dist`, `rust/test` and `bench/` share. Nothing here is meant to be called alone.
 # shellcheck shell=bash
 
 top=$(cd "$(dirname "${BASH_SOURCE[0]}")/.." && pwd)
@@ -105,7 +105,8 @@ words_of_archive() {
 # proves every crate below once more.
 archive_over_gate() {
     local kit words
-    [ -f "$gate_from" ] && [ "$(cat "$gate_from")" = "$(sum_of_sources)" ] && are_of_gate || return
+    if ! [ -f "$gate_from" ] || ! [ -f "$gate_begun" ]; then return 1; fi
+    if [ "$(cat "$gate_from")" != "$(sum_of_sources)" ] || ! are_of_gate; then return 1; fi
     kit=$(dirname "$(dirname "$(readlink -f "$1")")")
     words_of_archive "$kit"
     (cd "$top/crates/teurlaks_c" && "$kit/bin/rattle" build "${words[@]}" --jobs "$(nproc)" -o "$archive")
