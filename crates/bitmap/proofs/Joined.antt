@@ -1,5 +1,6 @@
 -- The numbers of a first part and of further ones.
-use Rattle.std.proofs.Common.{◌≡◌, ℕ, ◌+◌, ◌-◌, ◌/◌, ◌%◌, ◌<◌, ◌≤◌, ◌⊎◌, suc, min, false, nat_lt, List, ◌∷◌, ◌∙◌, ap, sym, refl, inl, inr, arith, lt-ltb, le-ltb}
+use Rattle.std.proofs.Common.{◌≡◌, ℕ, ◌+◌, ◌-◌, ◌/◌, ◌%◌, ◌<◌, ◌≤◌, ◌⊎◌, suc, min, Bool, true, false, nat_lt, List, ◌∷◌, ◌∙◌, ap, sym, refl, inl, inr, arith, lt-ltb, le-ltb}
+use Rattle.std.specs.Bool.{if◌then◌else◌}
 use Rattle.std.specs.Ordering.{nat_cmp}
 use Rattle.std.specs.FinSet.{contains, empty, insert, remove, contains-empty}
 use Rattle.std.proofs.lemmas.Bool.{cases_eq, cases_lt, true≢false}
@@ -53,6 +54,10 @@ module _ (low : SlotSet) (high : List SlotSet) (n : ℕ) where
       each q (inr other) (inl small) = contains-low (remove low n) high q small ∙ contains-remove_other low n q other
           ∙ sym (contains-remove_other (numbers_in (low ∷ high)) n q other ∙ contains-low low high q small)
       each q (inr other) (inr large) = contains-high (remove low n) high q large ∙ sym (contains-remove_other (numbers_in (low ∷ high)) n q other ∙ contains-high low high q large)
+
+  pub remove_if-low : n < SLOTS → (out : Bool) → numbers_in ((if out then remove low n else low) ∷ high) ≡ if out then remove (numbers_in (low ∷ high)) n else numbers_in (low ∷ high)
+  remove_if-low within true = remove-low within
+  remove_if-low within false = refl
 
   module _ (after : List SlotSet) (large : SLOTS ≤ n) where
     pub insert-high : numbers_in after ≡ insert (numbers_in high) (n - SLOTS) → numbers_in (low ∷ after) ≡ insert (numbers_in (low ∷ high)) n

@@ -1,5 +1,5 @@
 // A set of numbers that grows.
-ghost use Rattle.std.specs.Prelude.{◌≡◌, ◌+◌, ◌*◌, ◌/◌, ◌<◌, ◌≤◌, ℕ, false, IfSome, MatchOption, OnErr, OnOk, nat_lt, vec_len};
+ghost use Rattle.std.specs.Prelude.{◌≡◌, ◌+◌, ◌*◌, ◌/◌, ◌<◌, ◌≤◌, ℕ, false, IfSome, MatchOption, OnErr, OnOk, if◌then◌else◌, nat_lt, vec_len};
 ghost use Rattle.std.specs.FinSet as set;
 ghost use Rattle.bitmap.specs.Numbers.{NumbersState};
 ghost use Rattle.bitmap.specs.Parts.{IsSummary, numbers_in};
@@ -135,6 +135,27 @@ impl NumberSet {
             &mut self.top,
             number - SLOTS,
         );
+    }
+
+    /// Takes the number out where `out` says so. Of a number below 256 it takes no branch on that.
+    pub fn remove_if(&mut self, number: usize, out: bool)
+        requires { number < self.old.room }
+        ensures { self.new ≡ record self.old {
+          numbers = if out then set.remove self.old.numbers number else self.old.numbers;
+        } }
+    {
+        if number < SLOTS {
+            self.low.remove_if(number as u8, out);
+            return;
+        }
+        if out {
+            strike(
+                &mut self.high,
+                &mut self.filled,
+                &mut self.top,
+                number - SLOTS,
+            );
+        }
     }
 
     /// Has the numbers below the count then, and no others. It takes a step for each 256 that it has room for, and no memory.

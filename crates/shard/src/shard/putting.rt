@@ -59,6 +59,10 @@ impl<L: Log> Shard<L> {
             let group = &mut self.groups[index];
             let at = group.span_at(0).changes();
             if let Some(key) = group.put(self.alloc, class, words)? {
+                // A group that is full now leaves the set at once: where the next put looked there first, it would come back from every
+                // other look, by a branch that no processor foresees.
+                let is_full = group.is_full();
+                self.rooms.remove_if(class, index, is_full);
                 return Ok((key, at));
             }
             self.rooms.remove(class, index);

@@ -5,14 +5,17 @@ use Rattle.groups.proofs.Lists.{same_some}
 use Rattle.groups.proofs.Maps.{at_err}
 use Rattle.span.specs.State.{SpanState}
 use Rattle.shard.specs.Calls.{IsFull, Puts, PutsInNew}
-use Rattle.shard.specs.Group.{HasNoRoom, IsLowestUsable}
+use Rattle.bitmap.specs.Slots.{HasAllBelow}
+use Rattle.groups.specs.Pages.{put_group}
+use Rattle.span.specs.Classes.{slots_in}
+use Rattle.shard.specs.Group.{GroupState, HasNoRoom, IsLowestUsable, unusable}
 use Rattle.shard.specs.Kept.{state_of}
 use Rattle.shard.specs.Rooms.{rooms_of}
 use Rattle.shard.specs.Sound.{IsSound}
 use Rattle.shard.specs.State.{ShardState}
 use Rattle.shard.proofs.KeptGroups.{IsKept-same}
 use Rattle.shard.proofs.OpenGroups.{HasNoRoom-usable}
-use Rattle.shard.proofs.PutFirst.{group_here, IsKept-passed, IsKept-put, Puts-first, set-kept}
+use Rattle.shard.proofs.PutFirst.{group_here, IsKept-passed, IsKept-put_full, Puts-first, set-kept}
 use Rattle.shard.proofs.RoomBits.{IsFull-empty, len-remove_lt}
 use Rattle.shard.proofs.ShownLogs.{is_issued-Puts, IsSound-Puts, shown-Puts}
 use Rattle.shard.proofs.shard.Shard.put_words.Goals.{then-len-self-via-then-len-self, then-len-self-via-else-len-self+then-self-2}
@@ -60,7 +63,10 @@ returns-in_err-key-clause-spent g c =
           (subst (λ (shard : ShardState). IsFull c.args.class shard.groups) (sym c.loop-index.invariant.same) spent.1.0 c.in-Some.index group here)),
     )
 
--- the group took the put
+-- the group took the put, and leaves the set where it is full then
+pub remove_if-requires : goal.remove_if-requires
+remove_if-requires g c = c.in-Some.ensures.in_room
+
 pub invariant_of-self-in-Some-2 : goal.invariant_of-self-in-Some-2
 invariant_of-self-in-Some-2 g c =
     let s = c.loop-index.self-inside in
@@ -69,10 +75,14 @@ invariant_of-self-in-Some-2 g c =
     let key = c.in-Some-2.key in
     let made = c.in_ok-key.ensures {u = tt} in
     let here = group_here s c.loop-index.invariant.kept c.args.class c.in-Some.index group c.in-Some.ensures.lowest c.index_mut-group.ensures.value in
-    IsKept-put s kept c.args.class c.in-Some.index group here c.in-Some.ensures.lowest key c.args.words.now (rw c.in-Some-2.is at made.slot) c.requires
-    _ (ap (set s.groups.items c.in-Some.index) (rw c.in-Some-2.is at made.ok)) refl
+    let usable : IsLowestUsable c.args.class group key.slot = rw c.in-Some-2.is at made.slot in
+    let put : c.put.new.self ≡ put_group group c.args.class key.slot c.args.words.now = rw c.in-Some-2.is at made.ok in
+    IsKept-put_full s kept c.args.class c.in-Some.index group here c.in-Some.ensures.lowest key c.args.words.now usable c.requires
+    _ (ap (set s.groups.items c.in-Some.index) put) refl
+    c.remove_if.new.self c.is_full-is_full.result (λ full. inr (inr (subst (λ (group : GroupState). HasAllBelow (unusable group) (slots_in group.head.class)) put (c.is_full-is_full.ensures.0 full))))
+    c.remove_if.ensures.this c.remove_if.ensures.others c.remove_if.ensures.room
 
-puts : (g : _) (c : goal.In-Some-2 g)
+puts : (g : _) (c : goal.After-remove_if g)
     → Puts c.args.self.now c.args.class c.args.words.now c.in-Some-2.key c.changes-at.result
     (record (state_of c.loop-index.self-inside) { groups = set c.loop-index.self-inside.groups.items c.in-Some.index c.put.new.self })
 puts g c =
@@ -88,7 +98,7 @@ puts g c =
     c.changes-at.result (c.changes-at.ensures ∙ ap (λ (span : SpanState). length span.log) (sym (same_some c.span_at.ensures)))
     c.put.new.self (rw c.in-Some-2.is at made.ok)
 
-sound_here : (g : _) (c : goal.In-Some-2 g) → IsSound c.args.self.now
+sound_here : (g : _) (c : goal.After-remove_if g) → IsSound c.args.self.now
 sound_here g c = subst IsSound c.self.view_is c.self.invariant.sound
 
 pub returns-in-Some-2-clause-ok : goal.returns-in-Some-2-clause-ok
