@@ -65,6 +65,7 @@
 #![tactic(auto)]
 
 mod arena;
+mod asking;
 mod counting;
 mod ending;
 mod error;

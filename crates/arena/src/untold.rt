@@ -4,7 +4,9 @@ ghost use Rattle.span.specs.Log.{Value};
 ghost use Rattle.arena.specs.Told.{WritesFound};
 
 use crate::arena::Arena;
+use crate::asking::{FreeKey, GetWords};
 use crate::gate::Gate;
+use crate::hints::Place;
 use crate::lending::Lent;
 use crate::patience::Tries;
 use crate::sections::{
@@ -70,12 +72,32 @@ impl<G: Gate, L: Log> Arena<G, L> {
             (λ got. (found : Option Value) × WritesFound W.word found room.old got.0 room.new)) }
         ensures busy { OnErr result (room.new ≡ room.old) }
     {
-        match self.lend(&Tries, key.span)? {
-            Lent::Nowhere => Ok(Some((None, 0))),
-            Lent::Pool(pool) => Ok(get_words_pool(&*pool, key, room)),
-            Lent::Shard(shard) => Ok(get_words_in(&*shard, key, room)),
-            Lent::Nobody => Ok(None),
+        match self.hints.place_of(key.span) {
+            Place::Nowhere => Ok(Some((None, 0))),
+            Place::Pool => self.get_words_pooled(key, room),
+            Place::Shard(number) => {
+                let Some(latch) = self.shards.get(number as usize) else {
+                    return Ok(None);
+                };
+                let gate = &self.gate;
+                latch.try_ask(&GetWords { gate, number, key }, room)
+            }
         }
+    }
+
+    // The same in the pool.
+    #[inline(never)]
+    fn get_words_pooled<W: Word>(
+        &self,
+        key: &Key,
+        room: &mut [W],
+    ) -> Result<Option<(Option<usize>, usize)>, Busy>
+        ensures words { IfOk result (λ told. MatchOption told (room.new ≡ room.old)
+            (λ got. (found : Option Value) × WritesFound W.word found room.old got.0 room.new)) }
+        ensures busy { OnErr result (room.new ≡ room.old) }
+    {
+        let pool = self.pool.try_lock()?;
+        Ok(get_words_pool(&*pool, key, room))
     }
 
     // The same for the session of this worker, whose shard does not have the span, where its hint says that the span is; or busy, where the
@@ -166,12 +188,24 @@ impl<G: Gate, L: Log> Arena<G, L> {
     // The same where its hint says that the span is, if the span is there.
     #[inline(always)]
     fn free_untold_once(&self, key: &Key) -> Result<Option<(bool, usize)>, Busy> {
-        match self.lend(&Tries, key.span)? {
-            Lent::Nowhere => Ok(Some((false, 0))),
-            Lent::Pool(mut pool) => Ok(free_untold_pool(&mut *pool, key)),
-            Lent::Shard(mut shard) => Ok(free_untold_in(&mut *shard, key)),
-            Lent::Nobody => Ok(None),
+        match self.hints.place_of(key.span) {
+            Place::Nowhere => Ok(Some((false, 0))),
+            Place::Pool => self.free_untold_pooled(key),
+            Place::Shard(number) => {
+                let Some(latch) = self.shards.get(number as usize) else {
+                    return Ok(None);
+                };
+                let gate = &self.gate;
+                latch.try_ask(&FreeKey { gate, number, key }, &mut [])
+            }
         }
+    }
+
+    // The same in the pool.
+    #[inline(never)]
+    fn free_untold_pooled(&self, key: &Key) -> Result<Option<(bool, usize)>, Busy> {
+        let mut pool = self.pool.try_lock()?;
+        Ok(free_untold_pool(&mut *pool, key))
     }
 
     // The same for the session of this worker, whose shard does not have the span; or busy, where the span is not there.

@@ -1,13 +1,25 @@
 -- Each step of a latch keeps its rule.
-use Rattle.std.proofs.Common.{◌≡◌, ℕ, [], ◌∷◌, length, get_or, set, refl, ap, ◌∙◌, arith, length-set, get_or-set_same}
-use Rattle.std.specs.Prelude.{Option, Some}
+use Rattle.std.proofs.lemmas.Bool.{true≢false}
+use Rattle.std.proofs.Common.{sym, Bool, true, ◌≡◌, ℕ, [], ◌∷◌, length, get_or, set, refl, ap, ◌∙◌, arith, length-set, get_or-set_same}
+use Rattle.std.specs.Prelude.{List, None, Option, Some}
 use mathlib.Core.Logic.{dite}
 use mathlib.Core.Option.{some}
 use native.Mathlib.Decide.{ℕ_discrete}
 use lib.ListN.{get_elem?}
 use Rattle.atomic_table.specs.Table.{State, Me, step, keeps, takes, gives, Allows, Arrives, put_back}
 use Rattle.atomic_table.proofs.Lists.{set_here}
-use Rattle.latch.specs.Rule.{IsKept, took, gave}
+use Rattle.latch.specs.Rule.{HasSlot, IsKept, took, gave}
+
+-- a slot that is there has a value
+pub slot_value : {T : Type 0} → (slots : List (ℕ × Option T)) → HasSlot slots → (value : T) × (slots ≡ (4, Some value) ∷ [])
+slot_value [] has = absurd cc
+slot_value ((number, None) ∷ slots) has = absurd (true≢false (ap (λ (slots : List (ℕ × Bool)). (get_or slots 0 (0, true)).1) (sym has)))
+slot_value ((number, Some value) ∷ []) has =
+    let four : number ≡ 4 = ap (λ (slots : List (ℕ × Bool)). (get_or slots 0 (0, true)).0) has in (value, rw four refl)
+slot_value ((number, Some value) ∷ other ∷ slots) has = absurd cc
+
+pub HasSlot-some : {T : Type 0} → (slots : List (ℕ × Option T)) (value : T) → slots ≡ (4, Some value) ∷ [] → HasSlot slots
+HasSlot-some slots value one = rw one refl
 
 module _ {T : Type 0} where
   -- a swap with 1 takes the slot where it finds 0

@@ -1,8 +1,9 @@
 // The lock.
-ghost use Rattle.std.specs.Prelude.{◌≡◌, [], ◌∷◌, IfOk, IfSome, None};
+ghost use Rattle.std.specs.Prelude.{◌≡◌, [], ◌∷◌, IfOk, IfSome, None, OnErr};
 ghost use Rattle.atomic_table.specs.Table.{rest};
-ghost use Rattle.latch.specs.Rule.{IsKept, gave, took};
+ghost use Rattle.latch.specs.Rule.{HasSlot, IsKept, gave, took};
 
+use crate::ask::Ask;
 use crate::guard::LatchGuard;
 use crate::hold::Hold;
 use atomic_table::{Play, Seat, Table, TableRule};
@@ -118,6 +119,25 @@ impl<T: Drop> Latch<T> {
         Ok(LatchGuard::new(self, turn, value))
     }
 
+    /// Makes the call on the value where it is, and lets others at it again. It takes no memory, and looks 50 times at most.
+    ///
+    /// A [`LatchGuard`] takes the value out of its slot and puts it back, which writes to one more cache line: where threads take turns at a
+    /// latch, that line goes from processor to processor, too.
+    ///
+    /// # Errors
+    ///
+    /// [`Busy`] where another thread has the value at each look. The call is not made then.
+    #[inline(always)]
+    pub fn try_ask<W, C: Ask<T, W>>(&self, call: &C, room: &mut [W]) -> Result<C::Answer, Busy>
+        ensures does { IfOk result (λ answer. C.does call.now room.old answer room.new) }
+        ensures busy { OnErr result (room.new ≡ room.old) }
+    {
+        let mut seat = self.seat()?;
+        let answer = self.ask(&mut seat, call, room);
+        self.leave(seat);
+        Ok(answer)
+    }
+
     /// The value itself, out of the latch until [`Latch::give_back`]. It takes no memory, and looks 50 times at most.
     ///
     /// # Errors
@@ -127,23 +147,36 @@ impl<T: Drop> Latch<T> {
     pub fn try_hold(&self) -> Result<Hold<T>, Busy>
         ensures { IfOk result (λ hold. hold.turn ≡ self.now) }
     {
+        let mut seat = self.seat()?;
+        let Some(value) = self.table.shared.exchange(&mut seat, SLOT, None) else {
+            unreachable!()
+        };
+        let turn = Turn { seat };
+        Ok(Hold { turn, value })
+    }
+
+    // The seat that has the slot, where no thread has it at one of 50 looks.
+    #[inline(always)]
+    fn seat(&self) -> Result<Seat<Option<Box<T>>, ()>, Busy>
+        ensures { IfOk result (λ seat. (seat.table_id ≡ self.now) × HasSlot seat.me.1) }
+    {
         // No other thread has it, mostly. A look before the swap would have the line of the word come twice from another processor.
         match self.take() {
-            Some((value, turn)) => Ok(Hold { turn, value }),
+            Some(seat) => Ok(seat),
             None => self.look_again(),
         }
     }
 
-    // The value, after the first look: a load goes before each swap, which would take the word's line from who gives the value back.
+    // The same after the first look: a load goes before each swap, which would take the word's line from who gives the value back.
     #[inline(never)]
-    fn look_again(&self) -> Result<Hold<T>, Busy>
-        ensures { IfOk result (λ hold. hold.turn ≡ self.now) }
+    fn look_again(&self) -> Result<Seat<Option<Box<T>>, ()>, Busy>
+        ensures { IfOk result (λ seat. (seat.table_id ≡ self.now) × HasSlot seat.me.1) }
     {
         for _ in 1..LOOKS {
             spin_loop();
             if self.table.shared.peek(WORD) == 0 {
-                if let Some((value, turn)) = self.take() {
-                    return Ok(Hold { turn, value });
+                if let Some(seat) = self.take() {
+                    return Ok(seat);
                 }
             }
         }
@@ -171,20 +204,34 @@ impl<T: Drop> Latch<T> {
         unreachable!()
     }
 
-    // The value, and the turn at it, where no thread has it now.
+    // The seat that has the slot, where no thread has it now.
     #[inline(always)]
-    fn take(&self) -> Option<(Box<T>, Turn<T>)>
-        ensures { IfSome result (λ taken. taken.1 ≡ self.now) }
+    fn take(&self) -> Option<Seat<Option<Box<T>>, ()>>
+        ensures { IfSome result (λ seat. (seat.table_id ≡ self.now) × HasSlot seat.me.1) }
     {
-        let shared = &self.table.shared;
-        let (found, mut seat) = shared.swap_new_seat::<Taking>(WORD, 1);
+        let (found, seat) = self.table.shared.swap_new_seat::<Taking>(WORD, 1);
         if found != 0 {
             return None;
         }
-        let Some(value) = shared.exchange(&mut seat, SLOT, None) else {
+        Some(seat)
+    }
+
+    // Makes the call on the value in the slot that the seat has.
+    #[inline(always)]
+    fn ask<W, C: Ask<T, W>>(
+        &self,
+        seat: &mut Seat<Option<Box<T>>, ()>,
+        call: &C,
+        room: &mut [W],
+    ) -> C::Answer
+        requires { (seat.old.table_id ≡ self.now) × HasSlot seat.old.me.1 }
+        ensures seat { (seat.new.table_id ≡ self.now) × HasSlot seat.new.me.1 }
+        ensures does { C.does call.now room.old result room.new }
+    {
+        let Some(value) = seat.slot_mut(&self.table.shared, SLOT) else {
             unreachable!()
         };
-        Some((value, Turn { seat }))
+        call.ask(&mut **value, room)
     }
 
     // Gives the value back: from now on any thread may take it.
@@ -193,10 +240,17 @@ impl<T: Drop> Latch<T> {
         requires { turn ≡ self.now }
     {
         let Turn { mut seat } = turn;
-        let shared = &self.table.shared;
-        let None = shared.exchange(&mut seat, SLOT, Some(value)) else {
+        let None = self.table.shared.exchange(&mut seat, SLOT, Some(value)) else {
             unreachable!()
         };
-        shared.store::<Giving>(&mut seat, WORD, 0);
+        self.leave(seat);
+    }
+
+    // Gives the slot back, with the value in it.
+    #[inline(always)]
+    pub(crate) fn leave(&self, mut seat: Seat<Option<Box<T>>, ()>)
+        requires { (seat.table_id ≡ self.now) × HasSlot seat.me.1 }
+    {
+        self.table.shared.store::<Giving>(&mut seat, WORD, 0);
     }
 }

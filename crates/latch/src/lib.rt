@@ -23,10 +23,12 @@
 //! ```
 #![tactic(auto)]
 
+mod ask;
 mod guard;
 mod hold;
 mod latch;
 
+pub use ask::Ask;
 pub use guard::LatchGuard;
 pub use hold::Hold;
 pub use latch::{Busy, Latch, Turn};
