@@ -5,6 +5,7 @@ mod Frees
 mod KeptSpans
 pub mod Linking
 mod Made
+mod OneWord
 pub mod SeatRings
 mod Sending
 mod SettledRings

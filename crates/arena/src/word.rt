@@ -20,17 +20,21 @@ impl Word for u128 {
     }
 }
 
-/// Writes the words into the room, from its first place on. There is room for all of them.
+/// Writes the words into the room, from its first place on. There is room for all of them. One word is by far the most frequent.
 #[inline(always)]
 pub(crate) fn write_words<W: Word>(room: &mut [W], words: &[u128])
     requires { length words.now ≤ length room.old }
     ensures { map W.word room.new ≡ words.now ++ drop (length words.now) (map W.word room.old) }
 {
+    if let [word] = words {
+        room[0] = W::of(*word);
+        return;
+    }
     write_all(&mut room[..words.len()], words);
 }
 
 // Writes the words, each into its place.
-#[inline(always)]
+#[inline(never)]
 fn write_all<W: Word>(room: &mut [W], words: &[u128])
     requires { length room.old ≡ length words.now }
     ensures { map W.word room.new ≡ words.now }

@@ -5,12 +5,14 @@
 //! until it has the guard. Nobody sleeps on a latch and nobody is woken, so a static library may have one, where the kit refuses
 //! `Mutex`, whose unlock wakes a sleeper.
 //!
-//! What is to be kept over many calls is held: [`Latch::try_hold`] hands out a [`Hold`], which borrows nothing, and [`Latch::give_back`]
-//! takes it back. A hold can't be let go otherwise.
+//! A call that is done with the value when it returns is asked of the latch ([`Latch::try_ask`]), and made where the value is: its type
+//! says what it does ([`Ask`]). What is to be kept over many calls is held: [`Latch::try_hold`] hands out a [`Hold`], which borrows
+//! nothing, and [`Latch::give_back`] takes it back. A hold can't be let go otherwise.
 //!
 //! ```text
 //!   word 0: the value is at home  ── try_lock: swap in 1, take the value out ──▶  word 1: a guard has it
 //!                                 ◀── the guard is dropped: put it back, store 0 ──
+//!                                 ── try_ask: swap in 1, make the call, store 0 ──▶  word 0
 //! ```
 //!
 //! # Examples
