@@ -75,11 +75,16 @@ impl<G: Gate, L: Log> Ask<Shard<L>, ()> for PutWords<'_, G, L> {
     #[inline(always)]
     fn ask(&self, shard: &mut Shard<L>, _room: &mut [()]) -> Result<(Key, usize), PutError> {
         self.arena.gate.inside(self.number);
-        let put = shard.put_words(self.class, self.words);
-        if let Ok((key, 0)) = &put {
-            // The span is new: whoever is handed its key finds it from now on.
-            self.arena.hints.count_opened(key.span);
+        // Taken apart and put together again, the key stays in registers.
+        match shard.put_words(self.class, self.words) {
+            Ok((key, at)) => {
+                if at == 0 {
+                    // The span is new: whoever is handed its key finds it from now on.
+                    self.arena.hints.count_opened(key.span);
+                }
+                Ok((key, at))
+            }
+            Err(refused) => Err(refused),
         }
-        put
     }
 }

@@ -1,10 +1,10 @@
 -- The first of four words that is not full, found from the last one on; and what it says of two sets whose words are joined.
-use Rattle.std.proofs.Common.{◌≡◌, ℕ, ◌+◌, ◌-◌, ◌*◌, ◌/◌, ◌%◌, ◌^◌, ◌<◌, ◌≤◌, true, List, get_or, bit_or, ap, sym, subst, ◌∙◌, refl, inl, inr, arith, eq-eqb, w64}
+use Rattle.std.proofs.Common.{zero, suc, bit_and, ◌≡◌, ℕ, ◌+◌, ◌-◌, ◌*◌, ◌/◌, ◌%◌, ◌^◌, ◌<◌, ◌≤◌, true, List, get_or, bit_or, ap, sym, subst, ◌∙◌, refl, inl, inr, arith, eq-eqb, w64}
 use Rattle.std.specs.Int.{trailing_ones}
 use Rattle.std.specs.Simd.Lanes.{zip2}
 use Rattle.std.specs.FinSet.{union}
-use Rattle.std.proofs.lemmas.Bool.{cases_lt}
-use Rattle.std.proofs.lemmas.Nat.{or_lt}
+use Rattle.std.proofs.lemmas.Bool.{cases_eq, cases_lt, true≢false}
+use Rattle.std.proofs.lemmas.Nat.{and_le_l, and_le_r, or_lt}
 use Rattle.std.proofs.lemmas.Nat.Bits.{bit_at_ones}
 use Rattle.bitmap.specs.Slots.{AreWords, HasAllBelow, IsLowestOutside, has_bit, slots_of_words}
 use Rattle.bitmap.specs.Words.{contains-slots_of_words, has_bit-place}
@@ -92,3 +92,58 @@ module _ (a b : List ℕ) (are_a : AreWords a) (are_b : AreWords b) where
     IsLowestOutside-both = subst (λ slots. IsLowestOutside slots (64 * first + low)) slots_are
         (subst (λ w. IsLowestOutside (slots_of_words both) (64 * first + trailing_ones w64 w)) (sym (is.here inside).0)
         (IsLowestOutside-first both are first inside (full_below both first is.full) some))
+
+  -- where each slot is there, each word is full
+  full_word_of : HasAllBelow (union (slots_of_words a) (slots_of_words b)) 256 → (k : ℕ) → k < 4 → get_or both k 0 ≡ 2 ^ 64 - 1
+  full_word_of all k low = elim (cases_eq (get_or both k 0) (2 ^ 64 - 1)) [
+    | inl full ↦ full
+    | inr unlike ↦
+        let open_slot = IsLowestOutside-first both are k low (λ slot below. here slot (omega (arith, below))) unlike in
+        let small = first-lt both are k low (λ slot below. here slot (omega (arith, below))) unlike in
+        absurd (true≢false (sym (each (64 * k + trailing_ones w64 (get_or both k 0)) (omega (arith, low, small))) ∙ open_slot.outside))
+  ]
+    where
+      each : HasAllBelow (slots_of_words both) 256
+      each = subst (λ slots. HasAllBelow slots 256) (sym slots_are) all
+
+      here : (slot : ℕ) → slot < 256 → has_bit both slot ≡ true
+      here slot below = sym (contains-slots_of_words both (omega (arith, are.four)) slot) ∙ each slot below
+
+  abbrev joined : ℕ → ℕ
+  joined k = bit_or (get_or a k 0) (get_or b k 0)
+
+  abbrev common : ℕ
+  common = bit_and (bit_and (bit_and (joined 0) (joined 1)) (joined 2)) (joined 3)
+
+  -- what all words have in common is in each of them
+  common_le : (k : ℕ) → k < 4 → common ≤ joined k
+  common_le zero low =
+      let last = and_le_l (bit_and (bit_and (joined 0) (joined 1)) (joined 2)) (joined 3) in
+      let third = and_le_l (bit_and (joined 0) (joined 1)) (joined 2) in
+      let second = and_le_l (joined 0) (joined 1) in omega (arith, last, third, second)
+  common_le (suc zero) low =
+      let last = and_le_l (bit_and (bit_and (joined 0) (joined 1)) (joined 2)) (joined 3) in
+      let third = and_le_l (bit_and (joined 0) (joined 1)) (joined 2) in
+      let second = and_le_r (joined 0) (joined 1) in omega (arith, last, third, second)
+  common_le (suc (suc zero)) low =
+      let last = and_le_l (bit_and (bit_and (joined 0) (joined 1)) (joined 2)) (joined 3) in
+      let third = and_le_r (bit_and (joined 0) (joined 1)) (joined 2) in omega (arith, last, third)
+  common_le (suc (suc (suc zero))) low = and_le_r (bit_and (bit_and (joined 0) (joined 1)) (joined 2)) (joined 3)
+  common_le (suc (suc (suc (suc k)))) low = absurd (omega (arith, low))
+
+  pub HasAllBelow-common : common ≡ 2 ^ 64 - 1 → HasAllBelow (union (slots_of_words a) (slots_of_words b)) 256
+  HasAllBelow-common ones = HasAllBelow-both 0 (record {
+    from = omega arith;
+    to = omega arith;
+    full = λ j from below.
+        let least = common_le j below in
+        let word = get_or-both j below in
+        let fits = are.fit j in
+        omega (arith, least, word, fits, ones);
+    here = λ low. absurd (omega (arith, low));
+  })
+
+  pub common-HasAllBelow : HasAllBelow (union (slots_of_words a) (slots_of_words b)) 256 → common ≡ 2 ^ 64 - 1
+  common-HasAllBelow all =
+      let word : (k : ℕ) → k < 4 → joined k ≡ 2 ^ 64 - 1 = λ k low. sym (get_or-both k low) ∙ full_word_of all k low in
+      rw (word 0 (omega arith), word 1 (omega arith), word 2 (omega arith), word 3 (omega arith)) refl

@@ -104,6 +104,7 @@ impl NumberSet {
     }
 
     /// Takes the number in, which may be in it already.
+    #[inline(always)]
     pub fn insert(&mut self, number: usize)
         requires { number < self.old.room }
         ensures { self.new ≡ record self.old { numbers = set.insert self.old.numbers number } }
@@ -138,6 +139,7 @@ impl NumberSet {
     }
 
     /// Takes the number out where `out` says so. Of a number below 256 it takes no branch on that.
+    #[inline(always)]
     pub fn remove_if(&mut self, number: usize, out: bool)
         requires { number < self.old.room }
         ensures { self.new ≡ record self.old {

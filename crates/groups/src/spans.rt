@@ -199,6 +199,18 @@ impl<L: Log> Spans<L> {
         self.lowest_usable().is_some()
     }
 
+    /// Whether a put of an object of the head's class has none: each slot is live in a span, or worn in the head.
+    #[inline(always)]
+    pub fn is_full(&self) -> bool
+        ensures { IsTrue result ↔ HasAllBelow (taken self.now) (slots_in self.now.head.class) }
+    {
+        let worn = self.head.worn();
+        match self.head.class() {
+            Class::C16 => self.occupied.is_full_with(&worn),
+            _ => !self.has_usable(),
+        }
+    }
+
     // The lowest slot that the head may be put at: it is live in no span, and not worn in the head. Each slot of a set is
     // one of class `C16`, the most frequent.
     #[inline(always)]
