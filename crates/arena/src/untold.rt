@@ -4,7 +4,7 @@ ghost use Rattle.span.specs.Log.{Value};
 ghost use Rattle.arena.specs.Told.{WritesFound};
 
 use crate::arena::Arena;
-use crate::asking::{FreeKey, GetWords};
+use crate::asking::GetWords;
 use crate::gate::Gate;
 use crate::hints::Place;
 use crate::lending::Lent;
@@ -188,24 +188,12 @@ impl<G: Gate, L: Log> Arena<G, L> {
     // The same where its hint says that the span is, if the span is there.
     #[inline(always)]
     fn free_untold_once(&self, key: &Key) -> Result<Option<(bool, usize)>, Busy> {
-        match self.hints.place_of(key.span) {
-            Place::Nowhere => Ok(Some((false, 0))),
-            Place::Pool => self.free_untold_pooled(key),
-            Place::Shard(number) => {
-                let Some(latch) = self.shards.get(number as usize) else {
-                    return Ok(None);
-                };
-                let gate = &self.gate;
-                latch.try_ask(&FreeKey { gate, number, key }, &mut [])
-            }
+        match self.lend(&Tries, key.span)? {
+            Lent::Nowhere => Ok(Some((false, 0))),
+            Lent::Pool(mut pool) => Ok(free_untold_pool(&mut *pool, key)),
+            Lent::Shard(mut shard) => Ok(free_untold_in(&mut *shard, key)),
+            Lent::Nobody => Ok(None),
         }
-    }
-
-    // The same in the pool.
-    #[inline(never)]
-    fn free_untold_pooled(&self, key: &Key) -> Result<Option<(bool, usize)>, Busy> {
-        let mut pool = self.pool.try_lock()?;
-        Ok(free_untold_pool(&mut *pool, key))
     }
 
     // The same for the session of this worker, whose shard does not have the span; or busy, where the span is not there.

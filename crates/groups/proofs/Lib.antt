@@ -4,6 +4,7 @@ pub mod Entered
 pub mod Entries
 pub mod ForgottenGuests
 pub mod ForgottenShown
+pub mod FilledBy
 pub mod FoundGuests
 pub mod FreedGroups
 pub mod GroupSpans

@@ -12,7 +12,7 @@ ghost use Rattle.groups.specs.Spans.{all_spans, taken, union_of, IsSpanAt, HasNo
 ghost use Rattle.bitmap.specs.declared.bits.TheConstants.{SLOTS};
 
 use crate::live::is_live;
-use bitmap::Bits256;
+use bitmap::{Bits256, Vacancy};
 use span::{Class, Counted, Entry, Kept, Key, Log, Span, SpanId, SpanLog};
 use std::alloc::{AllocError, Global};
 use std::marker::Model;
@@ -25,6 +25,15 @@ pub struct Spans<L: Log = Kept> {
     head: Span<L>,
     guests: Vec<Span<L>>,
     occupied: Bits256,
+}
+
+/// What a put of an object did.
+#[derive(Clone, Copy, PartialEq, Eq, Debug)]
+pub struct Placed {
+    /// The key that the head gave out.
+    pub key: Key,
+    /// Whether no usable slot is left, as far as that is known: of objects of 16 bytes it always is.
+    pub is_full: bool,
 }
 
 impl<L: Log> Model for Spans<L> {
@@ -166,29 +175,35 @@ impl<L: Log> Spans<L> {
     ///
     /// `AllocError` where there is such a slot, and the head's log could not grow. The spans are then as they were.
     #[inline(always)]
-    pub fn put(&mut self, words: &[u128]) -> Result<Option<Key>, AllocError>
+    pub fn put(&mut self, words: &[u128]) -> Result<Option<Placed>, AllocError>
         requires { length words.now ≡ width_of self.old.head.class }
         ensures slot { IfOk result (λ made. MatchOption made
             (HasAllBelow (taken self.old) (slots_in self.old.head.class))
-            (λ key. (key.slot < slots_in self.old.head.class)
-            × IsLowestOutside (taken self.old) key.slot)) }
-        ensures key { IfOk result (λ made. IfSome made (λ key. (key.span ≡ self.old.head.id)
-            × (key.generation ≡ puts_of key.slot self.old.head.log + 1))) }
+            (λ placed. (placed.key.slot < slots_in self.old.head.class)
+            × IsLowestOutside (taken self.old) placed.key.slot)) }
+        ensures key { IfOk result (λ made. IfSome made (λ placed.
+            (placed.key.span ≡ self.old.head.id)
+            × (placed.key.generation ≡ puts_of placed.key.slot self.old.head.log + 1))) }
         ensures ok { IfOk result (λ made. MatchOption made (self.new ≡ self.old)
-            (λ key. self.new ≡ record self.old {
-              head = with_put self.old.head key.slot
+            (λ placed. self.new ≡ record self.old {
+              head = with_put self.old.head placed.key.slot
                   words.now;
             })) }
+        ensures full { IfOk result (λ made. IfSome made (λ placed. IsTrue placed.is_full
+            → HasAllBelow (taken self.new) (slots_in self.new.head.class))) }
         ensures room { OnErr result
             (HasAllBelow (taken self.old) (slots_in self.old.head.class) → ⊥) }
         ensures err { OnErr result (self.new ≡ self.old) }
     {
-        let Some(slot) = self.lowest_usable() else {
+        let Some(Vacancy { slot, is_last }) = self.lowest_usable() else {
             return Ok(None);
         };
         let key = self.head.put_at(slot, words)?;
         self.occupied.insert(slot);
-        Ok(Some(key))
+        Ok(Some(Placed {
+            key,
+            is_full: is_last,
+        }))
     }
 
     /// Whether a put of an object of the head's class has a slot: one that is live in no span, and not worn in the head.
@@ -199,34 +214,34 @@ impl<L: Log> Spans<L> {
         self.lowest_usable().is_some()
     }
 
-    /// Whether a put of an object of the head's class has none: each slot is live in a span, or worn in the head.
-    #[inline(always)]
-    pub fn is_full(&self) -> bool
-        ensures { IsTrue result ↔ HasAllBelow (taken self.now) (slots_in self.now.head.class) }
-    {
-        let worn = self.head.worn();
-        match self.head.class() {
-            Class::C16 => self.occupied.is_full_with(&worn),
-            _ => !self.has_usable(),
-        }
-    }
-
     // The lowest slot that the head may be put at: it is live in no span, and not worn in the head. Each slot of a set is
-    // one of class `C16`, the most frequent.
+    // one of class `C16`, the most frequent, of which alone it is told whether there is another.
     #[inline(always)]
-    fn lowest_usable(&self) -> Option<u8>
+    fn lowest_usable(&self) -> Option<Vacancy>
         ensures lowest { MatchOption result
             (HasAllBelow (taken self.now) (slots_in self.now.head.class))
-            (λ slot. (slot < slots_in self.now.head.class)
-            × IsLowestOutside (taken self.now) slot) }
+            (λ found. (found.slot < slots_in self.now.head.class)
+            × IsLowestOutside (taken self.now) found.slot) }
+        ensures last { IfSome result (λ found. IsTrue found.is_last
+            → HasAllBelow (set.insert (taken self.now) found.slot)
+            (slots_in self.now.head.class)) }
     {
         let worn = self.head.worn();
         match self.head.class() {
             Class::C16 => self.occupied.lowest_outside_both(&worn),
-            class => self
-                .occupied
-                .union(&worn)
-                .lowest_outside_below(class.slots()),
+            class => {
+                let outside = self
+                    .occupied
+                    .union(&worn)
+                    .lowest_outside_below(class.slots());
+                match outside {
+                    Some(slot) => Some(Vacancy {
+                        slot,
+                        is_last: false,
+                    }),
+                    None => None,
+                }
+            }
         }
     }
 

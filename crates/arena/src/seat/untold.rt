@@ -7,8 +7,8 @@ ghost use Rattle.arena.specs.Told.{WritesFound};
 
 use super::Seat;
 use crate::arena::Arena;
-use crate::asking::PutWords;
 use crate::gate::Gate;
+use crate::patience::{Patience, Tries};
 use crate::word::Word;
 use latch::Busy;
 use shard::PutError;
@@ -35,18 +35,19 @@ impl Seat {
         ensures seat { OnOk result (CountsCall self.old self.new) }
         ensures busy { OnErr result (self.new ≡ self.old) }
     {
-        let number = self.worker;
-        let put = arena.shards[number as usize].try_ask(
-            &PutWords {
-                arena,
-                number,
-                class,
-                words,
-            },
-            &mut [],
-        )?;
+        let mut shard = Tries.lock(&arena.shards[self.worker as usize])?;
+        arena.gate.inside(self.worker);
         self.count_call();
-        Ok(put)
+        match shard.put_words(class, words) {
+            Ok((key, at)) => {
+                if at == 0 {
+                    // The span is new: whoever is handed its key finds it from now on.
+                    arena.hints.count_opened(key.span);
+                }
+                Ok(Ok((key, at)))
+            }
+            Err(refused) => Ok(Err(refused)),
+        }
     }
 
     /// What [`Seat::try_get`] does, but that the words of what is found are written into `room`, from its first place on, where there is

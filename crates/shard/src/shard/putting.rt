@@ -9,7 +9,7 @@ ghost use Rattle.shard.specs.Sound.{IsSound};
 use super::{Shard, insert_reserved, lower_heads};
 use crate::error::PutError;
 use crate::group::Group;
-use groups::Spans;
+use groups::{Placed, Spans};
 use page::Page;
 use span::{Class, Key, Log, Object, Span, SpanId};
 
@@ -58,10 +58,9 @@ impl<L: Log> Shard<L> {
         while let Some(index) = self.rooms.lowest(class) {
             let group = &mut self.groups[index];
             let at = group.span_at(0).changes();
-            if let Some(key) = group.put(self.alloc, class, words)? {
-                // A group that is full now leaves the set at once: where the next put looked there first, it would come back from every
-                // other look, by a branch that no processor foresees.
-                let is_full = group.is_full();
+            if let Some(Placed { key, is_full }) = group.put(self.alloc, class, words)? {
+                // A group that is full now leaves the set at once, by what is known of it in registers and without a branch: every other
+                // put would look there first.
                 self.rooms.remove_if(class, index, is_full);
                 return Ok((key, at));
             }

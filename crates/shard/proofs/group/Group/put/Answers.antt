@@ -4,8 +4,8 @@ use Rattle.shard.specs.Group.{HasNoRoom, group_of}
 use Rattle.shard.proofs.OpenGroups.{HasNoRoom-open}
 use Rattle.shard.proofs.group.Group.put.Goals as goal
 
-pub returns-in_err-key-clause-room : goal.returns-in_err-key-clause-room
-returns-in_err-key-clause-room g c =
+pub returns-in_err-placed-clause-room : goal.returns-in_err-placed-clause-room
+returns-in_err-placed-clause-room g c =
     let same : c.class.result ≡ c.args.class = search rules in
-    at_err c.from_residual-in_err-key.result (subst (λ group. HasNoRoom c.args.class group → ⊥) c.self.view_is
-    (HasNoRoom-open c.args.class (group_of c.self.inside.spans c.self.inside.page c.self.inside.closed) c.if-self.false (sym c.class.ensures ∙ same) (c.in_err-key.ensures {u = tt}).room))
+    at_err c.from_residual-in_err-placed.result (subst (λ group. HasNoRoom c.args.class group → ⊥) c.self.view_is
+    (HasNoRoom-open c.args.class (group_of c.self.inside.spans c.self.inside.page c.self.inside.closed) c.if-self.false (sym c.class.ensures ∙ same) (c.in_err-placed.ensures {u = tt}).room))

@@ -11,7 +11,7 @@ returns-in_err-page-clause-room g c =
     at_err c.from_residual.result (HasNoRoom-open c.args.class c.args.self.now c.requires.open c.requires.class
     (subst (λ (group : GroupState). HasAllBelow (unusable group) (slots_in group.head.class) → ⊥) c.self.view_is (c.has_usable.ensures.0 c.if-not-has_usable.false)))
 
-pub returns-in_err-key-clause-room : goal.returns-in_err-key-clause-room
-returns-in_err-key-clause-room g c =
-    at_err c.from_residual-in_err-key.result (HasNoRoom-open c.args.class c.args.self.now c.requires.open c.requires.class
-    (subst (λ (group : GroupState). HasAllBelow (unusable group) (slots_in group.head.class) → ⊥) c.self.view_is (c.in_err-key.ensures {u = tt}).room))
+pub returns-in_err-placed-clause-room : goal.returns-in_err-placed-clause-room
+returns-in_err-placed-clause-room g c =
+    at_err c.from_residual-in_err-placed.result (HasNoRoom-open c.args.class c.args.self.now c.requires.open c.requires.class
+    (subst (λ (group : GroupState). HasAllBelow (unusable group) (slots_in group.head.class) → ⊥) c.self.view_is (c.in_err-placed.ensures {u = tt}).room))

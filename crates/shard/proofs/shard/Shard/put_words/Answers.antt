@@ -5,10 +5,8 @@ use Rattle.groups.proofs.Lists.{same_some}
 use Rattle.groups.proofs.Maps.{at_err}
 use Rattle.span.specs.State.{SpanState}
 use Rattle.shard.specs.Calls.{IsFull, Puts, PutsInNew}
-use Rattle.bitmap.specs.Slots.{HasAllBelow}
 use Rattle.groups.specs.Pages.{put_group}
-use Rattle.span.specs.Classes.{slots_in}
-use Rattle.shard.specs.Group.{GroupState, HasNoRoom, IsLowestUsable, unusable}
+use Rattle.shard.specs.Group.{GroupState, HasNoRoom, IsLowestUsable}
 use Rattle.shard.specs.Kept.{state_of}
 use Rattle.shard.specs.Rooms.{rooms_of}
 use Rattle.shard.specs.Sound.{IsSound}
@@ -72,24 +70,24 @@ invariant_of-self-in-Some-2 g c =
     let s = c.loop-index.self-inside in
     let kept = c.loop-index.invariant.kept in
     let group = c.index_mut-group.result.now in
-    let key = c.in-Some-2.key in
+    let key = c.in-Some-2.field-0.key in
     let made = c.in_ok-key.ensures {u = tt} in
     let here = group_here s c.loop-index.invariant.kept c.args.class c.in-Some.index group c.in-Some.ensures.lowest c.index_mut-group.ensures.value in
     let usable : IsLowestUsable c.args.class group key.slot = rw c.in-Some-2.is at made.slot in
     let put : c.put.new.self ≡ put_group group c.args.class key.slot c.args.words.now = rw c.in-Some-2.is at made.ok in
     IsKept-put_full s kept c.args.class c.in-Some.index group here c.in-Some.ensures.lowest key c.args.words.now usable c.requires
     _ (ap (set s.groups.items c.in-Some.index) put) refl
-    c.remove_if.new.self c.is_full-is_full.result (λ full. inr (inr (subst (λ (group : GroupState). HasAllBelow (unusable group) (slots_in group.head.class)) put (c.is_full-is_full.ensures.0 full))))
+    c.remove_if.new.self c.in-Some-2.field-0.is_full (λ full. subst (HasNoRoom c.args.class) put ((rw c.in-Some-2.is at made.full) full))
     c.remove_if.ensures.this c.remove_if.ensures.others c.remove_if.ensures.room
 
 puts : (g : _) (c : goal.After-remove_if g)
-    → Puts c.args.self.now c.args.class c.args.words.now c.in-Some-2.key c.changes-at.result
+    → Puts c.args.self.now c.args.class c.args.words.now c.in-Some-2.field-0.key c.changes-at.result
     (record (state_of c.loop-index.self-inside) { groups = set c.loop-index.self-inside.groups.items c.in-Some.index c.put.new.self })
 puts g c =
     let s = c.loop-index.self-inside in
     let kept = c.loop-index.invariant.kept in
     let group = c.index_mut-group.result.now in
-    let key = c.in-Some-2.key in
+    let key = c.in-Some-2.field-0.key in
     let made = c.in_ok-key.ensures {u = tt} in
     let named = rw c.in-Some-2.is at made.key in
     let here = group_here s c.loop-index.invariant.kept c.args.class c.in-Some.index group c.in-Some.ensures.lowest c.index_mut-group.ensures.value in
@@ -106,11 +104,11 @@ returns-in-Some-2-clause-ok g c = puts g c
 
 pub returns-in-Some-2-clause-fresh : goal.returns-in-Some-2-clause-fresh
 returns-in-Some-2-clause-fresh g c =
-    is_issued-Puts c.args.self.now _ c.args.class c.args.words.now c.requires c.in-Some-2.key c.changes-at.result (sound_here g c) (puts g c)
+    is_issued-Puts c.args.self.now _ c.args.class c.args.words.now c.requires c.in-Some-2.field-0.key c.changes-at.result (sound_here g c) (puts g c)
 
 pub returns-in-Some-2-clause-plain : goal.returns-in-Some-2-clause-plain
 returns-in-Some-2-clause-plain g c =
-    shown-Puts c.args.self.now _ c.args.class c.args.words.now c.requires c.in-Some-2.key c.changes-at.result (sound_here g c) (puts g c)
+    shown-Puts c.args.self.now _ c.args.class c.args.words.now c.requires c.in-Some-2.field-0.key c.changes-at.result (sound_here g c) (puts g c)
 
 pub returns-in-Some-2-clause-sound : goal.returns-in-Some-2-clause-sound
 returns-in-Some-2-clause-sound g c = (invariant_of-self-in-Some-2 g c).sound
@@ -119,10 +117,10 @@ pub returns-in-Some-2-clause-spent : goal.returns-in-Some-2-clause-spent
 returns-in-Some-2-clause-spent g c =
     let s = c.loop-index.self-inside in
     let group = c.index_mut-group.result.now in
-    let usable : IsLowestUsable c.args.class group c.in-Some-2.key.slot = rw c.in-Some-2.is at (c.in_ok-key.ensures {u = tt}).slot in
+    let usable : IsLowestUsable c.args.class group c.in-Some-2.field-0.key.slot = rw c.in-Some-2.is at (c.in_ok-key.ensures {u = tt}).slot in
     let here = group_here s c.loop-index.invariant.kept c.args.class c.in-Some.index group c.in-Some.ensures.lowest c.index_mut-group.ensures.value in (
       (λ e. absurd (search rules)),
-      λ spent. absurd (HasNoRoom-usable c.args.class group c.in-Some-2.key.slot usable
+      λ spent. absurd (HasNoRoom-usable c.args.class group c.in-Some-2.field-0.key.slot usable
           (subst (λ (shard : ShardState). IsFull c.args.class shard.groups) (sym c.loop-index.invariant.same) spent.1.0 c.in-Some.index group here)),
     )
 
