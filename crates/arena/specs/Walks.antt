@@ -1,5 +1,5 @@
 -- How far a walk over the live keys of an arena has come. Keys come by the shards that opened their spans, by serials, and then by slots.
-use Rattle.std.specs.Prelude.{◌≡◌, ◌⊎◌, ℕ, ◌+◌, ◌<◌, ◌≤◌}
+use Rattle.std.specs.Prelude.{◌≡◌, ◌⊎◌, ◌+◌, ◌<◌, ◌≤◌}
 use Rattle.span.specs.declared.key.Key.{Key}
 use Rattle.arena.specs.declared.walk.Walk.{Walk}
 

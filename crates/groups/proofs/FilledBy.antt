@@ -1,13 +1,11 @@
 -- Spans whose last usable slot is put at.
-use Rattle.std.proofs.Common.{◌≡◌, ℕ, ◌<◌, ◌⊎◌, ◌+◌, ◌&&◌, ◌||◌, ◌==◌, ◌++◌, ◌∷◌, [], List, Bool, true, false, ap, sym, ◌∙◌, refl, inl, inr, eq-eqb, nat_lt}
-use Rattle.std.specs.Ordering.{nat_cmp, eq_by_cmp}
+use Rattle.std.proofs.Common.{◌≡◌, ℕ, ◌⊎◌, ◌+◌, ◌&&◌, ◌||◌, ◌==◌, ◌++◌, ◌∷◌, [], List, Bool, true, false, ap, sym, ◌∙◌, refl, inl, inr, eq-eqb, nat_lt}
 use Rattle.std.specs.Cmp.{nat_cmp_total, unsigned_tied}
 use Rattle.std.specs.FinSet.{contains, insert, union, contains-insert, contains-union}
 use Rattle.std.proofs.lemmas.Bool.{cases_eq, ne_eqb}
 use Rattle.bitmap.specs.Slots.{SlotSet, HasAllBelow}
 use Rattle.bitmap.specs.declared.bits.TheConstants.{SLOTS}
 use Rattle.span.specs.Log.{Value, live_slots, puts_of, worn_slots}
-use Rattle.span.specs.State.{SpanState}
 use Rattle.span.specs.declared.change.Change.{Change}
 use Rattle.span.specs.declared.change.Change.TheVariants.{Put}
 use Rattle.span.proofs.Changes.{puts_of-put_other}

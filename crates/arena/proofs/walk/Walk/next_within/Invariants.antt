@@ -1,4 +1,4 @@
-use Rattle.std.proofs.Common.{◌≡◌, ◌≤◌}
+use Rattle.std.proofs.Common.{◌≤◌}
 use Rattle.arena.specs.Walks.{HasGoneOn}
 use Rattle.arena.proofs.walk.Walk.next_within.Given as goal
 

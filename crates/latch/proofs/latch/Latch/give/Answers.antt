@@ -1,7 +1,6 @@
-use Rattle.std.proofs.Common.{rules, ◌∷◌, refl, ap, ◌∙◌}
+use Rattle.std.proofs.Common.{rules, ◌∷◌, ap, ◌∙◌}
 use Rattle.atomic_table.specs.Table.{rest}
 use Rattle.std.specs.Prelude.{Some}
-use Rattle.latch.specs.Rule.{HasSlot}
 use Rattle.latch.proofs.Steps.{HasSlot-some}
 use Rattle.latch.proofs.latch.Latch.give.Goals as goal
 

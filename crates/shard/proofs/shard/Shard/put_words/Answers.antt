@@ -6,7 +6,7 @@ use Rattle.groups.proofs.Maps.{at_err}
 use Rattle.span.specs.State.{SpanState}
 use Rattle.shard.specs.Calls.{IsFull, Puts, PutsInNew}
 use Rattle.groups.specs.Pages.{put_group}
-use Rattle.shard.specs.Group.{GroupState, HasNoRoom, IsLowestUsable}
+use Rattle.shard.specs.Group.{HasNoRoom, IsLowestUsable}
 use Rattle.shard.specs.Kept.{state_of}
 use Rattle.shard.specs.Rooms.{rooms_of}
 use Rattle.shard.specs.Sound.{IsSound}
