@@ -1,6 +1,8 @@
 //! Plain values that threads share, each from a seat of its own, under the locks of the proved library.
 
+mod fence;
 mod keys;
+mod lane;
 mod lanes;
 mod recorded;
 mod seat;
@@ -16,6 +18,7 @@ use crate::bytes::MOST_BYTES;
 use crate::core::{certificate_text, done, marked, stepped, Limits, Marked, Stepped};
 use crate::raw;
 use crate::refused::Refused;
+use lane::Owner;
 use lanes::Lanes;
 use share::{Share, Turn};
 use std::cell::Cell;
@@ -77,9 +80,11 @@ pub struct Arena<T> {
     share: Share,
     turn: Turn,
     limits: Limits,
+    // The lanes that have no proved seat, in the order of the steward's seats: the last is handed out first.
+    vacant: Vec<Owner>,
     // How many shards a seat has, and those of the next seat that are there so far, where memory was refused for the others.
     lanes: u32,
-    next: Vec<Share>,
+    next: Vec<Owner>,
     // As of a seat.
     values: PhantomData<Cell<T>>,
 }
@@ -150,18 +155,25 @@ impl<T: Copy> Arena<T> {
         let shards = shards.checked_mul(lanes).ok_or(Refused::Config)?;
         // SAFETY: the handle has nothing yet.
         let share = Share::new(|out| unsafe { raw::teurlaks_arena_open(out, shards, pages, keys, generations) });
-        Ok(Arena {
-            share: share.map_err(Refused::of)?,
-            turn: Turn::new(),
-            limits,
-            lanes,
-            next: Vec::new(),
-            values: PhantomData,
-        })
+        Ok(Arena::of(share.map_err(Refused::of)?, limits, lanes))
     }
 }
 
 impl<T> Arena<T> {
+    /// The arena of a new steward, with so many shards for each seat.
+    fn of(share: Share, limits: Limits, lanes: u32) -> Arena<T> {
+        let (turn, vacant) = Turn::new(limits.shards * lanes);
+        Arena {
+            share,
+            turn,
+            limits,
+            vacant,
+            lanes,
+            next: Vec::new(),
+            values: PhantomData,
+        }
+    }
+
     /// The numbers with which it was made.
     #[must_use]
     pub fn limits(&self) -> Limits {
@@ -186,14 +198,21 @@ impl<T> Arena<T> {
         ))
     }
 
-    /// The proved seat of a shard that nobody has had.
-    fn lane(&mut self) -> Result<Share, Refused> {
+    /// The lane of a shard that nobody has, with its proved seat.
+    fn lane(&mut self) -> Result<Owner, Refused> {
+        let lane = self.vacant.pop().ok_or(Refused::NoSeatLeft)?;
         // SAFETY: the handle has a steward, no other call runs on it, and the other one has nothing yet.
-        let share = Share::new(|out| unsafe { raw::teurlaks_steward_seat(self.share.handle(), out) });
-        share.map_err(|status| match status {
-            raw::NONE => Refused::NoSeatLeft,
-            other => Refused::of(other),
-        })
+        let sits = lane.sit(|out| unsafe { raw::teurlaks_steward_seat(self.share.handle(), out) });
+        match sits {
+            Ok(()) => Ok(lane),
+            Err(status) => {
+                self.vacant.push(lane);
+                Err(match status {
+                    raw::NONE => Refused::NoSeatLeft,
+                    other => Refused::of(other),
+                })
+            }
+        }
     }
 
     /// Plans folds of the pool's groups onto those of the shards, as many as can be, and opens the plan. Until it is closed, the groups that it
