@@ -47,12 +47,15 @@ impl Lanes {
         &self.here
     }
 
+    /// Whether there is no other one.
+    #[inline]
+    pub fn is_one(&self) -> bool {
+        self.others.is_empty()
+    }
+
     /// The one that has the shard of this number, or else the one whose turn it is.
     #[inline]
     pub fn of(&self, shard: u32) -> &Owner {
-        if self.others.is_empty() {
-            return &self.here;
-        }
         let place = self.places.get(shard as usize).copied().unwrap_or(NOT_HERE);
         self.others.get(usize::from(place)).unwrap_or(&self.here)
     }

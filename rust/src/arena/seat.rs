@@ -110,7 +110,7 @@ impl<T> Seat<T> {
     #[allow(clippy::inline_always)]
     #[inline(always)]
     fn ask_here<A: Answer>(&self, call: impl FnMut(*mut raw::ShareHandle) -> A) -> A {
-        self.ask(self.lanes.here(), Place::Here, true, call)
+        self.ask(self.lanes.here(), Place::Here, call)
     }
 
     /// Makes a call on what the key names, by the lane that has its shard, where the seat has that.
@@ -118,32 +118,26 @@ impl<T> Seat<T> {
     #[allow(clippy::inline_always)]
     #[inline(always)]
     fn ask_of<A: Answer>(&self, key: Key, call: impl FnMut(*mut raw::ShareHandle) -> A) -> A {
-        let lane = if self.in_session.get() {
+        let lane = if self.lanes.is_one() || self.in_session.get() {
             self.lanes.here()
         } else {
             self.lanes.of(key.shard())
         };
-        self.ask(lane, Place::Named(key.shard()), key.shard() == lane.shard(), call)
+        self.ask(lane, Place::Named(key.shard()), call)
     }
 
     /// Makes a call that goes by the session, where there is one, or that takes no lock where it is on the lane's own shard and the lane keeps that.
     // Inlined, as `ask_here` is.
     #[allow(clippy::inline_always)]
     #[inline(always)]
-    fn ask<A: Answer>(
-        &self,
-        lane: &Owner,
-        place: Place,
-        own: bool,
-        mut call: impl FnMut(*mut raw::ShareHandle) -> A,
-    ) -> A {
+    fn ask<A: Answer>(&self, lane: &Owner, place: Place, mut call: impl FnMut(*mut raw::ShareHandle) -> A) -> A {
         if let Some(in_call) = lane.enter() {
             if in_call.keeps || !self.turn.steward_waits() {
                 let answer = call(in_call.handle());
-                let counts = own && !in_call.keeps;
+                let keeps = in_call.keeps;
                 drop(in_call);
                 if answer.status() != raw::BUSY {
-                    if counts && lane.count() {
+                    if !keeps && place.is_of(lane) && lane.count() {
                         self.keep(lane);
                     }
                     return answer;
@@ -256,7 +250,7 @@ impl<T: Copy> Seat<T> {
         let len = write_words(&mut words, value);
         let first = words.as_ptr().cast();
         // SAFETY: the handle has a seat, no other call runs on it, and so many words stand there.
-        was_put(self.ask_here(|handle| unsafe { raw::teurlaks_seat_put_words(handle, first, len) }))
+        was_put(self.ask_here(move |handle| unsafe { raw::teurlaks_seat_put_words(handle, first, len) }))
     }
 
     /// Keeps a value in the next of the seat's other shards that has room, whose turn it is then.
@@ -279,7 +273,7 @@ impl<T: Copy> Seat<T> {
         let mut words = [MaybeUninit::<u128>::uninit(); MOST_WORDS];
         let first = words.as_mut_ptr().cast();
         // SAFETY: as in `insert_here`, and there is room for 16 words.
-        let got = self.ask_of(key, |handle| unsafe {
+        let got = self.ask_of(key, move |handle| unsafe {
             raw::teurlaks_seat_get_words(handle, key.raw(), first, MOST_WORDS)
         });
         if got.status == raw::OUT_OF_MEMORY {
@@ -300,7 +294,7 @@ impl<T: Copy> Seat<T> {
         let len = write_words(&mut words, value);
         let first = words.as_ptr().cast();
         // SAFETY: as in `insert_here`.
-        was_set(self.ask_of(key, |handle| unsafe {
+        was_set(self.ask_of(key, move |handle| unsafe {
             raw::teurlaks_seat_set_words(handle, key.raw(), first, len)
         }))
     }
@@ -321,7 +315,7 @@ impl<T> Seat<T> {
     pub fn contains(&self, key: Key) -> bool {
         let none = NonNull::dangling().as_ptr();
         // SAFETY: as in `insert_here`, and there is no room, into which nothing is written.
-        let got = self.ask_of(key, |handle| unsafe {
+        let got = self.ask_of(key, move |handle| unsafe {
             raw::teurlaks_seat_get_words(handle, key.raw(), none, 0)
         });
         if got.status == raw::OUT_OF_MEMORY {
@@ -339,7 +333,7 @@ impl<T> Seat<T> {
     #[inline]
     pub fn free(&mut self, key: Key) -> bool {
         // SAFETY: as in `insert_here`.
-        let status = self.ask_of(key, |handle| unsafe { raw::teurlaks_seat_free(handle, key.raw()) });
+        let status = self.ask_of(key, move |handle| unsafe { raw::teurlaks_seat_free(handle, key.raw()) });
         if status == raw::OUT_OF_MEMORY {
             no_room_for_a_receipt();
         }

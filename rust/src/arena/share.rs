@@ -93,6 +93,18 @@ pub(super) enum Place {
     Anywhere,
 }
 
+impl Place {
+    /// Whether it is the lane's own shard.
+    #[inline]
+    pub fn is_of(self, lane: &Owner) -> bool {
+        match self {
+            Place::Here => true,
+            Place::Named(shard) => shard == lane.shard(),
+            Place::Anywhere => false,
+        }
+    }
+}
+
 /// What the steward of an arena and its seats tell each other: whether the steward waits, and which lanes keep their shards.
 ///
 /// The steward needs all locks at once, which threads that call without a pause hardly ever leave, so these let it go first. It is a hint: who
