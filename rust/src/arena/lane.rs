@@ -341,9 +341,10 @@ impl Owner {
         let _taking = self.lane.lock();
         // SAFETY: the handle has a seat, and this is the owner, who has the lock.
         let status = unsafe { raw::teurlaks_seat_session(self.lane.owner.0.handle.get()) };
+        self.count_anew();
         match status {
             raw::OK => self.lane.door.0.state.store(KEPT, Ordering::Release),
-            raw::BUSY => self.count_anew(),
+            raw::BUSY => {}
             _ => self.lane.owner.0.left.store(NEVER, Ordering::Relaxed),
         }
     }
