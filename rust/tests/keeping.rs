@@ -338,7 +338,9 @@ fn beside_each_other(threads: usize, lanes: u32, calls: usize) {
         .collect();
     assert_eq!(arena.totals().live, shown.len());
     assert!(shown.iter().all(|key| seats[0].free(*key)));
-    seats.iter_mut().for_each(|seat| drop(seat.trim()));
+    for seat in &mut seats {
+        seat.trim();
+    }
     assert_eq!(arena.totals(), Totals { pages: 0, live: 0 });
 }
 

@@ -81,6 +81,8 @@ struct OwnerSide {
 /// What others look at, and is seldom written to.
 struct Door {
     state: AtomicU8,
+    // The first shard of the seat that has the lane. It is a hint.
+    seat: AtomicU8,
     // How many calls it waits when a seat next takes the shard back. It is written to under `taking`.
     penalty: AtomicU32,
     taking: Mutex<()>,
@@ -102,6 +104,7 @@ impl Lane {
             }),
             door: Apart(Door {
                 state: AtomicU8::new(OPEN),
+                seat: AtomicU8::new(0),
                 penalty: AtomicU32::new(AFTER_TAKEN),
                 taking: Mutex::new(()),
             }),
@@ -116,6 +119,19 @@ impl Lane {
 
     fn lock(&self) -> MutexGuard<'_, ()> {
         self.door.0.taking.lock().unwrap_or_else(PoisonError::into_inner)
+    }
+
+    /// Says that its shard is wanted, where it is kept, and gives the lock under which it may be taken.
+    fn want(&self) -> Option<MutexGuard<'_, ()>> {
+        let taking = self.lock();
+        self.is_kept().then(|| {
+            self.door.0.state.store(KEPT | WANTED, Ordering::Relaxed);
+            taking
+        })
+    }
+
+    fn seat(&self) -> u8 {
+        self.door.0.seat.load(Ordering::Relaxed)
     }
 
     /// Gives the shard back to its lock, and has the owner make so many calls before it keeps it again.
@@ -177,25 +193,24 @@ impl AllLanes {
         (AllLanes(lanes), owners)
     }
 
-    /// Takes the shard of this number back, where it is kept, and else all that are, and says whether there were any. The caller is in no call.
+    /// Takes the shard of this number back, where it is kept, with the others of its seat, which are asked for as well mostly; and else all that are
+    /// kept. It says whether there were any. The caller is in no call.
     pub fn take_back(&self, by: Taker, shard: Option<u32>) -> bool {
         let named = shard.and_then(|shard| self.0.get(shard as usize));
-        match named {
-            Some(lane) if lane.is_kept() => take_back(by, std::slice::from_ref(lane)),
-            _ => self.0.iter().any(|lane| lane.is_kept()) && take_back(by, &self.0),
+        match named.filter(|lane| lane.is_kept()) {
+            Some(named) => take_back(by, &self.0, |lane| lane.seat() == named.seat()),
+            None => self.0.iter().any(|lane| lane.is_kept()) && take_back(by, &self.0, |_| true),
         }
     }
 }
 
-/// Takes back what is kept of these, behind one fence, and says whether there was any that it took.
+/// Takes back which of these are meant and kept, behind one fence, and says whether there was any that it took.
 #[cold]
-fn take_back(by: Taker, lanes: &[Arc<Lane>]) -> bool {
+fn take_back(by: Taker, lanes: &[Arc<Lane>], is_meant: impl Fn(&Lane) -> bool) -> bool {
     let mut taken: [Option<MutexGuard<'_, ()>>; MOST_LANES] = array::from_fn(|_| None);
-    for (lane, taken) in lanes.iter().zip(&mut taken).filter(|(lane, _)| lane.is_kept()) {
-        let taking = lane.lock();
-        if lane.is_kept() {
-            lane.door.0.state.store(KEPT | WANTED, Ordering::Relaxed);
-            *taken = Some(taking);
+    for (lane, taken) in lanes.iter().zip(&mut taken) {
+        if lane.is_kept() && is_meant(lane) {
+            *taken = lane.want();
         }
     }
     if taken.iter().all(Option::is_none) || !fence::heavy() {
@@ -256,6 +271,11 @@ impl Owner {
     #[inline]
     pub fn shard(&self) -> u32 {
         self.shard.into()
+    }
+
+    /// Says that it has its place at the seat with this lane.
+    pub fn sit_with(&self, first: &Owner) {
+        self.lane.door.0.seat.store(first.shard, Ordering::Relaxed);
     }
 
     /// Begins a call, but where somebody takes the shard back.

@@ -29,7 +29,9 @@ pub(super) struct Lanes {
 impl Lanes {
     pub fn new(here: Owner, others: Vec<Owner>) -> Lanes {
         let mut places = [NOT_HERE; MOST_SHARDS];
+        here.sit_with(&here);
         for (other, place) in others.iter().zip(0..) {
+            other.sit_with(&here);
             places[other.shard() as usize] = place;
         }
         Lanes {
