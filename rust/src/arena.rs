@@ -71,10 +71,12 @@ const RING: u32 = 256;
 /// ([`Arena::open_recorded`]), whose audit says of a run that is over that its calls have one history. That a call beside other threads
 /// does what the arena is asked for is tested: of this crate by threads that each find what they expect (`tests/arena.rs`), and of the calls that
 /// make receipts by runs whose receipts are audited against one history (`docs/PROMISES.md`, *Running threads*). It is tested, too, that a call is
-/// made again where a lock was taken. That one call at a time is made on a handle its types see to, which are `Send` and not `Sync`.
+/// made again where a lock was taken. That one call at a time is made on a handle its types see to, which are `Send` and not `Sync`; and where a seat
+/// keeps its shard and another thread takes that back ([`Seat`]), an agreement between the two, which is argued (`src/arena/lane.rs`) and tested
+/// (`tests/keeping.rs`), and not proved.
 ///
 /// A [`SharedStore`](crate::SharedStore) is called by any thread through `&self`, and has locks of the standard library. An arena has proved ones,
-/// frees that wait for nobody, and folds between shards; in return each thread needs a seat. A look-up takes as long as there, and one of what other
+/// frees that wait for nobody, and folds between shards; in return each thread needs a seat. A look-up takes less time than there, and one of what other
 /// threads keep twice as long where four threads do nothing else, or as long where each seat has four shards (`bench/README.md`).
 pub struct Arena<T> {
     share: Share,

@@ -25,6 +25,7 @@
 //! them in the order of their shards, and waits under these locks for calls alone.
 
 use super::fence;
+use crate::core::MOST_SHARDS;
 use crate::raw;
 use std::array;
 use std::cell::{Cell, UnsafeCell};
@@ -53,9 +54,6 @@ const MOST_AFTER_TAKEN: u32 = 1 << 18;
 
 /// For a lane that is not to keep its shard.
 const NEVER: u32 = u32::MAX;
-
-/// How many shards an arena has at most.
-const MOST_LANES: usize = 64;
 
 /// How often a taker looks whether the owner's call is over, before it lets others run.
 const LOOKS: u32 = 100;
@@ -207,7 +205,7 @@ impl AllLanes {
 /// Takes back which of these are meant and kept, behind one fence, and says whether there was any that it took.
 #[cold]
 fn take_back(by: Taker, lanes: &[Arc<Lane>], is_meant: impl Fn(&Lane) -> bool) -> bool {
-    let mut taken: [Option<MutexGuard<'_, ()>>; MOST_LANES] = array::from_fn(|_| None);
+    let mut taken: [Option<MutexGuard<'_, ()>>; MOST_SHARDS] = array::from_fn(|_| None);
     for (lane, taken) in lanes.iter().zip(&mut taken) {
         if lane.is_kept() && is_meant(lane) {
             *taken = lane.want();

@@ -1,15 +1,13 @@
 //! The shards of a seat: one, or several that take its values in turn.
 
 use super::lane::Owner;
+use crate::core::MOST_SHARDS;
 use crate::raw;
 use std::iter;
 use std::mem;
 
 /// How many values a shard takes before it is the next one's turn: a seat of few values is so on one page, and one of many behind all locks.
 const RUN: u32 = 64;
-
-/// How many shards an arena has at most.
-const MOST_SHARDS: usize = 64;
 
 /// No place among the others.
 const NOT_HERE: u8 = u8::MAX;
@@ -18,8 +16,8 @@ const NOT_HERE: u8 = u8::MAX;
 pub(super) struct Lanes {
     here: Owner,
     others: Vec<Owner>,
-    // Where each shard's lane is among the others.
-    places: [u8; MOST_SHARDS],
+    // Where each shard's lane is among the others: nothing where there are none.
+    places: Box<[u8]>,
     // Which of the others comes next.
     next: usize,
     // How many values this one has taken in its turn.
@@ -28,7 +26,8 @@ pub(super) struct Lanes {
 
 impl Lanes {
     pub fn new(here: Owner, others: Vec<Owner>) -> Lanes {
-        let mut places = [NOT_HERE; MOST_SHARDS];
+        let shards = if others.is_empty() { 0 } else { MOST_SHARDS };
+        let mut places = vec![NOT_HERE; shards].into_boxed_slice();
         here.sit_with(&here);
         for (other, place) in others.iter().zip(0..) {
             other.sit_with(&here);

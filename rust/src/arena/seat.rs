@@ -25,6 +25,11 @@ use std::ptr::NonNull;
 /// it: it pauses, lets others run, and then sleeps for 20 microseconds at a time. Most calls hold a lock for well below a microsecond; a mark holds
 /// all of them for as long as it plans. While the steward waits for a lock, each call of a seat lets others run before it begins, up to 32 times.
 ///
+/// A seat that has made 64 calls on its own shard keeps that until somebody else asks for it, so that calls on what is there take no lock. Whoever does
+/// ask takes the shard back, in some microseconds and also while the seat's thread sleeps; the seat then keeps it again after 4,096 calls, and after
+/// twice as many each time, up to 262,144. Nobody sees anything of that but by the clock. It needs a system that can fence all threads of a
+/// process, which is Linux on x86-64 (`membarrier`); elsewhere, and in a recorded arena, a seat keeps no shard, and each call takes the lock.
+///
 /// A seat that its thread is done with goes back by [`Arena::take_back`](super::Arena::take_back). One that is dropped is not handed out again. Its
 /// shard takes no further value then, and its values stay, under keys that each other seat finds. Their pages stay too, until they are empty, so
 /// [`Seat::end`] leaves them to the pool before, from where they are folded onto others. What other threads have left to it ([`Seat::free_later`])
@@ -49,8 +54,8 @@ impl<T> Seat<T> {
         }
     }
 
-    /// Keeps the seat's shard for this thread over many calls, until the session is dropped: a call on what is in that shard takes no lock then,
-    /// and takes half to two thirds of the time. It waits until no other thread has the shard.
+    /// Keeps the seat's shard for this thread over many calls, until the session is dropped, and nobody takes it back: a call on what is in that
+    /// shard takes no lock then, from the first one on and on each system. It waits until no other thread has the shard.
     ///
     /// Whoever else wants the shard waits meanwhile: those who look up, set or free a value there, and the steward, whose mark, close, forgetting
     /// and totals want all shards. So a session is for a burst of calls and is not kept while its thread does something else. A session lets go of
@@ -341,7 +346,7 @@ impl<T> Seat<T> {
     }
 
     /// Leaves the key to the seat of the shard that gave it out, which frees it when it next tends ([`Seat::tend`]); until then it is live. It
-    /// takes no lock and no memory, and waits for nobody.
+    /// takes no lock of the arena and no memory, and waits for nobody but one who is just taking this seat's shard back.
     ///
     /// Keys go in blocks: one is seen there at the latest with the 64th further call of this seat, with a [`Seat::hand_over`], or when this seat
     /// tends, ends or is dropped.
