@@ -18,6 +18,8 @@ pub(super) struct Lanes {
     others: Vec<Owner>,
     // Where each shard's lane is among the others: nothing where there are none.
     places: Box<[u8]>,
+    // A bit for each of the seat's shards, by its number.
+    shards: u64,
     // Which of the others comes next.
     next: usize,
     // How many values this one has taken in its turn.
@@ -26,17 +28,20 @@ pub(super) struct Lanes {
 
 impl Lanes {
     pub fn new(here: Owner, others: Vec<Owner>) -> Lanes {
-        let shards = if others.is_empty() { 0 } else { MOST_SHARDS };
-        let mut places = vec![NOT_HERE; shards].into_boxed_slice();
+        let count = if others.is_empty() { 0 } else { MOST_SHARDS };
+        let mut places = vec![NOT_HERE; count].into_boxed_slice();
+        let mut shards = 1 << here.shard();
         here.sit_with(&here);
         for (other, place) in others.iter().zip(0..) {
             other.sit_with(&here);
             places[other.shard() as usize] = place;
+            shards |= 1 << other.shard();
         }
         Lanes {
             here,
             others,
             places,
+            shards,
             next: 0,
             taken: 0,
         }
@@ -57,6 +62,10 @@ impl Lanes {
     /// The one that has the shard of this number, or else the one whose turn it is.
     #[inline]
     pub fn of(&self, shard: u32) -> &Owner {
+        // A branch of its own, by which the look-up of another seat's value waits for no table.
+        if self.shards.checked_shr(shard).unwrap_or(0) & 1 == 0 {
+            return &self.here;
+        }
         let place = self.places.get(shard as usize).copied().unwrap_or(NOT_HERE);
         self.others.get(usize::from(place)).unwrap_or(&self.here)
     }
@@ -85,6 +94,7 @@ impl Lanes {
                 return status;
             }
             self.places[other.shard() as usize] = NOT_HERE;
+            self.shards &= !(1 << other.shard());
             self.next = 0;
             back.push(other);
         }
