@@ -168,6 +168,22 @@ fn a_seat_keeps_several_shards() -> Result<(), Refused> {
     Ok(())
 }
 
+/// A key's own shard is not the one that is kept, where another seat has adopted what it names.
+#[test]
+fn what_another_adopted_is_taken_back_from_it() -> Result<(), Refused> {
+    let mut arena = Arena::open(limits(3))?;
+    let (mut first, keys) = keeping(&mut arena);
+    assert_eq!(first.retire(1)?, 1);
+    let mut adopts = arena.seat()?;
+    assert_eq!(adopts.adopt()?.shard(), keys[0].shard());
+    let more = fill(&mut adopts, SOON);
+    assert_eq!(adopts.keeps_its_shard(), are_kept());
+    let looks = arena.seat()?;
+    assert_eq!((looks.get(keys[3]), looks.get(more[3])), (Some(3), Some(3)));
+    assert!(!adopts.keeps_its_shard() && first.free(keys[3]) && !adopts.contains(keys[3]));
+    Ok(())
+}
+
 #[test]
 fn a_recorded_seat_keeps_no_shard() -> Result<(), Box<dyn std::error::Error>> {
     let mut arena = Arena::open_recorded(limits(1))?;

@@ -191,14 +191,16 @@ impl AllLanes {
         (AllLanes(lanes), owners)
     }
 
-    /// Takes the shard of this number back, where it is kept, with the others of its seat, which are asked for as well mostly; and else all that are
-    /// kept. It says whether there were any. The caller is in no call.
-    pub fn take_back(&self, by: Taker, shard: Option<u32>) -> bool {
-        let named = shard.and_then(|shard| self.0.get(shard as usize));
-        match named.filter(|lane| lane.is_kept()) {
-            Some(named) => take_back(by, &self.0, |lane| lane.seat() == named.seat()),
-            None => self.0.iter().any(|lane| lane.is_kept()) && take_back(by, &self.0, |_| true),
-        }
+    /// Takes the shard of this number back, where it is kept, with the others of its seat, which are asked for as well mostly. It says whether it
+    /// did. The caller is in no call.
+    pub fn take_back(&self, by: Taker, shard: u32) -> bool {
+        let named = self.0.get(shard as usize).filter(|lane| lane.is_kept());
+        named.is_some_and(|named| take_back(by, &self.0, |lane| lane.seat() == named.seat()))
+    }
+
+    /// Takes back all shards that are kept, and says whether there was any. The caller is in no call.
+    pub fn take_all_back(&self, by: Taker) -> bool {
+        self.0.iter().any(|lane| lane.is_kept()) && take_back(by, &self.0, |_| true)
     }
 }
 

@@ -189,7 +189,7 @@ impl Turn {
     fn insist<A: Answer>(&self, by: Taker, place: Place, mut call: impl FnMut() -> A) -> A {
         let mut patience = Patience::new();
         loop {
-            if !self.take_back(by, place) {
+            if !self.take_back(by, place, &patience) {
                 patience.wait();
             }
             let answer = call();
@@ -199,12 +199,14 @@ impl Turn {
         }
     }
 
-    /// Takes back what lanes keep of what the call may need, and says whether there was any.
-    fn take_back(&self, by: Taker, place: Place) -> bool {
+    /// Takes back what lanes keep of what the call may need, and says whether there was any. Where the key's shard is not kept, mostly a thread has
+    /// its lock for a moment: that what the key names is in another lane's shard is thought of later.
+    fn take_back(&self, by: Taker, place: Place, patience: &Patience) -> bool {
+        let lanes = &self.shared.lanes;
         match place {
             Place::Here => false,
-            Place::Named(shard) => self.shared.lanes.take_back(by, Some(shard)),
-            Place::Anywhere => self.shared.lanes.take_back(by, None),
+            Place::Named(shard) => lanes.take_back(by, shard) || patience.is_tried() && lanes.take_all_back(by),
+            Place::Anywhere => lanes.take_all_back(by),
         }
     }
 }
@@ -214,6 +216,9 @@ const MOST_YIELDS: u32 = 32;
 
 /// How often a call pauses, twice as long each time, before it lets others run.
 const MOST_PAUSES: u32 = 4;
+
+/// How often it waits before it looks for what it needs elsewhere.
+const SOME_WAITS: u32 = 8;
 
 /// How often it waits before it sleeps.
 const MOST_WAITS: u32 = 32;
@@ -229,6 +234,11 @@ struct Patience {
 impl Patience {
     fn new() -> Patience {
         Patience { times: 0 }
+    }
+
+    /// Whether it has waited for longer than most locks are held.
+    fn is_tried(&self) -> bool {
+        self.times >= SOME_WAITS
     }
 
     fn wait(&mut self) {
