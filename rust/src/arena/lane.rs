@@ -16,10 +16,10 @@
 //!   it pauses the handle, opens the door, and gives `taking` back. Where it had no fence it does not use the handle: the owner finds the shard
 //!   wanted at its next call.
 //!
-//! That they never both use it: an owner that uses it under `taking`, or while the door is open, meets no taker. One in a call has looked at the door
-//! before or after the taker's heavy fence. Had it looked after, it would have seen the shard wanted, or the door open, and waited for the taker or made
-//! the call once that was done. It looked before, so the taker sees it in the call, and waits. What either wrote the other sees: the end of a call is a
-//! release that the taker acquires, the door's opening one that the owner acquires.
+//! That they never both use it: an owner that uses it under `taking`, or while the door is open, meets no taker. One that begins a call looks at the
+//! door before the taker's heavy fence or after it. If after, it sees the shard wanted, and makes no call, or the door open, and the taker is done.
+//! If before, what it had stored before that look, that it is in a call, the taker sees, and waits for the end of the call. What either wrote the
+//! other sees: the end of a call is a release that the taker acquires, and the door's opening one that the owner acquires.
 //!
 //! That nobody waits for ever: the owner is in no call while it waits for a lock, and no call of the library waits. Who takes from several lanes locks
 //! them in the order of their shards, and waits under these locks for calls alone.
