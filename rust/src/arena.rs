@@ -1,6 +1,8 @@
 //! Plain values that threads share, each from a seat of its own, under the locks of the proved library.
 
+mod fence;
 mod keys;
+mod lane;
 mod lanes;
 mod recorded;
 mod seat;
@@ -16,6 +18,7 @@ use crate::bytes::MOST_BYTES;
 use crate::core::{certificate_text, done, marked, stepped, Limits, Marked, Stepped};
 use crate::raw;
 use crate::refused::Refused;
+use lane::Owner;
 use lanes::Lanes;
 use share::{Share, Turn};
 use std::cell::Cell;
@@ -68,18 +71,22 @@ const RING: u32 = 256;
 /// ([`Arena::open_recorded`]), whose audit says of a run that is over that its calls have one history. That a call beside other threads
 /// does what the arena is asked for is tested: of this crate by threads that each find what they expect (`tests/arena.rs`), and of the calls that
 /// make receipts by runs whose receipts are audited against one history (`docs/PROMISES.md`, *Running threads*). It is tested, too, that a call is
-/// made again where a lock was taken. That one call at a time is made on a handle its types see to, which are `Send` and not `Sync`.
+/// made again where a lock was taken. That one call at a time is made on a handle its types see to, which are `Send` and not `Sync`; and where a seat
+/// keeps its shard and another thread takes that back ([`Seat`]), an agreement between the two, which is argued (`src/arena/lane.rs`) and tested
+/// (`tests/keeping.rs`), and not proved.
 ///
 /// A [`SharedStore`](crate::SharedStore) is called by any thread through `&self`, and has locks of the standard library. An arena has proved ones,
-/// frees that wait for nobody, and folds between shards; in return each thread needs a seat. A look-up takes as long as there, and one of what other
+/// frees that wait for nobody, and folds between shards; in return each thread needs a seat. A look-up takes less time than there, and one of what other
 /// threads keep twice as long where four threads do nothing else, or as long where each seat has four shards (`bench/README.md`).
 pub struct Arena<T> {
     share: Share,
     turn: Turn,
     limits: Limits,
+    // The lanes that have no proved seat, in the order of the steward's seats: the last is handed out first.
+    vacant: Vec<Owner>,
     // How many shards a seat has, and those of the next seat that are there so far, where memory was refused for the others.
     lanes: u32,
-    next: Vec<Share>,
+    next: Vec<Owner>,
     // As of a seat.
     values: PhantomData<Cell<T>>,
 }
@@ -150,18 +157,25 @@ impl<T: Copy> Arena<T> {
         let shards = shards.checked_mul(lanes).ok_or(Refused::Config)?;
         // SAFETY: the handle has nothing yet.
         let share = Share::new(|out| unsafe { raw::teurlaks_arena_open(out, shards, pages, keys, generations) });
-        Ok(Arena {
-            share: share.map_err(Refused::of)?,
-            turn: Turn::new(),
-            limits,
-            lanes,
-            next: Vec::new(),
-            values: PhantomData,
-        })
+        Ok(Arena::of(share.map_err(Refused::of)?, limits, lanes))
     }
 }
 
 impl<T> Arena<T> {
+    /// The arena of a new steward, with so many shards for each seat.
+    fn of(share: Share, limits: Limits, lanes: u32) -> Arena<T> {
+        let (turn, vacant) = Turn::new(limits.shards * lanes);
+        Arena {
+            share,
+            turn,
+            limits,
+            vacant,
+            lanes,
+            next: Vec::new(),
+            values: PhantomData,
+        }
+    }
+
     /// The numbers with which it was made.
     #[must_use]
     pub fn limits(&self) -> Limits {
@@ -186,14 +200,21 @@ impl<T> Arena<T> {
         ))
     }
 
-    /// The proved seat of a shard that nobody has had.
-    fn lane(&mut self) -> Result<Share, Refused> {
+    /// The lane of a shard that nobody has, with its proved seat.
+    fn lane(&mut self) -> Result<Owner, Refused> {
+        let lane = self.vacant.pop().ok_or(Refused::NoSeatLeft)?;
         // SAFETY: the handle has a steward, no other call runs on it, and the other one has nothing yet.
-        let share = Share::new(|out| unsafe { raw::teurlaks_steward_seat(self.share.handle(), out) });
-        share.map_err(|status| match status {
-            raw::NONE => Refused::NoSeatLeft,
-            other => Refused::of(other),
-        })
+        let sits = lane.sit(|out| unsafe { raw::teurlaks_steward_seat(self.share.handle(), out) });
+        match sits {
+            Ok(()) => Ok(lane),
+            Err(status) => {
+                self.vacant.push(lane);
+                Err(match status {
+                    raw::NONE => Refused::NoSeatLeft,
+                    other => Refused::of(other),
+                })
+            }
+        }
     }
 
     /// Plans folds of the pool's groups onto those of the shards, as many as can be, and opens the plan. Until it is closed, the groups that it

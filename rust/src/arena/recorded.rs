@@ -1,13 +1,12 @@
 //! Arenas whose run is recorded, and audited when it is over.
 
-use super::share::{Share, Turn};
+use super::share::Share;
 use super::{Arena, Seat, RING};
 use crate::core::Limits;
 use crate::raw;
 use crate::refused::Refused;
 use std::error::Error;
 use std::fmt;
-use std::marker::PhantomData;
 
 /// The part of the agreement between what seats were told and what stands in the logs that fails first. They are looked at in this order.
 #[derive(Clone, Copy, Debug, PartialEq, Eq, Hash)]
@@ -147,14 +146,7 @@ impl<T: Copy> Arena<T> {
         // SAFETY: the handle has nothing yet.
         let share =
             Share::new(|out| unsafe { raw::teurlaks_arena_open_recorded(out, shards, pages, RING, generations) });
-        Ok(Arena {
-            share: share.map_err(Refused::of)?,
-            turn: Turn::new(),
-            limits,
-            lanes: 1,
-            next: Vec::new(),
-            values: PhantomData,
-        })
+        Ok(Arena::of(share.map_err(Refused::of)?, limits, 1))
     }
 }
 
@@ -173,8 +165,11 @@ impl<T> Arena<T> {
         let steward = self.share.handle();
         // SAFETY: the one handle has a steward, the other a seat, and no other call runs on either.
         let leave = |lane| unsafe { raw::teurlaks_seat_leave(steward, lane) };
-        match seat.lanes().leave(leave) {
-            raw::OK => Ok(()),
+        match seat.lanes().leave(&mut self.vacant, leave) {
+            raw::OK => {
+                self.vacant.push(seat.into_lanes().into_here());
+                Ok(())
+            }
             other => Err(NotTaken {
                 seat,
                 refused: Refused::of(other),

@@ -1,9 +1,10 @@
 //! What a thread does at its seat.
 
 use super::keys::Keys;
+use super::lane::Owner;
 use super::lanes::Lanes;
 use super::session::Session;
-use super::share::{Answer, Share, Turn};
+use super::share::{Answer, Place, Turn};
 use crate::bytes::MOST_WORDS;
 use crate::core::{done, was_put, was_set};
 use crate::names::{Group, Key};
@@ -24,6 +25,11 @@ use std::ptr::NonNull;
 /// it: it pauses, lets others run, and then sleeps for 20 microseconds at a time. Most calls hold a lock for well below a microsecond; a mark holds
 /// all of them for as long as it plans. While the steward waits for a lock, each call of a seat lets others run before it begins, up to 32 times.
 ///
+/// A seat that has made 64 calls on its own shard keeps that until somebody else asks for it, so that calls on what is there take no lock. Whoever does
+/// ask takes the shard back, in some microseconds and also while the seat's thread sleeps; the seat then keeps it again after 4,096 calls, and after
+/// twice as many each time, up to 262,144. Nobody sees anything of that but by the clock. It needs a system that can fence all threads of a
+/// process, which is Linux on x86-64 (`membarrier`); elsewhere, and in a recorded arena, a seat keeps no shard, and each call takes the lock.
+///
 /// A seat that its thread is done with goes back by [`Arena::take_back`](super::Arena::take_back). One that is dropped is not handed out again. Its
 /// shard takes no further value then, and its values stay, under keys that each other seat finds. Their pages stay too, until they are empty, so
 /// [`Seat::end`] leaves them to the pool before, from where they are folded onto others. What other threads have left to it ([`Seat::free_later`])
@@ -31,8 +37,8 @@ use std::ptr::NonNull;
 pub struct Seat<T> {
     lanes: Lanes,
     turn: Turn,
-    // Whether the handle whose turn it is has a session.
-    holds: Cell<bool>,
+    // Whether the lane whose turn it is has a session. No lane keeps its shard meanwhile.
+    in_session: Cell<bool>,
     // A value of any other type is none of this arena, whatever its lifetime: it is read at all seats.
     values: PhantomData<Cell<T>>,
 }
@@ -43,13 +49,13 @@ impl<T> Seat<T> {
         Seat {
             lanes,
             turn,
-            holds: Cell::new(false),
+            in_session: Cell::new(false),
             values: PhantomData,
         }
     }
 
-    /// Keeps the seat's shard for this thread over many calls, until the session is dropped: a call on what is in that shard takes no lock then,
-    /// and takes half to two thirds of the time. It waits until no other thread has the shard.
+    /// Keeps the seat's shard for this thread over many calls, until the session is dropped, and nobody takes it back: a call on what is in that
+    /// shard takes no lock then, from the first one on and on each system. It waits until no other thread has the shard.
     ///
     /// Whoever else wants the shard waits meanwhile: those who look up, set or free a value there, and the steward, whose mark, close, forgetting
     /// and totals want all shards. So a session is for a burst of calls and is not kept while its thread does something else. A session lets go of
@@ -74,80 +80,133 @@ impl<T> Seat<T> {
     /// # Ok::<(), teurlaks::Refused>(())
     /// ```
     pub fn session(&mut self) -> Session<'_, T> {
-        self.hold();
+        self.lanes.others().iter().for_each(Owner::let_go);
+        if self.lanes.here().goes_on_as_session() {
+            self.in_session.set(true);
+        } else {
+            self.hold();
+        }
         Session::new(self)
     }
 
-    /// Keeps the shard, once no other thread has it. A recorded seat keeps none.
+    /// Has the lane whose turn it is begin a session, once no other thread has the shard. A recorded seat has none.
     fn hold(&self) {
-        // SAFETY: the handle has a seat, and no other call runs on it.
-        let status = self
-            .turn
-            .at_seat(|| unsafe { raw::teurlaks_seat_session(self.lanes.handle()) });
+        let status = self.turn.at_seat(self.lanes.here(), Place::Here, |handle| {
+            // SAFETY: the handle has a seat, and no other call runs on it.
+            unsafe { raw::teurlaks_seat_session(handle) }
+        });
         debug_assert!(matches!(status, raw::OK | raw::CONFIG), "the handle has a seat");
-        self.holds.set(status == raw::OK);
+        self.in_session.set(status == raw::OK);
     }
 
     /// Lets others at the shard.
     pub(super) fn pause(&self) {
         // SAFETY: as in `hold`.
-        let status = unsafe { raw::teurlaks_seat_pause(self.lanes.handle()) };
+        let status = self
+            .lanes
+            .here()
+            .alone(|handle| unsafe { raw::teurlaks_seat_pause(handle) });
         debug_assert_eq!(status, raw::OK, "the handle has a seat");
-        self.holds.set(false);
+        self.in_session.set(false);
     }
 
-    /// Makes a call that goes by the session, where there is one.
+    /// Makes a call on what is in the shard whose turn it is.
     // Inlined, its answer stays in registers: a free with a put takes 40 instructions less of some 400.
     #[allow(clippy::inline_always)]
     #[inline(always)]
-    fn ask<A: Answer>(&self, mut call: impl FnMut() -> A) -> A {
-        if !self.holds.get() {
-            return self.turn.at_seat(call);
-        }
-        if self.turn.steward_waits() {
-            return self.ask_paused(call);
-        }
-        let answer = call();
-        if answer.status() == raw::BUSY {
-            self.ask_paused(call)
+    fn ask_here<A: Answer>(&self, call: impl FnMut(*mut raw::ShareHandle) -> A) -> A {
+        self.ask(self.lanes.here(), Place::Here, call)
+    }
+
+    /// Makes a call on what the key names, by the lane that has its shard, where the seat has that.
+    // Inlined, as `ask_here` is.
+    #[allow(clippy::inline_always)]
+    #[inline(always)]
+    fn ask_of<A: Answer>(&self, key: Key, call: impl FnMut(*mut raw::ShareHandle) -> A) -> A {
+        let lane = if self.lanes.is_one() || self.in_session.get() {
+            self.lanes.here()
         } else {
-            answer
+            self.lanes.of(key.shard())
+        };
+        self.ask(lane, Place::Named(key.shard()), call)
+    }
+
+    /// Makes a call that goes by the session, where there is one, or that takes no lock where it is on the lane's own shard and the lane keeps that.
+    // Inlined, as `ask_here` is.
+    #[allow(clippy::inline_always)]
+    #[inline(always)]
+    fn ask<A: Answer>(&self, lane: &Owner, place: Place, mut call: impl FnMut(*mut raw::ShareHandle) -> A) -> A {
+        if let Some(in_call) = lane.enter() {
+            if in_call.keeps || !self.turn.steward_waits() {
+                let answer = call(in_call.handle());
+                let keeps = in_call.keeps;
+                drop(in_call);
+                if answer.status() != raw::BUSY {
+                    if !keeps && place.is_of(lane) && lane.count() {
+                        self.keep(lane);
+                    }
+                    return answer;
+                }
+            }
+        }
+        self.ask_paused(lane, place, call)
+    }
+
+    /// Has the lane keep its shard, where there is no session, and the steward does not wait.
+    #[cold]
+    fn keep(&self, lane: &Owner) {
+        if self.in_session.get() || self.turn.steward_waits() {
+            lane.count_anew();
+        } else {
+            lane.keep();
         }
     }
 
     /// Makes a call for which the library ends the session, where there is one, and begins another.
-    fn ask_seat<A: Answer>(&self, call: impl FnMut() -> A) -> A {
-        if self.holds.get() {
-            self.ask_paused(call)
-        } else {
-            self.turn.at_seat(call)
-        }
+    fn ask_seat<A: Answer>(&self, lane: &Owner, call: impl FnMut(*mut raw::ShareHandle) -> A) -> A {
+        self.ask_paused(lane, Place::Anywhere, call)
     }
 
-    /// Lets go of the shard, makes the call as a seat does, and keeps the shard again.
+    /// Lets go of the shard, makes the call as a seat does, and goes on with the session, where there is one.
     #[cold]
-    fn ask_paused<A: Answer>(&self, call: impl FnMut() -> A) -> A {
-        self.pause();
-        let answer = self.turn.at_seat(call);
-        self.hold();
+    fn ask_paused<A: Answer>(&self, lane: &Owner, place: Place, call: impl FnMut(*mut raw::ShareHandle) -> A) -> A {
+        let in_session = self.in_session.get();
+        if in_session {
+            self.pause();
+        }
+        let answer = self.turn.at_seat(lane, place, call);
+        if in_session {
+            self.hold();
+        }
         answer
     }
 
     /// Has the next of the seat's shards take its turn, in the session, too, where there is one.
     #[cold]
     fn next_lane(&mut self) {
-        let holds = self.holds.get();
-        if holds {
+        let in_session = self.in_session.get();
+        if in_session {
             self.pause();
         }
         self.lanes.turn();
-        if holds {
+        if in_session {
             self.hold();
         }
     }
 
+    /// Whether the seat keeps the shard whose turn it is, until somebody else wants it: for tests.
+    #[doc(hidden)]
+    #[must_use]
+    pub fn keeps_its_shard(&self) -> bool {
+        self.lanes.here().keeps()
+    }
+
     pub(super) fn lanes(&mut self) -> &mut Lanes {
         &mut self.lanes
+    }
+
+    pub(super) fn into_lanes(self) -> Lanes {
+        self.lanes
     }
 
     pub(super) fn turn(&self) -> &Turn {
@@ -196,7 +255,7 @@ impl<T: Copy> Seat<T> {
         let len = write_words(&mut words, value);
         let first = words.as_ptr().cast();
         // SAFETY: the handle has a seat, no other call runs on it, and so many words stand there.
-        was_put(self.ask(|| unsafe { raw::teurlaks_seat_put_words(self.lanes.handle(), first, len) }))
+        was_put(self.ask_here(move |handle| unsafe { raw::teurlaks_seat_put_words(handle, first, len) }))
     }
 
     /// Keeps a value in the next of the seat's other shards that has room, whose turn it is then.
@@ -219,8 +278,9 @@ impl<T: Copy> Seat<T> {
         let mut words = [MaybeUninit::<u128>::uninit(); MOST_WORDS];
         let first = words.as_mut_ptr().cast();
         // SAFETY: as in `insert_here`, and there is room for 16 words.
-        let got =
-            self.ask(|| unsafe { raw::teurlaks_seat_get_words(self.lanes.handle(), key.raw(), first, MOST_WORDS) });
+        let got = self.ask_of(key, move |handle| unsafe {
+            raw::teurlaks_seat_get_words(handle, key.raw(), first, MOST_WORDS)
+        });
         if got.status == raw::OUT_OF_MEMORY {
             no_room_for_a_receipt();
         }
@@ -239,7 +299,9 @@ impl<T: Copy> Seat<T> {
         let len = write_words(&mut words, value);
         let first = words.as_ptr().cast();
         // SAFETY: as in `insert_here`.
-        was_set(self.ask(|| unsafe { raw::teurlaks_seat_set_words(self.lanes.handle(), key.raw(), first, len) }))
+        was_set(self.ask_of(key, move |handle| unsafe {
+            raw::teurlaks_seat_set_words(handle, key.raw(), first, len)
+        }))
     }
 
     /// Frees the key, and gives its value, where it was live: that of a moment before, which another thread may have set since. Of threads that take
@@ -258,7 +320,9 @@ impl<T> Seat<T> {
     pub fn contains(&self, key: Key) -> bool {
         let none = NonNull::dangling().as_ptr();
         // SAFETY: as in `insert_here`, and there is no room, into which nothing is written.
-        let got = self.ask(|| unsafe { raw::teurlaks_seat_get_words(self.lanes.handle(), key.raw(), none, 0) });
+        let got = self.ask_of(key, move |handle| unsafe {
+            raw::teurlaks_seat_get_words(handle, key.raw(), none, 0)
+        });
         if got.status == raw::OUT_OF_MEMORY {
             no_room_for_a_receipt();
         }
@@ -274,7 +338,7 @@ impl<T> Seat<T> {
     #[inline]
     pub fn free(&mut self, key: Key) -> bool {
         // SAFETY: as in `insert_here`.
-        let status = self.ask(|| unsafe { raw::teurlaks_seat_free(self.lanes.handle(), key.raw()) });
+        let status = self.ask_of(key, move |handle| unsafe { raw::teurlaks_seat_free(handle, key.raw()) });
         if status == raw::OUT_OF_MEMORY {
             no_room_for_a_receipt();
         }
@@ -282,7 +346,7 @@ impl<T> Seat<T> {
     }
 
     /// Leaves the key to the seat of the shard that gave it out, which frees it when it next tends ([`Seat::tend`]); until then it is live. It
-    /// takes no lock and no memory, and waits for nobody.
+    /// takes no lock of the arena and no memory, and waits for nobody but one who is just taking this seat's shard back.
     ///
     /// Keys go in blocks: one is seen there at the latest with the 64th further call of this seat, with a [`Seat::hand_over`], or when this seat
     /// tends, ends or is dropped.
@@ -295,7 +359,8 @@ impl<T> Seat<T> {
     #[inline]
     pub fn free_later(&mut self, key: Key) -> Result<(), Refused> {
         // SAFETY: as in `insert_here`.
-        match unsafe { raw::teurlaks_seat_free_later(self.lanes.handle(), key.raw()) } {
+        let left = |handle| unsafe { raw::teurlaks_seat_free_later(handle, key.raw()) };
+        match self.lanes.here().at_once(left) {
             raw::OK => Ok(()),
             raw::NONE => Err(Refused::Config),
             other => Err(Refused::of(other)),
@@ -305,7 +370,8 @@ impl<T> Seat<T> {
     /// Hands over the keys that were left to others and wait for their block to be full. It takes no lock and no memory.
     pub fn hand_over(&mut self) {
         // SAFETY: as in `insert_here`.
-        let status = unsafe { raw::teurlaks_seat_hand_over(self.lanes.handle()) };
+        let hand_over = |handle| unsafe { raw::teurlaks_seat_hand_over(handle) };
+        let status = self.lanes.here().at_once(hand_over);
         debug_assert_eq!(status, raw::OK, "the handle has a seat");
     }
 
@@ -318,9 +384,9 @@ impl<T> Seat<T> {
     pub fn tend(&mut self) -> Result<usize, Refused> {
         let mut taken = 0;
         for lane in self.lanes.all() {
-            let tended = self.ask_seat(|| {
+            let tended = self.ask_seat(lane, |handle| {
                 // SAFETY: as in `insert_here`.
-                let tended = unsafe { raw::teurlaks_seat_tend(lane.handle()) };
+                let tended = unsafe { raw::teurlaks_seat_tend(handle) };
                 taken += tended.count;
                 tended
             });
@@ -341,7 +407,7 @@ impl<T> Seat<T> {
     pub fn end(&mut self) -> Result<(), Refused> {
         for (ended, lane) in self.lanes.all().enumerate() {
             // SAFETY: as in `insert_here`.
-            let refused = done(self.ask_seat(|| unsafe { raw::teurlaks_seat_end(lane.handle()) }));
+            let refused = done(self.ask_seat(lane, |handle| unsafe { raw::teurlaks_seat_end(handle) }));
             if refused.is_err() {
                 self.begin_first(ended)?;
                 return refused;
@@ -364,7 +430,7 @@ impl<T> Seat<T> {
     fn begin_first(&self, count: usize) -> Result<(), Refused> {
         self.lanes.all().take(count).try_for_each(|lane| {
             // SAFETY: as in `insert_here`.
-            done(self.ask_seat(|| unsafe { raw::teurlaks_seat_begin(lane.handle()) }))
+            done(self.ask_seat(lane, |handle| unsafe { raw::teurlaks_seat_begin(handle) }))
         })
     }
 
@@ -383,7 +449,7 @@ impl<T> Seat<T> {
         for (number, lane) in self.lanes.all().enumerate() {
             let part = most / lanes + usize::from(number < most % lanes);
             // SAFETY: as in `insert_here`.
-            let retired = self.ask_seat(|| unsafe { raw::teurlaks_seat_retire(lane.handle(), part) });
+            let retired = self.ask_seat(lane, |handle| unsafe { raw::teurlaks_seat_retire(handle, part) });
             match done(retired.status) {
                 Ok(()) => gone += retired.count,
                 Err(_) if gone > 0 => break,
@@ -396,9 +462,9 @@ impl<T> Seat<T> {
     /// Gives back the pages of the seat's shard, or of all that it has, on which nothing is live, and says how many went. A group of the open plan
     /// keeps its page. It takes no memory.
     pub fn trim(&mut self) -> usize {
-        let trim = |lane: &Share| {
+        let trim = |lane: &Owner| {
             // SAFETY: as in `insert_here`.
-            let trimmed = self.ask_seat(|| unsafe { raw::teurlaks_seat_trim(lane.handle()) });
+            let trimmed = self.ask_seat(lane, |handle| unsafe { raw::teurlaks_seat_trim(handle) });
             debug_assert_eq!(trimmed.status, raw::OK, "a trim is not refused");
             trimmed.count
         };
@@ -418,7 +484,7 @@ impl<T> Seat<T> {
     pub fn adopt(&mut self) -> Result<Group, Refused> {
         for _ in 0..self.lanes.len() {
             // SAFETY: as in `insert_here`.
-            let adopted = self.ask_seat(|| unsafe { raw::teurlaks_seat_adopt(self.lanes.handle()) });
+            let adopted = self.ask_seat(self.lanes.here(), |handle| unsafe { raw::teurlaks_seat_adopt(handle) });
             match done(adopted.status) {
                 Err(Refused::PagesSpent) => self.next_lane(),
                 answer => return answer.map(|()| Group(adopted.head)),

@@ -1,5 +1,6 @@
-//! A handle to a seat or a steward, and calls that wait where another thread has a lock.
+//! A handle to a steward, and calls that wait where another thread has a lock.
 
+use super::lane::{AllLanes, Owner, Taker};
 use crate::raw;
 use std::cell::UnsafeCell;
 use std::sync::atomic::{AtomicBool, Ordering};
@@ -7,7 +8,7 @@ use std::sync::Arc;
 use std::time::Duration;
 use std::{hint, ptr, thread};
 
-/// A handle to a seat or to the steward of an arena.
+/// A handle to the steward of an arena.
 pub(super) struct Share {
     // SAFETY: only this module has it, so it is what the library left there until `drop`. A call through `&self` writes to it, and none runs
     // beside another, since the type is not `Sync` and no call calls back.
@@ -82,34 +83,73 @@ answers!(
     ArenaTotalsReply
 );
 
-/// Whether the steward of an arena waits. It needs all locks at once, which threads that call without a pause hardly ever leave, so these let it go
-/// first. It is a hint: who finds what rests on the locks alone.
+/// Where what a call asks for is, and so whose shard it may need.
+#[derive(Clone, Copy)]
+pub(super) enum Place {
+    /// In the caller's own shard.
+    Here,
+    /// In the shard of this number, or where its keys have moved.
+    Named(u32),
+    Anywhere,
+}
+
+impl Place {
+    /// Whether it is the lane's own shard.
+    #[inline]
+    pub fn is_of(self, lane: &Owner) -> bool {
+        match self {
+            Place::Here => true,
+            Place::Named(shard) => shard == lane.shard(),
+            Place::Anywhere => false,
+        }
+    }
+}
+
+/// What the steward of an arena and its seats tell each other: whether the steward waits, and which lanes keep their shards.
+///
+/// The steward needs all locks at once, which threads that call without a pause hardly ever leave, so these let it go first. It is a hint: who
+/// finds what rests on the locks alone.
 #[derive(Clone)]
 pub(super) struct Turn {
-    steward_waits: Arc<AtomicBool>,
+    shared: Arc<Shared>,
+}
+
+struct Shared {
+    steward_waits: AtomicBool,
+    lanes: AllLanes,
 }
 
 impl Turn {
-    pub fn new() -> Turn {
-        Turn {
-            steward_waits: Arc::new(AtomicBool::new(false)),
-        }
+    /// That of an arena of so many shards, with the owners of their lanes.
+    pub fn new(shards: u32) -> (Turn, Vec<Owner>) {
+        let (lanes, owners) = AllLanes::new(shards);
+        let shared = Shared {
+            steward_waits: AtomicBool::new(false),
+            lanes,
+        };
+        let shared = Arc::new(shared);
+        (Turn { shared }, owners)
     }
 
     /// Whether both are of one arena.
     pub fn is_of(&self, other: &Turn) -> bool {
-        Arc::ptr_eq(&self.steward_waits, &other.steward_waits)
+        Arc::ptr_eq(&self.shared, &other.shared)
     }
 
-    /// Makes the call of a seat, again and again while another thread has a lock that it needs: it has changed nothing then.
-    #[inline]
-    pub fn at_seat<A: Answer>(&self, mut call: impl FnMut() -> A) -> A {
+    /// Makes the call of a seat that keeps no shard, again and again while another thread has a lock that it needs: it has changed nothing then.
+    pub fn at_seat<A: Answer>(
+        &self,
+        lane: &Owner,
+        place: Place,
+        mut call: impl FnMut(*mut raw::ShareHandle) -> A,
+    ) -> A {
+        lane.let_go();
         if self.steward_waits() {
             self.let_steward();
         }
-        let answer = call();
+        let answer = lane.alone(&mut call);
         if answer.status() == raw::BUSY {
-            insist(call)
+            self.insist(Taker::Seat, place, || lane.alone(&mut call))
         } else {
             answer
         }
@@ -121,16 +161,16 @@ impl Turn {
         if answer.status() != raw::BUSY {
             return answer;
         }
-        self.steward_waits.store(true, Ordering::Relaxed);
-        let answer = insist(call);
-        self.steward_waits.store(false, Ordering::Relaxed);
+        self.shared.steward_waits.store(true, Ordering::Relaxed);
+        let answer = self.insist(Taker::Steward, Place::Anywhere, call);
+        self.shared.steward_waits.store(false, Ordering::Relaxed);
         answer
     }
 
     /// Whether the steward waits.
     #[inline]
     pub fn steward_waits(&self) -> bool {
-        self.steward_waits.load(Ordering::Relaxed)
+        self.shared.steward_waits.load(Ordering::Relaxed)
     }
 
     /// Lets others run while the steward waits, for a while at most: it may wait for a processor too.
@@ -143,17 +183,30 @@ impl Turn {
             }
         }
     }
-}
 
-/// Makes the call that met a lock until it has it.
-#[cold]
-fn insist<A: Answer>(mut call: impl FnMut() -> A) -> A {
-    let mut patience = Patience::new();
-    loop {
-        patience.wait();
-        let answer = call();
-        if answer.status() != raw::BUSY {
-            return answer;
+    /// Makes the call that met a lock until it has it. What lanes keep is taken back before: a lock that is met may be that of a kept shard.
+    #[cold]
+    fn insist<A: Answer>(&self, by: Taker, place: Place, mut call: impl FnMut() -> A) -> A {
+        let mut patience = Patience::new();
+        loop {
+            if !self.take_back(by, place, &patience) {
+                patience.wait();
+            }
+            let answer = call();
+            if answer.status() != raw::BUSY {
+                return answer;
+            }
+        }
+    }
+
+    /// Takes back what lanes keep of what the call may need, and says whether there was any. Where the key's shard is not kept, mostly a thread has
+    /// its lock for a moment: that what the key names is in another lane's shard is thought of later.
+    fn take_back(&self, by: Taker, place: Place, patience: &Patience) -> bool {
+        let lanes = &self.shared.lanes;
+        match place {
+            Place::Here => false,
+            Place::Named(shard) => lanes.take_back(by, shard) || patience.is_tried() && lanes.take_all_back(by),
+            Place::Anywhere => lanes.take_all_back(by),
         }
     }
 }
@@ -163,6 +216,9 @@ const MOST_YIELDS: u32 = 32;
 
 /// How often a call pauses, twice as long each time, before it lets others run.
 const MOST_PAUSES: u32 = 4;
+
+/// How often it waits before it looks for what it needs elsewhere.
+const SOME_WAITS: u32 = 8;
 
 /// How often it waits before it sleeps.
 const MOST_WAITS: u32 = 32;
@@ -178,6 +234,11 @@ struct Patience {
 impl Patience {
     fn new() -> Patience {
         Patience { times: 0 }
+    }
+
+    /// Whether it has waited for longer than most locks are held.
+    fn is_tried(&self) -> bool {
+        self.times >= SOME_WAITS
     }
 
     fn wait(&mut self) {

@@ -1,0 +1,101 @@
+//! An asymmetric fence. A thread that passes often has a light one, which costs it nothing; one that passes seldom has a heavy one, by which the
+//! system fences every thread of the process that runs, also those that had the light one. So of two threads that each store, have their fence and
+//! load what the other has stored, one sees the other's store at least, as if both had a full fence.
+//!
+//! The heavy one is Linux's `membarrier`, here on x86-64 alone. Elsewhere, and where the system refuses it, there is none, and nobody may rest on a
+//! light one.
+
+use std::env;
+use std::sync::atomic::{compiler_fence, AtomicBool, Ordering};
+use std::sync::OnceLock;
+
+/// What the process has of it.
+#[derive(Clone, Copy, PartialEq)]
+enum Fence {
+    Missing,
+    There,
+    /// Refused whenever it is asked for: for tests of what comes of that.
+    Refused,
+}
+
+/// Whether the system refused a fence that it had agreed to, as it may after a filter of calls was set up.
+static LOST: AtomicBool = AtomicBool::new(false);
+
+/// Whether there are heavy fences. The system is asked once.
+pub(super) fn is_there() -> bool {
+    asked() != Fence::Missing && !LOST.load(Ordering::Relaxed)
+}
+
+/// What comes before it in this thread's code is done before what comes after it, as far as the compiler goes; and for the processor too, where
+/// another thread has a heavy fence.
+#[inline(always)]
+#[allow(clippy::inline_always)] // It is no instruction.
+pub(super) fn light() {
+    compiler_fence(Ordering::SeqCst);
+}
+
+/// Has each thread of the process, this one too, do what comes before its fence, light or heavy, before what comes after. Where it says `false`
+/// there was none, and there are none from then on.
+#[must_use]
+pub(super) fn heavy() -> bool {
+    let done = asked() == Fence::There && system::fence();
+    if !done {
+        LOST.store(true, Ordering::Relaxed);
+    }
+    done
+}
+
+/// What there is, or what the variable `TEURLAKS_FENCE` says, by which tests go without.
+fn asked() -> Fence {
+    static ASKED: OnceLock<Fence> = OnceLock::new();
+    *ASKED.get_or_init(|| {
+        let told = env::var("TEURLAKS_FENCE").unwrap_or_default();
+        match told.as_str() {
+            "missing" => Fence::Missing,
+            "refused" => Fence::Refused,
+            _ if system::register() => Fence::There,
+            _ => Fence::Missing,
+        }
+    })
+}
+
+#[cfg(all(target_os = "linux", target_arch = "x86_64"))]
+mod system {
+    use std::ffi::{c_int, c_long, c_uint};
+    use std::sync::atomic::{fence as full_fence, Ordering};
+
+    const MEMBARRIER: c_long = 324;
+    const PRIVATE_EXPEDITED: c_int = 1 << 3;
+    const REGISTER_PRIVATE_EXPEDITED: c_int = 1 << 4;
+
+    extern "C" {
+        fn syscall(number: c_long, ...) -> c_long;
+    }
+
+    /// Whether the system agrees to fence this process.
+    pub fn register() -> bool {
+        membarrier(REGISTER_PRIVATE_EXPEDITED)
+    }
+
+    pub fn fence() -> bool {
+        full_fence(Ordering::SeqCst);
+        membarrier(PRIVATE_EXPEDITED)
+    }
+
+    fn membarrier(command: c_int) -> bool {
+        let (flags, processor): (c_uint, c_int) = (0, 0);
+        // SAFETY: the call takes these three numbers, and reads and writes no memory of the process.
+        unsafe { syscall(MEMBARRIER, command, flags, processor) == 0 }
+    }
+}
+
+#[cfg(not(all(target_os = "linux", target_arch = "x86_64")))]
+mod system {
+    pub fn register() -> bool {
+        false
+    }
+
+    pub fn fence() -> bool {
+        false
+    }
+}

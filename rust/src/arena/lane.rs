@@ -1,0 +1,392 @@
+//! The proved seat of one shard, which may keep that shard between calls until somebody else wants it.
+//!
+//! A call that takes the shard's lock and gives it back pays for two atomic exchanges. A seat that has made some calls on its own shard therefore
+//! keeps it out of its lock, as a session does, and whoever else needs the shard takes it back: this is biased locking. Neither side may use the
+//! handle while the other does, and the owner, who makes all the calls, has to pay next to nothing for that. So the owner's half of the agreement
+//! is two plain stores and a load around each call, and the taker pays for both by a heavy fence ([`fence`]).
+//!
+//! The rules:
+//!
+//! - The door changes under the lock `taking` alone. It is open, or the owner keeps the shard (`KEPT`), or keeps it and somebody wants it (`WANTED`).
+//!   Only the owner closes it.
+//! - While the door is open, the handle is the owner's alone.
+//! - While it is not, the owner uses the handle under `taking`, or else it says that it is in a call, has a light fence, sees that nobody wants the
+//!   shard, makes the call, and says that it is out of it.
+//! - A taker has `taking`, sees that the shard is kept, says that it is wanted, has a heavy fence, and waits until the owner is in no call. Then
+//!   it pauses the handle, opens the door, and gives `taking` back. Where it had no fence it does not use the handle: the owner finds the shard
+//!   wanted at its next call.
+//!
+//! That they never both use it: an owner that uses it under `taking`, or while the door is open, meets no taker. One that begins a call looks at the
+//! door before the taker's heavy fence or after it. If after, it sees the shard wanted, and makes no call, or the door open, and the taker is done.
+//! If before, what it had stored before that look, that it is in a call, the taker sees, and waits for the end of the call. What either wrote the
+//! other sees: the end of a call is a release that the taker acquires, and the door's opening one that the owner acquires.
+//!
+//! That nobody waits for ever: the owner is in no call while it waits for a lock, and no call of the library waits. Who takes from several lanes locks
+//! them in the order of their shards, and waits under these locks for calls alone.
+
+use super::fence;
+use crate::core::MOST_SHARDS;
+use crate::raw;
+use std::array;
+use std::cell::{Cell, UnsafeCell};
+use std::marker::PhantomData;
+use std::ptr;
+use std::sync::atomic::{AtomicBool, AtomicU32, AtomicU8, Ordering};
+use std::sync::{Arc, Mutex, MutexGuard, PoisonError};
+use std::{hint, thread};
+
+/// The shard is at its lock, or in a session.
+const OPEN: u8 = 0;
+
+/// The owner keeps the shard until it is taken back.
+const KEPT: u8 = 1;
+
+/// Besides, somebody takes it back.
+const WANTED: u8 = 2;
+
+/// How many calls on its own shard a lane makes before it keeps that.
+const FIRST: u32 = 64;
+
+/// How many it makes after the shard was taken back. It is twice as many each further time that a seat takes it, up to the most of these: a taker
+/// waits for some microseconds, and the owner soon has won more.
+const AFTER_TAKEN: u32 = 1 << 12;
+const MOST_AFTER_TAKEN: u32 = 1 << 18;
+
+/// For a lane that is not to keep its shard.
+const NEVER: u32 = u32::MAX;
+
+/// How often a taker looks whether the owner's call is over, before it lets others run.
+const LOOKS: u32 = 100;
+
+/// What is in it is on cache lines of its own, of which processors fetch two at a time.
+#[repr(align(128))]
+struct Apart<T>(T);
+
+/// One shard's seat, for all who may use it.
+pub(super) struct Lane {
+    owner: Apart<OwnerSide>,
+    door: Apart<Door>,
+}
+
+/// What the owner writes at each call.
+struct OwnerSide {
+    in_call: AtomicBool,
+    // How many calls of its own shard are left before it keeps that. Only who may use the handle writes it.
+    left: AtomicU32,
+    handle: UnsafeCell<raw::ShareHandle>,
+}
+
+/// What others look at, and is seldom written to.
+struct Door {
+    state: AtomicU8,
+    // The first shard of the seat that has the lane. It is a hint.
+    seat: AtomicU8,
+    // How many calls it waits when a seat next takes the shard back. It is written to under `taking`.
+    penalty: AtomicU32,
+    taking: Mutex<()>,
+}
+
+// SAFETY: that a handle may be used by another thread, one at a time, is proved in `crates/teurlaks_c` (`unsafe impl Send for ShareHandle`, with its
+// proof). That no two use it at once, and that the uses are ordered, is what the rules at the head of this module are for.
+unsafe impl Send for Lane {}
+// SAFETY: as above.
+unsafe impl Sync for Lane {}
+
+impl Lane {
+    fn new() -> Lane {
+        Lane {
+            owner: Apart(OwnerSide {
+                in_call: AtomicBool::new(false),
+                left: AtomicU32::new(FIRST),
+                handle: UnsafeCell::new(raw::ShareHandle { at: ptr::null_mut() }),
+            }),
+            door: Apart(Door {
+                state: AtomicU8::new(OPEN),
+                seat: AtomicU8::new(0),
+                penalty: AtomicU32::new(AFTER_TAKEN),
+                taking: Mutex::new(()),
+            }),
+        }
+    }
+
+    /// Whether its shard is kept, as far as this thread knows.
+    #[inline]
+    fn is_kept(&self) -> bool {
+        self.door.0.state.load(Ordering::Relaxed) & KEPT != 0
+    }
+
+    fn lock(&self) -> MutexGuard<'_, ()> {
+        self.door.0.taking.lock().unwrap_or_else(PoisonError::into_inner)
+    }
+
+    /// Says that its shard is wanted, where it is kept, and gives the lock under which it may be taken.
+    fn want(&self) -> Option<MutexGuard<'_, ()>> {
+        let taking = self.lock();
+        self.is_kept().then(|| {
+            self.door.0.state.store(KEPT | WANTED, Ordering::Relaxed);
+            taking
+        })
+    }
+
+    fn seat(&self) -> u8 {
+        self.door.0.seat.load(Ordering::Relaxed)
+    }
+
+    /// Gives the shard back to its lock, and has the owner make so many calls before it keeps it again.
+    ///
+    /// # Safety
+    ///
+    /// The caller has the lock `taking`, and the owner is in no call and in none before it has seen that the door is open.
+    unsafe fn open(&self, left: u32) {
+        // SAFETY: the handle is the caller's, and has a seat, since its shard is kept.
+        let status = unsafe { raw::teurlaks_seat_pause(self.owner.0.handle.get()) };
+        debug_assert_eq!(status, raw::OK, "what is kept has a seat");
+        self.owner.0.left.store(left, Ordering::Relaxed);
+        self.door.0.state.store(OPEN, Ordering::Release);
+    }
+
+    /// Waits until the owner is in no call.
+    fn await_call(&self) {
+        let mut looks = 0;
+        while self.owner.0.in_call.load(Ordering::Acquire) {
+            looks += 1;
+            if looks % LOOKS == 0 {
+                thread::yield_now();
+            }
+            hint::spin_loop();
+        }
+    }
+
+    /// How many calls the owner is to make, after this thread took the shard.
+    fn penalty(&self, by: Taker) -> u32 {
+        match by {
+            Taker::Steward => AFTER_TAKEN,
+            Taker::Seat => {
+                let penalty = self.door.0.penalty.load(Ordering::Relaxed);
+                let next = MOST_AFTER_TAKEN.min(2 * penalty);
+                self.door.0.penalty.store(next, Ordering::Relaxed);
+                penalty
+            }
+        }
+    }
+}
+
+/// Who takes shards back.
+#[derive(Clone, Copy)]
+pub(super) enum Taker {
+    Seat,
+    /// It takes all at once, and so costs each of them little.
+    Steward,
+}
+
+/// All lanes of an arena, by the numbers of their shards.
+pub(super) struct AllLanes(Box<[Arc<Lane>]>);
+
+impl AllLanes {
+    /// So many lanes, and for each its owner, which has no seat yet.
+    pub fn new(shards: u32) -> (AllLanes, Vec<Owner>) {
+        let lanes: Box<[_]> = (0..shards).map(|_| Arc::new(Lane::new())).collect();
+        let owners = lanes.iter().zip(0..).map(|(lane, shard)| Owner::new(lane, shard));
+        let owners = owners.collect();
+        (AllLanes(lanes), owners)
+    }
+
+    /// Takes the shard of this number back, where it is kept, with the others of its seat, which are asked for as well mostly. It says whether it
+    /// did. The caller is in no call.
+    pub fn take_back(&self, by: Taker, shard: u32) -> bool {
+        let named = self.0.get(shard as usize).filter(|lane| lane.is_kept());
+        named.is_some_and(|named| take_back(by, &self.0, |lane| lane.seat() == named.seat()))
+    }
+
+    /// Takes back all shards that are kept, and says whether there was any. The caller is in no call.
+    pub fn take_all_back(&self, by: Taker) -> bool {
+        self.0.iter().any(|lane| lane.is_kept()) && take_back(by, &self.0, |_| true)
+    }
+}
+
+/// Takes back which of these are meant and kept, behind one fence, and says whether there was any that it took.
+#[cold]
+fn take_back(by: Taker, lanes: &[Arc<Lane>], is_meant: impl Fn(&Lane) -> bool) -> bool {
+    let mut taken: [Option<MutexGuard<'_, ()>>; MOST_SHARDS] = array::from_fn(|_| None);
+    for (lane, taken) in lanes.iter().zip(&mut taken) {
+        if lane.is_kept() && is_meant(lane) {
+            *taken = lane.want();
+        }
+    }
+    if taken.iter().all(Option::is_none) || !fence::heavy() {
+        return false;
+    }
+    for (lane, taken) in lanes.iter().zip(&mut taken) {
+        if let Some(_taking) = taken.take() {
+            lane.await_call();
+            // SAFETY: this thread has the lock, and had a heavy fence after it said that the shard is wanted. The owner's last look at the door
+            // that missed this was before the fence, so the wait was for that call, too; and each later look finds the shard wanted, until the
+            // door is open.
+            unsafe { lane.open(lane.penalty(by)) };
+        }
+    }
+    true
+}
+
+/// The one who makes the calls of a lane: there is one for each, and it is of one thread at a time.
+pub(super) struct Owner {
+    lane: Arc<Lane>,
+    shard: u8,
+    // It is not `Sync`.
+    one_thread: PhantomData<Cell<()>>,
+}
+
+/// A call that an owner makes: nobody else uses the handle until it is dropped.
+pub(super) struct InCall<'o> {
+    lane: &'o Lane,
+    /// Whether the lane keeps its shard.
+    pub keeps: bool,
+}
+
+impl InCall<'_> {
+    #[inline]
+    pub fn handle(&self) -> *mut raw::ShareHandle {
+        self.lane.owner.0.handle.get()
+    }
+}
+
+impl Drop for InCall<'_> {
+    #[inline]
+    fn drop(&mut self) {
+        self.lane.owner.0.in_call.store(false, Ordering::Release);
+    }
+}
+
+impl Owner {
+    /// The owner of the lane, whose handle has nothing yet. There is no other one.
+    fn new(lane: &Arc<Lane>, shard: u8) -> Owner {
+        Owner {
+            lane: Arc::clone(lane),
+            shard,
+            one_thread: PhantomData,
+        }
+    }
+
+    /// Which shard it is most probably of: the one that its steward hands out then. What is called rests on no such number.
+    #[inline]
+    pub fn shard(&self) -> u32 {
+        self.shard.into()
+    }
+
+    /// Says that it has its place at the seat with this lane.
+    pub fn sit_with(&self, first: &Owner) {
+        self.lane.door.0.seat.store(first.shard, Ordering::Relaxed);
+    }
+
+    /// Begins a call, but where somebody takes the shard back.
+    #[inline]
+    pub fn enter(&self) -> Option<InCall<'_>> {
+        let lane = &*self.lane;
+        lane.owner.0.in_call.store(true, Ordering::Relaxed);
+        fence::light();
+        let state = lane.door.0.state.load(Ordering::Acquire);
+        let in_call = InCall {
+            lane,
+            keeps: state == KEPT,
+        };
+        // Dropped here, it says that the owner is in no call after all.
+        (state & WANTED == 0).then_some(in_call)
+    }
+
+    /// Makes a call that needs no lock, in whichever state.
+    pub fn at_once<A>(&self, call: impl FnOnce(*mut raw::ShareHandle) -> A) -> A {
+        match self.enter() {
+            Some(in_call) => call(in_call.handle()),
+            None => self.alone(call),
+        }
+    }
+
+    /// Makes a call on the handle once the shard is not kept any more, and nobody is about to take it.
+    pub fn alone<A>(&self, call: impl FnOnce(*mut raw::ShareHandle) -> A) -> A {
+        self.let_go();
+        // The door is open, and so the handle is the owner's alone.
+        call(self.lane.owner.0.handle.get())
+    }
+
+    /// Lets go of the shard, where it is kept, and else waits until nobody takes it.
+    pub fn let_go(&self) {
+        self.open_door(|lane| {
+            // SAFETY: this is the owner, it has the lock, and it is in no call.
+            unsafe { lane.open(FIRST) };
+        });
+    }
+
+    /// Whether it kept the shard: if so, it goes on as a session, which nobody takes back.
+    pub fn goes_on_as_session(&self) -> bool {
+        let mut kept = false;
+        self.open_door(|lane| {
+            kept = true;
+            lane.door.0.state.store(OPEN, Ordering::Release);
+        });
+        kept
+    }
+
+    /// Opens the door so, where it is not open once nobody takes the shard.
+    fn open_door(&self, open: impl FnOnce(&Lane)) {
+        // Only the owner closes it, so it is open if that is what is seen; the load is for what a taker did.
+        if self.lane.door.0.state.load(Ordering::Acquire) == OPEN {
+            return;
+        }
+        let _taking = self.lane.lock();
+        if self.lane.is_kept() {
+            open(&self.lane);
+        }
+    }
+
+    /// Counts a call of its own shard that was made while the door was open, and says whether it may keep that now.
+    #[inline]
+    pub fn count(&self) -> bool {
+        let left = self.lane.owner.0.left.load(Ordering::Relaxed).wrapping_sub(1);
+        self.lane.owner.0.left.store(left, Ordering::Relaxed);
+        left == 0
+    }
+
+    /// Puts off when it may keep the shard.
+    pub fn count_anew(&self) {
+        self.lane.owner.0.left.store(FIRST, Ordering::Relaxed);
+    }
+
+    /// Keeps the shard from now on, where it can: no other thread has it, it may be taken back, and the arena is not recorded.
+    #[cold]
+    pub fn keep(&self) {
+        if !fence::is_there() {
+            self.lane.owner.0.left.store(NEVER, Ordering::Relaxed);
+            return;
+        }
+        let _taking = self.lane.lock();
+        // SAFETY: the handle has a seat, and this is the owner, who has the lock.
+        let status = unsafe { raw::teurlaks_seat_session(self.lane.owner.0.handle.get()) };
+        self.count_anew();
+        match status {
+            raw::OK => self.lane.door.0.state.store(KEPT, Ordering::Release),
+            raw::BUSY => {}
+            _ => self.lane.owner.0.left.store(NEVER, Ordering::Relaxed),
+        }
+    }
+
+    /// Whether the lane keeps its shard.
+    pub fn keeps(&self) -> bool {
+        self.lane.is_kept()
+    }
+
+    /// Has the call leave a seat to the handle, which has nothing, or gives the status where that is not `OK`.
+    pub fn sit(&self, leave: impl FnOnce(*mut raw::ShareHandle) -> u32) -> Result<(), u32> {
+        self.count_anew();
+        match self.alone(leave) {
+            raw::OK => Ok(()),
+            other => Err(other),
+        }
+    }
+}
+
+impl Drop for Owner {
+    fn drop(&mut self) {
+        // SAFETY: the handle has what the library left there, or nothing, and nobody uses it after: no taker does while the door is open.
+        self.alone(|handle| unsafe { raw::teurlaks_share_drop(handle) });
+    }
+}
