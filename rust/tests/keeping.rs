@@ -29,9 +29,27 @@ fn limits(shards: u32) -> Limits {
     }
 }
 
-/// Whether seats keep their shards here. Where a system refuses the fence, the switch says so.
+/// Whether seats keep their shards here: where the system has the fence, and nobody has switched it off.
 fn are_kept() -> bool {
-    cfg!(all(target_os = "linux", target_arch = "x86_64")) && env::var_os(SWITCH).is_none()
+    env::var_os(SWITCH).is_none() && has_fence()
+}
+
+#[cfg(all(target_os = "linux", target_arch = "x86_64"))]
+fn has_fence() -> bool {
+    const MEMBARRIER: i64 = 324;
+    const QUERY: i32 = 0;
+    const PRIVATE_EXPEDITED: i64 = 1 << 3;
+    extern "C" {
+        fn syscall(number: i64, ...) -> i64;
+    }
+    // SAFETY: the call takes these three numbers, and answers which fences there are.
+    let fences = unsafe { syscall(MEMBARRIER, QUERY, 0_u32, 0_i32) };
+    fences > 0 && fences & PRIVATE_EXPEDITED != 0
+}
+
+#[cfg(not(all(target_os = "linux", target_arch = "x86_64")))]
+fn has_fence() -> bool {
+    false
 }
 
 /// So many values under their keys.

@@ -293,6 +293,13 @@ impl Owner {
         (state & WANTED == 0).then_some(in_call)
     }
 
+    /// The handle, while it has a session that the seat began: the lane does not keep its shard then, the door is open, and nobody takes it.
+    #[inline]
+    pub fn handle_in_session(&self) -> *mut raw::ShareHandle {
+        debug_assert_eq!(self.lane.door.0.state.load(Ordering::Relaxed), OPEN);
+        self.lane.owner.0.handle.get()
+    }
+
     /// Makes a call that needs no lock, in whichever state.
     pub fn at_once<A>(&self, call: impl FnOnce(*mut raw::ShareHandle) -> A) -> A {
         match self.enter() {

@@ -115,6 +115,9 @@ impl<T> Seat<T> {
     #[allow(clippy::inline_always)]
     #[inline(always)]
     fn ask_here<A: Answer>(&self, call: impl FnMut(*mut raw::ShareHandle) -> A) -> A {
+        if self.in_session.get() {
+            return self.ask_in_session(Place::Here, call);
+        }
         self.ask(self.lanes.here(), Place::Here, call)
     }
 
@@ -123,15 +126,19 @@ impl<T> Seat<T> {
     #[allow(clippy::inline_always)]
     #[inline(always)]
     fn ask_of<A: Answer>(&self, key: Key, call: impl FnMut(*mut raw::ShareHandle) -> A) -> A {
-        let lane = if self.lanes.is_one() || self.in_session.get() {
+        let place = Place::Named(key.shard());
+        if self.in_session.get() {
+            return self.ask_in_session(place, call);
+        }
+        let lane = if self.lanes.is_one() {
             self.lanes.here()
         } else {
             self.lanes.of(key.shard())
         };
-        self.ask(lane, Place::Named(key.shard()), call)
+        self.ask(lane, place, call)
     }
 
-    /// Makes a call that goes by the session, where there is one, or that takes no lock where it is on the lane's own shard and the lane keeps that.
+    /// Makes a call that takes no lock where it is on the lane's own shard and the lane keeps that. There is no session.
     // Inlined, as `ask_here` is.
     #[allow(clippy::inline_always)]
     #[inline(always)]
@@ -152,10 +159,25 @@ impl<T> Seat<T> {
         self.ask_paused(lane, place, call)
     }
 
-    /// Has the lane keep its shard, where there is no session, and the steward does not wait.
+    /// Makes a call that goes by the session, whose shard nobody takes back.
+    // Inlined, as `ask_here` is.
+    #[allow(clippy::inline_always)]
+    #[inline(always)]
+    fn ask_in_session<A: Answer>(&self, place: Place, mut call: impl FnMut(*mut raw::ShareHandle) -> A) -> A {
+        let lane = self.lanes.here();
+        if !self.turn.steward_waits() {
+            let answer = call(lane.handle_in_session());
+            if answer.status() != raw::BUSY {
+                return answer;
+            }
+        }
+        self.ask_paused(lane, place, call)
+    }
+
+    /// Has the lane keep its shard, where the steward does not wait.
     #[cold]
     fn keep(&self, lane: &Owner) {
-        if self.in_session.get() || self.turn.steward_waits() {
+        if self.turn.steward_waits() {
             lane.count_anew();
         } else {
             lane.keep();
