@@ -3,7 +3,7 @@
 mod common;
 
 use common::Random;
-use std::process::Command;
+use std::process::{Command, Output};
 use std::sync::atomic::{AtomicBool, Ordering};
 use std::sync::mpsc::{channel, Receiver, Sender};
 use std::sync::Mutex;
@@ -31,7 +31,7 @@ fn limits(shards: u32) -> Limits {
 
 /// Whether seats keep their shards here: where the system has the fence, and nobody has switched it off.
 fn are_kept() -> bool {
-    env::var_os(SWITCH).is_none() && has_fence()
+    !matches!(env::var(SWITCH), Ok(told) if told == "missing") && has_fence()
 }
 
 #[cfg(all(target_os = "linux", target_arch = "x86_64"))]
@@ -399,24 +399,26 @@ fn beside_each_other_by_eight_threads() {
     beside_each_other(8, 1, calls());
 }
 
-/// Runs the tests of these names in a process that is told so of its fence.
-fn pass_with_a_fence_that_is(told: &str, names: &[&str]) {
-    if env::var_os(SWITCH).is_some() {
-        return;
-    }
-    let program = env::current_exe().unwrap();
-    let mut run = Command::new(program);
-    let status = run.args(names).arg("--quiet").env(SWITCH, told).status();
-    assert!(status.unwrap().success());
+/// What tests do, all or those of a name, in a process that is told so of its fence.
+fn with_a_fence_that_is(told: &str, names: &[&str]) -> Output {
+    let mut run = Command::new(env::current_exe().unwrap());
+    run.args(names).arg("--quiet").env(SWITCH, told).output().unwrap()
 }
 
 #[test]
 fn all_is_as_ever_where_there_is_no_fence() {
-    pass_with_a_fence_that_is("missing", &[]);
+    if env::var_os(SWITCH).is_none() {
+        let done = with_a_fence_that_is("missing", &[]);
+        assert!(done.status.success(), "{}", String::from_utf8_lossy(&done.stdout));
+    }
 }
 
-/// What is kept then is let go of by its owner's next call.
+/// Nobody waits for ever for a shard that can't be taken back.
 #[test]
-fn all_is_answered_where_a_fence_is_refused_later() {
-    pass_with_a_fence_that_is("refused", &["beside_each_other", "a_recorded"]);
+fn a_fence_that_is_refused_later_ends_the_process() {
+    if are_kept() && env::var_os(SWITCH).is_none() {
+        let done = with_a_fence_that_is("refused", &["whoever_asks_takes_it_back", "--nocapture"]);
+        assert!(!done.status.success());
+        assert!(String::from_utf8_lossy(&done.stderr).contains("membarrier"));
+    }
 }

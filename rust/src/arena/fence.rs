@@ -5,25 +5,22 @@
 //! The heavy one is Linux's `membarrier`, here on x86-64 alone. Elsewhere, and where the system refuses it, there is none, and nobody may rest on a
 //! light one.
 
-use std::env;
-use std::sync::atomic::{compiler_fence, AtomicBool, Ordering};
+use std::sync::atomic::{compiler_fence, Ordering};
 use std::sync::OnceLock;
+use std::{env, process};
 
 /// What the process has of it.
 #[derive(Clone, Copy, PartialEq)]
 enum Fence {
     Missing,
     There,
-    /// Refused whenever it is asked for: for tests of what comes of that.
+    /// Agreed to, and refused whenever it is asked for: for a test of what comes of that.
     Refused,
 }
 
-/// Whether the system refused a fence that it had agreed to, as it may after a filter of calls was set up.
-static LOST: AtomicBool = AtomicBool::new(false);
-
 /// Whether there are heavy fences. The system is asked once.
 pub(super) fn is_there() -> bool {
-    asked() != Fence::Missing && !LOST.load(Ordering::Relaxed)
+    asked() != Fence::Missing
 }
 
 /// What comes before it in this thread's code is done before what comes after it, as far as the compiler goes; and for the processor too, where
@@ -34,18 +31,25 @@ pub(super) fn light() {
     compiler_fence(Ordering::SeqCst);
 }
 
-/// Has each thread of the process, this one too, do what comes before its fence, light or heavy, before what comes after. Where it says `false`
-/// there was none, and there are none from then on.
-#[must_use]
-pub(super) fn heavy() -> bool {
-    let done = asked() == Fence::There && system::fence();
-    if !done {
-        LOST.store(true, Ordering::Relaxed);
+/// Has each thread of the process, this one too, do what comes before its fence, light or heavy, before what comes after. Only where there are such
+/// fences.
+///
+/// Where the system refuses one to which it had agreed, as it may once a filter of calls was set up, the process ends: what a seat keeps can't be
+/// taken back from it any more, and who wants it would wait for ever.
+pub(super) fn heavy() {
+    let is_had = || system::fence() || (system::register() && system::fence());
+    if asked() == Fence::Refused || !is_had() {
+        give_up();
     }
-    done
 }
 
-/// What there is, or what the variable `TEURLAKS_FENCE` says, by which tests go without.
+#[cold]
+fn give_up() -> ! {
+    eprintln!("teurlaks: the system refuses membarrier, to which it had agreed; TEURLAKS_FENCE=missing does without");
+    process::abort()
+}
+
+/// What there is, or what the variable `TEURLAKS_FENCE` says.
 fn asked() -> Fence {
     static ASKED: OnceLock<Fence> = OnceLock::new();
     *ASKED.get_or_init(|| {

@@ -13,8 +13,7 @@
 //! - While it is not, the owner uses the handle under `taking`, or else it says that it is in a call, has a light fence, sees that nobody wants the
 //!   shard, makes the call, and says that it is out of it.
 //! - A taker has `taking`, sees that the shard is kept, says that it is wanted, has a heavy fence, and waits until the owner is in no call. Then
-//!   it pauses the handle, opens the door, and gives `taking` back. Where it had no fence it does not use the handle: the owner finds the shard
-//!   wanted at its next call.
+//!   it pauses the handle, opens the door, and gives `taking` back.
 //!
 //! That they never both use it: an owner that uses it under `taking`, or while the door is open, meets no taker. One that begins a call looks at the
 //! door before the taker's heavy fence or after it. If after, it sees the shard wanted, and makes no call, or the door open, and the taker is done.
@@ -213,9 +212,10 @@ fn take_back(by: Taker, lanes: &[Arc<Lane>], is_meant: impl Fn(&Lane) -> bool) -
             *taken = lane.want();
         }
     }
-    if taken.iter().all(Option::is_none) || !fence::heavy() {
+    if taken.iter().all(Option::is_none) {
         return false;
     }
+    fence::heavy();
     for (lane, taken) in lanes.iter().zip(&mut taken) {
         if let Some(_taking) = taken.take() {
             lane.await_call();
