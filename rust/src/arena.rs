@@ -76,8 +76,8 @@ const RING: u32 = 256;
 /// (`tests/keeping.rs`), and not proved.
 ///
 /// A [`SharedStore`](crate::SharedStore) is called by any thread through `&self`, and has locks of the standard library. An arena has proved ones,
-/// frees that wait for nobody, and folds between shards; in return each thread needs a seat. A look-up takes less time than there, and one of what other
-/// threads keep twice as long where four threads do nothing else, or as long where each seat has four shards (`bench/README.md`).
+/// frees that wait for nobody, and folds between shards; in return each thread needs a seat. A look-up, a free and a put of a thread's own value take
+/// two thirds of the time that they take there, and a look-up of what other threads keep takes as long (`bench/README.md`).
 pub struct Arena<T> {
     share: Share,
     turn: Turn,
