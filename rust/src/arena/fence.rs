@@ -5,9 +5,10 @@
 //! The heavy one is Linux's `membarrier`, here on x86-64 alone. Elsewhere, and where the system refuses it, there is none, and nobody may rest on a
 //! light one.
 
+use std::io::Write;
 use std::sync::atomic::{compiler_fence, Ordering};
 use std::sync::OnceLock;
-use std::{env, process};
+use std::{env, io, process};
 
 /// What the process has of it.
 #[derive(Clone, Copy, PartialEq)]
@@ -45,7 +46,11 @@ pub(super) fn heavy() {
 
 #[cold]
 fn give_up() -> ! {
-    eprintln!("teurlaks: the system refuses membarrier, to which it had agreed; TEURLAKS_FENCE=missing does without");
+    // It is only told where it can be.
+    let _ = writeln!(
+        io::stderr(),
+        "teurlaks: the system refuses membarrier, to which it had agreed; TEURLAKS_FENCE=missing does without"
+    );
     process::abort()
 }
 

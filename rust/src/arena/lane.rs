@@ -301,7 +301,11 @@ impl Owner {
     }
 
     /// Makes a call that needs no lock, in whichever state.
+    #[inline]
     pub fn at_once<A>(&self, call: impl FnOnce(*mut raw::ShareHandle) -> A) -> A {
+        if self.is_open() {
+            return call(self.lane.owner.0.handle.get());
+        }
         match self.enter() {
             Some(in_call) => call(in_call.handle()),
             None => self.alone(call),
@@ -333,10 +337,15 @@ impl Owner {
         kept
     }
 
+    /// Whether the door is open, and so the handle the owner's alone until it closes that: only the owner does, and this sees what a taker did before.
+    #[inline]
+    fn is_open(&self) -> bool {
+        self.lane.door.0.state.load(Ordering::Acquire) == OPEN
+    }
+
     /// Opens the door so, where it is not open once nobody takes the shard.
     fn open_door(&self, open: impl FnOnce(&Lane)) {
-        // Only the owner closes it, so it is open if that is what is seen; the load is for what a taker did.
-        if self.lane.door.0.state.load(Ordering::Acquire) == OPEN {
+        if self.is_open() {
             return;
         }
         let _taking = self.lane.lock();
