@@ -45,12 +45,6 @@ module _ {worker section : ℕ} where
     are_frees = All-append (λ r. IsFreeBy worker section r.key r) a.added b.added a.are_frees b.are_frees;
   }
 
-  -- receipts for the first n of the keys, and then for the first of those that are left
-  pub freed_run : (keys left : List Key) (n h : ℕ) (before mid after : List Receipt) → left ≡ drop n keys → AddsFrees worker section (take n keys) before mid
-      → AddsFrees worker section (take h left) mid after → AddsFrees worker section (take (n + h) keys) before after
-  freed_run keys left n h before mid after is a b =
-      subst (λ ks. AddsFrees worker section ks before after) (ap (λ l. take n keys ++ take h l) is ∙ sym (take-add n h keys)) (AddsFrees-more (take n keys) (take h left) before mid after a b)
-
   -- receipts for the first n of the keys, and then for the next one
   pub freed_next : (keys : List Key) (n : ℕ) (d key : Key) (r : Receipt) (before mid after : List Receipt) → n < length keys → key ≡ get_or keys n d → AddsFrees worker section (take n keys) before mid
       → after ≡ mid ++ r ∷ [] → IsFreeBy worker section key r → AddsFrees worker section (take (n + 1) keys) before after

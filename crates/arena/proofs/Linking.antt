@@ -13,7 +13,7 @@ use Rattle.arena.specs.Seats.{AreLinked, KeepPlaces, KeepsEnds, SeatState, Sendi
 use Rattle.arena.specs.Settled.{AreCounted, AreSameSeats, IsSettled, TakingSide, known_by, taking_side}
 use Rattle.arena.proofs.CountedRings.{same_out_rings, same_sent}
 use Rattle.arena.proofs.Sending.{KeepPlaces-more, KeepPlaces-same}
-use Rattle.span.specs.declared.limits.TheConstants.{MOST_RING_KEYS}
+use Rattle.remote_queue.specs.declared.ends.TheConstants.{MOST_KNOWN_KEYS}
 
 set_twice : {T : Type 0} (l : List T) (i : ℕ) (a b : T) → slice_set (slice_set l i a) i b ≡ slice_set l i b
 set_twice [] i a b = refl
@@ -140,7 +140,7 @@ module _ (s0 s2 : List SeatState) (shard : ℕ) (y1 y3 d e : SeatState) (inboxes
   known_there = rw known_after (get_or-set_at (map (λ (s : SeatState). known_lists s.inboxes) s0) shard shard (known_lists inboxes2) [] refl
       (omega (arith, below, length-map s0 (λ (s : SeatState). known_lists s.inboxes))))
 
-  pub shard_counted : (counts : List ℕ) → length inboxes2 ≡ length s0 → counts ≡ map length (known_lists inboxes2) → All (λ n. n ≤ MOST_RING_KEYS) counts
+  pub shard_counted : (counts : List ℕ) → length inboxes2 ≡ length s0 → counts ≡ map length (known_lists inboxes2) → All (λ n. n ≤ MOST_KNOWN_KEYS) counts
       → ((w : ℕ) → w < length s0 → slice_index_or (slice_index_or (map sent_lists (slice_set s0 shard y1)) w []) shard []
       ≡ slice_index_or (taken_lists inboxes1) w [] ++ slice_index_or (known_lists inboxes2) w [])
       → AreCounted s0 (slice_set s2 shard y3) shard counts

@@ -11,8 +11,8 @@ use Rattle.span.specs.declared.receipt.Receipt.{Receipt}
 use Rattle.remote_queue.specs.Rings.{Taking}
 use Rattle.arena.specs.Receipts.{AddsFrees, IsFreeBy, joined}
 use Rattle.arena.specs.Seats.{taken_lists}
-use Rattle.arena.specs.Tended.{AreRingsTended, IsFrontTended, IsRingTended}
-use Rattle.arena.proofs.Frees.{AddsFrees-none, AddsFrees-one, AddsFrees-more, freed_run, joined-push}
+use Rattle.arena.specs.Tended.{AreRingsTended, IsRingTended}
+use Rattle.arena.proofs.Frees.{AddsFrees-none, AddsFrees-more, joined-push}
 
 -- the sum goes on by one entry, which is looked at
 pub known_more : (f : Taking → ℕ) (inboxes : List Taking) (n : ℕ) (after : Taking) → n < length inboxes → sum_by f (take (n + 1) (slice_set inboxes n after)) ≡ sum_by f (take n inboxes) + f after
@@ -38,55 +38,33 @@ module _ {worker section : ℕ} where
   pub ring_none : (inbox : Taking) (receipts : List Receipt) → IsRingTended worker section 0 inbox inbox receipts receipts
   ring_none inbox receipts = record { keys = []; count_is = refl; ring_is = refl; taken = sym (append-nil inbox.taken); freed = AddsFrees-none receipts }
 
-  -- a block of keys more
-  pub ring_more : (before mid after : Taking) (count n : ℕ) (block : List Key) (r0 r r' : List Receipt) → IsRingTended worker section count before mid r0 r → after.ring ≡ mid.ring
-      → after.taken ≡ mid.taken ++ take n block → n ≤ length block → AddsFrees worker section (take n block) r r' → IsRingTended worker section (count + n) before after r0 r'
-  ring_more before mid after count n block r0 r r' was ring took fits more = record {
-    keys = was.keys ++ take n block;
-    count_is = omega (arith, was.count_is, length-append was.keys (take n block), length-take-le n block fits);
-    ring_is = ring ∙ was.ring_is;
-    taken = took ∙ ap (λ l. l ++ take n block) was.taken ∙ append_assoc before.taken was.keys (take n block);
-    freed = AddsFrees-more was.keys (take n block) r0 r r' was.freed more;
+  -- some keys, and then more
+  pub ring_more : (before mid after : Taking) (n h : ℕ) (r0 r r' : List Receipt) → IsRingTended worker section n before mid r0 r → IsRingTended worker section h mid after r r'
+      → IsRingTended worker section (n + h) before after r0 r'
+  ring_more before mid after n h r0 r r' a b = record {
+    keys = a.keys ++ b.keys;
+    count_is = omega (arith, a.count_is, b.count_is, length-append a.keys b.keys);
+    ring_is = b.ring_is ∙ a.ring_is;
+    taken = b.taken ∙ ap (λ l. l ++ b.keys) a.taken ∙ append_assoc before.taken a.keys b.keys;
+    freed = AddsFrees-more a.keys b.keys r0 r r' a.freed b.freed;
   }
 
-  -- the first of the known keys
-  pub ring_known : (before after : Taking) (n : ℕ) (r0 r : List Receipt) → n ≤ length before.known → after.ring ≡ before.ring → after.taken ≡ before.taken ++ take n before.known
-      → AddsFrees worker section (take n before.known) r0 r → IsRingTended worker section n before after r0 r
-  ring_known before after n r0 r fits ring took freed = record { keys = take n before.known; count_is = sym (length-take-le n before.known fits); ring_is = ring; taken = took; freed = freed }
-
-  -- no key is taken
-  pub front_none : (inbox : Taking) (receipts : List Receipt) → IsFrontTended worker section 0 inbox inbox receipts receipts
-  front_none inbox receipts = record { ring_is = refl; taken = sym (append-nil inbox.taken); known = refl; freed = AddsFrees-none receipts }
-
-  -- the next key
-  pub front_one : (before after : Taking) (key : Key) (r : Receipt) (r0 r1 : List Receipt) → before.known ≡ key ∷ after.known → after.ring ≡ before.ring
-      → after.taken ≡ before.taken ++ key ∷ [] → r1 ≡ r0 ++ r ∷ [] → IsFreeBy worker section key r → IsFrontTended worker section 1 before after r0 r1
-  front_one before after key r r0 r1 known ring took told free =
-      let first : take 1 before.known ≡ key ∷ [] = rw known refl in
-      record {
-        ring_is = ring;
-        taken = rw first took;
-        known = rw known refl;
-        freed = rw first (AddsFrees-one r0 r1 key r told free);
-      }
-
-  -- some keys, and then some of those that are left
-  pub front_more : (before mid after : Taking) (n h : ℕ) (r0 r r1 : List Receipt) → IsFrontTended worker section n before mid r0 r
-      → IsFrontTended worker section h mid after r r1 → IsFrontTended worker section (n + h) before after r0 r1
-  front_more before mid after n h r0 r r1 a b =
-      let keys : take n before.known ++ take h mid.known ≡ take (n + h) before.known = rw a.known (sym (take-add n h before.known)) in
-      record {
-        ring_is = b.ring_is ∙ a.ring_is;
-        taken = b.taken ∙ ap (λ l. l ++ take h mid.known) a.taken ∙ append_assoc before.taken (take n before.known) (take h mid.known)
-            ∙ ap (λ l. before.taken ++ l) keys;
-        known = b.known ∙ ap (drop h) a.known ∙ drop-drop h n before.known;
-        freed = freed_run before.known mid.known n h r0 r r1 a.known a.freed b.freed;
-      }
-
-  -- the keys that were taken were the first of those that were known
-  pub front_ring : (before after : Taking) (n : ℕ) (r0 r : List Receipt) → n ≤ length before.known → IsFrontTended worker section n before after r0 r
+  -- the first of the drawn keys
+  pub ring_drawn : (before mid after : Taking) (keys : List Key) (n : ℕ) (r0 r : List Receipt) → mid.ring ≡ before.ring → mid.taken ≡ before.taken → after.ring ≡ mid.ring
+      → after.taken ≡ mid.taken ++ take n mid.known → take n keys ≡ take n mid.known → n ≤ length keys → AddsFrees worker section (take n keys) r0 r
       → IsRingTended worker section n before after r0 r
-  front_ring before after n r0 r fits was = ring_known before after n r0 r fits was.ring_is was.taken was.freed
+  ring_drawn before mid after keys n r0 r ring taken ring_after taken_after same fits freed = record {
+    keys = take n keys;
+    count_is = sym (length-take-le n keys fits);
+    ring_is = ring_after ∙ ring;
+    taken = rw (same, taken_after, taken) refl;
+    freed = freed;
+  }
+
+  -- nothing is taken where the end only looks
+  pub ring_looked : (before after : Taking) (r0 r : List Receipt) → after.ring ≡ before.ring → after.taken ≡ before.taken → AddsFrees worker section [] r0 r
+      → IsRingTended worker section 0 before after r0 r
+  ring_looked before after r0 r ring taken none = record { keys = []; count_is = refl; ring_is = ring; taken = taken ∙ sym (append-nil before.taken); freed = none }
 
 module _ {most worker section : ℕ} where
   -- before the first ring

@@ -5,7 +5,7 @@ use Rattle.span.specs.declared.receipt.Receipt.{Receipt}
 use Rattle.remote_queue.specs.Rings.{Ring, Taking}
 use Rattle.arena.specs.Receipts.{AddsFrees, joined}
 use Rattle.arena.specs.Seats.{KeepPlaces, SeatState, in_rings, known_lists, sending_side, sent_on, taken_lists, taken_on}
-use Rattle.span.specs.declared.limits.TheConstants.{MOST_RING_KEYS}
+use Rattle.remote_queue.specs.declared.ends.TheConstants.{MOST_KNOWN_KEYS}
 
 -- what takers' ends have: their rings, and the keys taken from each
 pub record TakingSide : Type 0 where
@@ -54,5 +54,5 @@ pub record AreEmptied (before after : List SeatState) : Type 0 where
 pub record AreCounted (seats counted : List SeatState) (shard : ℕ) (counts : List ℕ) : Type 0 where
   pub wide : length counts ≡ length seats
   pub counts_are : counts ≡ map length (known_by counted shard)
-  pub few : All (λ count. count ≤ MOST_RING_KEYS) counts
+  pub few : All (λ count. count ≤ MOST_KNOWN_KEYS) counts
   pub whole : (worker : ℕ) → worker < length seats → sent_on seats worker shard ≡ taken_on seats shard worker ++ slice_index_or (known_by counted shard) worker []

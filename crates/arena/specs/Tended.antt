@@ -1,5 +1,5 @@
 -- Keys that are taken from rings while others work, and freed.
-use Rattle.std.specs.Prelude.{◌≡◌, ℕ, ◌<◌, ◌≤◌, ◌++◌, All, List, [], drop, length, map, min, slice_index_or, take}
+use Rattle.std.specs.Prelude.{◌≡◌, ℕ, ◌<◌, ◌≤◌, ◌++◌, All, List, [], length, map, min, slice_index_or}
 use mathlib.Core.List.{IsPrefix}
 use Rattle.span.specs.declared.key.Key.{Key}
 use Rattle.span.specs.declared.receipt.Receipt.{Receipt}
@@ -24,13 +24,6 @@ pub record IsRingTended (worker section count : ℕ) (before after : Taking) (re
   pub ring_is : after.ring ≡ before.ring
   pub taken : after.taken ≡ before.taken ++ keys
   pub freed : AddsFrees worker section keys receipts_before receipts_after
-
--- the first of the keys that an end knew were taken, that many, and each was freed; the end knows the others
-pub record IsFrontTended (worker section count : ℕ) (before after : Taking) (receipts_before receipts_after : List Receipt) : Type 0 where
-  pub ring_is : after.ring ≡ before.ring
-  pub taken : after.taken ≡ before.taken ++ take count before.known
-  pub known : after.known ≡ drop count before.known
-  pub freed : AddsFrees worker section (take count before.known) receipts_before receipts_after
 
 -- keys were taken from the first of some rings, ring after ring, at most that many from each, and each was freed: `total` in all
 pub record AreRingsTended (most worker section rings : ℕ) (before after : List Taking) (receipts_before receipts_after : List Receipt) (total : ℕ) : Type 0 where

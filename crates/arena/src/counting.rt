@@ -3,7 +3,8 @@ ghost use Rattle.std.specs.Prelude.{◌≡◌, ◌<◌, ◌≤◌, ◌++◌, ℕ
 ghost use Rattle.remote_queue.specs.Rings.{cell};
 ghost use Rattle.arena.specs.Seats.{AreLinked, KeepPlaces, known_lists, out_rings, sending_side, sent_lists, taken_lists};
 ghost use Rattle.arena.specs.Settled.{AreCounted, AreSameSeats, known_by, taking_side};
-ghost use Rattle.span.specs.declared.limits.TheConstants.{MOST_RING_KEYS, MOST_SHARDS};
+ghost use Rattle.remote_queue.specs.declared.ends.TheConstants.{MOST_KNOWN_KEYS};
+ghost use Rattle.span.specs.declared.limits.TheConstants.{MOST_SHARDS};
 
 use crate::ring_table::RingLists;
 use crate::seat::Seat;
@@ -26,7 +27,7 @@ fn count_rings(seats: &mut [Seat], shard: usize, inboxes: &mut Vec<Inbox>, count
     ensures places { KeepPlaces seats.old seats.new }
     ensures inboxes { taking_side inboxes.new.items ≡ taking_side inboxes.old.items }
     ensures counted { counts.new.items ≡ map length (known_lists inboxes.new.items) }
-    ensures few { All (λ count. count ≤ MOST_RING_KEYS) counts.new.items }
+    ensures few { All (λ count. count ≤ MOST_KNOWN_KEYS) counts.new.items }
     ensures whole { (worker : ℕ) → worker < length seats.old
         → slice_index_or (slice_index_or (map sent_lists seats.old) worker []) shard []
         ≡ slice_index_or (taken_lists inboxes.old.items) worker []

@@ -1,5 +1,5 @@
 // A free of a key wherever its span is.
-ghost use Rattle.std.specs.Prelude.{◌+◌, ◌≤◌, IfOk, IfSome, length, take};
+ghost use Rattle.std.specs.Prelude.{◌≡◌, ◌+◌, ◌<◌, ◌≤◌, [], IfOk, IfSome, OnErr, length, take};
 ghost use Rattle.arena.specs.Receipts.{AddsFrees, IsFreeBy};
 
 use crate::arena::Arena;
@@ -88,57 +88,59 @@ impl<G: Gate, L: Log> Arena<G, L> {
         }
     }
 
-    // Frees the keys for the worker, in their order: under one lock those, one after the other, that its own shard has.
-    pub(crate) fn free_all<R: Wait, K: Receipts>(
+    // Frees the first of the keys for the worker, and gives how many: under one lock those in a row that its own shard has, or the one
+    // whose span is elsewhere.
+    pub(crate) fn free_first<P: Patience, K: Receipts>(
         &self,
-        rt: &R,
+        patience: &P,
         worker: u32,
         section: u64,
         keys: &[Key],
         receipts: &mut K,
-    )
-        requires { length keys.now ≤ K.room receipts.old }
-        ensures room { K.room receipts.old ≤ K.room receipts.new + length keys.now }
-        ensures freed { AddsFrees worker section keys.now (K.told receipts.old)
-            (K.told receipts.new) }
+    ) -> Result<usize, P::Busy>
+        requires some { 0 < length keys.now }
+        requires room { length keys.now ≤ K.room receipts.old }
+        ensures few { IfOk result (λ count. count ≤ length keys.now) }
+        ensures room { IfOk result (λ count. K.room receipts.old ≤ K.room receipts.new + count) }
+        ensures freed { IfOk result (λ count. AddsFrees worker section (take count keys.now)
+            (K.told receipts.old) (K.told receipts.new)) }
+        ensures busy { OnErr result ((K.room receipts.old ≤ K.room receipts.new)
+            × AddsFrees worker section [] (K.told receipts.old) (K.told receipts.new)) }
     {
-        let mut done = 0;
-        for _ in 0..keys.len() {
-            let (_, left) = keys.split_at(done);
-            done += self.free_at_home(rt, worker, section, left, receipts);
-            if done == keys.len() {
-                return;
-            }
-            receipts.tell(self.free_wherever(rt, worker, section, &keys[done]));
-            done += 1;
+        let at_home = self.free_at_home(patience, worker, section, keys, receipts)?;
+        if at_home > 0 {
+            return Ok(at_home);
         }
+        receipts.tell(self.free_by(patience, worker, section, &keys[0])?);
+        Ok(1)
     }
 
     // Frees the first of the keys, as far as the worker's own shard has their spans, under its lock, and gives how many these
     // are. Where the first key's span is elsewhere it takes no lock.
-    fn free_at_home<R: Wait, K: Receipts>(
+    fn free_at_home<P: Patience, K: Receipts>(
         &self,
-        rt: &R,
+        patience: &P,
         worker: u32,
         section: u64,
         keys: &[Key],
         receipts: &mut K,
-    ) -> usize
+    ) -> Result<usize, P::Busy>
         requires { length keys.now ≤ K.room receipts.old }
-        ensures few { result ≤ length keys.now }
-        ensures room { K.room receipts.old ≤ K.room receipts.new + result }
-        ensures freed { AddsFrees worker section (take result keys.now) (K.told receipts.old)
-            (K.told receipts.new) }
+        ensures few { IfOk result (λ count. count ≤ length keys.now) }
+        ensures room { IfOk result (λ count. K.room receipts.old ≤ K.room receipts.new + count) }
+        ensures freed { IfOk result (λ count. AddsFrees worker section (take count keys.now)
+            (K.told receipts.old) (K.told receipts.new)) }
+        ensures busy { OnErr result (receipts.new ≡ receipts.old) }
     {
         if !self.is_first_at_home(worker, keys) {
-            return 0;
+            return Ok(0);
         }
         let Some(lock) = self.shards.get(worker as usize) else {
-            return 0;
+            return Ok(0);
         };
-        let mut shard = lock.lock(rt);
+        let mut shard = patience.lock(lock)?;
         self.gate.inside(worker);
-        free_front(&mut *shard, worker, section, keys, receipts)
+        Ok(free_front(&mut *shard, worker, section, keys, receipts))
     }
 
     // Whether the span of the first key may be in the worker's own shard, by its hint.
@@ -175,7 +177,7 @@ fn free_front<L: Log, K: Receipts>(
 
 // Frees the key in the shard, if that has its span.
 #[inline(always)]
-pub(crate) fn free_one<L: Log>(
+fn free_one<L: Log>(
     shard: &mut Shard<L>,
     worker: u32,
     section: u64,

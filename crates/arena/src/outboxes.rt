@@ -2,7 +2,7 @@
 ghost use Rattle.std.specs.Prelude.{All, ◌≡◌, ℕ, ◌+◌, ◌<◌, ◌≤◌, ◌∷◌, ◌++◌, [], IfSome, IsOk, IsSome, MatchResult, None, OnErr, OnOk, Some, length, map, slice_get, slice_index_or, slice_set, vec_len};
 ghost use Rattle.arena.specs.Delays.{NoneWaits, delay_after, delay_begun};
 ghost use Rattle.arena.specs.Seats.{AreNoFewer, free_places};
-ghost use Rattle.span.specs.declared.limits.TheConstants.{MOST_RING_KEYS};
+ghost use Rattle.remote_queue.specs.declared.ends.TheConstants.{MOST_KNOWN_KEYS};
 ghost use Rattle.arena.specs.declared.outboxes.TheConstants.{MOST_DELAY};
 
 use remote_queue::{Inbox, Outbox, finish};
@@ -97,9 +97,8 @@ pub(crate) fn count_call_on(outboxes: &mut Vec<Outbox>, delay: &mut Option<u32>)
     }
 }
 
-// Counts one call more after so many, and hands all over where that is the last that keys may wait. It stands apart, so that a call has none
-// of it where no key waits.
-#[inline(never)]
+// Counts one call more after so many, and hands all over where that is the last that keys may wait.
+#[inline(always)]
 fn count_on(outboxes: &mut Vec<Outbox>, delay: &mut Option<u32>, calls: u32)
     requires { calls < MOST_DELAY }
     ensures len { vec_len outboxes.new ≡ vec_len outboxes.old }
@@ -196,7 +195,7 @@ pub(crate) fn finish_on(outboxes: &mut Vec<Outbox>, shard: usize, inbox: &mut In
     ensures left { result ≡ length inbox.new.known }
     ensures whole { slice_index_or (map (λ outbox. outbox.sent) outboxes.old.items) shard []
         ≡ inbox.new.taken ++ inbox.new.known }
-    ensures few { result ≤ MOST_RING_KEYS }
+    ensures few { result ≤ MOST_KNOWN_KEYS }
 {
     finish(&mut outboxes[shard], inbox)
 }

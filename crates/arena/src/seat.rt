@@ -7,7 +7,8 @@ ghost use Rattle.arena.specs.Seats.{AreNoFewer, HasItsRings, KeepsEnds, free_pla
 ghost use Rattle.arena.specs.Settled.{taken_with_known};
 ghost use Rattle.arena.specs.Tended.{AreLookedAt, IsTended};
 ghost use Rattle.arena.specs.declared.outboxes.TheConstants.{MOST_DELAY};
-ghost use Rattle.span.specs.declared.limits.TheConstants.{MOST_RING_KEYS, MOST_SHARDS};
+ghost use Rattle.remote_queue.specs.declared.ends.TheConstants.{MOST_KNOWN_KEYS};
+ghost use Rattle.span.specs.declared.limits.TheConstants.{MOST_SHARDS};
 
 use crate::arena::Arena;
 use crate::gate::Gate;
@@ -327,15 +328,16 @@ impl Seat {
         let most = self.limits.ring_capacity();
         let seen = look_at_rings(&mut self.inboxes, most);
         receipts.make_room(seen)?;
-        Ok(tend_rings(
-            rt,
+        let tended = tend_rings(
+            &Waits { rt },
             arena,
             &mut self.inboxes,
             most,
             self.worker,
             self.section,
             receipts,
-        ))
+        );
+        Ok(tended.count)
     }
 
     /// The end of the worker's shard, under the pool's lock and the shard's: all its groups go to the pool. The keys that wait at
@@ -563,7 +565,7 @@ impl Seat {
         ensures left { result ≡ length inbox.new.known }
         ensures whole { slice_index_or (sent_lists self.old) shard [] ≡ inbox.new.taken
             ++ inbox.new.known }
-        ensures few { result ≤ MOST_RING_KEYS }
+        ensures few { result ≤ MOST_KNOWN_KEYS }
     {
         finish_on(&mut self.outboxes, shard, inbox)
     }

@@ -3,7 +3,8 @@ ghost use Rattle.std.specs.Prelude.{◌≡◌, ◌+◌, ◌<◌, ◌≤◌, ◌�
 ghost use Rattle.arena.specs.Receipts.{AddsFrees, IsFreeBy, joined};
 ghost use Rattle.arena.specs.Seats.{AreInOrder, AreLinked, AreSeatsOf, HasItsRings, in_rings, known_lists, sending_side, taken_lists};
 ghost use Rattle.arena.specs.Settled.{AreCounted, AreEmptied, AreSameSeats, IsSettled, greatest_section, taken_with_known};
-ghost use Rattle.span.specs.declared.limits.TheConstants.{MOST_RING_KEYS, MOST_SHARDS};
+ghost use Rattle.remote_queue.specs.declared.ends.TheConstants.{MOST_KNOWN_KEYS};
+ghost use Rattle.span.specs.declared.limits.TheConstants.{MOST_SHARDS};
 
 use crate::arena::Arena;
 use crate::counting::count_all;
@@ -241,7 +242,7 @@ fn settle_ring<F: Frees, K: Receipts>(
 // Room for as many receipts as each row counts. What the lists have stays.
 fn reserve_all<K: Receipts>(receipts: &mut [K], counts: &[Vec<usize>]) -> Result<(), AllocError>
     requires wide { length counts.now ≡ length receipts.old }
-    requires few { All (λ row. All (λ count. count ≤ MOST_RING_KEYS) row.items
+    requires few { All (λ row. All (λ count. count ≤ MOST_KNOWN_KEYS) row.items
         × (vec_len row ≤ MOST_SHARDS)) counts.now }
     ensures told { map K.told receipts.new ≡ map K.told receipts.old }
     ensures room { OnOk result ((shard : ℕ) (d e : _) → shard < length receipts.old
@@ -257,7 +258,7 @@ fn reserve_all<K: Receipts>(receipts: &mut [K], counts: &[Vec<usize>]) -> Result
 
 // The sum of a row of counts.
 fn total(counts: &[usize]) -> usize
-    requires few { All (λ count. count ≤ MOST_RING_KEYS) counts.now }
+    requires few { All (λ count. count ≤ MOST_KNOWN_KEYS) counts.now }
     requires short { length counts.now ≤ MOST_SHARDS }
     ensures { result ≡ sum counts.now }
 {

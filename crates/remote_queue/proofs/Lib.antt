@@ -1,1 +1,2 @@
+mod DrawnKeys
 mod Tables

@@ -21,11 +21,12 @@ pub record Sending : Type 0 where
   pub free : ℕ
   pub waiting : ℕ
 
--- a taker's end: its ring, every key that was taken, oldest first, and the keys that the next takes are known to give
+-- a taker's end: its ring, every key that was taken, oldest first, the keys that the next takes are known to give, and how many of these are drawn from the ring, so that their places are free
 pub record Taking : Type 0 where
   pub ring : Ring
   pub taken : List Key
   pub known : List Key
+  pub drawn : ℕ
 
 -- every number of the key lies within its limits
 abbrev pub IsInRange : Key → Type 0

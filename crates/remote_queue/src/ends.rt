@@ -1,12 +1,14 @@
 // The two ends of a ring.
-ghost use Rattle.std.specs.Prelude.{◌≡◌, ◌+◌, ◌-◌, ◌<◌, ◌≤◌, ◌↔◌, [], ◌∷◌, ◌++◌, All, IfOk, IsOk, IsSome, IsTrue, MatchOption, MatchResult, OnErr, OnOk, drop, length, take, vec_capacity, vec_len};
+ghost use Rattle.std.specs.Prelude.{◌≡◌, ◌+◌, ◌-◌, ◌<◌, ◌≤◌, ◌↔◌, [], ◌∷◌, ◌++◌, All, IfOk, IsOk, IsSome, IsTrue, MatchOption, MatchResult, OnErr, OnOk, drop, length, max, take, vec_capacity, vec_len};
 ghost use mathlib.Core.List.{IsPrefix};
-ghost use Rattle.rtrb.specs.Ring.{ProducerLooked, SameProducer, known_free, sent};
+ghost use Rattle.rtrb.specs.Ring.{ProducerLooked, SameConsumer, SameProducer, known_free, known_items, received, sent};
+ghost use Rattle.remote_queue.specs.Drawn.{drawn_keys, without_last};
 ghost use Rattle.remote_queue.specs.Rings.{IsInRange};
 ghost use Rattle.span.specs.declared.limits.TheConstants.{MOST_RING_KEYS};
+ghost use Rattle.remote_queue.specs.declared.ends.TheConstants.{BLOCK, MOST_KNOWN_KEYS};
 
 use rtrb::{Consumer, Producer, Protocol, PushError, RingBuffer};
-use span::Key;
+use span::{Key, MOST_RING_KEYS, SpanId};
 use std::alloc::{AllocError, Global};
 use std::marker::Model;
 
@@ -18,8 +20,11 @@ impl Protocol<Key> for KeysInRange {
     ghost allows = { λ before key. IsInRange key };
 }
 
-/// How many keys are handed over at once, where the ring holds as many.
+/// How many keys are handed over or drawn at once, where the ring holds as many.
 const BLOCK: usize = 32;
+
+/// How many keys a taker's end may know: those of a full ring, and the block that it drew from it before.
+pub const MOST_KNOWN_KEYS: usize = MOST_RING_KEYS + BLOCK;
 
 /// A worker's end of its ring to one shard. Keys are handed over in blocks, so that not each of them crosses to the other
 /// processor by itself.
@@ -51,11 +56,21 @@ impl Drop for Outbox {
     }
 }
 
-/// A shard's end of its ring from one worker.
+/// A shard's end of its ring from one worker. Keys are drawn from the ring in blocks, so that not each of them hands its place
+/// back to the other processor by itself.
 #[derive(Drop)]
 pub struct Inbox {
     consumer: Consumer<Key, Global, KeysInRange>,
+    // The keys that were drawn last: those from `next` up to `end` are not taken yet.
+    block: Vec<Key>,
+    next: usize,
+    end: usize,
     ghost capacity_in_range: { consumer.capacity ≤ MOST_RING_KEYS },
+    ghost block_in_range: { (1 ≤ vec_len block) × (vec_len block ≤ BLOCK) },
+    ghost in_block: { (next ≤ end) × (end ≤ vec_len block) },
+    ghost received_last: { received consumer ≡ without_last (end - next) (received consumer)
+        ++ drawn_keys next end block.items },
+    ghost keys_in_range: { All IsInRange (drawn_keys next end block.items) },
 }
 
 impl Model for Inbox {
@@ -64,7 +79,7 @@ impl Model for Inbox {
 
     ghost Value = { Taking };
 
-    ghost view = { λ inbox. taking inbox.consumer };
+    ghost view = { λ inbox. taking inbox.consumer inbox.block.items inbox.next inbox.end };
 }
 
 // A new ring with room for that many keys.
@@ -75,8 +90,28 @@ pub(crate) fn ring(alloc: Global, capacity: usize) -> Result<(Outbox, Inbox), Al
         × (ends.1.taken ≡ [])) }
 {
     let waiting = Vec::with_capacity(alloc, capacity.min(BLOCK))?;
+    let block = vec![in alloc; any_key(); capacity.min(BLOCK)]?;
     let (producer, consumer) = RingBuffer::with_protocol::<Global, KeysInRange>(alloc, capacity)?;
-    Ok((Outbox { producer, waiting }, Inbox { consumer }))
+    let inbox = Inbox {
+        consumer,
+        block,
+        next: 0,
+        end: 0,
+    };
+    Ok((Outbox { producer, waiting }, inbox))
+}
+
+// What stands in a place of a block before a key does.
+fn any_key() -> Key {
+    let span = SpanId {
+        shard: 0,
+        serial: 0,
+    };
+    Key {
+        span,
+        slot: 0,
+        generation: 1,
+    }
 }
 
 // Hands the waiting keys over with one store. The ring has a place for each of them. It stands apart, since most keys wait.
@@ -174,6 +209,25 @@ impl Outbox {
     }
 }
 
+// Draws keys from the ring into the first places of the block, at most that many, and gives how many there were.
+fn draw_into(
+    consumer: &mut Consumer<Key, Global, KeysInRange>,
+    block: &mut [Key],
+    most: usize,
+) -> usize
+    ensures few { (result ≤ most) × (result ≤ length block.new) }
+    ensures ring { SameConsumer consumer.old consumer.new }
+    ensures received { received consumer.new ≡ received consumer.old ++ take result block.new }
+    ensures known { IsPrefix (known_items consumer.old) (take result block.new
+        ++ known_items consumer.new) }
+    ensures some { 0 < most → 0 < length block.old → 0 < length (known_items consumer.old)
+        → 0 < result }
+    ensures in_range { All IsInRange (take result block.new) }
+{
+    let (front, _) = block.split_at_mut(most.min(block.len()));
+    consumer.pop_partial_slice(front)
+}
+
 impl Inbox {
     /// Takes the oldest key, or `None` where none is seen. It waits for nobody and takes no memory, and answers a key where
     /// one is known.
@@ -187,48 +241,65 @@ impl Inbox {
             (λ key. IsPrefix self.old.known (key ∷ self.new.known)) }
         ensures answers { 0 < length self.old.known → IsSome result }
     {
-        self.consumer.pop().ok()
+        if self.known() == 0 && self.look() == 0 {
+            return None;
+        }
+        Some(self.take_known())
     }
 
-    /// Takes as many of the oldest keys as are seen, and as the slice has places, into its first places, and gives how many these are.
-    /// It waits for nobody and takes no memory, and answers all keys that are known.
-    pub fn take_block(&mut self, keys: &mut [Key]) -> usize
-        ensures few { result ≤ length keys.old }
+    /// Draws a block of the oldest keys that are known from the ring, at most that many, where none is drawn: their places are free
+    /// for further keys, and they are the next to be taken. It waits for nobody and takes no memory.
+    pub fn draw(&mut self, most: usize)
         ensures ring { self.new.ring ≡ self.old.ring }
-        ensures taken { self.new.taken ≡ self.old.taken ++ take result keys.new }
-        ensures rest { drop result keys.new ≡ drop result keys.old }
-        ensures known { IsPrefix self.old.known (take result keys.new ++ self.new.known) }
-        ensures all { result < length keys.old → self.new.known ≡ [] }
-        ensures in_range { All IsInRange (take result keys.new) }
+        ensures taken { self.new.taken ≡ self.old.taken }
+        ensures known { IsPrefix self.old.known self.new.known }
+        ensures some { 0 < most → 0 < length self.old.known → 0 < self.new.drawn }
+        ensures few { self.new.drawn ≤ max self.old.drawn most }
     {
-        self.consumer.pop_partial_slice(keys)
+        if self.next == self.end {
+            self.next = 0;
+            self.end = draw_into(&mut self.consumer, self.block.as_mut_slice(), most);
+        }
     }
 
-    /// How many keys it sees on the ring, which it then knows: that many takes answer. It waits for nobody and takes no memory.
+    /// The keys that were drawn from the ring and are not taken yet, the oldest first.
+    pub fn drawn(&self) -> &[Key]
+        ensures keys { result.now ≡ take self.now.drawn self.now.known }
+        ensures len { length result.now ≡ self.now.drawn }
+        ensures in_range { All IsInRange result.now }
+    {
+        &self.block[self.next..self.end]
+    }
+
+    /// Takes that many of the drawn keys.
+    pub fn take_drawn(&mut self, count: usize)
+        requires { count ≤ self.old.drawn }
+        ensures ring { self.new.ring ≡ self.old.ring }
+        ensures taken { self.new.taken ≡ self.old.taken ++ take count self.old.known }
+        ensures known { self.new.known ≡ drop count self.old.known }
+        ensures drawn { self.new.drawn + count ≡ self.old.drawn }
+    {
+        self.next += count;
+    }
+
+    /// How many keys it has drawn from its ring, or sees there, all of which it then knows: that many takes answer. It waits for
+    /// nobody and takes no memory.
     pub fn look(&mut self) -> usize
         ensures ring { self.new.ring ≡ self.old.ring }
         ensures taken { self.new.taken ≡ self.old.taken }
         ensures known { IsPrefix self.old.known self.new.known }
         ensures count { result ≡ length self.new.known }
-        ensures few { result ≤ MOST_RING_KEYS }
+        ensures few { result ≤ MOST_KNOWN_KEYS }
     {
-        self.consumer.slots()
+        self.end - self.next + self.consumer.slots()
     }
 
-    /// How many keys it knows to be on the ring: that many takes answer.
+    /// How many keys it has drawn, or knows to be on the ring: that many takes answer.
     pub fn known(&self) -> usize
         ensures count { result ≡ length self.now.known }
-        ensures few { result ≤ MOST_RING_KEYS }
+        ensures few { result ≤ MOST_KNOWN_KEYS }
     {
-        self.consumer.cached_slots()
-    }
-
-    /// The next of the known keys, which stays on the ring.
-    pub fn peek_known(&self) -> Key
-        requires { 0 < length self.now.known }
-        ensures { IsPrefix (result ∷ []) self.now.known }
-    {
-        *self.consumer.peek_known()
+        self.end - self.next + self.consumer.cached_slots()
     }
 
     /// Takes the next of the known keys, where there is one, as after a [`finish`] that counted it.
@@ -239,11 +310,16 @@ impl Inbox {
         ensures known { self.old.known ≡ result ∷ self.new.known }
         ensures in_range { IsInRange result }
     {
-        self.consumer.pop_known()
+        let Some(key) = self.drawn().first() else {
+            return self.consumer.pop_known();
+        };
+        let key = *key;
+        self.take_drawn(1);
+        key
     }
 }
 
-/// How many keys were sent by the one end of a ring and not yet taken by the other, at most 1,024. That many takes then answer
+/// How many keys were sent by the one end of a ring and not yet taken by the other, at most [`MOST_KNOWN_KEYS`]. That many takes then answer
 /// these keys, in the order in which they were sent, and the keys taken are then the keys sent. Those that waited for their block
 /// to be full are handed over. It waits for nobody and takes no memory.
 pub fn finish(outbox: &mut Outbox, inbox: &mut Inbox) -> usize
@@ -255,9 +331,9 @@ pub fn finish(outbox: &mut Outbox, inbox: &mut Inbox) -> usize
     ensures none { outbox.new.waiting ≡ 0 }
     ensures places { outbox.new.ring.capacity ≤ outbox.new.free + result }
     ensures inbox { (inbox.new.ring ≡ inbox.old.ring) × (inbox.new.taken ≡ inbox.old.taken) }
-    ensures few { result ≤ MOST_RING_KEYS }
+    ensures few { result ≤ MOST_KNOWN_KEYS }
 {
     outbox.hand_over();
     outbox.producer.slots_beside(&mut inbox.consumer);
-    inbox.consumer.slots_beside(&mut outbox.producer)
+    inbox.end - inbox.next + inbox.consumer.slots_beside(&mut outbox.producer)
 }

@@ -33,6 +33,6 @@ mod ends;
 mod error;
 mod rings;
 
-pub use ends::{Inbox, KeysInRange, Outbox, finish};
+pub use ends::{Inbox, KeysInRange, MOST_KNOWN_KEYS, Outbox, finish};
 pub use error::LinkError;
 pub use rings::{Links, link};

@@ -91,34 +91,34 @@ fn send_up_to(outbox: &mut Outbox, keys: u8) -> usize {
     sent
 }
 
-// How many keys are taken, a block of four at a time, up to that many blocks.
-fn take_blocks(inbox: &mut Inbox, blocks: usize) -> Option<usize> {
-    let mut block = [key(255)?; 4];
+// How many keys are drawn and taken, four at a time at most, that many times.
+fn take_blocks(inbox: &mut Inbox, blocks: usize) -> usize {
     let mut taken = 0usize;
     for _ in 0..blocks {
-        taken = taken.saturating_add(inbox.take_block(&mut block));
+        inbox.draw(4);
+        let drawn = inbox.drawn().len();
+        inbox.take_drawn(drawn);
+        taken = taken.saturating_add(drawn);
     }
-    Some(taken)
+    taken
 }
 
 // Of 40 keys on a ring for 50, a full block of 32 is seen; the others once they are handed over. 50 more are then as many as it
 // takes, and a key that is refused hands over those before it. Where the end is let go, three that wait are seen too.
-fn goes_in_blocks(mut outbox: Outbox, inbox: &mut Inbox) -> Option<bool> {
+fn goes_in_blocks(mut outbox: Outbox, inbox: &mut Inbox) -> bool {
     let sent = send_up_to(&mut outbox, 40);
-    let seen = take_blocks(inbox, 20)?;
+    let seen = take_blocks(inbox, 20);
     outbox.hand_over();
-    let rest = take_blocks(inbox, 20)?;
+    let rest = take_blocks(inbox, 20);
     let more = send_up_to(&mut outbox, 60);
-    let all = take_blocks(inbox, 20)?;
+    let all = take_blocks(inbox, 20);
     let last = send_up_to(&mut outbox, 3);
-    let none = take_blocks(inbox, 20)?;
+    let none = take_blocks(inbox, 20);
     drop(outbox);
-    let left = take_blocks(inbox, 20)?;
-    Some(
-        (sent, seen, rest) == (40, 32, 8)
-            && (more, all) == (50, 50)
-            && (last, none, left) == (3, 0, 3),
-    )
+    let left = take_blocks(inbox, 20);
+    (sent, seen, rest) == (40, 32, 8)
+        && (more, all) == (50, 50)
+        && (last, none, left) == (3, 0, 3)
 }
 
 #[test]
@@ -127,7 +127,33 @@ fn keys_go_in_blocks(rt: HostRuntime) -> Result<(), Fail> {
         return Err("no ring".into());
     };
     let gone = goes_in_blocks(outbox, &mut inbox);
-    assert_eq!(rt; gone, Some(true));
+    assert_eq!(rt; gone, true);
+    Ok(())
+}
+
+// Of four keys on a ring for four, the first two are drawn: as many more have a place then, while none is taken, and the third has
+// none. Once one is taken, five are left.
+fn draws_before_it_takes(outbox: &mut Outbox, inbox: &mut Inbox) -> bool
+    requires { outbox.old.ring ≡ inbox.old.ring }
+{
+    let sent = send_up_to(outbox, 5);
+    inbox.draw(2);
+    let drawn = (inbox.drawn().len(), inbox.known());
+    let more = send_up_to(outbox, 3);
+    inbox.draw(4);
+    let still = inbox.drawn().len();
+    let first = inbox.take().is_some();
+    let left = finish(outbox, inbox);
+    (sent, drawn, more) == (4, (2, 4), 2) && (still, first, left) == (2, true, 5)
+}
+
+#[test]
+fn drawn_keys_leave_their_places(rt: HostRuntime) -> Result<(), Fail> {
+    let Some((mut outbox, mut inbox)) = ends(rt.alloc(), 4) else {
+        return Err("no ring".into());
+    };
+    let drawn = draws_before_it_takes(&mut outbox, &mut inbox);
+    assert_eq!(rt; drawn, true);
     Ok(())
 }
 

@@ -178,7 +178,7 @@ pub extern "C" fn teurlaks_seat_hand_over(alloc: Global, handle: &mut ShareHandl
 }
 
 /// Takes the keys that other threads have left to the seat's shard, as many as are seen, and frees each; the count is how many. `BUSY`
-/// where it left off, since another thread had the lock that the next key needs: that key is still on its ring.
+/// where it left off, since another thread had the lock that the next key needs: that key is the next in turn.
 #[unsafe(no_mangle)]
 pub extern "C" fn teurlaks_seat_tend(alloc: Global, handle: &mut ShareHandle) -> TendReply
     ensures { (answer : _) × AsksTend handle.old.share answer handle.new.share

@@ -10,7 +10,7 @@ use crate::arena::Arena;
 use crate::gate::Gate;
 use crate::patience::Tries;
 use crate::receipts::Receipts;
-use crate::tending::{look_at_rings, try_tend_rings};
+use crate::tending::{look_at_rings, tend_rings};
 use abandoned::{AdoptError, ReceiveError};
 use latch::Busy;
 use shard::PutError;
@@ -22,7 +22,7 @@ use std::alloc::AllocError;
 pub struct Tended {
     /// How many keys were taken, and freed.
     pub count: usize,
-    /// Whether it left off, since another thread had the lock that the next key needs. That key is still on its ring.
+    /// Whether it left off, since another thread had the lock that the next key needs. That key is the next in turn.
     pub is_busy: bool,
 }
 
@@ -114,7 +114,7 @@ impl Seat {
         Ok((done_in(&receipt), receipt))
     }
 
-    /// What [`Seat::tend`] does, as long as no other thread has a lock that the next key needs: it takes a key from its ring only
+    /// What [`Seat::tend`] does, as long as no other thread has a lock that the next key needs: it takes a key only
     /// where it can free it at once.
     ///
     /// # Errors
@@ -142,7 +142,8 @@ impl Seat {
         let most = self.limits.ring_capacity();
         let seen = look_at_rings(&mut self.inboxes, most);
         receipts.make_room(seen)?;
-        Ok(try_tend_rings(
+        Ok(tend_rings(
+            &Tries,
             arena,
             &mut self.inboxes,
             most,

@@ -4,7 +4,7 @@ use Rattle.std.proofs.lemmas.List.Elements.{All-from_get_or}
 use Rattle.arena.specs.Seats.{sending_side, sent_lists, taken_lists}
 use Rattle.arena.proofs.CountedRings.{all_counted, counted_more, few_more, ring_here, same_taking, whole_here, whole_more}
 use Rattle.arena.proofs.Sending.{KeepPlaces-more, KeepPlaces-set}
-use Rattle.span.specs.declared.limits.TheConstants.{MOST_RING_KEYS}
+use Rattle.remote_queue.specs.declared.ends.TheConstants.{MOST_KNOWN_KEYS}
 use Rattle.arena.proofs.counting.count_rings.Goals as goal
 
 pub count_left-requires : goal.count_left-requires
@@ -40,7 +40,7 @@ loop-from-preserved c =
       idle = map-set_same (λ s. s.inboxes) seats w c.count_left.new.self d one.seat.1 ∙ inv.idle;
       taking = same_taking inboxes w after before c.index_mut.ensures.value one.inbox.0 one.inbox.1 ∙ inv.taking;
       counted = rw pushed (counted_more inboxes w after inside c.loop-from.counts.items c.count_left.result long one.left inv.counted);
-      few = rw pushed (few_more inboxes w after inside c.loop-from.counts.items c.count_left.result MOST_RING_KEYS long one.few inv.few);
+      few = rw pushed (few_more inboxes w after inside c.loop-from.counts.items c.count_left.result MOST_KNOWN_KEYS long one.few inv.few);
       whole =
           whole_more inboxes w after inside (λ k. slice_index_or (slice_index_or (map sent_lists c.args.seats.now) k []) c.args.shard [])
           (λ k. slice_index_or (taken_lists c.args.inboxes.now.items) k [])
@@ -57,4 +57,4 @@ returns-clause-counted c =
 pub returns-clause-few : goal.returns-clause-few
 returns-clause-few c =
     let inv = c.loop-from.invariant in
-    All-from_get_or (λ n. n ≤ MOST_RING_KEYS) c.loop-from.counts.items 0 (λ k h. inv.few k (omega (arith, inv.len, c.loop-from.counts.ok.0)))
+    All-from_get_or (λ n. n ≤ MOST_KNOWN_KEYS) c.loop-from.counts.items 0 (λ k h. inv.few k (omega (arith, inv.len, c.loop-from.counts.ok.0)))

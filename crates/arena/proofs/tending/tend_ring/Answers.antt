@@ -3,16 +3,15 @@ use Rattle.arena.proofs.TendedRings.{ring_none, ring_more}
 use Rattle.arena.proofs.tending.tend_ring.Goals as goal
 
 pub loop-init : goal.loop-init
-loop-init g c = record { few = omega arith; room = omega arith; tended = ring_none c.args.inbox.now (g.K.Receipts.told c.args.receipts.now) }
+loop-init g c = record { few = omega arith; room = omega arith; known = omega arith; tended = ring_none c.args.inbox.now (g.K.Receipts.told c.args.receipts.now) }
 
 pub loop-preserved : goal.loop-preserved
 loop-preserved g c =
-    let was = c.loop.invariant in
-    let some = c.take_some-taken.ensures in
-    let freed = c.free_all.ensures in
+    let inv = c.loop.invariant in
+    let some = c.in-Ok.ensures in
     record {
-      few = omega (arith, was.few, some.few);
-      room = omega (arith, was.room, freed.room, c.split_at.ensures.front_len);
-      tended = ring_more c.args.inbox.now c.loop.inbox c.take_some-taken.new.inbox c.loop.count c.take_some-taken.result c.take_some-taken.new.block _ _ _
-          was.tended some.ring some.taken some.few.1 (rw c.split_at.ensures.front at freed.freed);
+      few = omega (arith, inv.few, some.few);
+      room = omega (arith, inv.room, some.room);
+      known = omega (arith, inv.known, some.known);
+      tended = ring_more c.args.inbox.now c.loop.inbox c.tend_some.new.inbox c.loop.count c.in-Ok.freed _ _ _ inv.tended some.tended;
     }
