@@ -1,6 +1,6 @@
 -- Keys that were drawn in one block, and of which the first are taken.
 use Rattle.std.proofs.Common.{◌≡◌, ℕ, suc, ◌+◌, ◌-◌, ◌<◌, ◌≤◌, List, ◌∷◌, ◌++◌, length, take, drop, get_or, ap, sym, subst, ◌∙◌, arith, length-append, length-drop, length-take-le, append_assoc, take-add, take_all}
-use Rattle.std.proofs.lemmas.List.{drop-drop, drop-append-le, drop-take, take-append-drop, take-append-le}
+use Rattle.std.proofs.lemmas.List.{drop-drop, drop-take, take-append-drop, take-append-le}
 use Rattle.std.proofs.Math.Seq.{drop-cons, take-append-add}
 use Rattle.remote_queue.specs.Drawn.{drawn_keys, without_last}
 
@@ -64,6 +64,6 @@ module _ {T : Type 0} where
       let long : length (take r list) ≡ r = length-take-le r list (omega (arith, length-append front rest)) in
       let parts : n ≡ r + (n - r) = omega arith in
       rw parts (
-        ap (take r) (take-add r (n - r) list) ∙ take-append-le r (take r list) (take (n - r) (drop r list)) (omega (arith, long))
-        ∙ take_all r (take r list) (omega (arith, long)) ∙ take-append-le r front rest short
+      ap (take r) (take-add r (n - r) list) ∙ take-append-le r (take r list) (take (n - r) (drop r list)) (omega (arith, long))
+      ∙ take_all r (take r list) (omega (arith, long)) ∙ take-append-le r front rest short
       )

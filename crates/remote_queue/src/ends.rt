@@ -21,7 +21,7 @@ impl Protocol<Key> for KeysInRange {
 }
 
 /// How many keys are handed over or drawn at once, where the ring holds as many.
-const BLOCK: usize = 32;
+const BLOCK: usize = 64;
 
 /// How many keys a taker's end may know: those of a full ring, and the block that it drew from it before.
 pub const MOST_KNOWN_KEYS: usize = MOST_RING_KEYS + BLOCK;
@@ -32,8 +32,10 @@ pub struct Outbox {
     producer: Producer<Key, Global, KeysInRange>,
     // The keys sent last, which wait until a block is full, or until they are handed over. Each has its place in the ring.
     waiting: Vec<Key>,
+    // For how many keys more there are places, before it looks again.
+    places: usize,
     ghost below_a_block: { vec_len waiting < vec_capacity waiting },
-    ghost have_places: { vec_len waiting ≤ known_free producer },
+    ghost have_places: { vec_len waiting + places ≤ known_free producer },
 }
 
 impl Model for Outbox {
@@ -51,6 +53,7 @@ impl Drop for Outbox {
         let Outbox {
             mut producer,
             mut waiting,
+            places: _,
         } = self;
         hand_over_by(&mut producer, &mut waiting);
     }
@@ -61,12 +64,12 @@ impl Drop for Outbox {
 #[derive(Drop)]
 pub struct Inbox {
     consumer: Consumer<Key, Global, KeysInRange>,
-    // The keys that were drawn last: those from `next` up to `end` are not taken yet.
+    // The keys that were drawn last: those from `next` up to `end` are not taken yet. It is empty until the first are drawn.
     block: Vec<Key>,
     next: usize,
     end: usize,
     ghost capacity_in_range: { consumer.capacity ≤ MOST_RING_KEYS },
-    ghost block_in_range: { (1 ≤ vec_len block) × (vec_len block ≤ BLOCK) },
+    ghost block_in_range: { (1 ≤ vec_capacity block) × (vec_capacity block ≤ BLOCK) },
     ghost in_block: { (next ≤ end) × (end ≤ vec_len block) },
     ghost received_last: { received consumer ≡ without_last (end - next) (received consumer)
         ++ drawn_keys next end block.items },
@@ -90,7 +93,7 @@ pub(crate) fn ring(alloc: Global, capacity: usize) -> Result<(Outbox, Inbox), Al
         × (ends.1.taken ≡ [])) }
 {
     let waiting = Vec::with_capacity(alloc, capacity.min(BLOCK))?;
-    let block = vec![in alloc; any_key(); capacity.min(BLOCK)]?;
+    let block = Vec::with_capacity(alloc, capacity.min(BLOCK))?;
     let (producer, consumer) = RingBuffer::with_protocol::<Global, KeysInRange>(alloc, capacity)?;
     let inbox = Inbox {
         consumer,
@@ -98,7 +101,12 @@ pub(crate) fn ring(alloc: Global, capacity: usize) -> Result<(Outbox, Inbox), Al
         next: 0,
         end: 0,
     };
-    Ok((Outbox { producer, waiting }, inbox))
+    let outbox = Outbox {
+        producer,
+        waiting,
+        places: 0,
+    };
+    Ok((outbox, inbox))
 }
 
 // What stands in a place of a block before a key does.
@@ -131,26 +139,68 @@ fn hand_over_by(producer: &mut Producer<Key, Global, KeysInRange>, waiting: &mut
     }
 }
 
-// Whether the ring has a place for one key more than that many, as far as its end knows or sees.
-#[inline(always)]
-fn has_place(producer: &mut Producer<Key, Global, KeysInRange>, waiting: usize) -> bool
-    ensures looked { ProducerLooked producer.old producer.new }
-    ensures value { IsTrue result ↔ (waiting < known_free producer.new) }
-{
-    waiting < producer.cached_slots() || waiting < producer.slots()
-}
-
-// Sends the key: it waits with others until they fill a block. Where it is refused, none waits any more.
-// Inlined, as what calls it, the key stays in registers: what is handed back would go through memory.
-#[inline(always)]
-fn send_by(
+// Looks how many places of the ring are free beside those of the keys that wait, and hands these over where there is none.
+#[inline]
+fn look_for_places(
     producer: &mut Producer<Key, Global, KeysInRange>,
     waiting: &mut Vec<Key>,
+) -> usize
+    requires { vec_len waiting.old ≤ known_free producer.old }
+    ensures ring { SameProducer producer.old producer.new }
+    ensures sent { sent producer.new ++ waiting.new.items
+        ≡ sent producer.old ++ waiting.old.items }
+    ensures places { vec_len waiting.new + result ≤ known_free producer.new }
+    ensures free { known_free producer.old + vec_len waiting.new
+        ≤ known_free producer.new + vec_len waiting.old }
+    ensures stay { 0 < result → waiting.new ≡ waiting.old }
+    ensures none { result ≡ 0 → (vec_len waiting.new ≡ 0)
+        × (known_free producer.old ≡ vec_len waiting.old) }
+    ensures room { vec_capacity waiting.new ≡ vec_capacity waiting.old }
+{
+    let places = producer.slots() - waiting.len();
+    if places == 0 {
+        hand_over_by(producer, waiting);
+    }
+    places
+}
+
+// Has the key wait with others in a place that is known to be free, until they fill a block.
+#[inline(always)]
+fn push_by(
+    producer: &mut Producer<Key, Global, KeysInRange>,
+    waiting: &mut Vec<Key>,
+    places: &mut usize,
+    key: Key,
+)
+    requires some { 0 < places.old }
+    requires places { vec_len waiting.old + places.old ≤ known_free producer.old }
+    requires room { vec_len waiting.old < vec_capacity waiting.old }
+    ensures places { vec_len waiting.new + places.new ≤ known_free producer.new }
+    ensures room { vec_len waiting.new < vec_capacity waiting.new }
+    ensures ring { SameProducer producer.old producer.new }
+    ensures sent { sent producer.new ++ waiting.new.items
+        ≡ (sent producer.old ++ waiting.old.items) ++ key ∷ [] }
+    ensures place { known_free producer.old + vec_len waiting.new
+        ≤ known_free producer.new + vec_len waiting.old + 1 }
+{
+    *places -= 1;
+    waiting.push_reserved(key);
+    if waiting.len() == waiting.capacity() {
+        hand_over_by(producer, waiting);
+    }
+}
+
+// Sends the key, where no place is known to be free: it looks for one first. It stands apart, since mostly one is known.
+#[inline(never)]
+fn send_after_look(
+    producer: &mut Producer<Key, Global, KeysInRange>,
+    waiting: &mut Vec<Key>,
+    places: &mut usize,
     key: Key,
 ) -> Result<(), Key>
     requires places { vec_len waiting.old ≤ known_free producer.old }
     requires room { vec_len waiting.old < vec_capacity waiting.old }
-    ensures places { vec_len waiting.new ≤ known_free producer.new }
+    ensures places { vec_len waiting.new + places.new ≤ known_free producer.new }
     ensures room { vec_len waiting.new < vec_capacity waiting.new }
     ensures ring { SameProducer producer.old producer.new }
     ensures sent { MatchResult result
@@ -163,14 +213,42 @@ fn send_by(
     ensures place { OnOk result (known_free producer.old + vec_len waiting.new
         ≤ known_free producer.new + vec_len waiting.old + 1) }
 {
-    if !has_place(producer, waiting.len()) {
-        hand_over_by(producer, waiting);
+    *places = look_for_places(producer, waiting);
+    if *places == 0 {
         return Err(key);
     }
-    waiting.push_reserved(key);
-    if waiting.len() == waiting.capacity() {
-        hand_over_by(producer, waiting);
+    push_by(producer, waiting, places, key);
+    Ok(())
+}
+
+// Sends the key: it waits with others until they fill a block. Where it is refused, none waits any more.
+// Inlined, as what calls it, the key stays in registers: what is handed back would go through memory.
+#[inline(always)]
+fn send_by(
+    producer: &mut Producer<Key, Global, KeysInRange>,
+    waiting: &mut Vec<Key>,
+    places: &mut usize,
+    key: Key,
+) -> Result<(), Key>
+    requires places { vec_len waiting.old + places.old ≤ known_free producer.old }
+    requires room { vec_len waiting.old < vec_capacity waiting.old }
+    ensures places { vec_len waiting.new + places.new ≤ known_free producer.new }
+    ensures room { vec_len waiting.new < vec_capacity waiting.new }
+    ensures ring { SameProducer producer.old producer.new }
+    ensures sent { MatchResult result
+        (λ _. sent producer.new ++ waiting.new.items
+        ≡ (sent producer.old ++ waiting.old.items) ++ key ∷ [])
+        (λ back. (back ≡ key) × (sent producer.new ++ waiting.new.items
+        ≡ sent producer.old ++ waiting.old.items)) }
+    ensures none { OnErr result (vec_len waiting.new ≡ 0) }
+    ensures succeeds { vec_len waiting.old < known_free producer.old → IsOk result }
+    ensures place { OnOk result (known_free producer.old + vec_len waiting.new
+        ≤ known_free producer.new + vec_len waiting.old + 1) }
+{
+    if *places == 0 {
+        return send_after_look(producer, waiting, places, key);
     }
+    push_by(producer, waiting, places, key);
     Ok(())
 }
 
@@ -194,7 +272,7 @@ impl Outbox {
         ensures full { OnErr result (self.old.free ≡ 0) }
         ensures refused { OnErr result (self.new.waiting ≡ 0) }
     {
-        send_by(&mut self.producer, &mut self.waiting, key)
+        send_by(&mut self.producer, &mut self.waiting, &mut self.places, key)
     }
 
     /// Hands over the keys that wait for their block to be full, so that the taker's end can see all that were sent. It waits
@@ -206,6 +284,16 @@ impl Outbox {
         ensures none { self.new.waiting ≡ 0 }
     {
         hand_over_by(&mut self.producer, &mut self.waiting);
+    }
+}
+
+// Fills the block up, so that each of its places may be drawn into.
+fn fill_up(block: &mut Vec<Key>)
+    ensures len { vec_len block.new ≡ vec_capacity block.old }
+    ensures capacity { vec_capacity block.new ≡ vec_capacity block.old }
+{
+    for _ in block.len()..block.capacity() {
+        block.push_reserved(any_key());
     }
 }
 
@@ -257,6 +345,7 @@ impl Inbox {
         ensures few { self.new.drawn ≤ max self.old.drawn most }
     {
         if self.next == self.end {
+            fill_up(&mut self.block);
             self.next = 0;
             self.end = draw_into(&mut self.consumer, self.block.as_mut_slice(), most);
         }
@@ -334,6 +423,6 @@ pub fn finish(outbox: &mut Outbox, inbox: &mut Inbox) -> usize
     ensures few { result ≤ MOST_KNOWN_KEYS }
 {
     outbox.hand_over();
-    outbox.producer.slots_beside(&mut inbox.consumer);
+    outbox.places = outbox.producer.slots_beside(&mut inbox.consumer);
     inbox.end - inbox.next + inbox.consumer.slots_beside(&mut outbox.producer)
 }

@@ -103,27 +103,27 @@ fn take_blocks(inbox: &mut Inbox, blocks: usize) -> usize {
     taken
 }
 
-// Of 40 keys on a ring for 50, a full block of 32 is seen; the others once they are handed over. 50 more are then as many as it
+// Of 80 keys on a ring for 100, a full block of 64 is seen; the others once they are handed over. 100 more are then as many as it
 // takes, and a key that is refused hands over those before it. Where the end is let go, three that wait are seen too.
 fn goes_in_blocks(mut outbox: Outbox, inbox: &mut Inbox) -> bool {
-    let sent = send_up_to(&mut outbox, 40);
-    let seen = take_blocks(inbox, 20);
+    let sent = send_up_to(&mut outbox, 80);
+    let seen = take_blocks(inbox, 30);
     outbox.hand_over();
-    let rest = take_blocks(inbox, 20);
-    let more = send_up_to(&mut outbox, 60);
-    let all = take_blocks(inbox, 20);
+    let rest = take_blocks(inbox, 30);
+    let more = send_up_to(&mut outbox, 110);
+    let all = take_blocks(inbox, 30);
     let last = send_up_to(&mut outbox, 3);
-    let none = take_blocks(inbox, 20);
+    let none = take_blocks(inbox, 30);
     drop(outbox);
-    let left = take_blocks(inbox, 20);
-    (sent, seen, rest) == (40, 32, 8)
-        && (more, all) == (50, 50)
+    let left = take_blocks(inbox, 30);
+    (sent, seen, rest) == (80, 64, 16)
+        && (more, all) == (100, 100)
         && (last, none, left) == (3, 0, 3)
 }
 
 #[test]
 fn keys_go_in_blocks(rt: HostRuntime) -> Result<(), Fail> {
-    let Some((outbox, mut inbox)) = ends(rt.alloc(), 50) else {
+    let Some((outbox, mut inbox)) = ends(rt.alloc(), 100) else {
         return Err("no ring".into());
     };
     let gone = goes_in_blocks(outbox, &mut inbox);

@@ -3,8 +3,8 @@
 //! calls of a round in one session of each), `mutex` (a `teurlaks::Store` behind one mutex) or `sharded-slab`. Each thread has 1,000 words of 128
 //! bits of its own, and WORK is `churn` (each call frees one and puts another), `own` (each reads one) or `other` (each reads one of another
 //! thread's, of all others in turn); or each has as many as it has calls, and WORK is `later`: it frees those of the next thread, by `free_later`
-//! at a seat, which tends after each 64 calls. It tells nanoseconds a call of the slowest thread, by the clock, the least of 10 rounds in which all
-//! threads began at once.
+//! at a seat, which tends after each 64 calls, and then goes on to tend until all threads have called and what they left to it is freed. It tells
+//! nanoseconds a call of the slowest thread, by the clock, the least of 10 rounds in which all threads began at once.
 
 use beside::random::Random;
 use std::hint;
@@ -32,11 +32,11 @@ trait Store: Sync {
 trait Place {
     type Key: Copy;
     /// The calls of one thread of a round.
-    fn calls(&mut self, work: Work, thread: usize, count: usize, keys: &[OnceLock<Vec<Self::Key>>])
+    fn calls(&mut self, work: Work, thread: usize, count: usize, round: &Round<Self::Key>)
     where
         Self: Sized,
     {
-        calls(self, work, thread, count, keys);
+        calls(self, work, thread, count, round);
     }
     fn put(&mut self, value: u128) -> Self::Key;
     fn get(&self, key: Self::Key) -> Option<u128>;
@@ -46,6 +46,8 @@ trait Place {
         assert!(self.free(key));
     }
     fn rest(&mut self) {}
+    /// Rests until all threads have made their calls and nothing is left for this one.
+    fn settle(&mut self, _calling: &Countdown) {}
 }
 
 impl Store for teurlaks::SharedStore<u128> {
@@ -106,6 +108,20 @@ impl Place for teurlaks::arena::Seat<u128> {
     fn rest(&mut self) {
         self.tend().expect("it takes no memory");
     }
+    fn settle(&mut self, calling: &Countdown) {
+        settle(self, calling);
+    }
+}
+
+/// Hands over, says so, and rests until all have, and once more for what came last.
+fn settle<P: Place>(place: &mut P, calling: &Countdown) {
+    place.rest();
+    calling.is_done();
+    while !calling.are_all_done() {
+        place.rest();
+        hint::spin_loop();
+    }
+    place.rest();
 }
 
 struct Sessions(Seats);
@@ -120,8 +136,8 @@ impl Store for Sessions {
 struct InSession(teurlaks::arena::Seat<u128>);
 impl Place for InSession {
     type Key = teurlaks::Key;
-    fn calls(&mut self, work: Work, thread: usize, count: usize, keys: &[OnceLock<Vec<Self::Key>>]) {
-        calls(&mut self.0.session(), work, thread, count, keys);
+    fn calls(&mut self, work: Work, thread: usize, count: usize, round: &Round<Self::Key>) {
+        calls(&mut self.0.session(), work, thread, count, round);
     }
     fn put(&mut self, value: u128) -> Self::Key {
         self.0.put(value)
@@ -152,6 +168,9 @@ impl Place for teurlaks::arena::Session<'_, u128> {
     }
     fn rest(&mut self) {
         self.tend().expect("it takes no memory");
+    }
+    fn settle(&mut self, calling: &Countdown) {
+        settle(self, calling);
     }
 }
 
@@ -206,6 +225,25 @@ enum Work {
     Later,
 }
 
+/// What the threads of a round know of each other.
+struct Round<K> {
+    /// The keys of each thread's own values.
+    keys: Vec<OnceLock<Vec<K>>>,
+    calling: Countdown,
+}
+
+/// How many threads of a round still make calls.
+struct Countdown(AtomicUsize);
+
+impl Countdown {
+    fn is_done(&self) {
+        self.0.fetch_sub(1, Ordering::AcqRel);
+    }
+    fn are_all_done(&self) -> bool {
+        self.0.load(Ordering::Acquire) == 0
+    }
+}
+
 /// What the threads of a round wait for: that all have come. Nobody sleeps, and hardly anybody lets another program run, so that all begin at once.
 struct Gate {
     come: AtomicUsize,
@@ -229,10 +267,11 @@ impl Gate {
 }
 
 /// The calls of one thread of a round.
-fn calls<P: Place>(place: &mut P, work: Work, thread: usize, calls: usize, keys: &[OnceLock<Vec<P::Key>>]) {
-    let others = keys.len() - 1;
+fn calls<P: Place>(place: &mut P, work: Work, thread: usize, calls: usize, round: &Round<P::Key>) {
+    let threads = round.keys.len();
+    let others = threads - 1;
     let mut random = Random::new(thread as u64 + 1);
-    let of = |thread: usize| keys[thread % keys.len()].get().map_or(&[][..], Vec::as_slice);
+    let of = |thread: usize| round.keys[thread % threads].get().map_or(&[][..], Vec::as_slice);
     match work {
         Work::Churn => {
             let mut own = of(thread).to_vec();
@@ -259,6 +298,7 @@ fn calls<P: Place>(place: &mut P, work: Work, thread: usize, calls: usize, keys:
                 keys.iter().for_each(|key| place.free_later(*key));
                 place.rest();
             }
+            place.settle(&round.calling);
         }
     }
 }
@@ -270,14 +310,17 @@ fn round<S: Store>(store: S, work: Work, threads: usize, count: usize) -> Option
         come: AtomicUsize::new(0),
         threads,
     };
-    let keys: Vec<OnceLock<Vec<S::Key>>> = (0..threads).map(|_| OnceLock::new()).collect();
+    let round = Round {
+        keys: (0..threads).map(|_| OnceLock::new()).collect(),
+        calling: Countdown(AtomicUsize::new(threads)),
+    };
     let values = if work == Work::Later { count } else { VALUES };
     let one = |thread: usize| {
         let mut place = store.place();
-        let _ = keys[thread].set((0..values).map(|value| place.put(value as u128)).collect());
+        let _ = round.keys[thread].set((0..values).map(|value| place.put(value as u128)).collect());
         gate.wait();
         let begun = Instant::now();
-        place.calls(work, thread, count, &keys);
+        place.calls(work, thread, count, &round);
         let took = begun.elapsed();
         // The threads stay until all are done: a shard of a thread that is gone may be another's.
         gate.wait();

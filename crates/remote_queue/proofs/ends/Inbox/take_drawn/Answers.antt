@@ -1,8 +1,8 @@
-use Rattle.std.proofs.Common.{◌≡◌, ◌≤◌, ◌+◌, ◌-◌, ◌++◌, ◌∙◌, All, ap, arith, length, rules, subst, sym}
-use Rattle.std.proofs.lemmas.List.{drop-append-le, take-append-le}
+use Rattle.std.proofs.Common.{◌≤◌, ◌+◌, ◌-◌, All, arith, subst, sym}
+use Rattle.std.proofs.lemmas.List.{drop-append-le}
 use Rattle.std.proofs.lemmas.List.Elements.{All-drop}
 use Rattle.rtrb.specs.Ring.{known_items, received}
-use Rattle.remote_queue.specs.Drawn.{drawn_keys, without_last}
+use Rattle.remote_queue.specs.Drawn.{drawn_keys}
 use Rattle.remote_queue.specs.Rings.{IsInRange}
 use Rattle.remote_queue.proofs.DrawnKeys.{drawn_keys-drop, length-drawn_keys, rest_of_drawn, taken_of_drawn}
 use Rattle.remote_queue.proofs.ends.Inbox.take_drawn.Goals as goal
@@ -14,8 +14,7 @@ invariant_of-self-inside c =
     let within : i.next + c.args.count ≤ i.end = omega (arith, few, i.in_block.0) in
     let keys = drawn_keys i.next i.end i.block.items in
     let long = length-drawn_keys i.next i.end i.block.items (omega (arith, i.in_block.1, i.block.ok.0)) in
-    let left = drawn_keys-drop i.next i.end c.args.count i.block.items within in
-    (
+    let left = drawn_keys-drop i.next i.end c.args.count i.block.items within in (
       i.capacity_in_range,
       (
         i.block_in_range,
