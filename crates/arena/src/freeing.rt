@@ -177,12 +177,7 @@ fn free_front<L: Log, K: Receipts>(
 
 // Frees the key in the shard, if that has its span.
 #[inline(always)]
-fn free_one<L: Log>(
-    shard: &mut Shard<L>,
-    worker: u32,
-    section: u64,
-    key: &Key,
-) -> Option<Receipt>
+fn free_one<L: Log>(shard: &mut Shard<L>, worker: u32, section: u64, key: &Key) -> Option<Receipt>
     ensures { IfSome result (IsFreeBy worker section key.now) }
 {
     free_in(shard, worker, section, key)

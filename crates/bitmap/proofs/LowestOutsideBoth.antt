@@ -1,13 +1,18 @@
 -- The first of four words that is not full, found from the last one on; and what it says of two sets whose words are joined.
-use Rattle.std.proofs.Common.{Bool, false, not, ◌&&◌, get_or-set_other, get_or-set_same, lt-ltb, nat_lt, set, ◌≡◌, ℕ, ◌+◌, ◌-◌, ◌*◌, ◌/◌, ◌%◌, ◌^◌, ◌<◌, ◌≤◌, true, List, get_or, bit_or, ap, sym, subst, ◌∙◌, refl, inl, inr, arith, eq-eqb, w64}
+use Rattle.std.proofs.Common.{suc, set, ◌≡◌, ℕ, ◌+◌, ◌-◌, ◌*◌, ◌/◌, ◌%◌, ◌^◌, ◌<◌, ◌≤◌, true, List, count_ones, drop, get_or, length, sum_by, bit_or, ap, sym, subst, ◌∙◌, inl, inr, arith, eq-eqb, w64}
+use Rattle.std.specs.Cmp.{nat_cmp_total}
 use Rattle.std.specs.Int.{trailing_ones}
 use Rattle.std.specs.Simd.Lanes.{zip2}
-use Rattle.std.specs.FinSet.{insert, union}
-use Rattle.std.proofs.lemmas.Bool.{cases_eq, cases_lt, false_from_ne_true, ltb-true, true≢false}
+use Rattle.std.specs.FinSet.{insert, len, len-insert, union}
+use Rattle.std.proofs.Math.Seq.{drop-cons}
+use Rattle.std.proofs.lemmas.Bool.{cases_lt}
+use Rattle.std.proofs.lemmas.List.{drop_all}
+use Rattle.std.proofs.lemmas.List.Sums.{sum_by-cons}
 use Rattle.std.proofs.lemmas.Nat.{or_lt}
 use Rattle.std.proofs.lemmas.Nat.Bits.{bit_at_ones}
 use Rattle.bitmap.specs.Slots.{AreWords, HasAllBelow, IsLowestOutside, has_bit, slots_of_words}
 use Rattle.bitmap.specs.Words.{contains-slots_of_words, has_bit-place}
+use Rattle.bitmap.proofs.Counts.{HasAllBelow-len, count_ones-most, len-HasAllBelow, len-slots_of_words}
 use Rattle.bitmap.proofs.Edits.{AreWords-insert, slots_of_words-insert}
 use Rattle.bitmap.proofs.LowestOutside.{first-lt, IsLowestOutside-first}
 use Rattle.bitmap.proofs.WordByWord.{slots_of_words-union, AreWords-lanes, get_or-lanes, length-lanes}
@@ -59,46 +64,32 @@ full_below words first full slot below =
     ap (has_bit words) (sym at) ∙ has_bit-place words (slot / 64) (slot % 64) (omega arith)
     ∙ eq-eqb _ 1 (rw (full (slot / 64) (omega arith) (omega (arith, below))) (bit_at_ones 64 (slot % 64) (omega arith)))
 
--- neither is another word open nor this one
-pub both_so : (has_others full : Bool) → (not has_others && full) ≡ true → (has_others ≡ false) × (full ≡ true)
-both_so false true so = (refl, refl)
-both_so false false so = absurd (true≢false (sym so))
-both_so true full so = absurd (true≢false (sym so))
+-- how many slots the words from k on have
+abbrev pub ones_from : List ℕ → ℕ → ℕ
+ones_from words k = sum_by count_ones (drop k words)
 
--- whether a word behind the first one is not full
-pub record IsAlone (words : List ℕ) (first : ℕ) (has_others : Bool) : Type 0 where
-  pub none : has_others ≡ false → (j : ℕ) → first < j → j < 4 → get_or words j 0 ≡ 2 ^ 64 - 1
-  pub some : has_others ≡ true → (j : ℕ) × ((first < j) × ((j < 4) × (get_or words j 0 ≡ 2 ^ 64 - 1 → ⊥)))
+-- with the word before
+pub ones_from-before : (words : List ℕ) (k : ℕ) → 1 ≤ k → k ≤ length words → ones_from words (k - 1) ≡ ones_from words k + count_ones (get_or words (k - 1) 0)
+ones_from-before words k some fits =
+    let next : suc (k - 1) ≡ k = omega arith in
+    ap (sum_by count_ones) (drop-cons words (k - 1) 0 (omega (arith, some, fits)))
+    ∙ sum_by-cons count_ones (get_or words (k - 1) 0) (drop (suc (k - 1)) words)
+    ∙ rw next (omega arith)
 
--- the word before is not full
-pub IsAlone-here : (words : List ℕ) (k first word : ℕ) (has_others : Bool) → 1 ≤ k → IsFirstOpen words k first word → has_others ≡ nat_lt first 4
-    → IsAlone words (k - 1) has_others
-IsAlone-here words k first word has_others some is same = record {
-  none = λ no j behind below. is.full j (omega (arith, behind)) (elim (cases_lt first 4) [
-    | inl less ↦ absurd (true≢false (sym (same ∙ lt-ltb first 4 less) ∙ no))
-    | inr past ↦ omega (arith, past, below)
-  ]);
-  some = λ yes. let less : first < 4 = ltb-true first 4 (sym same ∙ yes) in
-      (first, (omega (arith, is.from, some), (less, λ ones. (is.here less).1 ((is.here less).0 ∙ ones))));
-}
-
-module _ (words : List ℕ) (are : AreWords words) where
-  -- each slot is there where each word is full
-  HasAllBelow-full : ((j : ℕ) → j < 4 → get_or words j 0 ≡ 2 ^ 64 - 1) → HasAllBelow (slots_of_words words) 256
-  HasAllBelow-full each slot below = contains-slots_of_words words (omega (arith, are.four)) slot
-      ∙ full_below words 4 (λ j from low. each j low) slot (omega (arith, below))
-
-  -- and the other way round
-  full-HasAllBelow : HasAllBelow (slots_of_words words) 256 → (k : ℕ) → k < 4 → get_or words k 0 ≡ 2 ^ 64 - 1
-  full-HasAllBelow all k low = elim (cases_eq (get_or words k 0) (2 ^ 64 - 1)) [
-    | inl full ↦ full
-    | inr unlike ↦
-        let here : (slot : ℕ) → slot < 64 * k → has_bit words slot ≡ true =
-        λ slot below. sym (contains-slots_of_words words (omega (arith, are.four)) slot) ∙ all slot (omega (arith, below, low)) in
-        let small = first-lt words are k low here unlike in
-        absurd (true≢false (sym (all (64 * k + trailing_ones w64 (get_or words k 0)) (omega (arith, low, small)))
-        ∙ (IsLowestOutside-first words are k low here unlike).outside))
-  ]
+-- all four words have as many as their set
+ones_from-len : (words : List ℕ) → AreWords words → ones_from words 0 ≡ len (slots_of_words words)
+ones_from-len words are =
+    let fits : 4 ≤ length words = omega (arith, are.four) in
+    let past : ones_from words 4 ≡ 0 = ap (sum_by count_ones) (drop_all 4 words (omega (arith, are.four))) in
+    omega (
+      arith,
+      past,
+      ones_from-before words 4 (omega arith) fits,
+      ones_from-before words 3 (omega arith) (omega (arith, fits)),
+      ones_from-before words 2 (omega arith) (omega (arith, fits)),
+      ones_from-before words 1 (omega arith) (omega (arith, fits)),
+      len-slots_of_words words are,
+    )
 
 module _ (a b : List ℕ) (are_a : AreWords a) (are_b : AreWords b) where
   abbrev both : List ℕ
@@ -113,6 +104,18 @@ module _ (a b : List ℕ) (are_a : AreWords a) (are_b : AreWords b) where
 
   pub get_or-both : (k : ℕ) → k < 4 → get_or both k 0 ≡ bit_or (get_or a k 0) (get_or b k 0)
   get_or-both = get_or-lanes a b are_a are_b bit_or
+
+  -- the count of the words from one on goes on by the word before, which has 64 at most
+  pub counted-before : (k count : ℕ) → 1 ≤ k → k ≤ 4 → count ≡ ones_from both k
+      → (count_ones (bit_or (get_or a (k - 1) 0) (get_or b (k - 1) 0)) ≤ 64)
+      × (count + count_ones (bit_or (get_or a (k - 1) 0) (get_or b (k - 1) 0)) ≡ ones_from both (k - 1))
+  counted-before k count some few is =
+      let read : count_ones (get_or both (k - 1) 0) ≡ count_ones (bit_or (get_or a (k - 1) 0) (get_or b (k - 1) 0)) = ap count_ones (get_or-both (k - 1) (omega (arith, some, few))) in
+      (omega (arith, read, count_ones-most both are (k - 1)), omega (arith, read, is, ones_from-before both k some (omega (arith, few, are.four))))
+
+  -- behind the last word there is none
+  pub counted-none : 0 ≡ ones_from both 4
+  counted-none = sym (ap (sum_by count_ones) (drop_all 4 both (omega (arith, are.four))))
 
   -- no word is open
   pub HasAllBelow-both : (word : ℕ) → IsFirstOpen both 0 4 word → HasAllBelow (union (slots_of_words a) (slots_of_words b)) 256
@@ -138,20 +141,11 @@ module _ (a b : List ℕ) (are_a : AreWords a) (are_b : AreWords b) where
     abbrev slot : ℕ
     slot = 64 * first + low
 
-    place : slot / 64 ≡ first
-    place = omega (arith, inside, low-lt)
-
-    bit : slot % 64 ≡ low
-    bit = omega (arith, inside, low-lt)
-
     within : slot < 256
     within = omega (arith, inside, low-lt)
 
-    abbrev filled : ℕ
-    filled = bit_or (get_or both (slot / 64) 0) (1 * 2 ^ (slot % 64) % 2 ^ 64)
-
     abbrev changed : List ℕ
-    changed = set both (slot / 64) filled
+    changed = set both (slot / 64) (bit_or (get_or both (slot / 64) 0) (1 * 2 ^ (slot % 64) % 2 ^ 64))
 
     are_changed : AreWords changed
     are_changed = AreWords-insert both are slot within
@@ -159,35 +153,16 @@ module _ (a b : List ℕ) (are_a : AreWords a) (are_b : AreWords b) where
     changed_is : slots_of_words changed ≡ insert (union (slots_of_words a) (slots_of_words b)) slot
     changed_is = slots_of_words-insert both are.four slot within ∙ ap (λ slots. insert slots slot) slots_are
 
-    filled_is : filled ≡ bit_or word (1 * 2 ^ low % 2 ^ 64)
-    filled_is = rw (place, bit, (is.here inside).0) refl
+    -- one slot more than the words have
+    len-changed : len (slots_of_words changed) ≡ ones_from both 0 + 1
+    len-changed =
+        ap len changed_is ∙ len-insert nat_cmp_total (union (slots_of_words a) (slots_of_words b)) slot
+        ∙ rw (IsLowestOutside-both.outside) (ap (λ n. n + 1) (ap len (sym slots_are) ∙ sym (ones_from-len both are)))
 
-    read_same : get_or changed first 0 ≡ filled
-    read_same = ap (λ j. get_or changed j 0) (sym place) ∙ get_or-set_same both (slot / 64) filled 0 (omega (arith, place, inside, are.four))
+    -- where the words have all slots but one, each is there once this one is
+    pub last-HasAllBelow : ones_from both 0 ≡ 255 → HasAllBelow (insert (union (slots_of_words a) (slots_of_words b)) slot) 256
+    last-HasAllBelow count = subst (λ slots. HasAllBelow slots 256) changed_is (HasAllBelow-len changed are_changed (omega (arith, len-changed, count)))
 
-    read_other : (j : ℕ) → (j ≡ first → ⊥) → get_or changed j 0 ≡ get_or both j 0
-    read_other j other = get_or-set_other both (slot / 64) j filled 0 (λ e. other (e ∙ place))
-
-    module _ (has_others : Bool) (alone : IsAlone both first has_others) where
-      -- where it is the only one, each slot is there once it is
-      pub last-HasAllBelow : has_others ≡ false → bit_or word (1 * 2 ^ low % 2 ^ 64) ≡ 2 ^ 64 - 1
-          → HasAllBelow (insert (union (slots_of_words a) (slots_of_words b)) slot) 256
-      last-HasAllBelow none full = subst (λ slots. HasAllBelow slots 256) changed_is (HasAllBelow-full changed are_changed (λ j below.
-          elim (cases_eq j first) [
-            | inl same ↦ ap (λ j. get_or changed j 0) same ∙ read_same ∙ filled_is ∙ full
-            | inr other ↦ read_other j other ∙ elim (cases_lt j first) [
-              | inl before ↦ is.full j (omega arith) before
-              | inr behind ↦ alone.none none j (omega (arith, behind, other)) below
-            ]
-          ]))
-
-      -- and the other way round
-      pub HasAllBelow-last : HasAllBelow (insert (union (slots_of_words a) (slots_of_words b)) slot) 256
-          → (has_others ≡ false) × (bit_or word (1 * 2 ^ low % 2 ^ 64) ≡ 2 ^ 64 - 1)
-      HasAllBelow-last all =
-          let each = full-HasAllBelow changed are_changed (subst (λ slots. HasAllBelow slots 256) (sym changed_is) all) in (
-            false_from_ne_true has_others (λ yes.
-                let other = alone.some yes in
-                other.1.1.1 (sym (read_other other.0 (λ e. absurd (omega (arith, e, other.1.0)))) ∙ each other.0 other.1.1.0)),
-            sym filled_is ∙ sym read_same ∙ each first inside,
-          )
+    -- and the other way round
+    pub HasAllBelow-last : HasAllBelow (insert (union (slots_of_words a) (slots_of_words b)) slot) 256 → ones_from both 0 ≡ 255
+    HasAllBelow-last all = omega (arith, len-changed, len-HasAllBelow changed are_changed (subst (λ slots. HasAllBelow slots 256) (sym changed_is) all))

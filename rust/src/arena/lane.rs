@@ -313,6 +313,7 @@ impl Owner {
     }
 
     /// Makes a call on the handle once the shard is not kept any more, and nobody is about to take it.
+    #[inline]
     pub fn alone<A>(&self, call: impl FnOnce(*mut raw::ShareHandle) -> A) -> A {
         self.let_go();
         // The door is open, and so the handle is the owner's alone.
@@ -320,6 +321,7 @@ impl Owner {
     }
 
     /// Lets go of the shard, where it is kept, and else waits until nobody takes it.
+    #[inline]
     pub fn let_go(&self) {
         self.open_door(|lane| {
             // SAFETY: this is the owner, it has the lock, and it is in no call.
@@ -344,10 +346,15 @@ impl Owner {
     }
 
     /// Opens the door so, where it is not open once nobody takes the shard.
+    #[inline]
     fn open_door(&self, open: impl FnOnce(&Lane)) {
-        if self.is_open() {
-            return;
+        if !self.is_open() {
+            self.open_closed_door(open);
         }
+    }
+
+    #[cold]
+    fn open_closed_door(&self, open: impl FnOnce(&Lane)) {
         let _taking = self.lane.lock();
         if self.lane.is_kept() {
             open(&self.lane);

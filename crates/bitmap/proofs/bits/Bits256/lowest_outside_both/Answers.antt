@@ -1,7 +1,6 @@
-use Rattle.std.proofs.lemmas.Bool.{true≢false}
-use Rattle.std.proofs.Common.{eq-eqb, eqb-true, refl, ◌<◌, ◌*◌, ◌+◌, ◌∙◌, bit_or, sym, subst, arith}
+use Rattle.std.proofs.Common.{◌≡◌, ◌-◌, eq-eqb, eqb-true, ◌<◌, ◌*◌, ◌+◌, ◌∙◌, bit_or, sym, subst, arith}
 use Rattle.std.specs.Simd.Lanes.{zip2}
-use Rattle.bitmap.proofs.LowestOutsideBoth.{get_or-both, HasAllBelow-both, IsFirstOpen, IsFirstOpen-all, IsFirstOpen-full, IsFirstOpen-here, IsAlone-here, IsLowestOutside-both, low-lt, last-HasAllBelow, HasAllBelow-last, both_so}
+use Rattle.bitmap.proofs.LowestOutsideBoth.{counted-before, counted-none, get_or-both, HasAllBelow-both, IsFirstOpen, IsFirstOpen-all, IsFirstOpen-full, IsFirstOpen-here, IsLowestOutside-both, low-lt, last-HasAllBelow, HasAllBelow-last, ones_from}
 use Rattle.bitmap.proofs.bits.Bits256.lowest_outside_both.Goals as goal
 use Rattle.bitmap.proofs.bits.Bits256.lowest_outside_both.Goals.{After-trailing_ones-low}
 
@@ -13,25 +12,34 @@ loop-k-init c = record {
     full = λ j from below. absurd (omega (arith, from, below));
     here = λ low. absurd (omega (arith, low));
   };
-  alone = record {
-    none = λ no j behind below. absurd (omega (arith, behind, below));
-    some = λ yes. absurd (true≢false (sym yes));
-  };
+  few = omega arith;
+  counted = counted-none c.self.inside.words c.other.inside.words c.self.invariant c.other.invariant;
 }
+
+pub overflow_add-inside : goal.overflow_add-inside
+overflow_add-inside c =
+    let count = counted-before c.self.inside.words c.other.inside.words c.self.invariant c.other.invariant c.loop-k.k c.loop-k.inside (omega arith) (omega arith) c.loop-k.invariant.counted in
+    omega (arith, count.0, c.loop-k.invariant.few)
 
 pub loop-k-preserved-then-both : goal.loop-k-preserved-then-both
-loop-k-preserved-then-both c = record {
-  is = IsFirstOpen-here _ c.loop-k.k _ (omega arith) (omega arith)
-      (sym (get_or-both c.self.inside.words c.other.inside.words c.self.invariant c.other.invariant _ (omega arith))) c.if-both.true;
-  alone = IsAlone-here _ c.loop-k.k c.loop-k.first c.loop-k.word _ (omega arith) c.loop-k.invariant.is refl;
-}
+loop-k-preserved-then-both c =
+    let read = get_or-both c.self.inside.words c.other.inside.words c.self.invariant c.other.invariant (c.loop-k.k - 1) (omega arith) in
+    let count = counted-before c.self.inside.words c.other.inside.words c.self.invariant c.other.invariant c.loop-k.k c.loop-k.inside (omega arith) (omega arith) c.loop-k.invariant.counted in
+    record {
+      is = IsFirstOpen-here _ c.loop-k.k _ (omega arith) (omega arith) (sym read) c.if-both.true;
+      few = omega (arith, count.0, c.loop-k.invariant.few);
+      counted = count.1;
+    }
 
 pub loop-k-preserved : goal.loop-k-preserved
-loop-k-preserved c = record {
-  is = IsFirstOpen-full _ c.loop-k.k c.loop-k.first c.loop-k.word (omega arith)
-      (get_or-both c.self.inside.words c.other.inside.words c.self.invariant c.other.invariant _ (omega arith) ∙ c.if-both.false) c.loop-k.invariant.is;
-  alone = c.loop-k.invariant.alone;
-}
+loop-k-preserved c =
+    let read = get_or-both c.self.inside.words c.other.inside.words c.self.invariant c.other.invariant (c.loop-k.k - 1) (omega arith) in
+    let count = counted-before c.self.inside.words c.other.inside.words c.self.invariant c.other.invariant c.loop-k.k c.loop-k.inside (omega arith) (omega arith) c.loop-k.invariant.counted in
+    record {
+      is = IsFirstOpen-full _ c.loop-k.k c.loop-k.first c.loop-k.word (omega arith) (read ∙ c.if-both.false) c.loop-k.invariant.is;
+      few = omega (arith, count.0, c.loop-k.invariant.few);
+      counted = count.1;
+    }
 
 pub returns-then-first-eq4-clause-lowest : goal.returns-then-first-eq4-clause-lowest
 returns-then-first-eq4-clause-lowest c =
@@ -73,10 +81,9 @@ pub returns-clause-last : goal.returns-clause-last
 returns-clause-last c =
     let a = c.self.inside.words in
     let b = c.other.inside.words in
+    let done : c.loop-k.k ≡ 0 = omega (arith, c.loop-k-test.false) in
+    let whole : c.loop-k.inside ≡ ones_from (zip2 bit_or a b) 0 = subst (λ k. c.loop-k.inside ≡ ones_from (zip2 bit_or a b) k) done c.loop-k.invariant.counted in
     rw (← c.self.view_is, ← c.other.view_is, c.trailing_ones-low.ensures) (
-      (λ last. let parts = both_so c.loop-k.has_others _ last in
-          last-HasAllBelow a b c.self.invariant c.other.invariant c.loop-k.first c.loop-k.word (is_first c) (inside c) c.loop-k.has_others
-          c.loop-k.invariant.alone parts.0 (eqb-true _ _ parts.1)),
-      (λ all. let parts = HasAllBelow-last a b c.self.invariant c.other.invariant c.loop-k.first c.loop-k.word (is_first c) (inside c) c.loop-k.has_others
-          c.loop-k.invariant.alone all in rw (parts.0) (eq-eqb _ _ parts.1)),
+      (λ last. last-HasAllBelow a b c.self.invariant c.other.invariant c.loop-k.first c.loop-k.word (is_first c) (inside c) (sym whole ∙ eqb-true _ _ last)),
+      (λ all. eq-eqb _ _ (whole ∙ HasAllBelow-last a b c.self.invariant c.other.invariant c.loop-k.first c.loop-k.word (is_first c) (inside c) all)),
     )
