@@ -133,9 +133,7 @@ fn keys_go_in_blocks(rt: HostRuntime) -> Result<(), Fail> {
 
 // Of four keys on a ring for four, the first two are drawn: as many more have a place then, while none is taken, and the third has
 // none. Once one is taken, five are left.
-fn draws_before_it_takes(outbox: &mut Outbox, inbox: &mut Inbox) -> bool
-    requires { outbox.old.ring ≡ inbox.old.ring }
-{
+fn draws_before_it_takes(outbox: &mut Outbox, inbox: &mut Inbox) -> bool {
     let sent = send_up_to(outbox, 5);
     inbox.draw(2);
     let drawn = (inbox.drawn().len(), inbox.known());
@@ -143,7 +141,7 @@ fn draws_before_it_takes(outbox: &mut Outbox, inbox: &mut Inbox) -> bool
     inbox.draw(4);
     let still = inbox.drawn().len();
     let first = inbox.take().is_some();
-    let left = finish(outbox, inbox);
+    let left = inbox.look();
     (sent, drawn, more) == (4, (2, 4), 2) && (still, first, left) == (2, true, 5)
 }
 

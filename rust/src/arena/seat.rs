@@ -185,8 +185,12 @@ impl<T> Seat<T> {
     }
 
     /// Makes a call for which the library ends the session, where there is one, and begins another.
+    #[inline]
     fn ask_seat<A: Answer>(&self, lane: &Owner, call: impl FnMut(*mut raw::ShareHandle) -> A) -> A {
-        self.ask_paused(lane, Place::Anywhere, call)
+        if self.in_session.get() {
+            return self.ask_paused(lane, Place::Anywhere, call);
+        }
+        self.turn.at_seat(lane, Place::Anywhere, call)
     }
 
     /// Lets go of the shard, makes the call as a seat does, and goes on with the session, where there is one.

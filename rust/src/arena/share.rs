@@ -137,6 +137,7 @@ impl Turn {
     }
 
     /// Makes the call of a seat that keeps no shard, again and again while another thread has a lock that it needs: it has changed nothing then.
+    #[inline]
     pub fn at_seat<A: Answer>(
         &self,
         lane: &Owner,
