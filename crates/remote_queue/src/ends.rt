@@ -335,8 +335,9 @@ impl Inbox {
         Some(self.take_known())
     }
 
-    /// Draws a block of the oldest keys that are known from the ring, at most that many, where none is drawn: their places are free
-    /// for further keys, and they are the next to be taken. It waits for nobody and takes no memory.
+    /// Draws a block of the oldest keys that are seen from the ring, at most that many, where none is drawn: their places are free
+    /// for further keys, and they are the next to be taken. It waits for nobody and takes no memory, and draws one at least where
+    /// one is known.
     pub fn draw(&mut self, most: usize)
         ensures ring { self.new.ring ≡ self.old.ring }
         ensures taken { self.new.taken ≡ self.old.taken }

@@ -1,7 +1,9 @@
 //! Deferred frees: a wait-free ring from each worker to each shard.
 //!
 //! A worker sends keys to a shard by its [`Outbox`], and the shard's thread takes them by its [`Inbox`]. Neither end
-//! waits, and neither takes memory: [`link`] makes each ring (of `rtrb`) with room for all the keys that it holds.
+//! waits, and neither takes memory: [`link`] makes each ring (of `rtrb`) with room for all the keys that it holds. Keys go on a ring
+//! in blocks, and a taker may draw them from it so ([`Inbox::draw`]): their places are free then, and each is taken once it is done
+//! with.
 //!
 //! ```text
 //!                    to shard 0    to shard 1
