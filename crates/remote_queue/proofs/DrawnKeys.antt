@@ -1,7 +1,7 @@
 -- Keys that were drawn in one block, and of which the first are taken.
-use Rattle.std.proofs.Common.{◌≡◌, ℕ, suc, ◌+◌, ◌-◌, ◌<◌, ◌≤◌, List, ◌∷◌, ◌++◌, length, take, drop, get_or, ap, sym, subst, ◌∙◌, arith, length-append, length-drop, length-take-le, append_assoc, take-add, take_all}
+use Rattle.std.proofs.Common.{◌≡◌, ℕ, ◌+◌, ◌-◌, ◌≤◌, List, ◌++◌, length, take, drop, ap, sym, subst, ◌∙◌, arith, length-append, length-drop, length-take-le, append_assoc}
 use Rattle.std.proofs.lemmas.List.{drop-drop, drop-take, take-append-drop, take-append-le}
-use Rattle.std.proofs.Math.Seq.{drop-cons, take-append-add}
+use Rattle.std.proofs.Math.Seq.{take-append-add}
 use Rattle.remote_queue.specs.Drawn.{drawn_keys, without_last}
 
 module _ {T : Type 0} where
@@ -47,23 +47,3 @@ module _ {T : Type 0} where
       subst (λ k. without_last k received ≡ without_last (end - next) received ++ take count (keys ++ known)) (sym fewer)
       (without_last-take received keys (end - next) count is long (omega arith)
       ∙ ap (λ l. without_last (end - next) received ++ l) (sym (take-append-le count keys known (omega (arith, long)))))
-
-  -- the first key
-  pub drawn_keys-cons : (next end : ℕ) (block : List T) (d : T) → next < end → end ≤ length block
-      → drawn_keys next end block ≡ get_or block next d ∷ drawn_keys (next + 1) end block
-  drawn_keys-cons next end block d some fits =
-      let one : end - next ≡ suc (end - (next + 1)) = omega arith in
-      let last : suc next ≡ next + 1 = omega arith in
-      subst (λ k. take k (drop next block) ≡ get_or block next d ∷ drawn_keys (next + 1) end block) (sym one)
-      (ap (take (suc (end - (next + 1)))) (drop-cons block next d (omega arith)) ∙ ap (λ k. get_or block next d ∷ take (end - (next + 1)) (drop k block)) last)
-
-  -- the first of a block that a longer one begins with
-  pub take-append_front : (front rest : List T) (r n : ℕ) → r ≤ length front → r ≤ n → take r (take n (front ++ rest)) ≡ take r front
-  take-append_front front rest r n short below =
-      let list = front ++ rest in
-      let long : length (take r list) ≡ r = length-take-le r list (omega (arith, length-append front rest)) in
-      let parts : n ≡ r + (n - r) = omega arith in
-      rw parts (
-      ap (take r) (take-add r (n - r) list) ∙ take-append-le r (take r list) (take (n - r) (drop r list)) (omega (arith, long))
-      ∙ take_all r (take r list) (omega (arith, long)) ∙ take-append-le r front rest short
-      )
