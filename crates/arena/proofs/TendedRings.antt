@@ -1,12 +1,11 @@
 -- Ring after ring.
-use Rattle.std.proofs.Common.{◌≡◌, ℕ, zero, suc, sum_by, ◌+◌, ◌<◌, ◌≤◌, List, [], ◌∷◌, ◌++◌, length, get_or, slice_set, take, ap, sym, subst, ◌∙◌, refl, inl, inr, arith, length-append, length-take-le, append_assoc}
+use Rattle.std.proofs.Common.{◌≡◌, ℕ, zero, suc, sum_by, ◌+◌, ◌<◌, ◌≤◌, List, [], ◌∷◌, ◌++◌, length, get_or, slice_set, take, ap, sym, subst, ◌∙◌, refl, inl, inr, arith, length-append, append_assoc}
 use Rattle.std.proofs.Math.Seq.{map-set_same, get_or-append_seam}
 use Rattle.std.proofs.lemmas.Bool.{cases_eq, cases_lt}
 use Rattle.std.proofs.lemmas.Grind.{get_or-set_at}
 use Rattle.std.proofs.lemmas.List.{append-nil, get_or-map, get_or-set_other, get_or_append_left, get_or_past, length-map, map-set}
 use Rattle.std.proofs.lemmas.List.Elements.{All-push}
 use Rattle.std.proofs.lemmas.List.Sums.{sum_by-cons}
-use Rattle.span.specs.declared.key.Key.{Key}
 use Rattle.span.specs.declared.receipt.Receipt.{Receipt}
 use Rattle.remote_queue.specs.Rings.{Taking}
 use Rattle.arena.specs.Receipts.{AddsFrees, joined}
@@ -48,23 +47,6 @@ module _ {worker section : ℕ} where
     taken = b.taken ∙ ap (λ l. l ++ b.keys) a.taken ∙ append_assoc before.taken a.keys b.keys;
     freed = AddsFrees-more a.keys b.keys r0 r r' a.freed b.freed;
   }
-
-  -- the first of the drawn keys
-  pub ring_drawn : (before mid after : Taking) (keys : List Key) (n : ℕ) (r0 r : List Receipt) → mid.ring ≡ before.ring → mid.taken ≡ before.taken → after.ring ≡ mid.ring
-      → after.taken ≡ mid.taken ++ take n mid.known → take n keys ≡ take n mid.known → n ≤ length keys → AddsFrees worker section (take n keys) r0 r
-      → IsRingTended worker section n before after r0 r
-  ring_drawn before mid after keys n r0 r ring taken ring_after taken_after same fits freed = record {
-    keys = take n keys;
-    count_is = sym (length-take-le n keys fits);
-    ring_is = ring_after ∙ ring;
-    taken = rw (same, taken_after, taken) refl;
-    freed = freed;
-  }
-
-  -- nothing is taken where the end only looks
-  pub ring_looked : (before after : Taking) (r0 r : List Receipt) → after.ring ≡ before.ring → after.taken ≡ before.taken → AddsFrees worker section [] r0 r
-      → IsRingTended worker section 0 before after r0 r
-  ring_looked before after r0 r ring taken none = record { keys = []; count_is = refl; ring_is = ring; taken = taken ∙ sym (append-nil before.taken); freed = none }
 
 module _ {most worker section : ℕ} where
   -- before the first ring
