@@ -95,6 +95,12 @@ object_in-between words class slot first is low =
     (length-between words.items first (first + width_of class) (omega (arith, is, last, words.whole)) ∙ omega arith)
     (λ k within. get_or-between words.items first (first + width_of class) k 0 (omega (arith, within)) ∙ ap (λ n. get_or words.items (n + k) 0) is)
 
+-- the same, of an object of one word
+pub object_in-one : (words : Words) (class : Class) (slot : ℕ) → width_of class ≡ 1 → slot < slots_in class → between slot (slot + 1) words.items ≡ object_in words class slot
+object_in-one words C16 slot one low = object_in-between words C16 slot slot (omega arith) low
+object_in-one words C64 slot one low = absurd (omega (arith, one))
+object_in-one words C256 slot one low = absurd (omega (arith, one))
+
 -- a word of the page that lies in a slot
 in_slot : (class : Class) (slot j : ℕ) → j / width_of class ≡ slot → (width_of class * slot ≤ j) × (j < width_of class * slot + width_of class) × (j % width_of class ≡ j - width_of class * slot)
 in_slot C16 slot j is = (omega (arith, is), omega (arith, is), omega (arith, is))

@@ -48,6 +48,11 @@ impl Page {
         ensures width { length result.now ≡ width_of class }
     {
         let width = class.words();
+        if width == 1 {
+            // By far the most frequent: nothing is looked up, and nothing multiplied.
+            let first = usize::from(slot);
+            return &self.words[first..first + 1];
+        }
         let first = width * usize::from(slot);
         &self.words[first..first + width]
     }
