@@ -124,6 +124,28 @@ impl Key {
         })
     }
 
+    /// The key as two numbers, of which the first is never 0: its serial number and generation, and its shard and slot.
+    #[inline]
+    pub(crate) fn halves(self) -> (u64, u64) {
+        (
+            u64::from(self.generation.get()) << 32 | u64::from(self.serial),
+            u64::from(self.slot) << 8 | u64::from(self.shard),
+        )
+    }
+
+    /// The key of these numbers, or `None` where the generation is 0.
+    #[inline]
+    // Each part is cut out of its number.
+    #[allow(clippy::cast_possible_truncation)]
+    pub(crate) fn of_halves(low: u64, high: u64) -> Option<Key> {
+        Some(Key {
+            serial: low as u32,
+            generation: NonZeroU32::new((low >> 32) as u32)?,
+            shard: high as u8,
+            slot: (high >> 8) as u8,
+        })
+    }
+
     /// The key as the library has it.
     #[inline]
     pub(crate) fn raw(self) -> RawKey {

@@ -170,11 +170,27 @@ impl<T> Slab<T> {
     /// - [`Refused::Ended`] only where each shard has ended;
     /// - [`Refused::PagesSpent`] only where each that has not may have no further page;
     /// - [`Refused::OutOfMemory`] where memory was refused.
-    #[inline]
+    #[inline(always)]
     pub fn insert(&mut self, value: T) -> Result<Key, Refused> {
-        let (shard, key) = self.insert_key()?;
-        self.values.put(shard, key, value);
-        Ok(key)
+        let mut why = Refused::OutOfMemory;
+        let (low, high) = self.insert_apart(value, &mut why);
+        Key::of_halves(low, high).ok_or(why)
+    }
+
+    /// The halves of the key, or zeros, and why the value is refused. A key itself would come back through memory, written in parts and read as a
+    /// whole, for which a processor waits.
+    #[inline]
+    fn insert_apart(&mut self, value: T, why: &mut Refused) -> (u64, u64) {
+        match self.insert_key() {
+            Ok((shard, key)) => {
+                self.values.put(shard, key, value);
+                key.halves()
+            }
+            Err(refused) => {
+                *why = refused;
+                (0, 0)
+            }
+        }
     }
 
     /// As [`Slab::insert`], and gives a value that is refused back.
@@ -412,9 +428,11 @@ impl<T> Slab<T> {
     #[doc(alias = "try_remove")]
     #[inline]
     pub fn remove(&mut self, key: Key) -> Option<T> {
-        let (value, shard) = self.values.take(key)?;
+        let (value, page) = self.values.take(key)?;
         self.core.free_live(key);
-        self.first = self.first.min(shard);
+        if self.first > 0 {
+            self.first = self.first.min(self.values.shard_of(page));
+        }
         Some(value)
     }
 

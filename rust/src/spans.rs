@@ -12,8 +12,8 @@ pub(crate) struct Home {
     pub block: Block,
     /// The number of its page.
     pub page: u32,
-    /// The number of the span among those that have homes: no two have the same at one time.
-    pub number: u32,
+    /// The upper half of the span's marks, which is the number of the span among those that have homes: no two have the same at one time.
+    pub mark: u64,
     /// How many values it has there.
     pub live: u32,
 }
@@ -31,6 +31,12 @@ pub(crate) struct Spans {
     // By the numbers of spans, also of those that are free.
     names: Vec<Span>,
     free: Vec<u32>,
+}
+
+/// The number of the span in a mark.
+#[inline]
+pub(crate) fn number_of(mark: u64) -> u32 {
+    (mark >> 32) as u32
 }
 
 /// How many places there are at least, once there are any.
@@ -116,7 +122,7 @@ impl Spans {
             span,
             block,
             page,
-            number,
+            mark: u64::from(number) << 32,
             live: 0,
         })
     }
@@ -137,7 +143,7 @@ impl Spans {
         let Some(mut gap) = self.place_of(span) else {
             return;
         };
-        self.free.extend(self.places[gap].take().map(|home| home.number));
+        self.free.extend(self.places[gap].take().map(|home| number_of(home.mark)));
         self.room += 1;
         // Of those behind the gap, each that is looked for by way of it closes it.
         let mut place = self.place_after(gap);
@@ -213,7 +219,7 @@ fn make_room<E>(list: &mut Vec<E>, len: usize) -> Result<(), Refused> {
 
 #[cfg(test)]
 mod tests {
-    use super::{Spans, LEAST_PLACES};
+    use super::{number_of, Spans, LEAST_PLACES};
     use crate::names::Span;
     use crate::refused::Refused;
     use crate::values::Block;
@@ -227,11 +233,11 @@ mod tests {
     /// The homes are those of the map, each with a number of its own, which names its span.
     fn are_those(spans: &Spans, map: &HashMap<u64, u32>) {
         assert_eq!(spans.iter().count(), map.len());
-        let numbers: HashSet<u32> = spans.iter().map(|home| home.number).collect();
+        let numbers: HashSet<u32> = spans.iter().map(|home| number_of(home.mark)).collect();
         assert_eq!(numbers.len(), map.len());
         for home in spans.iter() {
             assert_eq!(map.get(&home.span.number()), Some(&home.page));
-            assert!(spans.name(home.number) == home.span);
+            assert!(spans.name(number_of(home.mark)) == home.span);
         }
     }
 

@@ -9,7 +9,7 @@ use crate::blocks::Blocks;
 use crate::core::{Core, Stepped};
 use crate::names::{Group, Key, Span};
 use crate::refused::Refused;
-use crate::spans::{Home, Spans};
+use crate::spans::{number_of, Home, Spans};
 use std::alloc::{alloc, dealloc, Layout};
 use std::marker::PhantomData;
 use std::mem::{align_of, needs_drop, size_of};
@@ -45,6 +45,8 @@ pub(crate) struct Values<T> {
     blocks: Blocks,
     // Memory for one value that does not stand in a page.
     room: Option<NonNull<T>>,
+    // Whether there is room for one value, as `reserve` makes it: nothing took of it since.
+    ready: bool,
     owned: PhantomData<T>,
 }
 
@@ -116,6 +118,7 @@ impl<T> Values<T> {
             pages: Vec::new(),
             blocks: Blocks::new(Self::BLOCK_BYTES),
             room: None,
+            ready: false,
             owned: PhantomData,
         }
     }
@@ -123,6 +126,14 @@ impl<T> Values<T> {
     /// Makes room for one value, wherever a shard puts it, so that `put` needs no memory. A refusal changes nothing that is seen.
     #[inline]
     pub fn reserve(&mut self) -> Result<(), Refused> {
+        if self.ready {
+            return Ok(());
+        }
+        self.make_ready()
+    }
+
+    #[cold]
+    fn make_ready(&mut self) -> Result<(), Refused> {
         self.blocks.reserve()?;
         if self.pages.len() < self.blocks.len() || self.spans.is_full() {
             self.grow(1)?;
@@ -132,12 +143,14 @@ impl<T> Values<T> {
             let room = unsafe { alloc(Layout::new::<T>()) };
             self.room = Some(NonNull::new(room.cast()).ok_or(Refused::OutOfMemory)?);
         }
+        self.ready = true;
         Ok(())
     }
 
     /// Makes room for so many full pages of values. A refusal changes nothing that is seen.
     pub fn reserve_pages(&mut self, values: usize) -> Result<(), Refused> {
         let pages = values / Self::SLOTS + usize::from(values % Self::SLOTS != 0);
+        self.ready = false;
         self.blocks.reserve_all(pages)?;
         self.grow(pages)
     }
@@ -167,6 +180,7 @@ impl<T> Values<T> {
         }
         if Self::APART {
             let room = self.room.take().expect("room was reserved");
+            self.ready = false;
             // SAFETY: the slot has no value, so an address may be written there.
             unsafe { block.stored::<T>(slot).cast::<NonNull<T>>().write(room) };
         }
@@ -178,6 +192,7 @@ impl<T> Values<T> {
     /// A page for the values of the span, which has none.
     #[cold]
     fn open(&mut self, shard: u32, head: Span) -> &mut Home {
+        self.ready = false;
         let (number, block) = self.blocks.take();
         let block = Block(block);
         self.pages[number as usize] = Page {
@@ -233,7 +248,7 @@ impl<T> Values<T> {
         self.find(key).is_some()
     }
 
-    /// Takes the value of the key out, where there is one, and says which shard has its page. It needs no memory.
+    /// Takes the value of the key out, where there is one, and says which page it was on. It needs no memory.
     #[inline]
     pub fn take(&mut self, key: Key) -> Option<(T, u32)> {
         let home = self.spans.find_mut(key.span())?;
@@ -254,11 +269,16 @@ impl<T> Values<T> {
             }
             value
         };
-        let shard = u32::from(self.pages[number as usize].shard);
         if left == 0 {
             self.forget(key.span(), number);
         }
-        Some((value, shard))
+        Some((value, number))
+    }
+
+    /// The shard that has the page of this number, or had it when it was last a page.
+    #[inline]
+    pub fn shard_of(&self, number: u32) -> u32 {
+        u32::from(self.pages[number as usize].shard)
     }
 
     /// Forgets a span that has no value any more, unless it is the head of a page that has one; and gives the page back where that has none.
@@ -298,6 +318,7 @@ impl<T> Values<T> {
             Some(to) => self.move_values(&from, &to),
             None => {
                 // The second group has no value, so its head comes to the page of the first.
+                self.ready = false;
                 self.spans.insert(host, from.page, from.block);
                 let page = &mut self.pages[from.page as usize];
                 page.head = host;
@@ -560,13 +581,7 @@ impl Block {
 /// The mark of a key that has a value, whose span has this home.
 #[inline]
 fn mark_of(home: &Home, key: Key) -> u64 {
-    u64::from(home.number) << 32 | u64::from(key.generation())
-}
-
-/// The number of the span in a mark.
-#[inline]
-fn number_of(mark: u64) -> u32 {
-    (mark >> 32) as u32
+    home.mark | u64::from(key.generation())
 }
 
 #[inline]
