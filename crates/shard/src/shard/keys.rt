@@ -1,5 +1,5 @@
 // Look-ups and frees, and where the span of a key stands.
-ghost use Rattle.std.specs.Prelude.{◌≡◌, ◌<◌, IfSome, MatchOption, if◌then◌else◌, is_some, length};
+ghost use Rattle.std.specs.Prelude.{◌≡◌, ◌<◌, ◌≤◌, IfSome, MatchOption, if◌then◌else◌, is_some, length};
 ghost use Rattle.span.specs.Order.{HasNoneFrom, IsFirstFrom};
 ghost use Rattle.span.specs.PlainMap as plain;
 ghost use Rattle.span.specs.State.{SpanState};
@@ -86,22 +86,27 @@ impl<L: Log> Shard<L> {
         if first < self.groups.len() && self.groups[first].head_id() == id {
             return Some((first, 0));
         }
-        self.find_moved(id)
+        let (index, place) = self.find_moved(id);
+        if index >= self.groups.len() {
+            return None;
+        }
+        Some((index, place))
     }
 
-    // The same, wherever its group stands.
+    // The same, wherever its group stands; past all groups where it stands nowhere. Two numbers come back in registers, and an option of them
+    // through memory, which a caller clears before it knows whether it asks.
     #[inline(never)]
-    fn find_moved(&self, id: SpanId) -> Option<(usize, usize)>
-        ensures { MatchOption result (IsElsewhere self.now.groups id)
-            (λ at. (group : GroupState) × (span : SpanState)
-            × IsHere self.now.groups id at.0 at.1 group span) }
+    fn find_moved(&self, id: SpanId) -> (usize, usize)
+        ensures elsewhere { length self.now.groups ≤ result.0 → IsElsewhere self.now.groups id }
+        ensures here { result.0 < length self.now.groups → (group : GroupState) × (span : SpanState)
+            × IsHere self.now.groups id result.0 result.1 group span }
     {
         let head = Place { head: id, place: 0 };
         let at = self.directory.place_of(id).unwrap_or(head);
         let Some(index) = self.find_head(at.head) else {
-            return None;
+            return (self.groups.len(), 0);
         };
-        Some((index, at.place))
+        (index, at.place)
     }
 
     // Where the group of the head stands.
