@@ -77,21 +77,23 @@ impl<L: Log> Core<L> {
         match shard.get(key) {
             Found::Value(words, _) => Some(words),
             Found::Gone(_) => None,
-            Found::NotHere => self.get_moved(key),
+            Found::NotHere => self.get_moved(*key),
         }
     }
 
-    // The words of the key's object, where it is live, and the shard that opened its span does not have the span.
-    fn get_moved(&self, key: &Key) -> Option<&[u128]>
-        requires { StandsIn self.now.shards key.now.span key.now.span.shard → ⊥ }
+    // The words of the key's object, where it is live, and the shard that opened its span does not have the span. The key comes by value, so that
+    // its parts stay in registers where this is not called.
+    #[inline(never)]
+    fn get_moved(&self, key: Key) -> Option<&[u128]>
+        requires { StandsIn self.now.shards key.span key.span.shard → ⊥ }
         ensures value { option_map (λ words. words.now) result
-            ≡ (shown self.now).value_of key.now }
+            ≡ (shown self.now).value_of key }
         ensures object { IfSome result (λ words. IsObject words.now) }
     {
-        match self.get_taken_in(key) {
+        match self.get_taken_in(&key) {
             Found::Value(words, _) => Some(words),
             Found::Gone(_) => None,
-            Found::NotHere => words_of(self.pool.get(key)),
+            Found::NotHere => words_of(self.pool.get(&key)),
         }
     }
 
@@ -125,22 +127,23 @@ impl<L: Log> Core<L> {
         };
         let freed = shard.free(key);
         if matches!(freed, Freed::NotHere) {
-            return self.free_moved(key);
+            return self.free_moved(*key);
         }
         was_done(freed)
     }
 
     // Frees the key, where it is live, and the shard that opened its span does not have the span.
-    fn free_moved(&mut self, key: &Key) -> bool
-        requires { StandsIn self.old.shards key.now.span key.now.span.shard → ⊥ }
-        ensures exact { CoreStep self.old (event.Free key.now) (reply.Freed result) self.new }
-        ensures plain { PlainStep self.old.limits (shown self.old) (event.Free key.now)
+    #[inline(never)]
+    fn free_moved(&mut self, key: Key) -> bool
+        requires { StandsIn self.old.shards key.span key.span.shard → ⊥ }
+        ensures exact { CoreStep self.old (event.Free key) (reply.Freed result) self.new }
+        ensures plain { PlainStep self.old.limits (shown self.old) (event.Free key)
             (reply.Freed result) (shown self.new) }
         ensures sound { IsSound self.new }
     {
-        let freed = self.free_taken_in(key);
+        let freed = self.free_taken_in(&key);
         if matches!(freed, Freed::NotHere) {
-            return was_done(self.pool.free(key));
+            return was_done(self.pool.free(&key));
         }
         was_done(freed)
     }

@@ -66,7 +66,7 @@ invariant_of-self-then-matches g c =
     IsKept-free c.self.inside c.self.invariant c.args.key.now.span.shard c.in-Some.shard.now (record { within = c.in-Some.ensures.variant.0 refl; value = c.in-Some.ensures.value })
     c.args.key.now c.free-freed.result c.free-freed.new.self c.free-freed.ensures.step c.free-freed.ensures.found c.free-freed.ensures.plain c.free-freed.ensures.sound
 
-away : (g : _) (c : goal.After-free_moved-arg-1 g) → Frees c.in-Some.shard.now c.args.key.now not_here c.free-freed.new.self
+away : (g : _) (c : goal.After-free_moved-arg-then-matches-1 g) → Frees c.in-Some.shard.now c.args.key.now not_here c.free-freed.new.self
 away g c = elim c.match-matches.branch [
   | in-NotHere w ↦ subst (λ answer. Frees c.in-Some.shard.now c.args.key.now answer c.free-freed.new.self) w.in-NotHere.is c.free-freed.ensures.step
   | in_default-matches w ↦ absurd (let both : false ≡ true = sym w.matches-is ∙ c.if-matches.true in cc)

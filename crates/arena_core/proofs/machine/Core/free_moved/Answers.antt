@@ -20,13 +20,13 @@ not_here g c = elim c.match-matches.branch [
 view_is : (g : _) (c : goal.After-was_done g) → state_of c.self.inside ≡ c.args.self.now
 view_is g c = c.self.view_is ∙ (c.free_taken_in-freed.ensures.not_here (not_here g c)).1
 
-pooled : (g : _) (c : goal.After-was_done g) → IsSoundStep c.args.self.now (Free c.args.key.now) (Freed c.was_done.result) (with_pool (state_of c.self.inside) c.free.new.self)
+pooled : (g : _) (c : goal.After-was_done g) → IsSoundStep c.args.self.now (Free c.args.key) (Freed c.was_done.result) (with_pool (state_of c.self.inside) c.free.new.self)
 pooled g c =
-    let not_home = subst (λ (s : CoreState). StandsIn s.shards c.args.key.now.span c.args.key.now.span.shard → ⊥) (sym (view_is g c)) c.requires in
-    let no_other = subst (λ (s : CoreState). StandsInNoOther s.shards c.args.key.now.span) (sym (view_is g c)) (c.free_taken_in-freed.ensures.not_here (not_here g c)).0 in
-    subst (λ old. IsSoundStep old (Free c.args.key.now) (Freed c.was_done.result) (with_pool (state_of c.self.inside) c.free.new.self)) (view_is g c)
-    (subst (λ b. IsSoundStep (state_of c.self.inside) (Free c.args.key.now) (Freed b) (with_pool (state_of c.self.inside) c.free.new.self)) (sym c.was_done.ensures)
-    (IsSoundStep-FreesPooled (state_of c.self.inside) c.args.key.now c.free.new.self c.free.result c.self.invariant.sound (value-no_other (state_of c.self.inside) c.args.key.now not_home no_other)
+    let not_home = subst (λ (s : CoreState). StandsIn s.shards c.args.key.span c.args.key.span.shard → ⊥) (sym (view_is g c)) c.requires in
+    let no_other = subst (λ (s : CoreState). StandsInNoOther s.shards c.args.key.span) (sym (view_is g c)) (c.free_taken_in-freed.ensures.not_here (not_here g c)).0 in
+    subst (λ old. IsSoundStep old (Free c.args.key) (Freed c.was_done.result) (with_pool (state_of c.self.inside) c.free.new.self)) (view_is g c)
+    (subst (λ b. IsSoundStep (state_of c.self.inside) (Free c.args.key) (Freed b) (with_pool (state_of c.self.inside) c.free.new.self)) (sym c.was_done.ensures)
+    (IsSoundStep-FreesPooled (state_of c.self.inside) c.args.key c.free.new.self c.free.result c.self.invariant.sound (value-no_other (state_of c.self.inside) c.args.key not_home no_other)
     c.free.ensures.step c.free.ensures.found c.free.ensures.plain c.free.ensures.sound))
 
 pub invariant_of-self : goal.invariant_of-self
