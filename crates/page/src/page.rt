@@ -71,6 +71,21 @@ impl Page {
         self.words[first..first + object.len()].copy_from_slice(object);
     }
 
+    /// Has its words in a block that is asked for now, and gives the one that it had back: so a source of pages that hands out its
+    /// lowest free block first empties its upper end.
+    ///
+    /// # Errors
+    ///
+    /// `AllocError` where the block is refused. The words are the same either way.
+    pub fn renew(&mut self, alloc: Global) -> Result<(), AllocError>
+        ensures { self.new ≡ self.old }
+    {
+        let mut words = Vec::with_capacity(alloc, self.words.len())?;
+        words.extend_from_slice(self.words.as_slice())?;
+        self.words = words;
+        Ok(())
+    }
+
     /// Copies the objects at the slots from the same slots of the other page.
     pub fn copy_from(&mut self, class: Class, other: &Page, slots: &Bits256)
         requires on_page { IsBelow slots.now (slots_in class) }

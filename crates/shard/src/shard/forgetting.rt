@@ -1,5 +1,5 @@
 // Guests that can never be live again, which a shard forgets.
-ghost use Rattle.std.specs.Prelude.{◌≡◌, ◌≤◌, ℕ, Some, count_by, map, slice_get, vec_capacity};
+ghost use Rattle.std.specs.Prelude.{◌≡◌, ◌+◌, ◌≤◌, ℕ, Some, count_by, map, slice_get, vec_capacity, vec_len};
 ghost use Rattle.span.specs.Ids.{same_span};
 ghost use Rattle.span.specs.declared.id.SpanId.{SpanId};
 ghost use Rattle.span.specs.declared.key.Key.{Key};
@@ -27,18 +27,48 @@ impl Shard<Counted> {
         ensures sound { IsSound self.new }
     {
         let before = self.span_count();
-        forget_all(&mut self.groups, &mut self.directory);
+        forget_all(&mut self.groups, &mut self.directory, self.group_room);
         before - self.span_count()
     }
 }
 
-// Has each of the groups forget its guests in which no slot is live.
-fn forget_all(groups: &mut Vec<Group<Counted>>, directory: &mut Directory)
+// Has each of the groups forget its guests in which no slot is live, and gives room back that no group has, where half of it would do for
+// those that are here and those that room is reserved for: most of it is of groups that were folded.
+fn forget_all(groups: &mut Vec<Group<Counted>>, directory: &mut Directory, room: usize)
+    requires room { vec_len groups.old + room ≤ vec_capacity groups.old }
     requires known { KnowsGuests groups.old.items directory.old.entries }
     requires ascend { Ascend groups.old.items }
     requires once { (index : ℕ) (group : GroupState) → slice_get groups.old.items index ≡ Some group
         → (id : SpanId) → count_by (λ span. same_span span.id id) group.guests ≤ 1 }
     ensures items { groups.new.items ≡ map without_dead groups.old.items }
+    ensures capacity { vec_len groups.new + room ≤ vec_capacity groups.new }
+    ensures known { KnowsGuests groups.new.items directory.new.entries }
+    ensures room { directory.new.room ≡ directory.old.room }
+{
+    forget_each(groups, directory);
+    give_back(groups, room);
+}
+
+// Gives back what half of the room would do without.
+fn give_back(groups: &mut Vec<Group<Counted>>, room: usize)
+    requires { vec_len groups.old + room ≤ vec_capacity groups.old }
+    ensures items { groups.new.items ≡ groups.old.items }
+    ensures room { vec_len groups.new + room ≤ vec_capacity groups.new }
+{
+    let wanted = groups.len() + room;
+    if wanted <= groups.capacity() / 2 {
+        groups.shrink_to(wanted);
+    }
+}
+
+// Has each of the groups forget its guests in which no slot is live.
+fn forget_each(groups: &mut Vec<Group<Counted>>, directory: &mut Directory)
+    requires known { KnowsGuests groups.old.items directory.old.entries }
+    requires ascend { Ascend groups.old.items }
+    requires once { (index : ℕ) (group : GroupState) → slice_get groups.old.items index ≡ Some group
+        → (id : SpanId) → count_by (λ span. same_span span.id id) group.guests ≤ 1 }
+    ensures items { groups.new.items ≡ map without_dead groups.old.items }
+    ensures len { vec_len groups.new ≡ vec_len groups.old }
     ensures capacity { vec_capacity groups.new ≡ vec_capacity groups.old }
     ensures known { KnowsGuests groups.new.items directory.new.entries }
     ensures room { directory.new.room ≡ directory.old.room }

@@ -9,6 +9,7 @@ ghost use Rattle.shard.specs.Trims.{Trims, is_idle, trimmed};
 use super::Shard;
 use crate::group::Group;
 use span::Log;
+use std::alloc::AllocError;
 
 impl<L: Log> Shard<L> {
     /// Gives back the page of each open group in which no slot is live, and answers how many went. The groups stay, and with
@@ -19,6 +20,20 @@ impl<L: Log> Shard<L> {
         ensures sound { IsSound self.new }
     {
         trim_all(&mut self.groups)
+    }
+
+    /// Has the page of the group at the index in a block that is asked for now, and changes nothing else: a source of pages that hands out
+    /// its lowest free block first so empties its upper end.
+    ///
+    /// # Errors
+    ///
+    /// `AllocError` where the block is refused.
+    pub fn renew(&mut self, index: usize) -> Result<(), AllocError>
+        requires { index < length self.old.groups }
+        ensures same { self.new ≡ self.old }
+        ensures sound { IsSound self.new }
+    {
+        self.groups[index].renew(self.alloc)
     }
 
     /// Whether the group at the index, by ascending head, has a page.

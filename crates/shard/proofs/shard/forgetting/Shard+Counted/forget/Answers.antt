@@ -26,15 +26,7 @@ invariant_of-self c = record {
   gens_fit = c.self.invariant.gens_fit;
   sound = sound_after c;
   rooms = λ class. rw c.forget_all.ensures.items (HasRooms-without_dead class c.self.inside.groups.items (rooms_of c.self.inside.rooms class) (c.self.invariant.rooms class));
-  room_for_groups = omega (
-    arith,
-    c.self.invariant.room_for_groups,
-    c.forget_all.ensures.capacity,
-    ap length c.forget_all.ensures.items,
-    length-map c.self.inside.groups.items (without_dead {Closed = _}),
-    c.self.inside.groups.ok.0,
-    c.forget_all.new.groups.ok.0,
-  );
+  room_for_groups = c.forget_all.ensures.capacity;
   room_for_rooms = λ class. omega (
     arith,
     c.self.invariant.room_for_rooms class,

@@ -6,7 +6,7 @@ use Rattle.groups.proofs.ForgottenGuests.{AreEntered-forgotten, KnowsGuests-forg
 use Rattle.shard.specs.Group.{GroupState}
 use Rattle.shard.proofs.ChangedBelow.{changed_below-all, changed_below-next, get-changed_below, length-changed_below}
 use Rattle.shard.proofs.Forgotten.{Ascend-changed_below}
-use Rattle.shard.proofs.shard.forgetting.forget_all.Goals as goal
+use Rattle.shard.proofs.shard.forgetting.forget_each.Goals as goal
 
 pub forget_in-requires : goal.forget_in-requires
 forget_in-requires c =

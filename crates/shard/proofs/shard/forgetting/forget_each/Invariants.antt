@@ -3,7 +3,7 @@ use Rattle.std.specs.Prelude.{vec_capacity}
 use Rattle.groups.specs.Dead.{without_dead}
 use Rattle.groups.specs.Directory.{KnowsGuests}
 use Rattle.shard.proofs.ChangedBelow.{changed_below}
-use Rattle.shard.proofs.shard.forgetting.forget_all.Given as goal
+use Rattle.shard.proofs.shard.forgetting.forget_each.Given as goal
 
 abbrev pub invariant-loop-index : goal.invariant-loop-index
 invariant-loop-index l = record {
