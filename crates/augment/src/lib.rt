@@ -22,7 +22,7 @@
 //! # Examples
 //!
 //! ```
-//! let graph = Graph::build(alloc, &snapshot, 1)?;
+//! let graph = Graph::build(&AtHand, alloc, &snapshot, 1)?;
 //! let (plan, short) = augment::plan(alloc, &graph)?;
 //! assert!(rt; check(&snapshot, &plan, &short)); // no plan has more pairs
 //! ```

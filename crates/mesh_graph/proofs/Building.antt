@@ -1,10 +1,11 @@
 -- Rows of bits, one after another.
-use Rattle.std.proofs.Common.{ℕ, suc, ◌+◌, ◌/◌, ◌*◌, ◌<◌, ◌≤◌, ◌≡◌, true, false, List, [], ◌∷◌, ◌++◌, length, map, drop, refl, sym, subst, ◌∙◌, ap, arith, get_or, inl, inr, Option, Some, None, IfSome, length-append}
+use Rattle.std.proofs.Common.{ℕ, suc, ◌+◌, ◌/◌, ◌*◌, ◌<◌, ◌≤◌, ◌≡◌, true, false, List, [], ◌∷◌, ◌++◌, length, map, drop, take, refl, sym, subst, ◌∙◌, ap, arith, get_or, inl, inr, Option, Some, None, IfSome, length-append}
 use Rattle.std.specs.List.{slice_get}
 use Rattle.std.specs.Prelude.{MatchOption}
 use Rattle.std.proofs.Math.Nat.{mul-le-mul_left, mul-suc}
 use Rattle.std.proofs.lemmas.Bool.{both_ways, cases_eq, cases_lt}
 use Rattle.std.proofs.lemmas.List.{get_or_default, length-drop, length-map, length-take-le}
+use Rattle.std.proofs.Math.Seq.{take-add, take-append_seam, drop-append_seam, take-length}
 use Rattle.std.proofs.lemmas.Option.{slice_get-get_or, slice_get_past}
 use Rattle.bitmap.specs.Slots.{SlotSet, has_bit}
 use Rattle.lane_kernels.specs.Rows.{row_at, width_of}
@@ -35,12 +36,54 @@ rows-more abandoned sets masks n y words row have low read long bits = record {
   ];
 }
 
+-- the row that was written stands behind those before it
+pub rows-next : (abandoned : List Entry) (sets : List SlotSet) (masks : Option Masks) (n : ℕ) (y : Entry) (before words : List ℕ)
+    → HaveRows abandoned sets masks n (take (width_of (length sets) * n) before) → n < length abandoned → y ≡ get_or abandoned n y
+    → take (width_of (length sets) * n) words ≡ take (width_of (length sets) * n) before
+    → length (row_at (width_of (length sets)) words n) ≡ width_of (length sets)
+    → ((j : ℕ) → has_bit (row_at (width_of (length sets)) words n) j ≡ row_bit sets masks y j)
+    → HaveRows abandoned sets masks (n + 1) (take (width_of (length sets) * (n + 1)) words)
+rows-next abandoned sets masks n y before words have low read same wide bits =
+    let W : ℕ = width_of (length sets) in
+    let more : W * (n + 1) ≡ W * n + W = let step = mul-suc W n in omega (arith, step) in
+    let cut : take (W * (n + 1)) words ≡ take (W * n) before ++ row_at W words n = ap (λ k. take k words) more ∙ take-add (W * n) W words ∙ ap (λ l. l ++ row_at W words n) same in
+    subst (HaveRows abandoned sets masks (n + 1)) (sym cut) (rows-more abandoned sets masks n y (take (W * n) before) (row_at W words n) have low read wide bits)
+
 -- no row yet
-pub rows-none : (abandoned : List Entry) (sets : List SlotSet) (masks : Option Masks) (words : List ℕ) → words ≡ [] → HaveRows abandoned sets masks 0 words
-rows-none abandoned sets masks words none = record {
-  size = let at : width_of (length sets) * 0 ≡ 0 = omega arith in rw none (sym at);
-  bits = λ i j x below. absurd (omega arith);
-}
+pub rows-none : (abandoned : List Entry) (sets : List SlotSet) (masks : Option Masks) (words : List ℕ)
+    → HaveRows abandoned sets masks 0 (take (width_of (length sets) * 0) words)
+rows-none abandoned sets masks words =
+    let at : width_of (length sets) * 0 ≡ 0 = omega arith in
+    record {
+      size = rw at refl;
+      bits = λ i j x below. absurd (omega arith);
+    }
+
+-- all rows are written
+pub rows-all : (abandoned : List Entry) (sets : List SlotSet) (masks : Option Masks) (n : ℕ) (words : List ℕ)
+    → HaveRows abandoned sets masks n (take (width_of (length sets) * n) words) → length words ≡ width_of (length sets) * n → HaveRows abandoned sets masks n words
+rows-all abandoned sets masks n words have size =
+    subst (HaveRows abandoned sets masks n) (ap (λ k. take k words) (sym size) ∙ take-length words) have
+
+-- the words of a row are written over, and all others stay
+module _ (start width : ℕ) (before row words : List ℕ) (ends : start + width ≤ length before) (wide : length row ≡ width)
+    (are : words ≡ take start before ++ (row ++ drop (start + width) before)) where
+  abbrev behind : List ℕ
+  behind = row ++ drop (start + width) before
+
+  long : length (take start before) ≡ start
+  long = length-take-le start before (omega (arith, ends))
+
+  pub over-earlier : take start words ≡ take start before
+  over-earlier = ap (take start) are ∙ ap (λ k. take k (take start before ++ behind)) (sym long) ∙ take-append_seam (take start before) behind
+
+  pub over-row : take width (drop start words) ≡ row
+  over-row =
+      ap (λ l. take width (drop start l)) are
+      ∙ ap (λ k. take width (drop k (take start before ++ behind))) (sym long)
+      ∙ ap (take width) (drop-append_seam (take start before) behind)
+      ∙ ap (λ k. take k behind) (sym wide)
+      ∙ take-append_seam row (drop (start + width) before)
 
 -- the rows of all groups are those of the snapshot
 pub AreRows-from_rows : (s : Groups) (sets : List SlotSet) (masks : Option Masks) (words : List ℕ) → length s.abandoned ≤ MOST_GROUPS

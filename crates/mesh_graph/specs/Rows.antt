@@ -1,5 +1,5 @@
 -- The rows of bits of a graph. No public clause cites this module.
-use Rattle.std.specs.Prelude.{ℕ, ◌≡◌, ◌<◌, ◌≤◌, ◌*◌, ◌&&◌, Bool, List, Option, length, slice_index_or}
+use Rattle.std.specs.Prelude.{ℕ, ◌≡◌, ◌<◌, ◌≤◌, ◌+◌, ◌*◌, ◌&&◌, Bool, List, Option, length, slice_index_or, take, drop}
 use Rattle.std.specs.List.{slice_get}
 use Rattle.bitmap.specs.Slots.{SlotSet, has_bit}
 use Rattle.lane_kernels.specs.Disjoint.{fits}
@@ -25,3 +25,17 @@ pub record AreRows (s : Groups) (words : List ℕ) : Type 0 where
   pub owned_at_most : length s.owned ≤ MOST_GROUPS
   pub size : length words ≡ width_of (length s.owned) * length s.abandoned
   pub bits : (i j : ℕ) → i < length s.abandoned → has_bit (row_at (width_of (length s.owned)) words i) j ≡ compatible_at s i j
+
+-- so many words from a place on are the rows of neighbours, of a width each, among those of n groups
+pub record IsRun (width n start len : ℕ) : Type 0 where
+  pub first : ℕ
+  pub count : ℕ
+  pub some : 1 ≤ width
+  pub start_is : start ≡ width * first
+  pub len_is : len ≡ width * count
+  pub within : first + count ≤ n
+
+-- the words are the rows of the groups whose own stand from a place on, among the rows of all
+abbrev pub AreRowsOfRun : List Entry → List SlotSet → Option Masks → ℕ → ℕ → List ℕ → Type 0
+AreRowsOfRun abandoned sets masks start len words = (first count : ℕ) → start ≡ width_of (length sets) * first → len ≡ width_of (length sets) * count
+    → HaveRows (take count (drop first abandoned)) sets masks count words

@@ -1,6 +1,8 @@
 // Builds the graph of a snapshot.
 ghost use Rattle.std.specs.Prelude.{◌≡◌, ◌↔◌, ◌+◌, ◌/◌, ◌<◌, ◌≤◌, ◌⊎◌, ℕ, Err, length, map, IfOk};
+ghost use Rattle.std.specs.Prelude.{◌*◌, take};
 ghost use Rattle.bitmap.specs.Slots.{has_bit};
+ghost use Rattle.lane_kernels.specs.Rows.{row_at, width_of};
 ghost use Rattle.mesh_graph.specs.Masked.{AreAsWide};
 ghost use Rattle.mesh_graph.specs.Rows.{HaveRows, row_bit};
 ghost use Rattle.mesh_graph.specs.declared.build.BuildError.TheVariants.{OutOfMemory, TooMany};
@@ -8,6 +10,7 @@ ghost use Rattle.mesh_graph.specs.declared.build.TheConstants.{MOST_GROUPS};
 
 use crate::by_class::{Masks, keep_class};
 use crate::graph::Graph;
+use crate::runner::Runner;
 use crate::snapshot::Snapshot;
 use lane_kernels::{Planes, SlotRows};
 use span::Entry;
@@ -36,15 +39,16 @@ impl From<AllocError> for BuildError {
 }
 
 impl<'a> Graph<'a> {
-    /// The graph of a snapshot, which is lent to it. The number of `pieces` that are to build its rows
-    /// is not used yet. `TooMany` comes exactly where a side has more than 4,096 groups, and
-    /// `OutOfMemory` where the rows could not grow.
-    pub fn build(
+    /// The graph of a snapshot, which is lent to it. The runner fills its rows, by `pieces` where it goes by pieces.
+    /// `TooMany` comes exactly where a side has more than 4,096 groups, and `OutOfMemory` where the rows could not grow.
+    pub fn build<R: Runner>(
+        runner: &R,
         alloc: Global,
         snapshot: &'a Snapshot,
         pieces: usize,
     ) -> Result<Graph<'a>, BuildError>
-        requires { 1 ≤ pieces }
+        requires pieces { 1 ≤ pieces }
+        requires ready { R.ready runner.now }
         ensures graph { IfOk result (λ graph. graph ≡ snapshot.now) }
         ensures too_many { (result ≡ Err TooMany) ↔ ((MOST_GROUPS < length snapshot.now.abandoned)
             ⊎ (MOST_GROUPS < length snapshot.now.owned)) }
@@ -58,7 +62,8 @@ impl<'a> Graph<'a> {
         let planes = planes_of(alloc, snapshot.owned())?;
         let sets = SlotRows::of(alloc, planes, snapshot.abandoned().len())?;
         let masks = Masks::of(alloc, snapshot.abandoned(), snapshot.owned())?;
-        let rows = rows_of(alloc, snapshot.abandoned(), &sets, &masks)?;
+        let mut rows = empty_rows(alloc, &sets, snapshot.abandoned().len())?;
+        runner.fill(snapshot.abandoned(), &sets, &masks, pieces, &mut rows);
         Ok(Graph { snapshot, rows })
     }
 }
@@ -74,27 +79,42 @@ fn planes_of(alloc: Global, groups: &[Entry]) -> Result<Planes, AllocError>
     Ok(planes)
 }
 
-// The rows of the groups, one after another.
-fn rows_of(
-    alloc: Global,
-    abandoned: &[Entry],
-    sets: &SlotRows,
-    masks: &Option<Masks>,
-) -> Result<Vec<u64>, AllocError>
-    requires abandoned { length abandoned.now ≤ MOST_GROUPS }
+// Room for the rows of so many groups, without a bit.
+fn empty_rows(alloc: Global, sets: &SlotRows, groups: usize) -> Result<Vec<u64>, AllocError>
+    requires groups { groups ≤ MOST_GROUPS }
     requires sets { length sets.now ≤ MOST_GROUPS }
-    requires masks { AreAsWide masks.now ((length sets.now + 63) / 64) }
-    ensures { IfOk result (λ rows. HaveRows abandoned.now sets.now masks.now (length abandoned.now)
-        rows.items) }
+    ensures { IfOk result (λ rows. length rows.items ≡ width_of (length sets.now) * groups) }
 {
     let words = sets.row_words();
-    let mut rows = Vec::with_capacity(alloc, words * abandoned.len())?;
-    let mut row = vec![in alloc; 0; words]?;
-    for entry in abandoned {
-        write_row(entry, sets, masks, &mut row);
-        rows.extend_from_slice(&row)?;
+    vec![in alloc; 0; words * groups]
+}
+
+// Fills the rows of a run of neighbours, one after another.
+pub(crate) fn write_rows(run: &[Entry], sets: &SlotRows, masks: &Option<Masks>, rows: &mut [u64])
+    requires masks { AreAsWide masks.now (width_of (length sets.now)) }
+    requires rows { length rows.old ≡ width_of (length sets.now) * length run.now }
+    ensures len { length rows.new ≡ length rows.old }
+    ensures rows { HaveRows run.now sets.now masks.now (length run.now) rows.new }
+{
+    for i in 0..run.len() {
+        write_row_at(&run[i], sets, masks, i, rows);
     }
-    Ok(rows)
+}
+
+// Writes row `i` of rows that stand one after another.
+fn write_row_at(entry: &Entry, sets: &SlotRows, masks: &Option<Masks>, i: usize, rows: &mut [u64])
+    requires masks { AreAsWide masks.now (width_of (length sets.now)) }
+    requires within { width_of (length sets.now) * i + width_of (length sets.now) ≤ length rows.old }
+    ensures len { length rows.new ≡ length rows.old }
+    ensures earlier { take (width_of (length sets.now) * i) rows.new
+        ≡ take (width_of (length sets.now) * i) rows.old }
+    ensures wide { length (row_at (width_of (length sets.now)) rows.new i) ≡ width_of (length sets.now) }
+    ensures bits { (j : ℕ) → has_bit (row_at (width_of (length sets.now)) rows.new i) j
+        ≡ row_bit sets.now masks.now entry.now j }
+{
+    let words = sets.row_words();
+    let start = words * i;
+    write_row(entry, sets, masks, &mut rows[start..start + words]);
 }
 
 // The row of a group: the sets that share no slot with it, of its class.

@@ -11,7 +11,7 @@ use std::alloc::{AllocError, Global};
 
 /// The owned groups of each class, as a row of bits.
 #[derive(Drop)]
-pub(crate) struct Masks {
+pub struct Masks {
     c16: Vec<u64>,
     c64: Vec<u64>,
     c256: Vec<u64>,

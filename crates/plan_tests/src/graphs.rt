@@ -2,7 +2,7 @@
 ghost use Rattle.std.specs.Prelude.{◌≤◌};
 
 use bitmap::Bits256;
-use mesh_graph::{BuildError, Entry, Graph, Snapshot};
+use mesh_graph::{AtHand, BuildError, Entry, Graph, Snapshot};
 use span::{Class, SpanId};
 use std::alloc::Global;
 
@@ -32,8 +32,8 @@ fn list(alloc: Global, groups: &[Entry]) -> Option<Vec<Entry>> {
 fn build_again(alloc: Global, snapshot: &Snapshot, pieces: usize) -> Result<Graph, BuildError>
     requires { 1 ≤ pieces }
 {
-    match Graph::build(alloc, snapshot, pieces) {
-        Err(BuildError::OutOfMemory) => Graph::build(alloc, snapshot, pieces),
+    match Graph::build(&AtHand, alloc, snapshot, pieces) {
+        Err(BuildError::OutOfMemory) => Graph::build(&AtHand, alloc, snapshot, pieces),
         answer => answer,
     }
 }

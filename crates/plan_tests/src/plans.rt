@@ -2,7 +2,7 @@
 use augment::{plan, plan_counted};
 use bitmap::Bits256;
 use certificate::{Plan, Short, check};
-use mesh_graph::{BuildError, Entry, Graph, Snapshot};
+use mesh_graph::{AtHand, BuildError, Entry, Graph, Snapshot};
 use span::{Class, SpanId};
 use std::alloc::{AllocError, Global};
 
@@ -103,8 +103,8 @@ fn snapshot(alloc: Global, made: Made, last: u8) -> Option<Snapshot> {
 }
 
 fn build_again(alloc: Global, snapshot: &Snapshot) -> Result<Graph<'_>, BuildError> {
-    match Graph::build(alloc, snapshot, 1) {
-        Err(_) => Graph::build(alloc, snapshot, 1),
+    match Graph::build(&AtHand, alloc, snapshot, 1) {
+        Err(_) => Graph::build(&AtHand, alloc, snapshot, 1),
         graph => graph,
     }
 }

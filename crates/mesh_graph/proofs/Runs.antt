@@ -1,0 +1,128 @@
+-- Rows of runs of neighbours, one run after another.
+use Rattle.std.proofs.Common.{ℕ, suc, ◌+◌, ◌-◌, ◌/◌, ◌%◌, ◌*◌, ◌<◌, ◌≤◌, ◌≡◌, List, length, drop, take, sym, subst, ◌∙◌, ap, arith, get_or, inl, inr, min, Option}
+use Rattle.std.proofs.Math.Nat.{div-add-mod, mod-lt, mul-div_cancel_left, mul_comm, le_of_mul-le-mul_left, mul-add, mul-le-mul_left, mul-sub, mul_assoc, mul-suc}
+use Rattle.std.proofs.lemmas.Bool.{cases_lt}
+use Rattle.std.proofs.lemmas.List.{drop-drop, drop-take, get_or-drop, get_or-take, length-drop, length-take, take-take}
+use Rattle.bitmap.specs.Slots.{SlotSet, has_bit}
+use Rattle.lane_kernels.specs.Rows.{row_at, width_of}
+use Rattle.span.specs.declared.entry.Entry.{Entry}
+use Rattle.mesh_graph.specs.Rows.{AreRowsOfRun, HaveRows, IsRun, row_bit}
+use Rattle.mesh_graph.specs.declared.by_class.Masks.{Masks}
+
+mul-min : (w a b : ℕ) → min (w * a) (w * b) ≡ w * min a b
+mul-min w a b = elim (cases_lt a b) [
+  | inl low ↦
+      let less : min a b ≡ a = omega (arith, low) in
+      let more : w * a ≤ w * b = mul-le-mul_left w (omega (arith, low)) in
+      rw less (omega (arith, more))
+  | inr high ↦
+      let less : min a b ≡ b = omega (arith, high) in
+      let more : w * b ≤ w * a = mul-le-mul_left w (omega (arith, high)) in
+      rw less (omega (arith, more))
+]
+
+-- a chunk of so many whole rows, or of those that are left, is a run
+pub chunk-is_run : (W run N start len : ℕ) → 1 ≤ W → start % (W * run) ≡ 0 → len ≡ min (W * run) (W * N - start) → start + len ≤ W * N → IsRun W N start len
+chunk-is_run W run N start len some whole is ends =
+    let k : ℕ = start / (W * run) in
+    let first : ℕ = run * k in
+    let parted : W * run * k + start % (W * run) ≡ start = div-add-mod start (W * run) in
+    let nested : W * run * k ≡ W * first = mul_assoc W run k in
+    let at : start ≡ W * first = omega (arith, parted, nested, whole) in
+    let count : ℕ = min run (N - first) in
+    let long : len ≡ W * count = is ∙ ap (λ s. min (W * run) (W * N - s)) at ∙ ap (min (W * run)) (sym (mul-sub W N first)) ∙ mul-min W run (N - first) in
+    let both : W * (first + count) ≡ W * first + W * count = mul-add W first count in
+    let far : W * (first + count) ≤ W * N = omega (arith, ends, at, long, both) in
+    record {
+      first = first;
+      count = count;
+      some = some;
+      start_is = at;
+      len_is = long;
+      within = le_of_mul-le-mul_left far (omega (arith, some));
+    }
+
+-- rows whose chunks are the rows of runs are the rows of all
+pub rows-joined : (abandoned : List Entry) (sets : List SlotSet) (masks : Option Masks) (run : ℕ) (before words : List ℕ) → 1 ≤ width_of (length sets) → 1 ≤ run
+    → length before ≡ width_of (length sets) * length abandoned → length words ≡ width_of (length sets) * length abandoned
+    → ((n : ℕ) → n * (width_of (length sets) * run) < length before
+    → AreRowsOfRun abandoned sets masks (n * (width_of (length sets) * run)) (length (take (width_of (length sets) * run) (drop (n * (width_of (length sets) * run)) before)))
+    (take (width_of (length sets) * run) (drop (n * (width_of (length sets) * run)) words)))
+    → HaveRows abandoned sets masks (length abandoned) words
+rows-joined abandoned sets masks run before words some filled wide size each = record {
+  size = size;
+  bits = λ i j x low.
+      let W : ℕ = width_of (length sets) in
+      let N : ℕ = length abandoned in
+      let n : ℕ = i / run in
+      let k : ℕ = i % run in
+      let first : ℕ = run * n in
+      let parted : run * n + i % run ≡ i = div-add-mod i run in
+      let inside : k < run = mod-lt i (omega (arith, filled)) in
+      let start : ℕ = n * (W * run) in
+      let begins : start ≡ W * first = mul_comm n (W * run) ∙ mul_assoc W run n in
+      let to_i : W * i ≡ W * first + W * k = ap (λ m. W * m) (sym parted) ∙ mul-add W first k in
+      let up_to : W * suc i ≤ W * N = mul-le-mul_left W low in
+      let more = mul-suc W i in
+      let below : start < length before = omega (arith, begins, to_i, up_to, more, wide, some) in
+      let count : ℕ = min run (N - first) in
+      let held : k < count = omega (arith, inside, low, parted) in
+      let left : length (drop start before) ≡ W * (N - first) = length-drop start before ∙ ap (λ l. l - start) wide ∙ ap (λ s. W * N - s) begins ∙ sym (mul-sub W N first) in
+      let long : length (take (W * run) (drop start before)) ≡ W * count = length-take (W * run) (drop start before) ∙ ap (min (W * run)) left ∙ mul-min W run (N - first) in
+      let have = each n below first count begins long in
+      let next_row : W * suc k ≤ W * run = mul-le-mul_left W inside in
+      let more_k = mul-suc W k in
+      let fits : W * k + W ≤ W * run = omega (arith, next_row, more_k) in
+      let same : row_at W (take (W * run) (drop start words)) k ≡ row_at W words i =
+      ap (take W) (drop-of_take (W * k) (W * run) (drop start words) (omega (arith, fits)))
+      ∙ take-take W (W * run - W * k) (drop (W * k) (drop start words)) (omega (arith, fits))
+      ∙ ap (take W) (drop-drop (W * k) start words)
+      ∙ ap (λ s. take W (drop s words)) (omega (arith, begins, to_i)) in
+      let read : get_or (take count (drop first abandoned)) k x ≡ get_or abandoned i x =
+      get_or-take count (drop first abandoned) k x held ∙ get_or-drop first abandoned k x ∙ ap (λ m. get_or abandoned m x) parted in
+      ap (λ l. has_bit l j) (sym same) ∙ have.bits k j x held ∙ ap (λ (e : Entry). row_bit sets masks e j) read;
+}
+  where
+    drop-of_take : (m n : ℕ) (l : List ℕ) → m ≤ n → drop m (take n l) ≡ take (n - m) (drop m l)
+    drop-of_take m n l low = ap (λ s. drop m (take s l)) (omega (arith, low)) ∙ drop-take m (n - m) l
+
+-- the same, where the words of a chunk are so many
+pub rows-joined_by : (abandoned : List Entry) (sets : List SlotSet) (masks : Option Masks) (run size : ℕ) (before words : List ℕ) → 1 ≤ width_of (length sets) → 1 ≤ run
+    → size ≡ width_of (length sets) * run
+    → length before ≡ width_of (length sets) * length abandoned → length words ≡ width_of (length sets) * length abandoned
+    → ((n : ℕ) → n * size < length before
+    → AreRowsOfRun abandoned sets masks (n * size) (length (take size (drop (n * size) before))) (take size (drop (n * size) words)))
+    → HaveRows abandoned sets masks (length abandoned) words
+rows-joined_by abandoned sets masks run size before words some filled is wide long each =
+    rows-joined abandoned sets masks run before words some filled wide long
+    (subst (λ k. (n : ℕ) → n * k < length before → AreRowsOfRun abandoned sets masks (n * k) (length (take k (drop (n * k) before))) (take k (drop (n * k) words))) is each)
+
+-- the groups of a run, as its words say where they stand
+module _ (abandoned : List Entry) (W w start len : ℕ) (run : IsRun W (length abandoned) start len) (same : w ≡ W) where
+  part-of : (n m : ℕ) → n ≡ W * m → n / w ≡ m
+  part-of n m is = ap (λ d. n / d) same ∙ ap (λ k. k / W) is ∙ mul-div_cancel_left m (omega (arith, run.some))
+
+  pub cut-is : (first count : ℕ) → start ≡ W * first → len ≡ W * count
+      → take (start / w + len / w - start / w) (drop (start / w) abandoned) ≡ take count (drop first abandoned)
+  cut-is first count at long =
+      let a : start / w ≡ first = part-of start first at in
+      let b : len / w ≡ count = part-of len count long in
+      let rest : start / w + len / w - start / w ≡ count = omega (arith, b) in
+      ap (λ k. take k (drop (start / w) abandoned)) rest ∙ ap (λ k. take count (drop k abandoned)) a
+
+  pub cut-long : (first count : ℕ) → start ≡ W * first → len ≡ W * count → length (take count (drop first abandoned)) ≡ count
+  cut-long first count at long =
+      let a : first ≡ run.first = sym (part-of start first at) ∙ part-of start run.first run.start_is in
+      let b : count ≡ run.count = sym (part-of len count long) ∙ part-of len run.count run.len_is in
+      length-take count (drop first abandoned) ∙ ap (min count) (length-drop first abandoned) ∙ omega (arith, a, b, run.within)
+
+-- the rows of the groups that a run cuts out are those of the run
+pub run-from_cut : (abandoned : List Entry) (sets : List SlotSet) (masks : Option Masks) (w start len : ℕ) (words : List ℕ)
+    → IsRun (width_of (length sets)) (length abandoned) start len → w ≡ width_of (length sets)
+    → HaveRows (take (start / w + len / w - start / w) (drop (start / w) abandoned)) sets masks
+    (length (take (start / w + len / w - start / w) (drop (start / w) abandoned))) words
+    → AreRowsOfRun abandoned sets masks start len words
+run-from_cut abandoned sets masks w start len words run same have first count at long =
+    let W : ℕ = width_of (length sets) in
+    subst (λ n. HaveRows (take count (drop first abandoned)) sets masks n words) (cut-long abandoned W w start len run same first count at long)
+    (subst (λ l. HaveRows l sets masks (length l) words) (cut-is abandoned W w start len run same first count at long) have)

@@ -1,0 +1,148 @@
+// Who fills the rows of a graph.
+ghost use Rattle.std.specs.Prelude.{◌≡◌, ◌*◌, ◌≤◌, ◌<◌, length};
+ghost use denote.Param.Send.{IsSync};
+ghost use Rattle.lane_kernels.specs.Rows.{width_of};
+ghost use Rattle.mesh_graph.specs.Masked.{AreAsWide};
+ghost use Rattle.mesh_graph.specs.Rows.{AreRowsOfRun, HaveRows, IsRun};
+
+use crate::build::write_rows;
+use crate::by_class::Masks;
+use lane_kernels::SlotRows;
+use rayon::prelude::*;
+use span::Entry;
+use std::thread::Threads;
+
+/// From how many groups of the pool on threads are worth their beginning.
+pub const LEAST_BY_THREADS: usize = 1024;
+
+/// Who fills the rows of a graph, whose bits do not depend on it: [`AtHand`] or [`ByThreads`].
+pub trait Runner {
+    /// What it needs to go on: that its threads may share what they are lent.
+    ghost ready: { Self → Type 0 };
+
+    /// Fills the rows of the groups, one after another, in so many runs of neighbours where it goes by runs.
+    fn fill(
+        &self,
+        abandoned: &[Entry],
+        sets: &SlotRows,
+        masks: &Option<Masks>,
+        pieces: usize,
+        rows: &mut [u64],
+    )
+        requires ready { ready self.now }
+        requires masks { AreAsWide masks.now (width_of (length sets.now)) }
+        requires pieces { 1 ≤ pieces }
+        requires rows { length rows.old ≡ width_of (length sets.now) * length abandoned.now }
+        ensures len { length rows.new ≡ length rows.old }
+        ensures rows { HaveRows abandoned.now sets.now masks.now (length abandoned.now) rows.new };
+}
+
+/// Fills all rows on the thread that asks, in one piece.
+#[derive(Clone, Copy)]
+pub struct AtHand;
+
+impl Runner for AtHand {
+    ghost ready = { λ _. Unit {0} };
+
+    fn fill(
+        &self,
+        abandoned: &[Entry],
+        sets: &SlotRows,
+        masks: &Option<Masks>,
+        _pieces: usize,
+        rows: &mut [u64],
+    ) {
+        write_rows(abandoned, sets, masks, rows);
+    }
+}
+
+/// Fills the rows by threads, a piece on each, which begin and end within the call.
+#[derive(Drop)]
+pub struct ByThreads<'a, R: Threads + Sync> {
+    rt: &'a R,
+    least: usize,
+}
+
+impl<'a, R: Threads + Sync> ByThreads<'a, R> {
+    /// By threads from [`LEAST_BY_THREADS`] groups of the pool on, and at hand where there are fewer.
+    pub fn new(rt: &'a R) -> ByThreads<'a, R> {
+        ByThreads {
+            rt,
+            least: LEAST_BY_THREADS,
+        }
+    }
+
+    /// By threads from so many groups of the pool on.
+    pub fn from_groups(rt: &'a R, least: usize) -> ByThreads<'a, R> {
+        ByThreads { rt, least }
+    }
+}
+
+impl<'a, R: Threads + Sync> Runner for ByThreads<'a, R> {
+    ghost ready = { λ _. IsSync R.row };
+
+    fn fill(
+        &self,
+        abandoned: &[Entry],
+        sets: &SlotRows,
+        masks: &Option<Masks>,
+        pieces: usize,
+        rows: &mut [u64],
+    ) {
+        if pieces == 1 || sets.len() == 0 || abandoned.len() < self.least.max(2) {
+            write_rows(abandoned, sets, masks, rows);
+            return;
+        }
+        let run = abandoned.len().div_ceil(pieces).max(1).min(abandoned.len());
+        fill_runs(self.rt, abandoned, sets, masks, run, rows);
+    }
+}
+
+// Fills the rows of each run of so many neighbours, and of those that are left, on threads.
+fn fill_runs<R: Threads + Sync>(
+    rt: &R,
+    abandoned: &[Entry],
+    sets: &SlotRows,
+    masks: &Option<Masks>,
+    run: usize,
+    rows: &mut [u64],
+)
+    requires some { 1 ≤ length sets.now }
+    requires run { 1 ≤ run }
+    requires within { run ≤ length abandoned.now }
+    requires masks { AreAsWide masks.now (width_of (length sets.now)) }
+    requires rows { length rows.old ≡ width_of (length sets.now) * length abandoned.now }
+    ensures len { length rows.new ≡ length rows.old }
+    ensures rows { HaveRows abandoned.now sets.now masks.now (length abandoned.now) rows.new }
+{
+    par_chunks_mut_for_each(
+        rt,
+        rows,
+        sets.row_words() * run,
+        |start: usize, part: &mut [u64]|
+            requires { IsRun (width_of (length sets.now)) (length abandoned.now) start (length part.old)
+                × AreAsWide masks.now (width_of (length sets.now)) }
+            ensures { (length part.new ≡ length part.old)
+                × AreRowsOfRun abandoned.entry.now sets.entry.now masks.entry.now start (length part.old) part.new }
+        { write_run(abandoned, sets, masks, start, part) },
+    );
+}
+
+// Fills the rows of the run of neighbours whose first row begins at a word.
+fn write_run(
+    abandoned: &[Entry],
+    sets: &SlotRows,
+    masks: &Option<Masks>,
+    start: usize,
+    part: &mut [u64],
+)
+    requires run { IsRun (width_of (length sets.now)) (length abandoned.now) start (length part.old) }
+    requires masks { AreAsWide masks.now (width_of (length sets.now)) }
+    ensures len { length part.new ≡ length part.old }
+    ensures rows { AreRowsOfRun abandoned.now sets.now masks.now start (length part.old) part.new }
+{
+    let words = sets.row_words();
+    let first = start / words;
+    let count = part.len() / words;
+    write_rows(&abandoned[first..first + count], sets, masks, part);
+}
