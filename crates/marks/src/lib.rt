@@ -19,7 +19,7 @@
 //!
 //! ```text
 //! let mut plan = CurrentPlan::new(alloc)?;                    // in room for 4,096 pairs
-//! let found = mark_in(alloc, &mut pool, &mut shards)?;        // a Certificate
+//! let found = mark_in(&AtHand, alloc, &mut pool, &mut shards)?; // a Certificate
 //! plan.begin(found.plan.pairs());
 //! while let Some((abandoned, owned)) = plan.next() {
 //!     fold_one(&mut pool, shard_that_has(owned), abandoned, owned)?;

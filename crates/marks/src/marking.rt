@@ -17,13 +17,14 @@ use crate::lends_shard::LendsShard;
 use abandoned::Pool;
 use augment::plan;
 use certificate::{Certificate, Plan, Short};
-use mesh_graph::{BuildError, Doubled, Entry, Graph, MOST_GROUPS, Snapshot};
+use mesh_graph::{BuildError, Doubled, Entry, Graph, MOST_GROUPS, Runner, Snapshot};
 use std::alloc::{AllocError, Global};
 
 /// A mark of the pool and the shards that are lent: it takes a snapshot of every group of the pool and of the shards that
 /// has a page, makes a plan of as many folds as can be, tells the pool that a plan is open, and closes the
 /// groups onto which the plan folds, so that they take no put. It gives the snapshot, the plan and the short set that
-/// shows the plan best.
+/// shows the plan best. The runner fills the rows of its graph, in as many pieces as there are shards where it goes by pieces; what
+/// the mark gives does not depend on it.
 ///
 /// # Errors
 ///
@@ -31,12 +32,14 @@ use std::alloc::{AllocError, Global};
 /// page, of which [`mark_some_in`] sees a part; `Doubled` where two of those of a side have the same head, which takes memory to
 /// tell. `OutOfMemory` where an allocation was refused and neither of the first two holds. All allocations stand before the
 /// first change.
-pub fn mark_in<H: LendsShard>(
+pub fn mark_in<R: Runner, H: LendsShard>(
+    runner: &R,
     alloc: Global,
     pool: &mut Pool<H::Log>,
     shards: &mut [H],
 ) -> Result<Certificate, MarkError>
-    requires { 1 ≤ length shards.old }
+    requires some { 1 ≤ length shards.old }
+    requires ready { R.ready runner.now }
     // What it gives, and what has changed then.
     ensures largest { IfOk result (IsLargest pool.old (map H.lent shards.old)) }
     ensures distinct { OnOk result (AreDistinct pool.old (map H.lent shards.old)) }
@@ -59,7 +62,7 @@ pub fn mark_in<H: LendsShard>(
     if !pool.has_plan() && has_too_many(pool, shards) {
         return Err(MarkError::TooMany);
     }
-    mark_some_in(alloc, pool, shards)
+    mark_some_in(runner, alloc, pool, shards)
 }
 
 /// A mark that sees of each side the 4,096 groups with a page that have the fewest live slots, or all where there are no more, and does
@@ -70,12 +73,14 @@ pub fn mark_in<H: LendsShard>(
 /// The first of these that holds: `PlanOpen` where a plan is open; `Doubled` where two groups of a side that have a page have the same
 /// head, which takes memory to tell. `OutOfMemory` where an allocation was refused and no plan is open. All allocations stand before
 /// the first change.
-pub fn mark_some_in<H: LendsShard>(
+pub fn mark_some_in<R: Runner, H: LendsShard>(
+    runner: &R,
     alloc: Global,
     pool: &mut Pool<H::Log>,
     shards: &mut [H],
 ) -> Result<Certificate, MarkError>
-    requires { 1 ≤ length shards.old }
+    requires some { 1 ≤ length shards.old }
+    requires ready { R.ready runner.now }
     // What it gives, and what has changed then.
     ensures largest { IfOk result (IsLargestInPart pool.old (map H.lent shards.old)) }
     ensures distinct { OnOk result (AreDistinct pool.old (map H.lent shards.old)) }
@@ -100,7 +105,7 @@ pub fn mark_some_in<H: LendsShard>(
     let Ok(snapshot) = snapshot_of(alloc, pool, shards)? else {
         return Err(MarkError::Doubled);
     };
-    let found = largest_plan(alloc, snapshot.sparsest(MOST_GROUPS), shards.len())?;
+    let found = largest_plan(runner, alloc, snapshot.sparsest(MOST_GROUPS), shards.len())?;
     close_planned(shards, found.plan.pairs());
     pool.plan_opened();
     Ok(found)
@@ -114,13 +119,19 @@ pub fn has_too_many<H: LendsShard>(pool: &Pool<H::Log>, shards: &[H]) -> bool
 }
 
 // A plan with the most pairs, with what it is of and what shows it.
-fn largest_plan(alloc: Global, snapshot: Snapshot, pieces: usize) -> Result<Certificate, AllocError>
+fn largest_plan<R: Runner>(
+    runner: &R,
+    alloc: Global,
+    snapshot: Snapshot,
+    pieces: usize,
+) -> Result<Certificate, AllocError>
     // The snapshot is not too large, and no group has a slot that its class lacks.
     requires abandoned { length snapshot.abandoned ≤ MOST_GROUPS }
     requires owned { length snapshot.owned ≤ MOST_GROUPS }
     requires abandoned_fit { All FitsClass snapshot.abandoned }
     requires owned_fit { All FitsClass snapshot.owned }
     requires pieces { 1 ≤ pieces }
+    requires ready { R.ready runner.now }
 
     // Its largest plan, with what shows it.
     ensures snapshot { IfOk result (λ found. found.snapshot ≡ snapshot) }
@@ -129,7 +140,7 @@ fn largest_plan(alloc: Global, snapshot: Snapshot, pieces: usize) -> Result<Cert
     ensures certificate { IfOk result (λ found. IsCertificateOf snapshot found.plan found.short) }
     ensures writable { IfOk result IsWritable }
 {
-    let (plan, short) = plan_of(alloc, &snapshot, pieces)?;
+    let (plan, short) = plan_of(runner, alloc, &snapshot, pieces)?;
     Ok(Certificate {
         snapshot,
         plan,
@@ -157,17 +168,23 @@ pub(crate) fn snapshot_of<H: LendsShard>(
 }
 
 // The largest plan of a snapshot that has few groups, and its short set.
-fn plan_of(alloc: Global, snapshot: &Snapshot, pieces: usize) -> Result<(Plan, Short), AllocError>
+fn plan_of<R: Runner>(
+    runner: &R,
+    alloc: Global,
+    snapshot: &Snapshot,
+    pieces: usize,
+) -> Result<(Plan, Short), AllocError>
     requires abandoned { length snapshot.now.abandoned ≤ MOST_GROUPS }
     requires owned { length snapshot.now.owned ≤ MOST_GROUPS }
     requires pieces { 1 ≤ pieces }
+    requires ready { R.ready runner.now }
     ensures best { IfOk result (λ found. IsBestPlanOf snapshot.now found.0) }
     ensures short { IfOk result (λ found. IsShortOf snapshot.now found.0 found.1) }
     ensures certificate { IfOk result (λ found. IsCertificateOf snapshot.now found.0 found.1) }
     ensures ascending { IfOk result (λ found. IsAscending (map (λ p. p.0) found.0)) }
     ensures short_ascending { IfOk result (λ found. IsAscending found.1) }
 {
-    match Graph::build(alloc, snapshot, pieces) {
+    match Graph::build(runner, alloc, snapshot, pieces) {
         Ok(graph) => plan(alloc, &graph),
         Err(BuildError::OutOfMemory) => Err(AllocError),
         Err(BuildError::TooMany) => unreachable!(),

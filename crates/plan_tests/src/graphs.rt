@@ -2,9 +2,10 @@
 ghost use Rattle.std.specs.Prelude.{◌≤◌};
 
 use bitmap::Bits256;
-use mesh_graph::{AtHand, BuildError, Entry, Graph, Snapshot};
+use mesh_graph::{AtHand, BuildError, ByThreads, Entry, Graph, Snapshot};
 use span::{Class, SpanId};
 use std::alloc::Global;
+use std::thread::Threads;
 
 // The group of the id `shard.serial` with these slots.
 fn entry(shard: u32, serial: u32, class: Class, slots: &[u8]) -> Option<Entry> {
@@ -34,6 +35,22 @@ fn build_again(alloc: Global, snapshot: &Snapshot, pieces: usize) -> Result<Grap
 {
     match Graph::build(&AtHand, alloc, snapshot, pieces) {
         Err(BuildError::OutOfMemory) => Graph::build(&AtHand, alloc, snapshot, pieces),
+        answer => answer,
+    }
+}
+
+// Builds by threads, from two groups of the pool on.
+fn build_by_threads<'a, R: Threads + Sync>(
+    rt: &R,
+    alloc: Global,
+    snapshot: &'a Snapshot,
+    pieces: usize,
+) -> Result<Graph<'a>, BuildError>
+    requires { 1 ≤ pieces }
+{
+    let runner = ByThreads::from_groups(rt, 2);
+    match Graph::build(&runner, alloc, snapshot, pieces) {
+        Err(BuildError::OutOfMemory) => Graph::build(&runner, alloc, snapshot, pieces),
         answer => answer,
     }
 }
@@ -184,15 +201,20 @@ fn have_same_rows(snapshot: &Snapshot, one: &Graph, other: &Graph) -> bool {
     one.abandoned() == other.abandoned()
 }
 
-// Whether the rows of so many groups a side are those of one piece, and of pairwise tests.
-fn are_of_one_piece(alloc: Global, count: u32, pieces: usize) -> Option<bool>
+// Whether the rows that threads fill in pieces, of so many groups a side, are those of one piece, and of pairwise tests.
+fn are_of_one_piece<R: Threads + Sync>(
+    rt: &R,
+    alloc: Global,
+    count: u32,
+    pieces: usize,
+) -> Option<bool>
     requires { 1 ≤ pieces }
 {
     let abandoned = side_again(alloc, 0, count, 1)?;
     let owned = side_again(alloc, 1, count, 2)?;
     let snapshot = Snapshot::new(abandoned, owned).ok()?;
     let one = build_again(alloc, &snapshot, 1).ok()?;
-    let other = build_again(alloc, &snapshot, pieces).ok()?;
+    let other = build_by_threads(rt, alloc, &snapshot, pieces).ok()?;
     Some(have_same_rows(&snapshot, &one, &other))
 }
 
@@ -200,7 +222,7 @@ fn are_of_one_piece(alloc: Global, count: u32, pieces: usize) -> Option<bool>
 fn rows_are_those_of_one_piece(rt: HostRuntime) {
     for count in [0, 1, 63, 64, 65, 300] {
         for pieces in [1, 2, 3, 7, 64] {
-            assert_eq!(rt; are_of_one_piece(rt.alloc(), count, pieces), Some(true));
+            assert_eq!(rt; are_of_one_piece(&rt, rt.alloc(), count, pieces), Some(true));
         }
     }
 }
