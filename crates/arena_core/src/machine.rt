@@ -18,6 +18,7 @@ use crate::rings::Rings;
 use crate::whereabouts::Whereabouts;
 use abandoned::Pool;
 use marks::{CurrentPlan, Limits, Totals};
+use mesh_graph::{AtHand, Runner};
 use shard::Shard;
 use span::{Kept, Log, Object};
 use std::alloc::{AllocError, Global};
@@ -183,6 +184,18 @@ impl<L: Log> Core<L> {
         ensures plain { ErasedStep self.old.limits (shown self.old) event result (shown self.new) }
         ensures sound { IsSound self.new }
     {
+        self.step_by(&AtHand, event)
+    }
+
+    /// The same, where a mark has its graph's rows filled by a runner, as by threads ([`ByThreads`](mesh_graph::ByThreads)), in as many
+    /// pieces as the core has shards. What is answered does not depend on it.
+    #[inline(always)]
+    pub fn step_by<R: Runner>(&mut self, runner: &R, event: Event) -> Reply
+        requires { R.ready runner.now }
+        ensures exact { CoreStep self.old event result self.new }
+        ensures plain { ErasedStep self.old.limits (shown self.old) event result (shown self.new) }
+        ensures sound { IsSound self.new }
+    {
         match event {
             Event::Put { shard, value } => match self.put(shard, value) {
                 Ok(key) => Reply::Issued(key),
@@ -222,11 +235,11 @@ impl<L: Log> Core<L> {
                 Ok(head) => Reply::Adopted(head),
                 Err(refusal) => Reply::Refused(refusal),
             },
-            Event::Mark => match self.mark() {
+            Event::Mark => match self.mark(runner) {
                 Ok(certificate) => Reply::Marked(certificate),
                 Err(refusal) => Reply::Refused(refusal),
             },
-            Event::MarkSome => match self.mark_some() {
+            Event::MarkSome => match self.mark_some(runner) {
                 Ok(certificate) => Reply::Marked(certificate),
                 Err(refusal) => Reply::Refused(refusal),
             },

@@ -20,13 +20,16 @@ use abandoned::Pool;
 use certificate::Certificate;
 use fold::{Step, fold_one};
 use marks::{has_too_many, mark_some_in, reopen_all};
+use mesh_graph::Runner;
 use shard::Shard;
 use span::{Log, SpanId};
 use std::alloc::AllocError;
 
 impl<L: Log> Core<L> {
-    // Makes a plan of as many folds as can be of what stands now, opens it, and closes the groups that it folds onto.
-    pub(super) fn mark(&mut self) -> Result<Certificate, Refusal>
+    // Makes a plan of as many folds as can be of what stands now, opens it, and closes the groups that it folds onto. The runner
+    // fills the rows of its graph.
+    pub(super) fn mark<R: Runner>(&mut self, runner: &R) -> Result<Certificate, Refusal>
+        requires { R.ready runner.now }
         ensures exact { MatchResult result
             (λ certificate. CoreStep self.old event.Mark (reply.Marked certificate) self.new)
             (λ refusal. CoreStep self.old event.Mark (reply.Refused refusal) self.new) }
@@ -39,18 +42,19 @@ impl<L: Log> Core<L> {
         if has_too_many(&self.pool, &self.shards) {
             return Err(Refusal::TooMany);
         }
-        self.mark_some()
+        self.mark_some(runner)
     }
 
     // The same of the groups of each side with the fewest live slots. The plan is made before anything changes.
-    pub(super) fn mark_some(&mut self) -> Result<Certificate, Refusal>
+    pub(super) fn mark_some<R: Runner>(&mut self, runner: &R) -> Result<Certificate, Refusal>
+        requires { R.ready runner.now }
         ensures exact { MatchResult result
             (λ certificate. CoreStep self.old event.MarkSome (reply.Marked certificate) self.new)
             (λ refusal. CoreStep self.old event.MarkSome (reply.Refused refusal) self.new) }
         ensures same { shown self.new ≡ shown self.old }
         ensures sound { IsSound self.new }
     {
-        let certificate = match mark_some_in(self.alloc, &mut self.pool, &mut self.shards) {
+        let certificate = match mark_some_in(runner, self.alloc, &mut self.pool, &mut self.shards) {
             Ok(certificate) => certificate,
             Err(error) => return Err(mark_refusal(error)),
         };
