@@ -19,7 +19,7 @@ use certificate::Certificate;
 use fold::{Step, fold_one};
 use latch::{Busy, Latch};
 use marks::{Limits, MarkError, Totals, mark_in, mark_some_in};
-use mesh_graph::MOST_GROUPS;
+use mesh_graph::{AtHand, MOST_GROUPS, Runner};
 use shard::Shard;
 use span::{Kept, Log, SpanId};
 use std::alloc::{AllocError, Global};
@@ -63,16 +63,25 @@ enum Sight {
 
 impl<G: Gate, L: Log> Arena<G, L> {
     /// Makes a plan of as many folds as can be of what stands now, under all locks, hands it to the steward, and closes
-    /// the groups that it folds onto. It gives what it saw, the plan, and the short set that shows it best.
+    /// the groups that it folds onto. It gives what it saw, the plan, and the short set that shows it best. The runner fills the rows
+    /// of its graph, in as many pieces as the arena has shards if it goes by pieces; the answer does not depend on it.
     ///
     /// # Errors
     ///
     /// As those of [`mark_in`] on what all locks lend: `PlanOpen`, `TooMany`, `Doubled`, and `OutOfMemory` where an allocation was
     /// refused. The plan of the steward is as it was. But for a steward that has a plan, when each comes the contract of
     /// `mark_in` says; no clause here can name what the locks guarded.
-    pub fn mark<R: Wait>(&self, rt: &R, steward: &mut Steward) -> Result<Certificate, MarkError>
+    pub fn mark<R: Wait, N: Runner>(
+        &self,
+        rt: &R,
+        runner: &N,
+        steward: &mut Steward,
+    ) -> Result<Certificate, MarkError>
         // The steward is of this arena.
-        requires { steward.old.limits ≡ self.now.limits }
+        requires of { steward.old.limits ≡ self.now.limits }
+
+        // The runner may go on.
+        requires runner { N.ready runner.now }
 
         // The plan, and the certificate that shows it.
         ensures best { IfOk result (λ found. IsBestPlanOf found.snapshot found.plan) }
@@ -89,7 +98,7 @@ impl<G: Gate, L: Log> Arena<G, L> {
         ensures plan_open { IsSome steward.old.plan → result ≡ Err MarkError.PlanOpen }
         ensures err { OnErr result (steward.new ≡ steward.old) }
     {
-        let Ok(made) = self.mark_within(&Waits { rt }, steward, Sight::All);
+        let Ok(made) = self.mark_within(&Waits { rt }, runner, steward, Sight::All);
         made
     }
 
@@ -100,13 +109,17 @@ impl<G: Gate, L: Log> Arena<G, L> {
     ///
     /// As those of [`mark_some_in`](marks::mark_some_in) on what all locks lend: `PlanOpen`, `Doubled`, and `OutOfMemory` where an
     /// allocation was refused. The plan of the steward is as it was.
-    pub fn mark_some<R: Wait>(
+    pub fn mark_some<R: Wait, N: Runner>(
         &self,
         rt: &R,
+        runner: &N,
         steward: &mut Steward,
     ) -> Result<Certificate, MarkError>
         // The steward is of this arena.
-        requires { steward.old.limits ≡ self.now.limits }
+        requires of { steward.old.limits ≡ self.now.limits }
+
+        // The runner may go on.
+        requires runner { N.ready runner.now }
 
         // The plan, and the certificate that shows it.
         ensures few { IfOk result (λ found. (length found.snapshot.abandoned ≤ MOST_GROUPS)
@@ -126,11 +139,11 @@ impl<G: Gate, L: Log> Arena<G, L> {
         ensures too_many { result ≢ Err MarkError.TooMany }
         ensures err { OnErr result (steward.new ≡ steward.old) }
     {
-        let Ok(made) = self.mark_within(&Waits { rt }, steward, Sight::Sparsest);
+        let Ok(made) = self.mark_within(&Waits { rt }, runner, steward, Sight::Sparsest);
         made
     }
 
-    /// What [`Arena::mark`] does, where no other thread has a lock.
+    /// What [`Arena::mark`] does, where no other thread has a lock. The thread that asks fills the rows ([`AtHand`]).
     ///
     /// # Errors
     ///
@@ -151,10 +164,10 @@ impl<G: Gate, L: Log> Arena<G, L> {
         ensures err { IfOk result (λ made. OnErr made (steward.new ≡ steward.old)) }
         ensures busy { OnErr result (steward.new ≡ steward.old) }
     {
-        self.mark_within(&Tries, steward, Sight::All)
+        self.mark_within(&Tries, &AtHand, steward, Sight::All)
     }
 
-    /// What [`Arena::mark_some`] does, where no other thread has a lock.
+    /// What [`Arena::mark_some`] does, where no other thread has a lock. The thread that asks fills the rows ([`AtHand`]).
     ///
     /// # Errors
     ///
@@ -179,17 +192,19 @@ impl<G: Gate, L: Log> Arena<G, L> {
         ensures err { IfOk result (λ made. OnErr made (steward.new ≡ steward.old)) }
         ensures busy { OnErr result (steward.new ≡ steward.old) }
     {
-        self.mark_within(&Tries, steward, Sight::Sparsest)
+        self.mark_within(&Tries, &AtHand, steward, Sight::Sparsest)
     }
 
     // A mark of what is in sight.
-    fn mark_within<P: Patience>(
+    fn mark_within<P: Patience, N: Runner>(
         &self,
         patience: &P,
+        runner: &N,
         steward: &mut Steward,
         sight: Sight,
     ) -> Result<Result<Certificate, MarkError>, P::Busy>
-        requires { steward.old.limits ≡ self.now.limits }
+        requires of { steward.old.limits ≡ self.now.limits }
+        requires runner { N.ready runner.now }
         ensures best { IfOk result (λ made. IfOk made
             (λ found. IsBestPlanOf found.snapshot found.plan)) }
         ensures short { IfOk result (λ made. IfOk made
@@ -214,12 +229,13 @@ impl<G: Gate, L: Log> Arena<G, L> {
         for shard in &self.shards {
             guards.push_reserved(LockedShard::new(patience.lock(shard)?));
         }
-        Ok(self.mark_locked(steward, sight, &mut *pool, guards.as_mut_slice()))
+        Ok(self.mark_locked(runner, steward, sight, &mut *pool, guards.as_mut_slice()))
     }
 
     // A mark of what is in sight of the pool and the shards, whose locks are held, where no plan is open.
-    fn mark_locked(
+    fn mark_locked<N: Runner>(
         &self,
+        runner: &N,
         steward: &mut Steward,
         sight: Sight,
         pool: &mut Pool<L>,
@@ -227,6 +243,7 @@ impl<G: Gate, L: Log> Arena<G, L> {
     ) -> Result<Certificate, MarkError>
         requires none { steward.old.plan ≡ None }
         requires some { 1 ≤ length shards.old }
+        requires runner { N.ready runner.now }
         ensures best { IfOk result (λ found. IsBestPlanOf found.snapshot found.plan) }
         ensures short { IfOk result (λ found. IsShortOf found.snapshot found.plan found.short) }
         ensures certificate { IfOk result (λ found. IsCertificateOf found.snapshot found.plan
@@ -237,8 +254,8 @@ impl<G: Gate, L: Log> Arena<G, L> {
         ensures err { OnErr result (steward.new ≡ steward.old) }
     {
         let found = match sight {
-            Sight::All => mark_in(self.alloc, pool, shards)?,
-            Sight::Sparsest => mark_some_in(self.alloc, pool, shards)?,
+            Sight::All => mark_in(runner, self.alloc, pool, shards)?,
+            Sight::Sparsest => mark_some_in(runner, self.alloc, pool, shards)?,
         };
         steward.plan.begin(found.plan.pairs());
         Ok(found)

@@ -1,13 +1,11 @@
 -- Rows of bits, a row a slot.
-use Rattle.std.proofs.Common.{ℕ, zero, suc, ◌+◌, ◌-◌, ◌*◌, ◌/◌, ◌%◌, ◌^◌, ◌<◌, ◌≤◌, ◌≡◌, ◌==◌, ◌&&◌, Bool, true, false, not, min, List, [], ◌++◌, ◌↔◌, length, length-append, Vec, Global, Ok, Err, IfOk, take, drop, get_or, lit<, lit≤, ap, sym, ◌∙◌, refl, inl, inr, arith, eqb-true, eq-eqb}
-use Rattle.std.specs.declared.result.Result.{Result}
-use Rattle.std.specs.declared.alloc.AllocError.{AllocError}
+use Rattle.std.proofs.Common.{ℕ, zero, suc, ◌+◌, ◌-◌, ◌*◌, ◌/◌, ◌%◌, ◌^◌, ◌<◌, ◌≤◌, ◌≡◌, ◌==◌, ◌&&◌, Bool, true, false, not, min, List, ◌++◌, ◌↔◌, length, length-append, take, drop, subst, get_or, lit<, lit≤, ap, sym, ◌∙◌, refl, inl, inr, arith, eqb-true, eq-eqb}
 use Rattle.std.specs.Int.{bit_at}
 use Rattle.std.specs.List.{filter, list_all, list_any, range_with_len, slice_get}
 use Rattle.std.specs.Ordering.{nat_cmp}
 use Rattle.std.specs.FinSet.{contains, contains-empty, empty, empty_of_len, intersection, len, len-empty}
 use Rattle.std.proofs.Math.Nat.{mul-le-mul_left, mul-suc}
-use Rattle.std.proofs.Math.Seq.{drop-append_seam, take-length}
+use Rattle.std.proofs.Math.Seq.{drop-append_seam, take-add, take-length}
 use Rattle.std.proofs.lemmas.Bool.{and_from, and_parts, both_ways, cases_Bool, cases_eq, cases_lt}
 use Rattle.std.proofs.lemmas.List.{drop-append-le, get_or_default, get_or_past, length-drop, take-append-le}
 use Rattle.std.proofs.lemmas.List.Elements.{All-from_get_or}
@@ -19,7 +17,7 @@ use Rattle.bitmap.specs.Operations.{AreDisjoint-at, AreDisjoint-by_slot}
 use Rattle.bitmap.specs.Words.{contains-slots_of_words}
 use Rattle.lane_kernels.specs.Disjoint.{are_disjoint, fits}
 use Rattle.lane_kernels.specs.Planes.{IsUnionOf, column, sets_of}
-use Rattle.lane_kernels.specs.Rows.{AreBitRows, AreSlotRows, IsFullRow, padded, row_at, survives, width_of}
+use Rattle.lane_kernels.specs.Rows.{AreBitRows, AreSlotRows, HaveSlots, IsFullRow, padded, row_at, survives, width_of}
 use Rattle.lane_kernels.proofs.Columns.{get_or-sets_of, length-sets_of}
 use Rattle.bitmap.specs.declared.bits.TheConstants.{SLOTS}
 
@@ -51,42 +49,63 @@ module _ (W : ℕ) (words row : List ℕ) (n : ℕ) (size : length words ≡ W *
       ∙ ap (λ k. take k row) (sym long) ∙ take-length row
 
 -- no row yet
-pub bit_rows-none : (p q r s words : List ℕ) → words ≡ [] → AreBitRows p q r s 0 words
-bit_rows-none p q r s words none = record {
-  size = let at : padded (width_of (length p)) * 0 ≡ 0 = omega arith in rw none (sym at);
-  bits = λ slot j below low. absurd (omega arith);
-}
+pub bit_rows-none : (p q r s : List ℕ) (first : ℕ) (words : List ℕ) → AreBitRows p q r s first 0 (take (padded (width_of (length p)) * 0) words)
+bit_rows-none p q r s first words =
+    let at : padded (width_of (length p)) * 0 ≡ 0 = omega arith in
+    record {
+      size = rw at refl;
+      bits = λ k j below low. absurd (omega arith);
+    }
 
 -- one more row
-pub bit_rows-more : (p q r s : List ℕ) (n : ℕ) (words row : List ℕ) → AreBitRows p q r s n words → length row ≡ padded (width_of (length p))
-    → ((j : ℕ) → j < length p → has_bit row j ≡ has_bit (column p q r s j) n) → AreBitRows p q r s (n + 1) (words ++ row)
-bit_rows-more p q r s n words row have long bits =
+bit_rows-more : (p q r s : List ℕ) (first n : ℕ) (words row : List ℕ) → AreBitRows p q r s first n words → length row ≡ padded (width_of (length p))
+    → ((j : ℕ) → j < length p → has_bit row j ≡ has_bit (column p q r s j) (first + n)) → AreBitRows p q r s first (n + 1) (words ++ row)
+bit_rows-more p q r s first n words row have long bits =
     let W : ℕ = padded (width_of (length p)) in
     record {
       size = let more = mul-suc W n in omega (arith, length-append words row, have.size, long, more);
-      bits = λ slot j below low. elim (cases_eq slot n) [
+      bits = λ k j below low. elim (cases_eq k n) [
         | inl at ↦
-            ap (λ k. has_bit (row_at W (words ++ row) k) j) at
+            ap (λ m. has_bit (row_at W (words ++ row) m) j) at
             ∙ ap (λ l. has_bit l j) (row_at-last W words row n have.size long)
-            ∙ bits j low ∙ ap (λ k. has_bit (column p q r s j) k) (sym at)
+            ∙ bits j low ∙ ap (λ m. has_bit (column p q r s j) (first + m)) (sym at)
         | inr other ↦
-            let before : slot < n = omega arith in
-            ap (λ l. has_bit l j) (row_at-earlier W words row n have.size long slot before) ∙ have.bits slot j before low
+            let before : k < n = omega arith in
+            ap (λ l. has_bit l j) (row_at-earlier W words row n have.size long k before) ∙ have.bits k j before low
       ];
     }
 
+-- the row that was written stands behind those before it
+pub bit_rows-next : (p q r s : List ℕ) (first n : ℕ) (before words : List ℕ)
+    → AreBitRows p q r s first n (take (padded (width_of (length p)) * n) before)
+    → take (padded (width_of (length p)) * n) words ≡ take (padded (width_of (length p)) * n) before
+    → length (row_at (padded (width_of (length p))) words n) ≡ padded (width_of (length p))
+    → ((j : ℕ) → j < length p → has_bit (row_at (padded (width_of (length p))) words n) j ≡ has_bit (column p q r s j) (first + n))
+    → AreBitRows p q r s first (n + 1) (take (padded (width_of (length p)) * (n + 1)) words)
+bit_rows-next p q r s first n before words have same wide bits =
+    let W : ℕ = padded (width_of (length p)) in
+    let more : W * (n + 1) ≡ W * n + W = let step = mul-suc W n in omega (arith, step) in
+    let cut : take (W * (n + 1)) words ≡ take (W * n) before ++ row_at W words n = ap (λ k. take k words) more ∙ take-add (W * n) W words ∙ ap (λ l. l ++ row_at W words n) same in
+    subst (AreBitRows p q r s first (n + 1)) (sym cut) (bit_rows-more p q r s first n (take (W * n) before) (row_at W words n) have wide bits)
+
+-- all rows are written
+pub bit_rows-all : (p q r s : List ℕ) (first n : ℕ) (words : List ℕ)
+    → AreBitRows p q r s first n (take (padded (width_of (length p)) * n) words) → length words ≡ padded (width_of (length p)) * n → AreBitRows p q r s first n words
+bit_rows-all p q r s first n words have size =
+    subst (AreBitRows p q r s first n) (ap (λ k. take k words) (sym size) ∙ take-length words) have
+
 -- the rows of the columns are those of the sets
-pub AreSlotRows-from_bits : (p q r s : List ℕ) (sets : List SlotSet) (rows : List ℕ) → sets_of p q r s ≡ sets → AreBitRows p q r s SLOTS rows
-    → AreSlotRows sets rows
-AreSlotRows-from_bits p q r s sets rows view have =
+pub HaveSlots-from_bits : (p q r s : List ℕ) (sets : List SlotSet) (first n : ℕ) (rows : List ℕ) → sets_of p q r s ≡ sets → first + n ≤ SLOTS
+    → AreBitRows p q r s first n rows → HaveSlots sets first n rows
+HaveSlots-from_bits p q r s sets first n rows view within have =
     let long : length sets ≡ length p = ap length (sym view) ∙ length-sets_of p q r s in
     record {
-      size = have.size ∙ ap (λ n. padded (width_of n) * SLOTS) (sym long);
-      bits = λ slot j d below low.
-          ap (λ n. has_bit (row_at (padded (width_of n)) rows slot) j) long
-          ∙ have.bits slot j below (omega (arith, long))
-          ∙ sym (contains-slots_of_words (column p q r s j) (lit≤ tt) slot)
-          ∙ ap (λ x. contains x slot) (sym (get_or-sets_of p q r s j d (omega (arith, long))) ∙ ap (λ l. get_or l j d) view);
+      size = have.size ∙ ap (λ m. padded (width_of m) * n) (sym long);
+      bits = λ k j d below low.
+          ap (λ m. has_bit (row_at (padded (width_of m)) rows k) j) long
+          ∙ have.bits k j below (omega (arith, long))
+          ∙ sym (contains-slots_of_words (column p q r s j) (lit≤ tt) (first + k))
+          ∙ ap (λ x. contains x (first + k)) (sym (get_or-sets_of p q r s j d (omega (arith, long))) ∙ ap (λ l. get_or l j d) view);
     }
 
 module _ (test held : ℕ → Bool) where
@@ -255,11 +274,5 @@ left_fits set sets rows full row width below are is_full wide bits =
     fits-from_columns set sets row
     (λ j low.
     bits j ∙ ap (λ b. b && survives width rows j (ascending set)) (is_full.bits j low)
-    ∙ survives-tells set (get_or sets j set) rows width j below (λ q small. ap (λ w. has_bit (row_at w rows q) j) wide ∙ are.bits q j set small low))
+    ∙ survives-tells set (get_or sets j set) rows width j below (λ q small. ap (λ w. has_bit (row_at w rows q) j) wide ∙ are.bits q j set small low ∙ ap (λ k. contains (get_or sets j set) k) (omega arith)))
     (λ j past. bits j ∙ ap (λ b. b && survives width rows j (ascending set)) (is_full.rest j past))
-
--- the same of rows that may have been refused
-pub told : (p q r s : List ℕ) (sets : List SlotSet) → sets_of p q r s ≡ sets → (found : Result (Vec ℕ Global) AllocError)
-    → IfOk found (λ rows. AreBitRows p q r s SLOTS rows.items) → IfOk found (λ rows. AreSlotRows sets rows.items)
-told p q r s sets view (Ok rows) have = AreSlotRows-from_bits p q r s sets rows.items view have
-told p q r s sets view (Err e) have = tt

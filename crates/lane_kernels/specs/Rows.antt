@@ -1,4 +1,4 @@
--- Many sets as a row of bits for each slot. No public clause cites this module.
+-- Many sets as a row of bits for each slot.
 use Rattle.std.specs.Prelude.{ℕ, ◌≡◌, ◌<◌, ◌≤◌, ◌*◌, ◌+◌, ◌/◌, Bool, true, false, not, List, length, take, drop, slice_index, slice_index_or}
 use Rattle.std.specs.FinSet.{contains, len}
 use Rattle.std.specs.Int.{bit_at}
@@ -19,16 +19,20 @@ row_at width words i = take width (drop (width * i) words)
 abbrev pub padded : ℕ → ℕ
 padded words = (words + 15) / 16 * 16
 
--- a row for each slot, in blocks of sixteen words: bit j of row s says whether set j has slot s
-pub record AreSlotRows (sets : List SlotSet) (rows : List ℕ) : Type 0 where
-  pub size : length rows ≡ padded (width_of (length sets)) * SLOTS
-  pub bits : (s j : ℕ) (d : SlotSet) → s < SLOTS → j < length sets
-      → has_bit (row_at (padded (width_of (length sets))) rows s) j ≡ contains (slice_index_or sets j d) s
+-- the rows of so many slots from the first on: bit j of row k says whether set j has slot first + k
+pub record HaveSlots (sets : List SlotSet) (first count : ℕ) (rows : List ℕ) : Type 0 where
+  pub size : length rows ≡ padded (width_of (length sets)) * count
+  pub bits : (k j : ℕ) (d : SlotSet) → k < count → j < length sets
+      → has_bit (row_at (padded (width_of (length sets))) rows k) j ≡ contains (slice_index_or sets j d) (first + k)
 
--- the rows of the first n slots: bit j of row s says whether column j has slot s
-pub record AreBitRows (p q r s : List ℕ) (n : ℕ) (rows : List ℕ) : Type 0 where
+-- a row for each slot
+abbrev pub AreSlotRows : List SlotSet → List ℕ → Type 0
+AreSlotRows sets rows = HaveSlots sets 0 SLOTS rows
+
+-- the same where the sets stand in columns: bit j of row k says whether column j has slot first + k
+pub record AreBitRows (p q r s : List ℕ) (first n : ℕ) (rows : List ℕ) : Type 0 where
   pub size : length rows ≡ padded (width_of (length p)) * n
-  pub bits : (slot j : ℕ) → slot < n → j < length p → has_bit (row_at (padded (width_of (length p))) rows slot) j ≡ has_bit (column p q r s j) slot
+  pub bits : (k j : ℕ) → k < n → j < length p → has_bit (row_at (padded (width_of (length p))) rows k) j ≡ has_bit (column p q r s j) (first + k)
 
 -- a row with a bit for each of the sets, and no other
 pub record IsFullRow (sets : List SlotSet) (row : List ℕ) : Type 0 where

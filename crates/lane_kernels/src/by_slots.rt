@@ -1,10 +1,10 @@
 // Many sets as a row of bits for each slot.
-ghost use Rattle.std.specs.Prelude.{◌≡◌, ℕ, ◌+◌, ◌-◌, ◌*◌, ◌/◌, ◌^◌, ◌<◌, ◌≤◌, ◌==◌, ◌&&◌, ◌↔◌, not, length, min, slice_index, IfOk};
+ghost use Rattle.std.specs.Prelude.{◌≡◌, ℕ, ◌+◌, ◌-◌, ◌*◌, ◌/◌, ◌^◌, ◌<◌, ◌≤◌, ◌==◌, ◌&&◌, ◌↔◌, not, length, min, slice_index, take, IfOk};
 ghost use Rattle.std.specs.Int.{bit_at};
 ghost use Rattle.std.specs.Simd.Lanes.{chunk};
 ghost use Rattle.bitmap.specs.Slots.{ascending, has_bit};
 ghost use Rattle.lane_kernels.specs.Planes.{column, word_of};
-ghost use Rattle.lane_kernels.specs.Rows.{AreBitRows, IsClear, IsClearIn, padded, survives};
+ghost use Rattle.lane_kernels.specs.Rows.{AreBitRows, IsClear, IsClearIn, padded, row_at, survives, width_of};
 
 use bitmap::Bits256;
 use std::alloc::{AllocError, Global};
@@ -77,7 +77,7 @@ fn fill_bits(plane: &[u64], bit: usize, row: &mut [u64])
 }
 
 // How many words a row takes up among the rows of slots: blocks of sixteen words, the last one filled up.
-fn padded(words: usize) -> usize
+pub(crate) fn padded(words: usize) -> usize
     requires { words < 2 ^ 60 }
     ensures { result ≡ padded words }
 {
@@ -189,26 +189,66 @@ fn fill_slot(p: &[u64], q: &[u64], r: &[u64], s: &[u64], slot: usize, row: &mut 
     fill_bits(s, slot % 64, row);
 }
 
-// The rows of all slots, one after another.
-pub(crate) fn rows_of(
-    alloc: Global,
+// Writes the row of the slot `first + k` as row k of rows that stand one after another.
+fn fill_slot_at(
     p: &[u64],
     q: &[u64],
     r: &[u64],
     s: &[u64],
-) -> Result<Vec<u64>, AllocError>
+    first: usize,
+    k: usize,
+    rows: &mut [u64],
+)
+    requires slot { first + k < 256 }
     requires q { length q.now ≡ length p.now }
     requires r { length r.now ≡ length p.now }
     requires s { length s.now ≡ length p.now }
-    ensures { IfOk result (λ rows. AreBitRows p.now q.now r.now s.now 256 rows.items) }
+    requires within { padded (width_of (length p.now)) * k + padded (width_of (length p.now))
+        ≤ length rows.old }
+    ensures len { length rows.new ≡ length rows.old }
+    ensures earlier { take (padded (width_of (length p.now)) * k) rows.new
+        ≡ take (padded (width_of (length p.now)) * k) rows.old }
+    ensures wide { length (row_at (padded (width_of (length p.now))) rows.new k)
+        ≡ padded (width_of (length p.now)) }
+    ensures bits { (j : ℕ) → j < length p.now
+        → has_bit (row_at (padded (width_of (length p.now))) rows.new k) j
+        ≡ has_bit (column p.now q.now r.now s.now j) (first + k) }
 {
     let width = padded((p.len() + 63) / 64);
-    // Where there are more words than a number counts, there is no memory for them either.
-    let mut rows = Vec::with_capacity(alloc, width.saturating_mul(256))?;
-    let mut row = vec![in alloc; 0; width]?;
-    for slot in 0..256usize {
-        fill_slot(p, q, r, s, slot, &mut row);
-        rows.extend_from_slice(&row)?;
+    let start = width * k;
+    fill_slot(p, q, r, s, first + k, &mut rows[start..start + width]);
+}
+
+// Writes the rows of so many slots from `first` on, one after another.
+pub(crate) fn fill_slots(
+    p: &[u64],
+    q: &[u64],
+    r: &[u64],
+    s: &[u64],
+    first: usize,
+    count: usize,
+    rows: &mut [u64],
+)
+    requires slots { first + count ≤ 256 }
+    requires q { length q.now ≡ length p.now }
+    requires r { length r.now ≡ length p.now }
+    requires s { length s.now ≡ length p.now }
+    requires rows { length rows.old ≡ padded (width_of (length p.now)) * count }
+    ensures len { length rows.new ≡ length rows.old }
+    ensures rows { AreBitRows p.now q.now r.now s.now first count rows.new }
+{
+    for k in 0..count {
+        fill_slot_at(p, q, r, s, first, k, rows);
     }
-    Ok(rows)
+}
+
+// Room for the rows of all slots of so many columns as a plane has, without a bit.
+pub(crate) fn empty_rows(alloc: Global, plane: &[u64]) -> Result<Vec<u64>, AllocError>
+    ensures { IfOk result (λ rows. length rows.items ≡ padded (width_of (length plane.now)) * 256) }
+{
+    // Where there are more words than a number counts, there is no memory for them either.
+    let Some(words) = padded((plane.len() + 63) / 64).checked_mul(256) else {
+        return Err(AllocError);
+    };
+    vec![in alloc; 0; words]
 }

@@ -1,12 +1,13 @@
 // Sets side by side.
-ghost use Rattle.std.specs.Prelude.{◌≡◌, ℕ, ◌+◌, ◌/◌, ◌++◌, ◌∷◌, [], IfOk, OnOk, OnErr, length, map, vec_len, slice_get};
+ghost use Rattle.std.specs.Prelude.{◌≡◌, ℕ, ◌+◌, ◌*◌, ◌/◌, ◌≤◌, ◌++◌, ◌∷◌, [], IfOk, OnOk, OnErr, length, map, vec_len, slice_get};
 ghost use Rattle.std.specs.FinSet as set;
 ghost use Rattle.bitmap.specs.Slots.{has_bit};
 ghost use Rattle.lane_kernels.specs.Disjoint.{fits};
 ghost use Rattle.lane_kernels.specs.Planes.{IsUnionOf, sets_of};
-ghost use Rattle.lane_kernels.specs.Rows.{AreFewest, AreSlotRows};
+ghost use Rattle.lane_kernels.specs.Rows.{AreFewest, HaveSlots, padded, width_of};
+ghost use Rattle.bitmap.specs.declared.bits.TheConstants.{SLOTS};
 
-use crate::by_slots::rows_of;
+use crate::by_slots::{empty_rows, fill_slots, padded};
 use crate::kernel::{count_columns, fill_row, fill_row_by_counts};
 use bitmap::Bits256;
 use std::alloc::{AllocError, Global};
@@ -138,10 +139,36 @@ impl Planes {
         self.all
     }
 
-    // The rows of all slots, one after another.
-    pub(crate) fn slot_rows(&self, alloc: Global) -> Result<Vec<u64>, AllocError>
-        ensures { IfOk result (λ rows. AreSlotRows self.now rows.items) }
+    /// How many words the row of a slot takes up among the rows of slots: those of a row, filled up to blocks of sixteen.
+    pub fn slot_words(&self) -> usize
+        ensures { result ≡ padded (width_of (length self.now)) }
     {
-        rows_of(alloc, &self.first, &self.second, &self.third, &self.fourth)
+        padded((self.first.len() + 63) / 64)
+    }
+
+    /// Room for the rows of all 256 slots, one after another, without a bit. The error means that memory ran out.
+    pub fn empty_slot_rows(&self, alloc: Global) -> Result<Vec<u64>, AllocError>
+        ensures { IfOk result (λ rows. length rows.items ≡ padded (width_of (length self.now)) * SLOTS) }
+    {
+        empty_rows(alloc, &self.first)
+    }
+
+    /// Writes the rows of so many slots from `first` on, one after another, each of [`slot_words`](Planes::slot_words) words: bit
+    /// j % 64 of word j / 64 of a slot's row says whether set j has the slot.
+    pub fn fill_slots(&self, first: usize, count: usize, rows: &mut [u64])
+        requires slots { first + count ≤ SLOTS }
+        requires rows { length rows.old ≡ padded (width_of (length self.now)) * count }
+        ensures len { length rows.new ≡ length rows.old }
+        ensures rows { HaveSlots self.now first count rows.new }
+    {
+        fill_slots(
+            &self.first,
+            &self.second,
+            &self.third,
+            &self.fourth,
+            first,
+            count,
+            rows,
+        );
     }
 }

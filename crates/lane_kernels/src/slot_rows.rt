@@ -56,11 +56,27 @@ impl SlotRows {
     pub fn of(alloc: Global, planes: Planes, asked: usize) -> Result<SlotRows, AllocError>
         ensures { IfOk result (λ rows. rows ≡ planes) }
     {
-        let rows = if asked < LEAST_BY_SLOTS {
-            None
-        } else {
-            Some(planes.slot_rows(alloc)?)
-        };
+        if asked < LEAST_BY_SLOTS {
+            return SlotRows::beside(alloc, planes, None);
+        }
+        let mut rows = planes.empty_slot_rows(alloc)?;
+        planes.fill_slots(0, SLOTS, &mut rows);
+        SlotRows::with_rows(alloc, planes, rows)
+    }
+
+    /// The same over rows that are filled, as [`Planes::fill_slots`] fills them by runs of slots.
+    pub fn with_rows(alloc: Global, planes: Planes, rows: Vec<u64>) -> Result<SlotRows, AllocError>
+        requires { AreSlotRows planes rows.items }
+        ensures { IfOk result (λ made. made ≡ planes) }
+    {
+        SlotRows::beside(alloc, planes, Some(rows))
+    }
+
+    // The sets beside their rows by slots, if there are any.
+    fn beside(alloc: Global, planes: Planes, rows: Option<Vec<u64>>) -> Result<SlotRows, AllocError>
+        requires { IfSome rows (λ rows. AreSlotRows planes rows.items) }
+        ensures { IfOk result (λ made. made ≡ planes) }
+    {
         let full = full_row(alloc, &planes)?;
         let fewest = fewest_of(alloc, &planes)?;
         Ok(SlotRows {

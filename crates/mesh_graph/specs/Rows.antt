@@ -3,7 +3,7 @@ use Rattle.std.specs.Prelude.{ℕ, ◌≡◌, ◌<◌, ◌≤◌, ◌+◌, ◌*�
 use Rattle.std.specs.List.{slice_get}
 use Rattle.bitmap.specs.Slots.{SlotSet, has_bit}
 use Rattle.lane_kernels.specs.Disjoint.{fits}
-use Rattle.lane_kernels.specs.Rows.{row_at, width_of}
+use Rattle.lane_kernels.specs.Rows.{HaveSlots, padded, row_at, width_of}
 use Rattle.span.specs.declared.entry.Entry.{Entry}
 use Rattle.mesh_graph.specs.Groups.{Groups, compatible_at}
 use Rattle.mesh_graph.specs.Masked.{is_kept}
@@ -34,6 +34,11 @@ pub record IsRun (width n start len : ℕ) : Type 0 where
   pub start_is : start ≡ width * first
   pub len_is : len ≡ width * count
   pub within : first + count ≤ n
+
+-- the words are the rows of the slots whose own stand from a place on, among the rows of all slots
+abbrev pub AreSlotsOfRun : List SlotSet → ℕ → ℕ → List ℕ → Type 0
+AreSlotsOfRun sets start len words = (first count : ℕ) → start ≡ padded (width_of (length sets)) * first → len ≡ padded (width_of (length sets)) * count
+    → HaveSlots sets first count words
 
 -- the words are the rows of the groups whose own stand from a place on, among the rows of all
 abbrev pub AreRowsOfRun : List Entry → List SlotSet → Option Masks → ℕ → ℕ → List ℕ → Type 0

@@ -12,7 +12,7 @@ use crate::by_class::{Masks, keep_class};
 use crate::graph::Graph;
 use crate::runner::Runner;
 use crate::snapshot::Snapshot;
-use lane_kernels::{Planes, SlotRows};
+use lane_kernels::{LEAST_BY_SLOTS, Planes, SlotRows};
 use span::Entry;
 use std::alloc::{AllocError, Global};
 
@@ -60,7 +60,7 @@ impl<'a> Graph<'a> {
             return Err(BuildError::TooMany);
         }
         let planes = planes_of(alloc, snapshot.owned())?;
-        let sets = SlotRows::of(alloc, planes, snapshot.abandoned().len())?;
+        let sets = sets_by_slots(runner, alloc, planes, snapshot.abandoned().len(), pieces)?;
         let masks = Masks::of(alloc, snapshot.abandoned(), snapshot.owned())?;
         let mut rows = empty_rows(alloc, &sets, snapshot.abandoned().len())?;
         runner.fill(snapshot.abandoned(), &sets, &masks, pieces, &mut rows);
@@ -77,6 +77,26 @@ fn planes_of(alloc: Global, groups: &[Entry]) -> Result<Planes, AllocError>
         planes.push(&entry.occupied)?;
     }
     Ok(planes)
+}
+
+// The sets by slots, of which so many rows will be asked for. The runner fills the rows of slots, where there are any.
+fn sets_by_slots<R: Runner>(
+    runner: &R,
+    alloc: Global,
+    planes: Planes,
+    asked: usize,
+    pieces: usize,
+) -> Result<SlotRows, AllocError>
+    requires pieces { 1 ≤ pieces }
+    requires ready { R.ready runner.now }
+    ensures { IfOk result (λ sets. sets ≡ planes) }
+{
+    if asked < LEAST_BY_SLOTS {
+        return SlotRows::of(alloc, planes, asked);
+    }
+    let mut rows = planes.empty_slot_rows(alloc)?;
+    runner.fill_slots(&planes, pieces, &mut rows);
+    SlotRows::with_rows(alloc, planes, rows)
 }
 
 // Room for the rows of so many groups, without a bit.

@@ -1,24 +1,35 @@
 // Who fills the rows of a graph.
 ghost use Rattle.std.specs.Prelude.{◌≡◌, ◌*◌, ◌≤◌, ◌<◌, length};
 ghost use denote.Param.Send.{IsSync};
-ghost use Rattle.lane_kernels.specs.Rows.{width_of};
+ghost use Rattle.bitmap.specs.declared.bits.TheConstants.{SLOTS};
+ghost use Rattle.lane_kernels.specs.Rows.{AreSlotRows, padded, width_of};
 ghost use Rattle.mesh_graph.specs.Masked.{AreAsWide};
-ghost use Rattle.mesh_graph.specs.Rows.{AreRowsOfRun, HaveRows, IsRun};
+ghost use Rattle.mesh_graph.specs.Rows.{AreRowsOfRun, AreSlotsOfRun, HaveRows, IsRun};
 
 use crate::build::write_rows;
 use crate::by_class::Masks;
-use lane_kernels::SlotRows;
+use bitmap::SLOTS;
+use lane_kernels::{Planes, SlotRows};
 use rayon::prelude::*;
 use span::Entry;
 use std::thread::Threads;
 
-/// From how many groups of the pool on threads are worth their beginning.
-pub const LEAST_BY_THREADS: usize = 1024;
+/// From how many groups of a side on threads are worth their beginning.
+pub const LEAST_BY_THREADS: usize = 2048;
 
 /// Who fills the rows of a graph, whose bits do not depend on it: [`AtHand`] or [`ByThreads`].
 pub trait Runner {
     /// What it needs to go on: that its threads may share what they are lent.
     ghost ready: { Self → Type 0 };
+
+    /// Fills the rows of all slots, one after another, in so many runs of neighbours where it goes by runs: bit j of a slot's row says
+    /// whether set j has the slot.
+    fn fill_slots(&self, planes: &Planes, pieces: usize, rows: &mut [u64])
+        requires ready { ready self.now }
+        requires pieces { 1 ≤ pieces }
+        requires rows { length rows.old ≡ padded (width_of (length planes.now)) * SLOTS }
+        ensures len { length rows.new ≡ length rows.old }
+        ensures rows { AreSlotRows planes.now rows.new };
 
     /// Fills the rows of the groups, one after another, in so many runs of neighbours where it goes by runs.
     fn fill(
@@ -43,6 +54,10 @@ pub struct AtHand;
 
 impl Runner for AtHand {
     ghost ready = { λ _. Unit {0} };
+
+    fn fill_slots(&self, planes: &Planes, _pieces: usize, rows: &mut [u64]) {
+        planes.fill_slots(0, SLOTS, rows);
+    }
 
     fn fill(
         &self,
@@ -81,6 +96,15 @@ impl<'a, R: Threads + Sync> ByThreads<'a, R> {
 impl<'a, R: Threads + Sync> Runner for ByThreads<'a, R> {
     ghost ready = { λ _. IsSync R.row };
 
+    fn fill_slots(&self, planes: &Planes, pieces: usize, rows: &mut [u64]) {
+        if pieces == 1 || planes.len() == 0 || planes.len() < self.least {
+            planes.fill_slots(0, SLOTS, rows);
+            return;
+        }
+        let run = SLOTS.div_ceil(pieces).max(1).min(SLOTS);
+        fill_runs_of_slots(self.rt, planes, run, rows);
+    }
+
     fn fill(
         &self,
         abandoned: &[Entry],
@@ -96,6 +120,37 @@ impl<'a, R: Threads + Sync> Runner for ByThreads<'a, R> {
         let run = abandoned.len().div_ceil(pieces).max(1).min(abandoned.len());
         fill_runs(self.rt, abandoned, sets, masks, run, rows);
     }
+}
+
+// Fills the rows of each run of so many slots, and of those that are left, on threads.
+fn fill_runs_of_slots<R: Threads + Sync>(rt: &R, planes: &Planes, run: usize, rows: &mut [u64])
+    requires some { 1 ≤ length planes.now }
+    requires run { 1 ≤ run }
+    requires within { run ≤ SLOTS }
+    requires rows { length rows.old ≡ padded (width_of (length planes.now)) * SLOTS }
+    ensures len { length rows.new ≡ length rows.old }
+    ensures rows { AreSlotRows planes.now rows.new }
+{
+    par_chunks_mut_for_each(
+        rt,
+        rows,
+        planes.slot_words() * run,
+        |start: usize, part: &mut [u64]|
+            requires { IsRun (padded (width_of (length planes.now))) SLOTS start (length part.old) }
+            ensures { (length part.new ≡ length part.old)
+                × AreSlotsOfRun planes.entry.now start (length part.old) part.new }
+        { write_run_of_slots(planes, start, part) },
+    );
+}
+
+// Fills the rows of the run of slots whose first row begins at a word.
+fn write_run_of_slots(planes: &Planes, start: usize, part: &mut [u64])
+    requires { IsRun (padded (width_of (length planes.now))) SLOTS start (length part.old) }
+    ensures len { length part.new ≡ length part.old }
+    ensures rows { AreSlotsOfRun planes.now start (length part.old) part.new }
+{
+    let words = planes.slot_words();
+    planes.fill_slots(start / words, part.len() / words, part);
 }
 
 // Fills the rows of each run of so many neighbours, and of those that are left, on threads.

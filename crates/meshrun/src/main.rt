@@ -16,6 +16,7 @@ ghost use Rattle.command_line.specs.Job.{bytes_of};
 ghost use Rattle.trace_runner.specs.Verdict.{WritesVerdict};
 
 use command_line::{Disk, Fault, Job, Store, StoreFailed, save, tell};
+use mesh_graph::ByThreads;
 use std::env::{self, Env};
 use std::fs;
 use std::io::{self, Input, Read};
@@ -84,7 +85,7 @@ fn replay<R: Threads + Wait + Sync + AllocGlobal, S: Sink>(
         (S.failures out.new) (S.taken out.old) (S.taken out.new)) }
 {
     if serial {
-        replay_serial(rt.alloc(), text, replies, out, cert)?;
+        replay_serial(&ByThreads::new(rt), rt.alloc(), text, replies, out, cert)?;
         return Ok(());
     }
     replay_threads(rt, rt.alloc(), text, replies, out, cert)?;

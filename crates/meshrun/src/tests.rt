@@ -1,6 +1,7 @@
 //! What no clause says, and neither an example of `examples/` nor `.ci/hostile.sh` shows: sinks and allocations that fail, and what is told of it.
 ghost use Rattle.std.specs.Prelude.{None};
 
+use mesh_graph::AtHand;
 use trace_runner::{CheckError, ReplayError, Sink, SinkFailed, check_text, replay_serial};
 
 mod refused;
@@ -48,6 +49,7 @@ fn a_sink_that_fails_is_told(rt: HostRuntime) {
             failures: 0,
         };
         let result = replay_serial(
+            &AtHand,
             rt.alloc(),
             EMPTY,
             false,

@@ -4,7 +4,7 @@ use abandoned::Pool;
 use arena_core::{Core, Event, Reply};
 use bitmap::Bits256;
 use certificate::check;
-use mesh_graph::{Entry, Graph, Snapshot};
+use mesh_graph::{AtHand, Entry, Graph, Snapshot};
 use shard::{Found, Freed, Shard};
 use span::{Class, Key, Object, SpanId};
 use std::process::Abort;
@@ -100,7 +100,7 @@ fn plans_and_checks(rt: HostRuntime) -> Result<(), Fail> {
     owned.push(entry(1, &[2, 3]).ok_or("id")?)?;
 
     let snapshot = Snapshot::new(abandoned, owned)?;
-    let graph = Graph::build(alloc, &snapshot, 1)?;
+    let graph = Graph::build(&AtHand, alloc, &snapshot, 1)?;
     let (plan, short) = augment::plan(alloc, &graph)?;
     assert_eq!(rt; plan.pairs().len(), 1);
     assert!(rt; check(&snapshot, &plan, &short)); // no plan has more pairs
@@ -113,7 +113,7 @@ fn replays_a_trace(rt: HostRuntime) -> Result<(), Fail> {
     let trace = b"mesh 1\nshards 1\npages 4\nring 4\ngens 9\n0 put a 5\n0 get a\n".as_slice();
     let mut report = Memory::new(alloc);
     let mut certificate = Vec::new(alloc);
-    replay_serial(alloc, trace, true, &mut report, &mut certificate)?;
+    replay_serial(&AtHand, alloc, trace, true, &mut report, &mut certificate)?;
     assert_eq!(rt;
         report.bytes.as_slice(),
         b"6 key 0.0/0/1\n7 value 5\nend pages 1 live 1 calls 2\n".as_slice()

@@ -3,6 +3,7 @@ use crate::refusing::{Rounds, Script, Subject};
 use abandoned::{AdoptError, ReceiveError};
 use arena::{Arena, NoGate, Seat, Stepped, Steward};
 use marks::MarkError;
+use mesh_graph::AtHand;
 use shard::PutError;
 use span::{Class, Key, Object, ReceiptList, SpanId};
 use std::alloc::Global;
@@ -213,7 +214,7 @@ fn mark<R: Wait>(rt: &R, arena: &Arena<NoGate>, steward: &mut Steward) -> Option
     if !steward.fits(arena) {
         return None;
     }
-    Some(match arena.mark(rt, steward) {
+    Some(match arena.mark(rt, &AtHand, steward) {
         Ok(found) => Told::Marked(found.plan.pairs().len(), found.short.ids().len()),
         Err(MarkError::OutOfMemory) => Told::OutOfMemory,
         Err(error) => Told::NotMarked(error),

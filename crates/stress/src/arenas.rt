@@ -10,6 +10,7 @@ use abandoned::{AdoptError, ReceiveError};
 use arena::{Arena, Gate, NoGate, OpenError, Seat, Stepped, Steward, finish};
 use fold::Step;
 use marks::{MarkError, Totals};
+use mesh_graph::AtHand;
 use shard::PutError;
 use span::{CallView, Counted, Kept, Key, Log, Object, ReceiptList, SpanId};
 use std::alloc::Global;
@@ -122,8 +123,8 @@ fn mark<G: Gate, L: Log, R: Wait>(
     requires { steward.old.limits ≡ arena.now.limits }
     ensures { steward.new.limits ≡ steward.old.limits }
 {
-    let marked = match arena.mark(rt, steward) {
-        Err(MarkError::OutOfMemory) => arena.mark(rt, steward),
+    let marked = match arena.mark(rt, &AtHand, steward) {
+        Err(MarkError::OutOfMemory) => arena.mark(rt, &AtHand, steward),
         marked => marked,
     };
     match marked {

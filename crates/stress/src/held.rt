@@ -2,6 +2,7 @@
 ghost use Rattle.std.specs.Prelude.{◌≡◌};
 
 use arena::{Arena, Dropped, Gate, Seat, Steward};
+use mesh_graph::AtHand;
 use span::{Counted, Key, Object, SpanId};
 use std::alloc::Global;
 use std::sync::Wait;
@@ -391,7 +392,7 @@ fn is_planned<R: Wait>(rt: &R, arena: &Arena<Holding<'_>, Counted>, steward: &mu
     requires { steward.old.limits ≡ arena.now.limits }
     ensures { steward.new.limits ≡ steward.old.limits }
 {
-    match arena.mark(rt, steward) {
+    match arena.mark(rt, &AtHand, steward) {
         Ok(found) => found.plan.pairs().len() == 1,
         Err(_) => false,
     }

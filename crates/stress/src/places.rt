@@ -6,6 +6,7 @@ ghost use Rattle.arena.specs.Seats.{AreSeatsOf};
 use arena::{Arena, Finished, NoGate, Seat, Stepped, Steward, Unfinished, finish};
 use fold::Step;
 use marks::Totals;
+use mesh_graph::AtHand;
 use span::{CallView, Key, Log, Object, ReceiptList};
 use std::alloc::Global;
 use std::sync::Wait;
@@ -96,7 +97,7 @@ fn leave(arena: &Arena<NoGate>, seats: &mut [Seat], worker: usize, key: Key) -> 
 }
 
 fn mark<R: Wait>(rt: &R, arena: &Arena<NoGate>, steward: &mut Steward) -> bool {
-    steward.fits(arena) && arena.mark(rt, steward).is_ok()
+    steward.fits(arena) && arena.mark(rt, &AtHand, steward).is_ok()
 }
 
 // Whether the step of the pair that is next folded a group.

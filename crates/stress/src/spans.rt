@@ -4,6 +4,7 @@ ghost use Rattle.std.specs.Prelude.{◌≡◌};
 
 use arena::{Arena, NoGate, PlanOpen, Seat, Stepped, Steward};
 use fold::Step;
+use mesh_graph::AtHand;
 use span::{Counted, Key, Object, SpanId};
 use std::alloc::Global;
 use std::sync::Wait;
@@ -207,7 +208,7 @@ fn mark_and_step<R: Wait>(rt: &R, arena: &Shards, steward: &mut Steward) -> bool
     requires { steward.old.limits ≡ arena.now.limits }
     ensures { steward.new.limits ≡ steward.old.limits }
 {
-    let marked = arena.mark(rt, steward).is_ok();
+    let marked = arena.mark(rt, &AtHand, steward).is_ok();
     marked && arena.step(rt, steward).is_ok()
 }
 
@@ -284,7 +285,7 @@ fn folds_without_a_hint<R: Wait>(
     let goes = put(rt, arena, first, 2)?;
     put(rt, arena, first, 3)?;
     let retired = free(rt, arena, first, &goes) && retire(rt, arena, first);
-    let marked = arena.mark(rt, steward).is_ok();
+    let marked = arena.mark(rt, &AtHand, steward).is_ok();
     let folded = matches!(
         arena.step(rt, steward),
         Ok(Stepped::Taken(_, _, Step::Folded))

@@ -4,8 +4,9 @@ ghost use Rattle.std.specs.Prelude.{◌≡◌};
 use arena::{Arena, NoGate, Stepped, Steward};
 use certificate::Certificate;
 use fold::Step;
-use mesh_graph::{Entry, MOST_GROUPS};
+use mesh_graph::{AtHand, ByThreads, Entry, MOST_GROUPS};
 use std::sync::Wait;
+use std::thread::Threads;
 
 /// What came of the marks of a run and of their steps.
 #[derive(Clone, Copy, PartialEq, Eq, Debug)]
@@ -58,10 +59,11 @@ impl<'a> Keeper<'a> {
     }
 
     /// A mark, the steps of its plan where they are wanted, and its close. What the mark hands out is counted beside what the
-    /// arena's totals tell just before, so no worker may run meanwhile.
-    pub fn mark_alone<R: Wait>(&mut self, rt: &R, takes_steps: bool) {
+    /// arena's totals tell just before, so no worker may run meanwhile. Threads fill the rows, however few there are.
+    pub fn mark_alone<R: Threads + Wait + Sync>(&mut self, rt: &R, takes_steps: bool) {
         let totals = self.arena.totals(rt);
-        match self.arena.mark(rt, &mut self.steward) {
+        let runner = ByThreads::from_groups(rt, 2);
+        match self.arena.mark(rt, &runner, &mut self.steward) {
             Ok(found) => {
                 self.marks.made = self.marks.made.saturating_add(1);
                 if handed_out(&found) != (totals.pages, totals.live) {
@@ -81,7 +83,7 @@ impl<'a> Keeper<'a> {
     /// That many marks, each with its steps and its close, beside whoever runs.
     pub fn mark_beside<R: Wait>(&mut self, rt: &R, count: usize) {
         for _ in 0..count {
-            if self.arena.mark_some(rt, &mut self.steward).is_ok() {
+            if self.arena.mark_some(rt, &AtHand, &mut self.steward).is_ok() {
                 self.marks.made = self.marks.made.saturating_add(1);
             } else {
                 self.marks.refused = self.marks.refused.saturating_add(1);

@@ -10,8 +10,10 @@ use crate::error::Halt;
 use crate::minutes::Minutes;
 use arena::{Arena, Gate, Stepped, Steward};
 use marks::MarkError;
+use mesh_graph::ByThreads;
 use std::alloc::{AllocError, Global};
 use std::sync::Wait;
+use std::thread::Threads;
 use trace_runner::{Steps, TakenStep};
 
 /// The steward at its arena, and the minutes of its marks.
@@ -166,7 +168,11 @@ impl<'a, G: Gate> Keeper<'a, G> {
     }
 
     /// Makes the mark at that place, where no plan is open.
-    pub(crate) fn mark<R: Wait>(&mut self, rt: &R, place: usize) -> Result<(), Halt>
+    pub(crate) fn mark<R: Wait + Threads + Sync>(
+        &mut self,
+        rt: &R,
+        place: usize,
+    ) -> Result<(), Halt>
         requires unplanned { self.old.steward.plan ≡ None }
         requires place { place < 2 ^ 63 }
         ensures { (lines : List Line) → HaveCome lines place None self.old.minutes
@@ -174,7 +180,7 @@ impl<'a, G: Gate> Keeper<'a, G> {
             → OnOk result (HaveCome lines (place + 1) (plan_pairs self.new.steward.plan)
             self.new.minutes) }
     {
-        match self.arena.mark(rt, &mut self.steward) {
+        match self.arena.mark(rt, &ByThreads::new(rt), &mut self.steward) {
             Ok(certificate) => {
                 self.has_steps = true;
                 let pages = self.arena.totals(rt).pages;

@@ -19,7 +19,7 @@
 //! let mut report = Memory::new(alloc);
 //! let mut certificate = Vec::new(alloc);
 //! let trace = b"mesh 1\nshards 1\npages 4\nring 4\ngens 9\n0 put a 7\n0 get a\n";
-//! replay_serial(alloc, trace, true, &mut report, &mut certificate)?;
+//! replay_serial(&AtHand, alloc, trace, true, &mut report, &mut certificate)?;
 //! // report.bytes: "6 key 0.0/0/1\n7 value 7\nend pages 1 live 1 calls 2\n"
 //! ```
 #![tactic(auto)]

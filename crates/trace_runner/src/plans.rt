@@ -14,6 +14,7 @@ use crate::replies::Replies;
 use crate::report::{CloseNews, Heads, MarkNews, PlanNews, Steps, TakenStep};
 use arena_core::{Core, Event, Refusal, Reply};
 use certificate::{Certificate, partners, write};
+use mesh_graph::Runner;
 use span::Counted;
 use std::alloc::{AllocError, Global};
 use std::mem;
@@ -177,8 +178,9 @@ impl Plans {
     }
 
     /// Marks: makes a plan, and opens it, unless a side has too many groups; and tells so.
-    pub(crate) fn mark(
+    pub(crate) fn mark<R: Runner>(
         &mut self,
+        runner: &R,
         core: &mut Core<Counted>,
         replies: &mut Replies,
     ) -> Result<(), AllocError>
@@ -186,6 +188,9 @@ impl Plans {
         requires unplanned { core.old.plan ≡ None }
         requires left { self.old.left ≡ None }
         requires few { self.old.marks + 1 < 2 ^ 64 }
+
+        // The runner may fill rows.
+        requires runner { R.ready runner.now }
 
         // The mark is made and told.
         ensures made { OnOk result (Carries (Calls event.Mark ∷ []) core.old
@@ -199,7 +204,7 @@ impl Plans {
         ensures shards { KeepsShards core.old core.new }
         ensures marks { OnOk result (self.new.marks ≡ self.old.marks + 1) }
     {
-        match core.step(Event::Mark) {
+        match core.step_by(runner, Event::Mark) {
             Reply::Marked(certificate) => self.planned(core, certificate, replies),
             Reply::Refused(Refusal::TooMany) => {
                 self.marks += 1;

@@ -16,6 +16,7 @@ use crate::sink::{Sink, give};
 use crate::writing::push_ending;
 use arena_core::{Core, CoreError};
 use marks::Limits;
+use mesh_graph::Runner;
 use span::Counted;
 use std::alloc::{AllocError, Global};
 use trace_text::{Header, Trace, parse};
@@ -26,19 +27,21 @@ pub const TRACE_SPANS: u32 = 1024;
 
 /// Replays a trace: reads the text whole, runs its calls one after another on a core of its own, and gives the report to
 /// `out`, with a line for each call where `replies` asks for them. `cert` is then the text of the certificate of the last
-/// mark that planned, or empty where none did.
+/// mark that planned, or empty where none did. The runner fills the rows of the marks' graphs; what is written does not depend on it.
 ///
 /// `BadTrace` comes exactly for a text that is no trace, with its first line at fault and the first cause that holds of it.
 /// `SinkFailed` comes where `out` failed; it has then taken a prefix of the report. `OutOfMemory` comes where an
 /// allocation was refused. After the first and the last `out` has taken nothing. After each of them `cert` is as it was.
-pub fn replay_serial<S: Sink>(
+pub fn replay_serial<R: Runner, S: Sink>(
+    runner: &R,
     alloc: Global,
     text: &[u8],
     replies: bool,
     out: &mut S,
     cert: &mut Vec<u8>,
 ) -> Result<(), ReplayError>
-    requires { S.failures out.old < 2 ^ 64 - 1 }
+    requires failures { S.failures out.old < 2 ^ 64 - 1 }
+    requires runner { R.ready runner.now }
     ensures ok { OnOk result (WritesReport text.now replies (S.taken out.old)
         (S.taken out.new) cert.new.items) }
     ensures accepted { (header : Header) (lines : List Line) → Spells text.now header lines
@@ -49,7 +52,7 @@ pub fn replay_serial<S: Sink>(
     ensures err_certificate { OnErr result (cert.new ≡ cert.old) }
 {
     let trace = parse(alloc, text)?;
-    let replayed = replay(alloc, &trace, replies)?;
+    let replayed = replay(runner, alloc, &trace, replies)?;
     match give(out, replayed.report.as_slice()) {
         Ok(()) => {
             *cert = replayed.certificate;
@@ -69,7 +72,13 @@ struct Replayed {
 }
 
 /// The report of a run of the trace, and its last certificate.
-fn replay(alloc: Global, trace: &Trace, replies: bool) -> Result<Replayed, AllocError>
+fn replay<R: Runner>(
+    runner: &R,
+    alloc: Global,
+    trace: &Trace,
+    replies: bool,
+) -> Result<Replayed, AllocError>
+    requires { R.ready runner.now }
     ensures { IfOk result (λ replayed. IsReportOf trace.now replies replayed.report.items
         replayed.certificate.items) }
 {
@@ -79,7 +88,7 @@ fn replay(alloc: Global, trace: &Trace, replies: bool) -> Result<Replayed, Alloc
         mut report,
         calls,
         certificate,
-    } = run_lines(alloc, trace, replies, core)?;
+    } = run_lines(runner, alloc, trace, replies, core)?;
     let totals = core.totals();
     let ending = Ending {
         pages: totals.pages,

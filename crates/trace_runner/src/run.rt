@@ -24,6 +24,7 @@ use crate::replies::{Replies, answer_to_free, answer_to_set};
 use crate::report::Answer;
 use crate::rings::{settle_rings, settle_shard};
 use arena_core::{Core, Event, Refusal, Reply};
+use mesh_graph::Runner;
 use span::{Class, Counted, Key, Object};
 use std::alloc::{AllocError, Global};
 use std::collections::HashSet;
@@ -629,7 +630,9 @@ impl<'t> Run<'t> {
     /// Does what the line at that place below the header asks for, and after a thread's line takes a step while a pair
     /// of the open plan is left. A barrier begins with its first adoption, since no thread's line stands between that
     /// and the mark.
-    fn line(&mut self, place: usize, line: &Line) -> Result<(), AllocError>
+    fn line<R: Runner>(&mut self, runner: &R, place: usize, line: &Line) -> Result<(), AllocError>
+        requires runner { R.ready runner.now }
+
         // The line is the next of the trace.
         requires numbered { place + 6 < 2 ^ 64 }
         requires here { slice_get self.old.trace.now.lines.items place ≡ Some line.now }
@@ -677,13 +680,20 @@ impl<'t> Run<'t> {
             }
             Line::Mark => {
                 self.settle()?;
-                self.plans.mark(&mut self.core, &mut self.replies)
+                self.plans
+                    .mark(runner, &mut self.core, &mut self.replies)
             }
         }
     }
 
     /// Runs the next line, which is the one at that place below the header.
-    fn next_line(&mut self, place: usize, line: &Line) -> Result<(), AllocError>
+    fn next_line<R: Runner>(
+        &mut self,
+        runner: &R,
+        place: usize,
+        line: &Line,
+    ) -> Result<(), AllocError>
+        requires runner { R.ready runner.now }
         requires numbered { place + 6 < 2 ^ 64 }
         requires here { slice_get self.old.trace.now.lines.items place ≡ Some line.now }
         requires fine { first_cause self.old.trace.now.header
@@ -699,7 +709,7 @@ impl<'t> Run<'t> {
             start self.new.core (kept_in self.new.replies) (has self.new.leaving) self.new.plans) }
         ensures trace { self.new.trace.now ≡ self.old.trace.now }
     {
-        self.line(place, line)?;
+        self.line(runner, place, line)?;
         Ok(())
     }
 }
@@ -721,20 +731,22 @@ pub struct Ran {
 /// shards of the threads that ended after the last mark, and frees the keys that wait on rings.
 ///
 /// The error means that memory ran out, in a call or for what is kept of its reply; the core is then dropped.
-pub fn run_lines(
+pub fn run_lines<R: Runner>(
+    runner: &R,
     alloc: Global,
     trace: &Trace,
     replies: bool,
     core: Core<Counted>,
 ) -> Result<Ran, AllocError>
-    requires { Serves trace.now.header.shards core }
+    requires serves { Serves trace.now.header.shards core }
+    requires runner { R.ready runner.now }
     ensures { IfOk result (λ ran. (news : News)
         × IsRun trace.now.header.shards replies trace.now.lines.items core ran.core ran.calls news
         × (ran.report.items ≡ news.text) × (ran.certificate.items ≡ news.certificate)) }
 {
     let mut run = Run::new(alloc, trace, replies, core);
     for place in 0..trace.lines.len() {
-        run.next_line(place, trace.lines.line_at(place))?;
+        run.next_line(runner, place, trace.lines.line_at(place))?;
     }
     run.settle()?;
     let Run {

@@ -2,6 +2,7 @@
 ghost use Rattle.std.specs.Prelude.{◌≡◌};
 
 use super::NO_PARTNER;
+use mesh_graph::AtHand;
 use std::alloc::{AllocError, Global};
 use std::process::Abort;
 use std::test::Fail;
@@ -66,7 +67,7 @@ fn replay_again(
 ) -> Result<(), ReplayError>
     requires { out.old.failures ≡ 0 }
 {
-    let result = replay_serial(rt.alloc(), text, true, out, cert);
+    let result = replay_serial(&AtHand, rt.alloc(), text, true, out, cert);
     if result.is_ok() {
         return result;
     }
@@ -82,7 +83,7 @@ fn replay_again(
         (out.failures, out.bytes.len(), is_kept),
         (failures, 0, true)
     );
-    replay_serial(rt.alloc(), text, true, out, cert)
+    replay_serial(&AtHand, rt.alloc(), text, true, out, cert)
 }
 
 /// Whether the text has this report and this certificate, at once or where an allocation was refused.

@@ -4,11 +4,11 @@ use Rattle.trace_runner.specs.declared.report.Ending.{Ending}
 use Rattle.trace_runner.proofs.Reporting.{IsReportOf-run, Serves-start}
 use Rattle.trace_runner.proofs.replay.replay.Goals as goal
 
-pub run_lines-requires : goal.run_lines-requires
-run_lines-requires c = rw c.in_ok-core.ensures.core (Serves-start c.args.trace.now.header)
+pub run_lines-requires-clause-serves : goal.run_lines-requires-clause-serves
+run_lines-requires-clause-serves g c = rw c.in_ok-core.ensures.core (Serves-start c.args.trace.now.header)
 
 pub returns : goal.returns
-returns c =
+returns g c =
     let totals = c.totals-totals in
     let ran = c.in_ok-core-2.ensures in
     let ending : Ending = record { pages = totals.result.pages; live = totals.result.live; calls = c.in_ok-core-2.field-0.calls } in

@@ -6,22 +6,22 @@ use Rattle.trace_runner.proofs.Progress.{HasCome-CanLeave, HasCome-IsRun, HasCom
 use Rattle.trace_runner.proofs.run.run_lines.Goals as goal
 
 pub next_line-requires-clause-here : goal.next_line-requires-clause-here
-next_line-requires-clause-here c = rw c.loop-place.invariant.trace c.line_at.ensures
+next_line-requires-clause-here g c = rw c.loop-place.invariant.trace c.line_at.ensures
 
 pub next_line-requires-clause-fine : goal.next_line-requires-clause-fine
-next_line-requires-clause-fine c = rw c.loop-place.invariant.trace (c.args.trace.now.sound c.loop-place.place c.line_at.result.now c.line_at.ensures)
+next_line-requires-clause-fine g c = rw c.loop-place.invariant.trace (c.args.trace.now.sound c.loop-place.place c.line_at.result.now c.line_at.ensures)
 
 pub next_line-requires-clause-come : goal.next_line-requires-clause-come
-next_line-requires-clause-come c = (c.args.replies, c.args.core, rw c.loop-place.invariant.trace c.loop-place.invariant.come)
+next_line-requires-clause-come g c = (c.args.replies, c.args.core, rw c.loop-place.invariant.trace c.loop-place.invariant.come)
 
 pub settle-requires-clause-leave : goal.settle-requires-clause-leave
-settle-requires-clause-leave c = rw c.loop-place.invariant.trace (HasCome-CanLeave c.args.trace.now.header _ _ _ _ _ _ _ _ c.loop-place.invariant.come)
+settle-requires-clause-leave g c = rw c.loop-place.invariant.trace (HasCome-CanLeave c.args.trace.now.header _ _ _ _ _ _ _ _ c.loop-place.invariant.come)
 
 pub settle-requires-clause-knows : goal.settle-requires-clause-knows
-settle-requires-clause-knows c = c.loop-place.invariant.come.knows
+settle-requires-clause-knows g c = c.loop-place.invariant.come.knows
 
 pub overflow_sub-calls : goal.overflow_sub-calls
-overflow_sub-calls c =
+overflow_sub-calls g c =
     let all : c.loop-place.place ≡ length c.args.trace.now.lines.items = omega (arith, c.len-place-end.ensures.len) in
     let count = HasCome-calls c.args.trace.now.header _ _ _ _ _ _ _ _ c.loop-place.invariant.come all in
     let adopts : c.adoptions.result ≡ length (filter is_adopt c.args.trace.now.lines.items) = c.adoptions.ensures in
@@ -29,7 +29,7 @@ overflow_sub-calls c =
     omega (arith, count, adopts, long)
 
 pub returns : goal.returns
-returns c =
+returns g c =
     let all : c.loop-place.place ≡ length c.args.trace.now.lines.items = omega (arith, c.len-place-end.ensures.len) in
     let count = HasCome-calls c.args.trace.now.header _ _ _ _ _ _ _ _ c.loop-place.invariant.come all in
     let adopts : c.adoptions.result ≡ length (filter is_adopt c.args.trace.now.lines.items) = c.adoptions.ensures in

@@ -9,13 +9,13 @@ use Rattle.trace_runner.proofs.Shards.{EndsBelow-before, IsOpen-others, TurnsBel
 use Rattle.trace_runner.proofs.run.Run.line.Goals as goal
 
 pub thread_line-requires-clause-thread : goal.thread_line-requires-clause-thread
-thread_line-requires-clause-thread c runs = c.requires.ready.running c.in-Call.thread (ap thread_of c.in-Call.is) (ap (is_call begins_again) c.in-Call.is ∙ runs)
+thread_line-requires-clause-thread g c runs = c.requires.ready.running c.in-Call.thread (ap thread_of c.in-Call.is) (ap (is_call begins_again) c.in-Call.is ∙ runs)
 
 pub thread_line-requires-clause-rests : goal.thread_line-requires-clause-rests
-thread_line-requires-clause-rests c again = c.requires.ready.resting c.in-Call.thread (ap thread_of c.in-Call.is) (ap (is_call begins_again) c.in-Call.is ∙ again)
+thread_line-requires-clause-rests g c again = c.requires.ready.resting c.in-Call.thread (ap thread_of c.in-Call.is) (ap (is_call begins_again) c.in-Call.is ∙ again)
 
 pub adopt-requires : goal.adopt-requires
-adopt-requires c =
+adopt-requires g c =
     let of = ap thread_of c.in-Adopt.is in (
       IsOpen-others _ _ _ _ c.in_ok-settle-in-Adopt.ensures.shards c.in-Adopt.shard (c.requires.ready.stays c.in-Adopt.shard of)
           (c.requires.ready.running c.in-Adopt.shard of (ap (is_call begins_again) c.in-Adopt.is)),
@@ -23,12 +23,12 @@ adopt-requires c =
     )
 
 pub returns-in-Silent-clause-made : goal.returns-in-Silent-clause-made
-returns-in-Silent-clause-made c done finds =
+returns-in-Silent-clause-made g c done finds =
     let threads = filter (has c.args.self.now.leaving) (range_with_len 0 c.args.self.now.trace.now.header.shards) in
     rw c.in-Silent.is (MakesLine-silent (c.args.place + 6) c.args.self.now.trace.now.header.shards threads c.args.self.now.core (kept_in c.args.self.now.replies) c.args.self.now.plans)
 
 pub returns-in_ok-thread_line-in-Call-clause-made : goal.returns-in_ok-thread_line-in-Call-clause-made
-returns-in_ok-thread_line-in-Call-clause-made c done finds =
+returns-in_ok-thread_line-in-Call-clause-made g c done finds =
     let threads = filter (has c.args.self.now.leaving) (range_with_len 0 c.args.self.now.trace.now.header.shards) in
     let follows = rw c.thread_line.ensures.plans at (c.follow.ensures.made (kept_in c.thread_line.new.self.replies)) in
     let first = c.place-first.ensures c.args.line.now c.requires.here in
@@ -39,7 +39,7 @@ returns-in_ok-thread_line-in-Call-clause-made c done finds =
     c.follow.new.core (kept_in c.thread_line.new.self.replies) c.follow.new.self (c.in_ok-thread_line-in-Call.ensures.made done found)) follows)
 
 pub returns-in_ok-settle-in-Adopt-clause-made : goal.returns-in_ok-settle-in-Adopt-clause-made
-returns-in_ok-settle-in-Adopt-clause-made c done finds =
+returns-in_ok-settle-in-Adopt-clause-made g c done finds =
     let threads = filter (has c.args.self.now.leaving) (range_with_len 0 c.args.self.now.trace.now.header.shards) in
     rw (c.in-Adopt.is, c.adopt.ensures.plans)
     (on_ok_weaker c.adopt.result (MakesLine-adopt (c.args.place + 6) c.args.self.now.trace.now.header.shards threads c.args.self.now.core
@@ -48,7 +48,7 @@ returns-in_ok-settle-in-Adopt-clause-made c done finds =
     c.adopt.new.self.core (kept_in c.adopt.new.self.replies)) c.adopt.ensures.made)
 
 pub returns-in_ok-settle-in-Mark-clause-made : goal.returns-in_ok-settle-in-Mark-clause-made
-returns-in_ok-settle-in-Mark-clause-made c done finds =
+returns-in_ok-settle-in-Mark-clause-made g c done finds =
     let threads = filter (has c.args.self.now.leaving) (range_with_len 0 c.args.self.now.trace.now.header.shards) in
     rw c.in-Mark.is (on_ok_weaker c.mark.result
     (MakesLine-mark (c.args.place + 6) c.args.self.now.trace.now.header.shards threads c.args.self.now.core
@@ -57,19 +57,19 @@ returns-in_ok-settle-in-Mark-clause-made c done finds =
     c.mark.new.core (kept_in c.mark.new.replies) c.mark.new.self c.mark.ensures.rest) c.mark.ensures.made)
 
 pub returns-in-Silent-clause-shards : goal.returns-in-Silent-clause-shards
-returns-in-Silent-clause-shards c = rw c.in-Silent.is (TurnsBelow-none c.args.self.now.core c.args.self.now.trace.now.header.shards)
+returns-in-Silent-clause-shards g c = rw c.in-Silent.is (TurnsBelow-none c.args.self.now.core c.args.self.now.trace.now.header.shards)
 
 pub returns-in_ok-thread_line-in-Call-clause-shards : goal.returns-in_ok-thread_line-in-Call-clause-shards
-returns-in_ok-thread_line-in-Call-clause-shards c = on_ok_always c.follow.result
+returns-in_ok-thread_line-in-Call-clause-shards g c = on_ok_always c.follow.result
     (rw c.in-Call.is (TurnsBelow-begins c.args.self.now.core c.thread_line.new.self.core c.follow.new.core c.args.self.now.trace.now.header.shards _
     c.thread_line.ensures.shards c.follow.ensures.shards))
 
 pub returns-in_ok-settle-in-Adopt-clause-shards : goal.returns-in_ok-settle-in-Adopt-clause-shards
-returns-in_ok-settle-in-Adopt-clause-shards c = on_ok_always c.adopt.result
+returns-in_ok-settle-in-Adopt-clause-shards g c = on_ok_always c.adopt.result
     (rw c.in-Adopt.is (TurnsBelow-ends c.args.self.now.core c.adopt.new.self.core c.args.self.now.trace.now.header.shards (has c.args.self.now.leaving)
     (EndsBelow-before _ _ _ _ _ c.in_ok-settle-in-Adopt.ensures.shards c.adopt.ensures.shards.shards)))
 
 pub returns-in_ok-settle-in-Mark-clause-shards : goal.returns-in_ok-settle-in-Mark-clause-shards
-returns-in_ok-settle-in-Mark-clause-shards c = on_ok_always c.mark.result
+returns-in_ok-settle-in-Mark-clause-shards g c = on_ok_always c.mark.result
     (rw c.in-Mark.is (TurnsBelow-ends c.args.self.now.core c.mark.new.core c.args.self.now.trace.now.header.shards (has c.args.self.now.leaving)
     (EndsBelow-before _ _ _ _ _ c.in_ok-settle-in-Mark.ensures.shards c.mark.ensures.shards)))
