@@ -39,7 +39,7 @@ fn build_again(alloc: Global, snapshot: &Snapshot, pieces: usize) -> Result<Grap
     }
 }
 
-// Builds by threads, from two groups of the pool on.
+// Builds by threads, however few groups there are: from two on.
 fn build_by_threads<'a, R: Threads + Sync>(
     rt: &R,
     alloc: Global,
@@ -48,7 +48,7 @@ fn build_by_threads<'a, R: Threads + Sync>(
 ) -> Result<Graph<'a>, BuildError>
     requires { 1 ≤ pieces }
 {
-    let runner = ByThreads::from_groups(rt, 2);
+    let runner = ByThreads::from_steps(rt, 0);
     match Graph::build(&runner, alloc, snapshot, pieces) {
         Err(BuildError::OutOfMemory) => Graph::build(&runner, alloc, snapshot, pieces),
         answer => answer,

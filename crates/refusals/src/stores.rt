@@ -20,6 +20,7 @@ pub(crate) enum Call {
     Retire { shard: u32, most: usize },
     Adopt { shard: u32 },
     Fold { a: SpanId, b: SpanId, shard: u32 },
+    Renew { shard: u32 },
     PooledGroups,
 }
 
@@ -36,6 +37,7 @@ pub(crate) enum Told {
     Adopted(SpanId),
     NotAdopted(AdoptError),
     Stepped(Step),
+    Renewed(usize),
     Listed(usize, u32),
     OutOfMemory,
     NoShard,
@@ -85,6 +87,16 @@ fn fold(pool: &mut Pool, shard: &mut Shard, a: SpanId, b: SpanId) -> Told {
         Ok(step) => Told::Stepped(step),
         Err(_) => Told::OutOfMemory,
     }
+}
+
+// Has each page of the shard in another block.
+fn renew(shard: &mut Shard) -> Told {
+    for index in 0..shard.len() {
+        if index < shard.len() && shard.renew(index).is_err() {
+            return Told::OutOfMemory;
+        }
+    }
+    Told::Renewed(shard.pages())
 }
 
 // How many groups there are, and how many slots are live in the last.
@@ -156,6 +168,7 @@ fn answer(store: &mut Store, call: Call) -> Option<Told> {
         Call::Retire { shard, most } => retire(pool, shards.get_mut(shard as usize)?, most),
         Call::Adopt { shard } => adopt(pool, shards.get_mut(shard as usize)?),
         Call::Fold { a, b, shard } => fold(pool, shards.get_mut(shard as usize)?, a, b),
+        Call::Renew { shard } => renew(shards.get_mut(shard as usize)?),
         Call::PooledGroups => listed(pool.groups()),
     })
 }
@@ -268,8 +281,8 @@ fn add_first_puts(calls: &mut Vec<Call>) -> Option<()> {
     add_frees(calls, 2, 0, 1)
 }
 
-// Sets in a shard, in the pool and of a guest, ends, a retirement, an adoption, folds of groups alone and with guests, and lists of the
-// pool's groups. (A shard's list is collected, which asks for its room at once and, where that is refused, goes on growth
+// Sets in a shard, in the pool and of a guest, ends, a retirement, an adoption, folds of groups alone and with guests, pages in other
+// blocks, and lists of the pool's groups. (A shard's list is collected, which asks for its room at once and, where that is refused, goes on growth
 // by growth.)
 fn calls_of(alloc: Global) -> Option<Vec<Call>> {
     let mut calls = Vec::new(alloc);
@@ -285,6 +298,7 @@ fn calls_of(alloc: Global) -> Option<Vec<Call>> {
     add(&mut calls, Call::PooledGroups)?;
     add(&mut calls, fold_call(second, first, 2))?;
     add(&mut calls, fold_call(last, third, 2))?;
+    add(&mut calls, Call::Renew { shard: 2 })?;
     add_sets(&mut calls, 1, 12)?;
     add(&mut calls, Call::Receive { shard: 2 })?;
     add(&mut calls, Call::PooledGroups)?;
@@ -293,6 +307,7 @@ fn calls_of(alloc: Global) -> Option<Vec<Call>> {
     add(&mut calls, fold_call(first, fourth, 3))?;
     add(&mut calls, fold_call(third, fourth, 3))?;
     add_puts(&mut calls, 3, 20)?;
+    add(&mut calls, Call::Renew { shard: 3 })?;
     for shard in 0..SHARDS {
         add_frees(&mut calls, shard, 0, 15)?;
     }

@@ -62,7 +62,7 @@ impl<'a> Keeper<'a> {
     /// arena's totals tell just before, so no worker may run meanwhile. Threads fill the rows, however few there are.
     pub fn mark_alone<R: Threads + Wait + Sync>(&mut self, rt: &R, takes_steps: bool) {
         let totals = self.arena.totals(rt);
-        let runner = ByThreads::from_groups(rt, 2);
+        let runner = ByThreads::from_steps(rt, 0);
         match self.arena.mark(rt, &runner, &mut self.steward) {
             Ok(found) => {
                 self.marks.made = self.marks.made.saturating_add(1);

@@ -69,6 +69,49 @@ fn gives_back_pages_with_nothing_live(rt: HostRuntime) {
     );
 }
 
+// Whether the page of the group at the index takes another block, at once or asked again.
+fn renew(shard: &mut Shard, index: usize) -> bool {
+    for _ in 0..2 {
+        if index < shard.len() && shard.renew(index).is_ok() {
+            return true;
+        }
+    }
+    false
+}
+
+#[test]
+fn pages_in_other_blocks_have_the_same_objects(rt: HostRuntime) {
+    let mut shard = shard(rt.alloc(), 3, 2);
+    let keys = [
+        key(id(3, 0), 0, 1),
+        key(id(3, 1), 0, 1),
+        key(id(3, 2), 0, 1),
+    ];
+    let puts = (
+        put(&mut shard, 5),
+        put_object(&mut shard, object(Class::C64, 6)),
+        put_object(&mut shard, object(Class::C256, 7)),
+    );
+    let freed = (free(&mut shard, &keys[2]), trim(&mut shard));
+    let before = (look(&shard, &keys[0]), get(&shard, &keys[1]));
+    let renewed = [
+        renew(&mut shard, 0),
+        renew(&mut shard, 1),
+        renew(&mut shard, 2),
+        renew(&mut shard, 3),
+    ];
+    let after = (look(&shard, &keys[0]), get(&shard, &keys[1]));
+    assert_eq!(rt;
+        (puts, freed, renewed, before == after),
+        (
+            (Ok((keys[0], 0)), Ok((keys[1], 0)), Ok((keys[2], 0))),
+            (Freed::Yes(1), 1),
+            [true, true, true, false],
+            true,
+        )
+    );
+}
+
 // A put, its free and a trim; then a put, and what its key and the freed one find.
 type Anew = ((Put, Freed, usize), Put, [Sought; 2], (usize, usize));
 
