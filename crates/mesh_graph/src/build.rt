@@ -12,7 +12,7 @@ use crate::by_class::{Masks, keep_class};
 use crate::graph::Graph;
 use crate::runner::Runner;
 use crate::snapshot::Snapshot;
-use lane_kernels::{LEAST_BY_SLOTS, Planes, SlotRows};
+use lane_kernels::{LEAST_BY_SLOTS, MOST_BY_SLOTS, Planes, SlotRows};
 use span::Entry;
 use std::alloc::{AllocError, Global};
 
@@ -39,7 +39,7 @@ impl From<AllocError> for BuildError {
 }
 
 impl<'a> Graph<'a> {
-    /// The graph of a snapshot, which is lent to it. The runner fills its rows, by `pieces` where it goes by pieces.
+    /// The graph of a snapshot, which is lent to it. The runner fills its rows, in so many `pieces` at most.
     /// `TooMany` comes exactly where a side has more than 4,096 groups, and `OutOfMemory` where the rows could not grow.
     pub fn build<R: Runner>(
         runner: &R,
@@ -59,6 +59,7 @@ impl<'a> Graph<'a> {
         if snapshot.owned().len() > MOST_GROUPS {
             return Err(BuildError::TooMany);
         }
+        let pieces = pieces_of(runner, snapshot, pieces);
         let planes = planes_of(alloc, snapshot.owned())?;
         let sets = sets_by_slots(runner, alloc, planes, snapshot.abandoned().len(), pieces)?;
         let masks = Masks::of(alloc, snapshot.abandoned(), snapshot.owned())?;
@@ -66,6 +67,25 @@ impl<'a> Graph<'a> {
         runner.fill(snapshot.abandoned(), &sets, &masks, pieces, &mut rows);
         Ok(Graph { snapshot, rows })
     }
+}
+
+/// How many steps the rows of the groups take over so many sets: one for each slot of a group and 64 sets. A group with more slots than
+/// [`MOST_BY_SLOTS`] takes as many as one with that number, since its row goes by words.
+pub fn steps_over(groups: &[Entry], sets: usize) -> usize {
+    let mut slots = 0usize;
+    for entry in groups {
+        slots = slots.saturating_add(entry.occupied.count().min(MOST_BY_SLOTS) as usize);
+    }
+    slots.saturating_mul(sets.div_ceil(64))
+}
+
+// In how many pieces the runner fills the rows of the snapshot's graph.
+fn pieces_of<R: Runner>(runner: &R, snapshot: &Snapshot, pieces: usize) -> usize
+    requires { 1 ≤ pieces }
+    ensures { 1 ≤ result }
+{
+    let steps = steps_over(snapshot.abandoned(), snapshot.owned().len());
+    runner.pieces(steps, pieces)
 }
 
 // The sets of the groups, side by side.

@@ -14,15 +14,20 @@ use rayon::prelude::*;
 use span::Entry;
 use std::thread::Threads;
 
-/// From how many groups of a side on threads are worth their beginning.
-pub const LEAST_BY_THREADS: usize = 2048;
+/// From how many steps on threads are worth their beginning. A step is a slot of a group and 64 groups of the other side.
+pub const LEAST_BY_THREADS: usize = 1 << 23;
 
 /// Who fills the rows of a graph, whose bits do not depend on it: [`AtHand`] or [`ByThreads`].
 pub trait Runner {
     /// What it needs to go on: that its threads may share what they are lent.
     ghost ready: { Self → Type 0 };
 
-    /// Fills the rows of all slots, one after another, in so many runs of neighbours where it goes by runs: bit j of a slot's row says
+    /// In how many pieces it fills rows that take so many steps together, where its caller asks for so many pieces.
+    fn pieces(&self, steps: usize, pieces: usize) -> usize
+        requires { 1 ≤ pieces }
+        ensures { 1 ≤ result };
+
+    /// Fills the rows of all slots, one after another, in so many runs of neighbours if it goes by runs: bit j of a slot's row says
     /// whether set j has the slot.
     fn fill_slots(&self, planes: &Planes, pieces: usize, rows: &mut [u64])
         requires ready { ready self.now }
@@ -31,7 +36,7 @@ pub trait Runner {
         ensures len { length rows.new ≡ length rows.old }
         ensures rows { AreSlotRows planes.now rows.new };
 
-    /// Fills the rows of the groups, one after another, in so many runs of neighbours where it goes by runs.
+    /// Fills the rows of the groups, one after another, in so many runs of neighbours if it goes by runs.
     fn fill(
         &self,
         abandoned: &[Entry],
@@ -55,6 +60,10 @@ pub struct AtHand;
 impl Runner for AtHand {
     ghost ready = { λ _. Unit {0} };
 
+    fn pieces(&self, _steps: usize, _pieces: usize) -> usize {
+        1
+    }
+
     fn fill_slots(&self, planes: &Planes, _pieces: usize, rows: &mut [u64]) {
         planes.fill_slots(0, SLOTS, rows);
     }
@@ -71,7 +80,8 @@ impl Runner for AtHand {
     }
 }
 
-/// Fills the rows by threads, a piece on each, which begin and end within the call.
+/// Fills the rows by threads, a piece on each, which begin and end within the call. On cores that others use such a thread may wait
+/// for milliseconds before it begins, so rows that take fewer steps are filled at hand.
 #[derive(Drop)]
 pub struct ByThreads<'a, R: Threads + Sync> {
     rt: &'a R,
@@ -79,7 +89,7 @@ pub struct ByThreads<'a, R: Threads + Sync> {
 }
 
 impl<'a, R: Threads + Sync> ByThreads<'a, R> {
-    /// By threads from [`LEAST_BY_THREADS`] groups of the pool on, and at hand where there are fewer.
+    /// By threads from [`LEAST_BY_THREADS`] steps on.
     pub fn new(rt: &'a R) -> ByThreads<'a, R> {
         ByThreads {
             rt,
@@ -87,8 +97,8 @@ impl<'a, R: Threads + Sync> ByThreads<'a, R> {
         }
     }
 
-    /// By threads from so many groups of the pool on.
-    pub fn from_groups(rt: &'a R, least: usize) -> ByThreads<'a, R> {
+    /// By threads from so many steps on.
+    pub fn from_steps(rt: &'a R, least: usize) -> ByThreads<'a, R> {
         ByThreads { rt, least }
     }
 }
@@ -96,8 +106,12 @@ impl<'a, R: Threads + Sync> ByThreads<'a, R> {
 impl<'a, R: Threads + Sync> Runner for ByThreads<'a, R> {
     ghost ready = { λ _. IsSync R.row };
 
+    fn pieces(&self, steps: usize, pieces: usize) -> usize {
+        if steps < self.least { 1 } else { pieces }
+    }
+
     fn fill_slots(&self, planes: &Planes, pieces: usize, rows: &mut [u64]) {
-        if pieces == 1 || planes.len() == 0 || planes.len() < self.least {
+        if pieces == 1 || planes.len() == 0 {
             planes.fill_slots(0, SLOTS, rows);
             return;
         }
@@ -113,7 +127,7 @@ impl<'a, R: Threads + Sync> Runner for ByThreads<'a, R> {
         pieces: usize,
         rows: &mut [u64],
     ) {
-        if pieces == 1 || sets.len() == 0 || abandoned.len() < self.least.max(2) {
+        if pieces == 1 || sets.len() == 0 || abandoned.len() < 2 {
             write_rows(abandoned, sets, masks, rows);
             return;
         }
