@@ -1,25 +1,33 @@
 -- The partners of a short set, group by group.
-use Rattle.std.proofs.Common.{◌≡◌, ℕ, ◌+◌, ◌<◌, ◌==◌, ◌&&◌, ◌||◌, Bool, true, false, cond, List, [], ◌∷◌, ◌++◌, length, map, take, count_by, get_or, ap, refl, sym, ◌∙◌, zero, suc, inl, inr, arith}
-use Rattle.std.specs.List.{filter, flat_map, list_any}
+use Rattle.std.proofs.Common.{◌≡◌, ℕ, ◌+◌, ◌*◌, ◌^◌, ◌<◌, ◌≤◌, ◌==◌, ◌&&◌, ◌||◌, Bool, true, false, not, cond, List, [], ◌∷◌, ◌++◌, None, length, map, take, drop, count_by, get_or, ap, refl, sym, ◌∙◌, zero, suc, inl, inr, arith}
+use Rattle.std.specs.List.{filter, flat_map, list_any, slice_get}
+use Rattle.std.proofs.Math.Bool.{or-false}
+use Rattle.std.proofs.Math.Nat.{mul-le-mul_left, mul-suc}
 use Rattle.std.proofs.Math.Numerals.{add-one}
 use Rattle.std.proofs.Math.Seq.{take-suc}
 use Rattle.std.proofs.lemmas.Bool.{cases_Bool, or_parts}
 use Rattle.std.proofs.lemmas.Grind.{flat_map-append}
-use Rattle.std.proofs.lemmas.List.{append-nil, length-map, map-append}
+use Rattle.std.proofs.lemmas.List.{append_assoc, append-nil, get_or_default, length-map, map-append, take-append-drop}
+use Rattle.std.proofs.lemmas.List.Filters.{length-filter_more}
 use Rattle.std.proofs.lemmas.List.Concat.{flat_map-cons}
-use Rattle.std.proofs.lemmas.List.Elements.{filter_more}
+use Rattle.std.proofs.lemmas.List.Elements.{filter-append, filter_more}
 use Rattle.std.proofs.lemmas.List.Folds.{list_any-append, list_any_none}
 use Rattle.std.proofs.lemmas.List.Sums.{sum_by-cons}
 use Rattle.span.specs.declared.id.SpanId.{SpanId}
 use Rattle.span.specs.Classes.{width_of}
 use Rattle.span.specs.Ids.{same_span}
 use Rattle.span.specs.declared.class.Class.{Class}
-use Rattle.certificate.specs.Chosen.{fits_any, fits_some, fits_with, is_member, members_in, sets_of}
+use Rattle.span.specs.declared.class.Class.TheVariants.{C16, C64, C256}
+use Rattle.bitmap.specs.Slots.{SlotSet, has_bit}
+use Rattle.mesh_graph.specs.Rows.{HaveRows}
+use Rattle.lane_kernels.specs.Rows.{row_at, width_of as row_words}
+use Rattle.lane_kernels.proofs.Rows.{some_fits}
+use Rattle.certificate.specs.Chosen.{fits_among, fits_any, fits_some, fits_with, is_member, is_of_class, members_in, sets_of}
 use Rattle.certificate.specs.declared.partner.Members.{Members}
 use Rattle.span.specs.declared.entry.Entry.{Entry}
 use Rattle.mesh_graph.specs.Groups.{Groups, IsAscending, any_compatible, has_id, ids}
 use Rattle.span.specs.Entries.{are_compatible}
-use Rattle.lane_kernels.specs.Disjoint.{are_disjoint}
+use Rattle.lane_kernels.specs.Disjoint.{are_disjoint, fits}
 use Rattle.mesh_graph.proofs.Entries.{any_at}
 use Rattle.certificate.specs.Plans.{partners_of, sides_of}
 use Rattle.certificate.proofs.Places.{IsAscending-drop, place-same}
@@ -142,19 +150,115 @@ sets_of-next abandoned class chosen k id low is =
     ∙ ap (λ l. flat_map (sets_of abandoned class) (take k chosen) ++ l) (flat_map-cons (sets_of abandoned class) id [] ∙ append-nil (sets_of abandoned class id)))
 
 -- the ids of the groups that pass a test, of one more group
-module _ (test : Entry → Bool) (owned : List Entry) (n : ℕ) (y : Entry) (found : List SpanId) (low : n < length owned) (read : y ≡ get_or owned n y)
-    (is : found ≡ map (λ (y : Entry). y.id) (filter test (take n owned))) where
-  more : map (λ (y : Entry). y.id) (filter test (take (n + 1) owned)) ≡ found ++ map (λ (y : Entry). y.id) (cond (test y) (y ∷ []) [])
+module _ (test : Entry → Bool) (owned : List Entry) (n : ℕ) (y : Entry) (before found : List SpanId) (low : n < length owned) (read : y ≡ get_or owned n y)
+    (is : found ≡ before ++ map (λ (y : Entry). y.id) (filter test (take n owned))) where
+  more : before ++ map (λ (y : Entry). y.id) (filter test (take (n + 1) owned)) ≡ found ++ map (λ (y : Entry). y.id) (cond (test y) (y ∷ []) [])
   more =
-      ap (map (λ (y : Entry). y.id)) (filter_more test owned n y low ∙ ap (λ z. filter test (take n owned) ++ cond (test z) (z ∷ []) []) (sym read))
-      ∙ map-append (λ (y : Entry). y.id) (filter test (take n owned)) (cond (test y) (y ∷ []) [])
+      ap (λ l. before ++ map (λ (y : Entry). y.id) l) (filter_more test owned n y low ∙ ap (λ z. filter test (take n owned) ++ cond (test z) (z ∷ []) []) (sym read))
+      ∙ ap (λ l. before ++ l) (map-append (λ (y : Entry). y.id) (filter test (take n owned)) (cond (test y) (y ∷ []) []))
+      ∙ sym (append_assoc before (map (λ (y : Entry). y.id) (filter test (take n owned))) (map (λ (y : Entry). y.id) (cond (test y) (y ∷ []) [])))
       ∙ ap (λ l. l ++ map (λ (y : Entry). y.id) (cond (test y) (y ∷ []) [])) (sym is)
 
-  pub passing-more : test y ≡ true → found ++ y.id ∷ [] ≡ map (λ (y : Entry). y.id) (filter test (take (n + 1) owned))
+  pub passing-more : test y ≡ true → found ++ y.id ∷ [] ≡ before ++ map (λ (y : Entry). y.id) (filter test (take (n + 1) owned))
   passing-more passes = sym (more ∙ ap (λ b. found ++ map (λ (y : Entry). y.id) (cond b (y ∷ []) [])) passes)
 
-  pub passing-same : test y ≡ false → found ≡ map (λ (y : Entry). y.id) (filter test (take (n + 1) owned))
+  pub passing-same : test y ≡ false → found ≡ before ++ map (λ (y : Entry). y.id) (filter test (take (n + 1) owned))
   passing-same fails = sym (more ∙ ap (λ b. found ++ map (λ (y : Entry). y.id) (cond b (y ∷ []) [])) fails ∙ append-nil found)
+
+-- and of one that does not
+pub passing-skip : (test : Entry → Bool) (owned : List Entry) (n : ℕ) (before found : List SpanId) → n < length owned → ((d : Entry) → test (get_or owned n d) ≡ false)
+    → found ≡ before ++ map (λ (y : Entry). y.id) (filter test (take n owned)) → found ≡ before ++ map (λ (y : Entry). y.id) (filter test (take (n + 1) owned))
+passing-skip test [] n before found low fails is = absurd (omega arith)
+passing-skip test (x ∷ xs) n before found low fails is =
+    passing-same test (x ∷ xs) n (get_or (x ∷ xs) n x) before found low (get_or_default (x ∷ xs) n x (get_or (x ∷ xs) n x) low) is (fails x)
+
+-- the ids of a part of the groups, and then those of the others
+pub passing-parts : (test : Entry → Bool) (n : ℕ) (rest : List Entry) (found : List SpanId)
+    → (found ++ map (λ (y : Entry). y.id) (filter test (take n rest))) ++ map (λ (y : Entry). y.id) (filter test (drop n rest))
+    ≡ found ++ map (λ (y : Entry). y.id) (filter test rest)
+passing-parts test n rest found =
+    append_assoc found (map (λ (y : Entry). y.id) (filter test (take n rest))) (map (λ (y : Entry). y.id) (filter test (drop n rest)))
+    ∙ ap (λ l. found ++ l) (
+    sym (map-append (λ (y : Entry). y.id) (filter test (take n rest)) (filter test (drop n rest)))
+    ∙ ap (map (λ (y : Entry). y.id)) (sym (filter-append test (take n rest) (drop n rest)) ∙ ap (filter test) (take-append-drop n rest)))
+
+-- ---- by class
+
+-- a group fits where it does among the members of one of the classes
+pub fits-by_class : (members : Members) (y : Entry) → ((fits_among C16 (members_in members C16) y || fits_among C64 (members_in members C64) y) || fits_among C256 (members_in members C256) y)
+    ≡ fits_some members y
+fits-by_class members y = by_class y.class
+  where
+    any_in : Class → Bool
+    any_in class = list_any (λ x. are_disjoint x y.occupied) (members_in members class)
+
+    by_class : (class : Class) → ((((width_of class == width_of C16) && any_in C16) || ((width_of class == width_of C64) && any_in C64)) || ((width_of class == width_of C256) && any_in C256))
+        ≡ any_in class
+    by_class C16 = or-false (any_in C16 || false) ∙ or-false (any_in C16)
+    by_class C64 = or-false (any_in C64)
+    by_class C256 = refl
+
+-- the place of an element among those that pass
+module _ {X : Type 0} (test : X → Bool) where
+  pub filter_at : (xs : List X) (i : ℕ) (d : X) → i < length xs → test (get_or xs i d) ≡ true
+      → get_or (filter test xs) (length (filter test (take i xs))) d ≡ get_or xs i d
+  filter_at [] i d low passes = absurd (omega arith)
+  filter_at (x ∷ xs) zero d low passes = rw passes refl
+  filter_at (x ∷ xs) (suc i) d low passes = elim (cases_Bool (test x)) [
+    | inl e ↦ rw e (filter_at xs i d (omega arith) passes)
+    | inr e ↦ rw e (filter_at xs i d (omega arith) passes)
+  ]
+
+  pub filter_below : (xs : List X) (i : ℕ) (d : X) → i < length xs → test (get_or xs i d) ≡ true
+      → length (filter test (take i xs)) < length (filter test xs)
+  filter_below [] i d low passes = absurd (omega arith)
+  filter_below (x ∷ xs) zero d low passes = rw passes (omega arith)
+  filter_below (x ∷ xs) (suc i) d low passes = elim (cases_Bool (test x)) [
+    | inl e ↦ rw e (let less = filter_below xs i d (omega arith) passes in omega (arith, less))
+    | inr e ↦ rw e (filter_below xs i d (omega arith) passes)
+  ]
+
+-- the row of a group among those of its class
+module _ (sets : List SlotSet) (class : Class) (owned : List Entry) (rows : List ℕ) (place : ℕ) (y : Entry)
+    (have : HaveRows (filter (is_of_class class) owned) sets None (length (filter (is_of_class class) owned)) rows)
+    (low : place < length owned) (read : y ≡ get_or owned place y) (own : is_of_class class y ≡ true)
+    (words at : ℕ) (wide : words ≡ row_words (length sets)) (stands : at ≡ length (filter (is_of_class class) (take place owned))) where
+  passes : is_of_class class (get_or owned place y) ≡ true
+  passes = ap (is_of_class class) (sym read) ∙ own
+
+  below : length (filter (is_of_class class) (take place owned)) < length (filter (is_of_class class) owned)
+  below = filter_below (is_of_class class) owned place y low passes
+
+  -- it stands among the rows
+  pub row-within : words * at + words ≤ length rows
+  row-within =
+      let ends : row_words (length sets) * suc (length (filter (is_of_class class) (take place owned)))
+      ≤ row_words (length sets) * length (filter (is_of_class class) owned) = mul-le-mul_left (row_words (length sets)) below in
+      let more = mul-suc (row_words (length sets)) (length (filter (is_of_class class) (take place owned))) in
+      rw (wide, stands) (omega (arith, have.size, ends, more))
+
+  same : row_at words rows at ≡ row_at (row_words (length sets)) rows (length (filter (is_of_class class) (take place owned)))
+  same t = row_at (wide t) rows (stands t)
+
+  -- it has a bit if the group fits
+  pub row-fits : ((k : ℕ) → get_or (row_at words rows at) k 0 < 2 ^ 64) → list_any (λ word. not (word == 0)) (row_at words rows at) ≡ fits_among class sets y
+  row-fits fit =
+      some_fits y.occupied sets (row_at words rows at)
+      (λ j. ap (λ row. has_bit row j) same
+      ∙ have.bits (length (filter (is_of_class class) (take place owned))) j y below
+      ∙ ap (λ (z : Entry). fits z.occupied (slice_get sets j)) (filter_at (is_of_class class) owned place y low passes ∙ sym read)) fit
+      ∙ sym (ap (λ b. b && list_any (λ other. are_disjoint other y.occupied) sets) own)
+
+-- a group that is not of the class does not fit among its members
+pub fits-other_class : (sets : List SlotSet) (class : Class) (y : Entry) → is_of_class class y ≡ false → fits_among class sets y ≡ false
+fits-other_class sets class y other = ap (λ b. b && list_any (λ x. are_disjoint x y.occupied) sets) other
+
+-- how many of the class come before, of one more group
+pub rows_before : (class : Class) (owned : List Entry) (n count : ℕ) (y : Entry) (b : Bool) → n < length owned → y ≡ get_or owned n y → is_of_class class y ≡ b
+    → count ≡ length (filter (is_of_class class) (take n owned)) → length (filter (is_of_class class) (take (n + 1) owned)) ≡ count + cond b 1 0
+rows_before class owned n count y b low read own is =
+    length-filter_more (is_of_class class) owned n y low
+    ∙ (λ t. sym is t + cond ((ap (is_of_class class) (sym read) ∙ own) t) 1 0)
 
 -- the partners, as a filter of the owned groups
 pub partners_of-filter : (s : Groups) (short : List SpanId) → IsAscending (ids s.owned) → partners_of s short ≡ map (λ (y : Entry). y.id) (filter (λ y. fits_any s.abandoned short y) s.owned)

@@ -264,34 +264,43 @@ HasFitting-next abandoned chosen owned k x words low is =
 pub count-parts : (test : Entry → Bool) (n : ℕ) (xs : List Entry) → count_by test (take n xs) + count_by test (drop n xs) ≡ count_by test xs
 count-parts test n xs = sym (sum_by-append (λ x. cond (test x) 1 0) (take n xs) (drop n xs)) ∙ ap (count_by test) (take-append-drop n xs)
 
--- the first k groups were tested, and the bits of those that fit are in
-abbrev pub HasAdded : Entry → List Entry → ℕ → List ℕ → List ℕ → Type 0
-HasAdded x owned k old new = (q : ℕ) (d : Entry) → q < length owned → has_bit new q ≡ (has_bit old q || (nat_lt q k && are_compatible x (get_or owned q d)))
+-- the first k groups were tested, and the bits of those that pass are in
+abbrev pub HasAdded : (Entry → Bool) → List Entry → ℕ → List ℕ → List ℕ → Type 0
+HasAdded test owned k old new = (q : ℕ) (d : Entry) → q < length owned → has_bit new q ≡ (has_bit old q || (nat_lt q k && test (get_or owned q d)))
 
-module _ (x : Entry) (owned : List Entry) (old : List ℕ) where
-  pub HasAdded-none : HasAdded x owned 0 old old
-  HasAdded-none q d within = sym (ap (λ b. has_bit old q || (b && are_compatible x (get_or owned q d))) (le-ltb q 0 (omega arith)) ∙ or-false (has_bit old q))
+module _ (test : Entry → Bool) (owned : List Entry) (old : List ℕ) where
+  pub HasAdded-none : HasAdded test owned 0 old old
+  HasAdded-none q d within = sym (ap (λ b. has_bit old q || (b && test (get_or owned q d))) (le-ltb q 0 (omega arith)) ∙ or-false (has_bit old q))
 
-  pub HasAdded-more : (k : ℕ) (mid new : List ℕ) (y : Entry) → HasAdded x owned k old mid → k < length owned → y ≡ get_or owned k y
-      → ((q : ℕ) → has_bit new q ≡ (has_bit mid q || (eqb q k && are_compatible x y))) → HasAdded x owned (k + 1) old new
-  HasAdded-more k mid new y added low is bits q d within = bits q ∙ ap (λ b. b || (eqb q k && are_compatible x y)) (added q d within) ∙ elim (cases_eq q k) [
+  pub HasAdded-more : (k : ℕ) (mid new : List ℕ) (y : Entry) → HasAdded test owned k old mid → k < length owned → y ≡ get_or owned k y
+      → ((q : ℕ) → has_bit new q ≡ (has_bit mid q || (eqb q k && test y))) → HasAdded test owned (k + 1) old new
+  HasAdded-more k mid new y added low is bits q d within = bits q ∙ ap (λ b. b || (eqb q k && test y)) (added q d within) ∙ elim (cases_eq q k) [
     | inl same ↦
         let read : get_or owned q d ≡ y = ap (λ n. get_or owned n d) same ∙ get_or_default owned k d y low ∙ sym is in
-        (λ t. (has_bit old q || (le-ltb q k (omega arith) t && are_compatible x (get_or owned q d))) || (eq-eqb q k same t && are_compatible x (sym read t)))
-        ∙ ap (λ b. b || are_compatible x (get_or owned q d)) (or-false (has_bit old q))
-        ∙ ap (λ b. has_bit old q || (b && are_compatible x (get_or owned q d))) (sym (lt-ltb q (k + 1) (omega arith)))
+        (λ t. (has_bit old q || (le-ltb q k (omega arith) t && test (get_or owned q d))) || (eq-eqb q k same t && test (sym read t)))
+        ∙ ap (λ b. b || test (get_or owned q d)) (or-false (has_bit old q))
+        ∙ ap (λ b. has_bit old q || (b && test (get_or owned q d))) (sym (lt-ltb q (k + 1) (omega arith)))
     | inr other ↦
-        ap (λ b. (has_bit old q || (nat_lt q k && are_compatible x (get_or owned q d))) || (b && are_compatible x y)) (ne_eqb q k other)
-        ∙ or-false (has_bit old q || (nat_lt q k && are_compatible x (get_or owned q d)))
-        ∙ ap (λ b. has_bit old q || (b && are_compatible x (get_or owned q d))) (elim (cases_lt q k) [
+        ap (λ b. (has_bit old q || (nat_lt q k && test (get_or owned q d))) || (b && test y)) (ne_eqb q k other)
+        ∙ or-false (has_bit old q || (nat_lt q k && test (get_or owned q d)))
+        ∙ ap (λ b. has_bit old q || (b && test (get_or owned q d))) (elim (cases_lt q k) [
           | inl less ↦ lt-ltb q k less ∙ sym (lt-ltb q (k + 1) (omega arith))
           | inr past ↦ le-ltb q k past ∙ sym (le-ltb q (k + 1) (omega arith))
         ])
   ]
 
-  pub HasAdded-all : (k : ℕ) (new : List ℕ) → HasAdded x owned k old new → length owned ≤ k → (q : ℕ) (d : Entry) → q < length owned
-      → has_bit new q ≡ (has_bit old q || are_compatible x (get_or owned q d))
-  HasAdded-all k new added past q d within = added q d within ∙ ap (λ b. has_bit old q || (b && are_compatible x (get_or owned q d))) (lt-ltb q k (omega arith))
+  -- a group that does not pass adds no bit
+  pub HasAdded-skip : (k : ℕ) (mid : List ℕ) (y : Entry) → HasAdded test owned k old mid → k < length owned → y ≡ get_or owned k y
+      → test y ≡ false → HasAdded test owned (k + 1) old mid
+  HasAdded-skip k mid y added low is fails = HasAdded-more k mid mid y added low is (λ q. sym (ap (λ b. has_bit mid q || (eqb q k && b)) fails ∙ none (eqb q k) (has_bit mid q)))
+    where
+      none : (a b : Bool) → (b || (a && false)) ≡ b
+      none true b = or-false b
+      none false b = or-false b
+
+  pub HasAdded-all : (k : ℕ) (new : List ℕ) → HasAdded test owned k old new → length owned ≤ k → (q : ℕ) (d : Entry) → q < length owned
+      → has_bit new q ≡ (has_bit old q || test (get_or owned q d))
+  HasAdded-all k new added past q d within = added q d within ∙ ap (λ b. has_bit old q || (b && test (get_or owned q d))) (lt-ltb q k (omega arith))
 
 -- how many fit, by the bits of all of the ids
 pub count-fitting : (abandoned : List Entry) (chosen : List SpanId) (owned : List Entry) (k : ℕ) (words : List ℕ) → length chosen ≤ k → HasFitting abandoned (take k chosen) owned words

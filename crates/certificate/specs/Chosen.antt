@@ -60,6 +60,14 @@ members_in members C16 = sets_in members.c16
 members_in members C64 = sets_in members.c64
 members_in members C256 = sets_in members.c256
 
+-- whether the group is of the class
+abbrev pub is_of_class : Class → Entry → Bool
+is_of_class class y = width_of y.class == width_of class
+
+-- whether the group is of the class and shares no slot with some of these sets
+abbrev pub fits_among : Class → List SlotSet → Entry → Bool
+fits_among class sets y = is_of_class class y && list_any (λ x. are_disjoint x y.occupied) sets
+
 -- whether the group shares no slot with some set of its class
 abbrev pub fits_some : Members → Entry → Bool
 fits_some members y = list_any (λ x. are_disjoint x y.occupied) (members_in members y.class)

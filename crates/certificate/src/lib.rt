@@ -6,6 +6,7 @@
 //! sets of a [`Snapshot`](mesh_graph::Snapshot) pair by pair. With whoever found the plan it shares
 //! the test of two sets, and no graph and no rows (as the certifying algorithms of LEDA do). Rows are
 //! for [`partners`] alone, which lists those of a short set for a report and is not asked by `check`.
+//! A [`Runner`](mesh_graph::Runner) fills these rows, at hand or by threads.
 //!
 //! ```text
 //!   abandoned           owned                 plan: 0.0 onto 3.0

@@ -1,38 +1,59 @@
 // The partners of a short set: found by the rows of its members' slots, class by class, and counted by tests of two sets for the
 // checker.
-ghost use Rattle.std.specs.Prelude.{◌≡◌, ◌==◌, ◌<◌, ◌≤◌, ◌^◌, ◌&&◌, ◌||◌, ◌∷◌, [], ◌++◌, ℕ, List, length, map, slice_index_or, IfOk};
+ghost use Rattle.std.specs.Prelude.{◌≡◌, ◌==◌, ◌<◌, ◌≤◌, ◌+◌, ◌*◌, ◌^◌, ◌&&◌, ◌||◌, ◌∷◌, [], ◌++◌, ℕ, List, None, length, map, not, slice_index, slice_index_or, IfOk, OnOk};
 ghost use Rattle.bitmap.specs.Slots.{has_bit};
-ghost use Rattle.std.specs.List.{count_by, filter, flat_map};
+ghost use Rattle.std.specs.List.{count_by, filter, flat_map, list_any};
+ghost use Rattle.lane_kernels.specs.Rows.{row_at, width_of as row_words};
 ghost use Rattle.mesh_graph.specs.Groups.{IsAscending, ids};
+ghost use Rattle.mesh_graph.specs.Rows.{HaveRows};
 ghost use Rattle.mesh_graph.specs.declared.build.TheConstants.{MOST_GROUPS};
 ghost use Rattle.span.specs.Classes.{width_of};
 ghost use Rattle.span.specs.Entries.{are_compatible};
 ghost use Rattle.span.specs.declared.class.Class.{Class};
 ghost use Rattle.span.specs.declared.entry.Entry.{Entry};
 ghost use Rattle.span.specs.declared.id.SpanId.{SpanId};
-ghost use Rattle.certificate.specs.Chosen.{HasFitting, fits_any, fits_some, members_in, sets_in, sets_of};
+ghost use Rattle.certificate.specs.Chosen.{HasFitting, fits_among, fits_any, fits_some, is_of_class, members_in, sets_in, sets_of};
 ghost use Rattle.certificate.specs.Plans.{partners_of};
 
 use crate::place_set::PlaceSet;
 use crate::plan::Short;
 use lane_kernels::{Planes, SlotRows};
-use mesh_graph::{Entry, MOST_GROUPS, Snapshot, place_of};
+use mesh_graph::{Entry, MOST_GROUPS, Runner, Snapshot, place_of, sets_by_slots, steps_over};
 use span::{Class, SpanId};
 use std::alloc::{AllocError, Global};
 
 /// The owned groups that are compatible with some abandoned group of the short set, by ascending
 /// ids. An id that no abandoned group has gives none. The error means that memory ran out.
-pub fn partners(
+///
+/// It looks at up to 4,096 owned groups at a time. The runner fills their rows, in so many `pieces`
+/// at most: a group's row has a bit for each member of its class. The answer does not depend on the
+/// runner.
+pub fn partners<R: Runner>(
+    runner: &R,
     alloc: Global,
     snapshot: &Snapshot,
     short: &Short,
+    pieces: usize,
 ) -> Result<Vec<SpanId>, AllocError>
+    requires pieces { 1 ≤ pieces }
+    requires ready { R.ready runner.now }
     ensures { IfOk result (λ found. found.items ≡ partners_of snapshot.now short.now) }
 {
     let chosen = short.ids();
-    let members = Members::of(alloc, snapshot.abandoned(), chosen, snapshot.owned().len())?;
-    let found = partners_among(alloc, &members, snapshot.owned())?;
+    let asked = snapshot.owned().len();
+    let pieces = pieces_of(runner, snapshot, short, pieces);
+    let members = Members::of(runner, alloc, snapshot.abandoned(), chosen, asked, pieces)?;
+    let found = partners_among(runner, alloc, &members, snapshot.owned(), pieces)?;
     Ok(found)
+}
+
+/// In how many pieces the runner fills the rows of the owned groups over the members of a short set.
+fn pieces_of<R: Runner>(runner: &R, snapshot: &Snapshot, short: &Short, pieces: usize) -> usize
+    requires { 1 ≤ pieces }
+    ensures { 1 ≤ result }
+{
+    let steps = steps_over(snapshot.owned(), short.ids().len());
+    runner.pieces(steps, pieces)
 }
 
 /// How many partners the abandoned groups with these ids have. It tests two sets at a time and takes no memory, and the checker
@@ -54,19 +75,23 @@ struct Members {
 
 impl Members {
     /// The sets of the groups with these ids, of which at most so many rows will be asked for.
-    fn of(
+    fn of<R: Runner>(
+        runner: &R,
         alloc: Global,
         abandoned: &[Entry],
         chosen: &[SpanId],
         asked: usize,
+        pieces: usize,
     ) -> Result<Members, AllocError>
-        requires { IsAscending (ids abandoned.now) }
+        requires ascending { IsAscending (ids abandoned.now) }
+        requires pieces { 1 ≤ pieces }
+        requires ready { R.ready runner.now }
         ensures { IfOk result (λ members. (class : Class) → members_in members class
             ≡ flat_map (sets_of abandoned.now class) chosen.now) }
     {
-        let c16 = rows_of(alloc, abandoned, chosen, Class::C16, asked)?;
-        let c64 = rows_of(alloc, abandoned, chosen, Class::C64, asked)?;
-        let c256 = rows_of(alloc, abandoned, chosen, Class::C256, asked)?;
+        let c16 = rows_of(runner, alloc, abandoned, chosen, Class::C16, asked, pieces)?;
+        let c64 = rows_of(runner, alloc, abandoned, chosen, Class::C64, asked, pieces)?;
+        let c256 = rows_of(runner, alloc, abandoned, chosen, Class::C256, asked, pieces)?;
         Ok(Members { c16, c64, c256 })
     }
 
@@ -82,22 +107,26 @@ impl Members {
     }
 }
 
-/// The rows of the chosen groups of the class, where there are any.
-fn rows_of(
+/// The rows of the chosen groups of the class, if there are any.
+fn rows_of<R: Runner>(
+    runner: &R,
     alloc: Global,
     abandoned: &[Entry],
     chosen: &[SpanId],
     class: Class,
     asked: usize,
+    pieces: usize,
 ) -> Result<Option<SlotRows>, AllocError>
-    requires { IsAscending (ids abandoned.now) }
+    requires ascending { IsAscending (ids abandoned.now) }
+    requires pieces { 1 ≤ pieces }
+    requires ready { R.ready runner.now }
     ensures { IfOk result (λ rows. sets_in rows ≡ flat_map (sets_of abandoned.now class) chosen.now) }
 {
     let planes = planes_of(alloc, abandoned, chosen, class)?;
     if planes.len() == 0 {
         return Ok(None);
     }
-    let rows = SlotRows::of(alloc, planes, asked)?;
+    let rows = sets_by_slots(runner, alloc, planes, asked, pieces)?;
     Ok(Some(rows))
 }
 
@@ -140,40 +169,212 @@ fn push_set(
 
 /// Whether the group is of the class.
 fn is_of(entry: &Entry, class: Class) -> bool
-    ensures { result ≡ (width_of entry.now.class == width_of class) }
+    ensures { result ≡ is_of_class class entry.now }
 {
     entry.class.words() == class.words()
 }
 
-/// The ids of the owned groups that share no slot with some member of their class.
-fn partners_among(
+/// The ids of the owned groups that share no slot with some member of their class. It looks at so many at a time as a set has
+/// places.
+fn partners_among<R: Runner>(
+    runner: &R,
     alloc: Global,
     members: &Members,
     owned: &[Entry],
+    pieces: usize,
 ) -> Result<Vec<SpanId>, AllocError>
+    requires pieces { 1 ≤ pieces }
+    requires ready { R.ready runner.now }
     ensures { IfOk result (λ found. found.items
         ≡ map (λ y. y.id) (filter (fits_some members.now) owned.now)) }
 {
     let mut found = Vec::new(alloc);
-    let mut row = Vec::new(alloc);
-    for entry in owned {
-        if fits_some(members, entry, &mut row)? {
-            found.push(entry.id)?;
-        }
+    let mut rest = owned;
+    while rest.len() > MOST_GROUPS {
+        let (first, others) = rest.split_at(MOST_GROUPS);
+        push_partners(runner, alloc, members, first, pieces, &mut found)?;
+        rest = others;
     }
+    push_partners(runner, alloc, members, rest, pieces, &mut found)?;
     Ok(found)
 }
 
-/// Whether the owned group shares no slot with some member of its class. The row is written over; it grows to what the class asks
-/// for, so that few calls take memory.
-fn fits_some(members: &Members, owned: &Entry, row: &mut Vec<u64>) -> Result<bool, AllocError>
-    ensures { IfOk result (λ fits. fits ≡ fits_some members.now owned.now) }
+/// Appends the ids of those of the owned groups that share no slot with some member of their class.
+fn push_partners<R: Runner>(
+    runner: &R,
+    alloc: Global,
+    members: &Members,
+    owned: &[Entry],
+    pieces: usize,
+    found: &mut Vec<SpanId>,
+) -> Result<(), AllocError>
+    requires pieces { 1 ≤ pieces }
+    requires ready { R.ready runner.now }
+    requires few { length owned.now ≤ MOST_GROUPS }
+    ensures { OnOk result (found.new.items ≡ found.old.items
+        ++ map (λ y. y.id) (filter (fits_some members.now) owned.now)) }
 {
-    let Some(rows) = members.rows(owned.class) else {
-        return Ok(false);
+    let fitting = fitting_among(runner, alloc, members, owned, pieces)?;
+    for place in 0..owned.len() {
+        if fitting.contains(place) {
+            found.push(owned[place].id)?;
+        }
+    }
+    Ok(())
+}
+
+/// The places of the owned groups that share no slot with some member of their class.
+fn fitting_among<R: Runner>(
+    runner: &R,
+    alloc: Global,
+    members: &Members,
+    owned: &[Entry],
+    pieces: usize,
+) -> Result<PlaceSet, AllocError>
+    requires pieces { 1 ≤ pieces }
+    requires ready { R.ready runner.now }
+    requires few { length owned.now ≤ MOST_GROUPS }
+    ensures { IfOk result (λ fitting. (place : ℕ) (d : Entry) → place < length owned.now
+        → has_bit fitting.words place ≡ fits_some members.now (slice_index_or owned.now place d)) }
+{
+    let mut fitting = PlaceSet::empty();
+    add_class(
+        runner,
+        alloc,
+        members,
+        Class::C16,
+        owned,
+        pieces,
+        &mut fitting,
+    )?;
+    add_class(
+        runner,
+        alloc,
+        members,
+        Class::C64,
+        owned,
+        pieces,
+        &mut fitting,
+    )?;
+    add_class(
+        runner,
+        alloc,
+        members,
+        Class::C256,
+        owned,
+        pieces,
+        &mut fitting,
+    )?;
+    Ok(fitting)
+}
+
+/// Puts in the places of the owned groups of the class that share no slot with some member of it.
+fn add_class<R: Runner>(
+    runner: &R,
+    alloc: Global,
+    members: &Members,
+    class: Class,
+    owned: &[Entry],
+    pieces: usize,
+    fitting: &mut PlaceSet,
+) -> Result<(), AllocError>
+    requires pieces { 1 ≤ pieces }
+    requires ready { R.ready runner.now }
+    requires few { length owned.now ≤ MOST_GROUPS }
+    ensures { OnOk result ((place : ℕ) (d : Entry) → place < length owned.now
+        → has_bit fitting.new.words place ≡ (has_bit fitting.old.words place
+        || fits_among class (members_in members.now class) (slice_index_or owned.now place d))) }
+{
+    let Some(sets) = members.rows(class) else {
+        return Ok(());
     };
-    row.resize(rows.row_words(), 0)?;
-    Ok(rows.has_disjoint(&owned.occupied, row))
+    let own = of_class(alloc, owned, class)?;
+    let rows = rows_over(runner, alloc, sets, &own, pieces)?;
+    add_places(fitting, &rows, sets, class, owned);
+    Ok(())
+}
+
+/// The groups of the class.
+fn of_class(alloc: Global, groups: &[Entry], class: Class) -> Result<Vec<Entry>, AllocError>
+    ensures { IfOk result (λ own. own.items ≡ filter (is_of_class class) groups.now) }
+{
+    let mut own = Vec::new(alloc);
+    for entry in groups {
+        if is_of(entry, class) {
+            own.push(*entry)?;
+        }
+    }
+    Ok(own)
+}
+
+/// The rows of the groups over the sets, one after another: bit j of a row says that set j shares no slot with the group's.
+fn rows_over<R: Runner>(
+    runner: &R,
+    alloc: Global,
+    sets: &SlotRows,
+    groups: &[Entry],
+    pieces: usize,
+) -> Result<Vec<u64>, AllocError>
+    requires pieces { 1 ≤ pieces }
+    requires ready { R.ready runner.now }
+    ensures { IfOk result (λ rows. HaveRows groups.now sets.now None (length groups.now) rows.items) }
+{
+    let mut rows = empty_rows(alloc, sets, groups.len())?;
+    runner.fill(groups, sets, &None, pieces, &mut rows);
+    Ok(rows)
+}
+
+/// Room for the rows of so many groups, without a bit.
+fn empty_rows(alloc: Global, sets: &SlotRows, groups: usize) -> Result<Vec<u64>, AllocError>
+    ensures { IfOk result (λ rows. length rows.items ≡ row_words (length sets.now) * groups) }
+{
+    // If there are more words than a number counts, there is no memory for them either.
+    let Some(words) = sets.row_words().checked_mul(groups) else {
+        return Err(AllocError);
+    };
+    vec![in alloc; 0; words]
+}
+
+/// Puts in the places of the owned groups of the class whose row has a bit. There is a row for each of the class alone.
+fn add_places(fitting: &mut PlaceSet, rows: &[u64], sets: &SlotRows, class: Class, owned: &[Entry])
+    requires few { length owned.now ≤ MOST_GROUPS }
+    requires rows { HaveRows (filter (is_of_class class) owned.now) sets.now None
+        (length (filter (is_of_class class) owned.now)) rows.now }
+    ensures { (place : ℕ) (d : Entry) → place < length owned.now
+        → has_bit fitting.new.words place ≡ (has_bit fitting.old.words place
+        || fits_among class sets.now (slice_index_or owned.now place d)) }
+{
+    let words = sets.row_words();
+    let mut row = 0;
+    for place in 0..owned.len() {
+        if is_of(&owned[place], class) {
+            add_by_row(fitting, place, rows, words, row);
+            row += 1;
+        }
+    }
+}
+
+/// Puts the place in, if the row has a bit.
+fn add_by_row(fitting: &mut PlaceSet, place: usize, rows: &[u64], words: usize, row: usize)
+    requires place { place < MOST_GROUPS }
+    requires within { words * row + words ≤ length rows.now }
+    ensures bits { (other : ℕ) → has_bit fitting.new.words other
+        ≡ (has_bit fitting.old.words other
+        || (other == place && list_any (λ word. not (word == 0)) (row_at words rows.now row))) }
+    ensures words { (k : ℕ) → slice_index (row_at words rows.now row) k < 2 ^ 64 }
+{
+    let start = words * row;
+    if has_any_bit(&rows[start..start + words]) {
+        fitting.insert(place);
+    }
+}
+
+/// Whether a bit is set.
+fn has_any_bit(row: &[u64]) -> bool
+    ensures any { result ≡ list_any (λ word. not (word == 0)) row.now }
+    ensures words { (k : ℕ) → slice_index row.now k < 2 ^ 64 }
+{
+    row.iter().any(|word| *word != 0)
 }
 
 /// How many of the owned groups are compatible with some abandoned group of these ids. It looks at so many at a time as a set has

@@ -99,8 +99,9 @@ fn planes_of(alloc: Global, groups: &[Entry]) -> Result<Planes, AllocError>
     Ok(planes)
 }
 
-// The sets by slots, of which so many rows will be asked for. The runner fills the rows of slots, where there are any.
-fn sets_by_slots<R: Runner>(
+/// The sets by slots, of which so many rows will be asked for. If that is enough for them to be laid out by slots, the runner
+/// fills the rows of the slots, by `pieces` if it goes by pieces.
+pub fn sets_by_slots<R: Runner>(
     runner: &R,
     alloc: Global,
     planes: Planes,

@@ -4,7 +4,7 @@ ghost use Rattle.std.specs.Prelude.{IfOk};
 ghost use Rattle.certificate.specs.Text.{IsWritable};
 
 use certificate::{Cause, Certificate, ReadError, Short, check, partners, read, write};
-use mesh_graph::Snapshot;
+use mesh_graph::{AtHand, Snapshot};
 use std::alloc::Global;
 
 // Three groups compete for one place: in version 1, and as that is written.
@@ -100,8 +100,8 @@ fn is_written(alloc: Global, certificate: &Certificate, text: &str) -> bool
 }
 
 fn partner_count(alloc: Global, snapshot: &Snapshot, short: &Short) -> Option<usize> {
-    let found = match partners(alloc, snapshot, short) {
-        Err(_) => partners(alloc, snapshot, short),
+    let found = match partners(&AtHand, alloc, snapshot, short, 1) {
+        Err(_) => partners(&AtHand, alloc, snapshot, short, 1),
         found => found,
     };
     Some(found.ok()?.len())

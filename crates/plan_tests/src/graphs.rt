@@ -222,7 +222,10 @@ fn are_of_one_piece<R: Threads + Sync>(
 fn rows_are_those_of_one_piece(rt: HostRuntime) {
     for count in [0, 1, 63, 64, 65, 300] {
         for pieces in [1, 2, 3, 7, 64] {
-            assert_eq!(rt; are_of_one_piece(&rt, rt.alloc(), count, pieces), Some(true));
+            assert_eq!(rt;
+                are_of_one_piece(&rt, rt.alloc(), count, pieces),
+                Some(true)
+            );
         }
     }
 }

@@ -18,6 +18,8 @@ mod graphs;
 #[cfg(test)]
 mod kernels;
 #[cfg(test)]
+mod partners;
+#[cfg(test)]
 mod plans;
 #[cfg(test)]
 mod sets;

@@ -180,11 +180,14 @@ impl<'a, G: Gate> Keeper<'a, G> {
             → OnOk result (HaveCome lines (place + 1) (plan_pairs self.new.steward.plan)
             self.new.minutes) }
     {
-        match self.arena.mark(rt, &ByThreads::new(rt), &mut self.steward) {
+        let runner = ByThreads::new(rt);
+        let pieces = self.arena.limits.shards() as usize;
+        match self.arena.mark(rt, &runner, &mut self.steward) {
             Ok(certificate) => {
                 self.has_steps = true;
                 let pages = self.arena.totals(rt).pages;
-                self.minutes.planned(self.alloc, place, certificate, pages)?;
+                self.minutes
+                    .planned(&runner, self.alloc, pieces, place, certificate, pages)?;
                 Ok(())
             }
             Err(MarkError::TooMany) => {

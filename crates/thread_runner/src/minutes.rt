@@ -6,6 +6,7 @@ ghost use Rattle.trace_runner.specs.declared.report.PlanNews.TheVariants as plan
 
 use crate::body::Note;
 use certificate::{Certificate, partners, write};
+use mesh_graph::Runner;
 use std::alloc::{AllocError, Global};
 use trace_runner::{CloseNews, Heads, MarkNews, PlanNews, Steps};
 
@@ -21,16 +22,27 @@ pub(crate) struct Minutes {
     ghost few: { marks ≤ vec_len notes },
 }
 
-// What the report tells of a mark of that number that planned, with the pages in use then.
-fn mark_news(
+// What the report tells of a mark of that number that planned, with the pages in use then. The runner fills the rows of its
+// partners, by `pieces` if it goes by pieces.
+fn mark_news<R: Runner>(
+    runner: &R,
     alloc: Global,
+    pieces: usize,
     mark: usize,
     certificate: Certificate,
     pages: usize,
 ) -> Result<MarkNews, AllocError>
+    requires ready { R.ready runner.now }
+    requires pieces { 1 ≤ pieces }
     ensures { IfOk result (λ news. news ≡ news_marked mark certificate pages) }
 {
-    let partners = partners(alloc, &certificate.snapshot, &certificate.short)?;
+    let partners = partners(
+        runner,
+        alloc,
+        &certificate.snapshot,
+        &certificate.short,
+        pieces,
+    )?;
     let Certificate {
         snapshot,
         plan,
@@ -88,14 +100,19 @@ impl Minutes {
         Ok(())
     }
 
-    /// The mark at that place planned, with so many pages in use. Its certificate is the last from now on.
-    pub(crate) fn planned(
+    /// The mark at that place planned, with so many pages in use. Its certificate is the last from now on. The runner fills the
+    /// rows of its partners, by `pieces` if it goes by pieces.
+    pub(crate) fn planned<R: Runner>(
         &mut self,
+        runner: &R,
         alloc: Global,
+        pieces: usize,
         place: usize,
         certificate: Certificate,
         pages: usize,
     ) -> Result<(), AllocError>
+        requires ready { R.ready runner.now }
+        requires pieces { 1 ≤ pieces }
         requires writable { IsWritable certificate }
         requires place { place < 2 ^ 63 }
         ensures marks { OnOk result (self.new.marks ≡ self.old.marks + 1) }
@@ -107,7 +124,7 @@ impl Minutes {
     {
         let mark = self.marks + 1;
         self.certificate = write(alloc, &certificate)?;
-        let news = mark_news(alloc, mark, certificate, pages)?;
+        let news = mark_news(runner, alloc, pieces, mark, certificate, pages)?;
         self.tell(place, PlanNews::Marked(news))?;
         self.marks = mark;
         Ok(())

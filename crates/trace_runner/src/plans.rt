@@ -1,6 +1,6 @@
 //! What a run knows of plans: the open one, and how many marks there were.
 
-ghost use Rattle.std.specs.Prelude.{◌≡◌, ◌+◌, ◌-◌, ◌<◌, ◌^◌, ◌∷◌, [], Bool, length, replicate, None, Some, OnOk};
+ghost use Rattle.std.specs.Prelude.{◌≡◌, ◌+◌, ◌-◌, ◌<◌, ◌≤◌, ◌^◌, ◌∷◌, [], Bool, length, replicate, None, Some, OnOk};
 ghost use Rattle.arena_core.specs.declared.event.Event.TheVariants as event;
 ghost use Rattle.arena_core.specs.declared.reply.Reply.TheVariants as reply;
 ghost use Rattle.certificate.specs.Text.{IsWritable};
@@ -177,10 +177,12 @@ impl Plans {
         }
     }
 
-    /// Marks: makes a plan, and opens it, unless a side has too many groups; and tells so.
+    /// Marks: makes a plan, and opens it, unless a side has too many groups; and tells so. The runner fills the rows of the
+    /// partners by `pieces` if it goes by pieces.
     pub(crate) fn mark<R: Runner>(
         &mut self,
         runner: &R,
+        pieces: usize,
         core: &mut Core<Counted>,
         replies: &mut Replies,
     ) -> Result<(), AllocError>
@@ -191,6 +193,7 @@ impl Plans {
 
         // The runner may fill rows.
         requires runner { R.ready runner.now }
+        requires pieces { 1 ≤ pieces }
 
         // The mark is made and told.
         ensures made { OnOk result (Carries (Calls event.Mark ∷ []) core.old
@@ -205,7 +208,9 @@ impl Plans {
         ensures marks { OnOk result (self.new.marks ≡ self.old.marks + 1) }
     {
         match core.step_by(runner, Event::Mark) {
-            Reply::Marked(certificate) => self.planned(core, certificate, replies),
+            Reply::Marked(certificate) => {
+                self.planned(runner, pieces, core, certificate, replies)
+            }
             Reply::Refused(Refusal::TooMany) => {
                 self.marks += 1;
                 replies.tell_news(&PlanNews::TooMany(self.marks))
@@ -216,12 +221,16 @@ impl Plans {
     }
 
     /// Keeps and tells what a mark has planned.
-    fn planned(
+    fn planned<R: Runner>(
         &mut self,
+        runner: &R,
+        pieces: usize,
         core: &Core<Counted>,
         certificate: Certificate,
         replies: &mut Replies,
     ) -> Result<(), AllocError>
+        requires runner { R.ready runner.now }
+        requires pieces { 1 ≤ pieces }
         requires few { self.old.marks + 1 < 2 ^ 64 }
         requires writable { IsWritable certificate }
         ensures news { OnOk result (news_at (kept_in replies.new) self.new
@@ -235,7 +244,13 @@ impl Plans {
         self.marks += 1;
         self.left = Some(certificate.plan.pairs().len());
         self.certificate = write(self.alloc, &certificate)?;
-        let partners = partners(self.alloc, &certificate.snapshot, &certificate.short)?;
+        let partners = partners(
+            runner,
+            self.alloc,
+            &certificate.snapshot,
+            &certificate.short,
+            pieces,
+        )?;
         let Certificate {
             snapshot,
             plan,

@@ -680,8 +680,9 @@ impl<'t> Run<'t> {
             }
             Line::Mark => {
                 self.settle()?;
+                let pieces = self.trace.header.shards.max(1) as usize;
                 self.plans
-                    .mark(runner, &mut self.core, &mut self.replies)
+                    .mark(runner, pieces, &mut self.core, &mut self.replies)
             }
         }
     }
