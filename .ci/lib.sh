@@ -74,9 +74,10 @@ names_of_crates() {
 
 # Copies the crates to a new folder, without what is built and without edits.
 copy_crates() {
-    mkdir -p "$1"
+    local to
+    mkdir -p "$1" && to=$(cd "$1" && pwd) || return
     (cd "$top" && find crates.txt HANDLES crates \( -name out -o -name 'must-fail*' \) -prune -o -type f -print0 |
-        xargs -0 cp --parents -t "$1")
+        xargs -0 cp --parents -t "$to")
 }
 
 # Puts the libraries that `rt ci` has proved in this copy of the crates in their place.
