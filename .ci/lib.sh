@@ -33,7 +33,8 @@ sum_of_sources() {
 
 # A sum of all that `./check --all` proves and tries, edits too.
 sum_of_all() {
-    (cd "$top" && find crates.txt crates -name out -prune -o -type f -print0 | LC_ALL=C sort -z | xargs -0 sha256sum | sha256sum)
+    (cd "$top" && find crates.txt crates -name out -prune -o -type f -print0 |
+        LC_ALL=C sort -z | xargs -0 sha256sum | sha256sum)
 }
 
 # Whether `./check --all` has passed over the sources and edits as they stand.
@@ -62,7 +63,8 @@ libraries_of_archive() {
     sed -n 's/^teurlaks_c staticlib: *//p' "$top/crates.txt"
 }
 
-# The folder of the library that the gate has proved of a crate. Work on the crates goes on beside it.
+# The folder of the library that the gate has proved of a crate. Work on the crates goes on beside
+# it.
 gate_library_of() {
     echo "$top/crates/$1/out/rlib/gate"
 }
@@ -82,13 +84,13 @@ copy_crates() {
 
 # Puts the libraries that `rt ci` has proved in this copy of the crates in their place.
 keep_gate_libraries() {
-    local copy=$1 name
+    local copy=$1 name made to
     rm -f "$gate_from"
     for name in $(names_of_crates); do
-        rm -rf "$(gate_library_of "$name")"
-        if [ -d "$copy/crates/$name/out/rlib/$name.rlib" ]; then
-            mkdir -p "$(gate_library_of "$name")" && cp -r "$copy/crates/$name/out/rlib/$name.rlib" "$(gate_library_of "$name")"
-        fi
+        made=$copy/crates/$name/out/rlib/$name.rlib
+        to=$(gate_library_of "$name")
+        rm -rf "$to"
+        if [ -d "$made" ]; then mkdir -p "$to" && cp -r "$made" "$to"; fi
     done
 }
 
@@ -102,11 +104,13 @@ gate_is_current() {
     local name
     [ -f "$gate_from" ] && [ "$(cat "$gate_from")" = "$(sum_of_sources)" ] || return
     for name in $(libraries_of_archive); do
-        if [ -d "$top/crates/$name" ] && [ ! -d "$(gate_library_of "$name")/$name.rlib" ]; then return 1; fi
+        if [ ! -d "$top/crates/$name" ]; then continue; fi
+        [ -d "$(gate_library_of "$name")/$name.rlib" ] || return
     done
 }
 
-# Runs a command, and adds what it took to the file COSTS, if that is set: a line `NAME|processor seconds|seconds by the clock`.
+# Runs a command, and adds what it took to the file COSTS, if that is set: a line `NAME|processor
+# seconds|seconds by the clock`.
 part() {
     local name=$1 began=$EPOCHSECONDS before status=0
     shift
@@ -114,16 +118,21 @@ part() {
     before=$used
     "$@" || status=$?
     take_time
-    if [ -n "${COSTS-}" ]; then echo "$name|$((used - before))|$((EPOCHSECONDS - began))" >>"$COSTS"; fi
+    if [ -n "${COSTS-}" ]; then
+        echo "$name|$((used - before))|$((EPOCHSECONDS - began))" >>"$COSTS"
+    fi
     return "$status"
 }
 
-# Sets `used` to the seconds of processor time that this shell and the commands that it has waited for have taken.
+# Sets `used` to the seconds of processor time that this shell and the commands that it has waited
+# for have taken.
 take_time() {
     local file
     file=$(mktemp)
     times >"$file"
-    used=$(awk '{ for (i = 1; i <= 2; i++) { split($i, at, /[ms]/); sum += 60 * at[1] + at[2] } } END { print int(sum + 0.5) }' "$file")
+    used=$(awk '
+        { for (i = 1; i <= 2; i++) { split($i, at, /[ms]/); sum += 60 * at[1] + at[2] } }
+        END { print int(sum + 0.5) }' "$file")
     rm -f "$file"
 }
 
@@ -137,7 +146,8 @@ archive_is_current() {
     [ -f "$archive" ] && [ -f "$archive.proof" ] && [ "$(sum_of_archive)" = "$(head -n 2 "$archive.proof")" ]
 }
 
-# Makes the archive of one check, which is recorded, over the libraries that the gate has proved of these very sources.
+# Makes the archive of one check, which is recorded, over the libraries that the gate has proved of
+# these very sources.
 archive_over_gate() {
     local room status=0
     room=$(mktemp -d)
@@ -146,8 +156,9 @@ archive_over_gate() {
     return "$status"
 }
 
-# Proves and makes the archive, where that is not done from the sources as they stand. Without the gate's libraries `rt lib` does so, which
-# proves each crate below. What the kit says is shown where it fails.
+# Proves and makes the archive, where that is not done from the sources as they stand. Without the
+# gate's libraries `rt lib` does so, which proves each crate below. What the kit says is shown where
+# it fails.
 make_archive() {
     local rt said before status=0
     if archive_is_current; then return; fi
