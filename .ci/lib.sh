@@ -58,11 +58,6 @@ keep_sum() {
     if [ "$(sum_of_sources)" = "$1" ]; then sum_of_build >"$built_from"; fi
 }
 
-# The libraries that the archive stands on, of the repository and of the kit.
-libraries_of_archive() {
-    sed -n 's/^teurlaks_c staticlib: *//p' "$top/crates.txt"
-}
-
 # The folder of the library that the gate has proved of a crate. Work on the crates goes on beside
 # it.
 gate_library_of() {
@@ -94,17 +89,22 @@ keep_gate_libraries() {
     done
 }
 
-# To be called behind `keep_gate_libraries`, with the sum of the sources that were proved.
+# To be called behind `keep_gate_libraries`, with the sum of the sources that were proved. The
+# libraries that are kept stand below it.
 keep_gate_sum() {
-    mkdir -p "$(dirname "$gate_from")" && echo "$1" >"$gate_from"
+    local name
+    mkdir -p "$(dirname "$gate_from")"
+    echo "$1" >"$gate_from"
+    for name in $(names_of_crates); do
+        if [ -d "$(gate_library_of "$name")" ]; then echo "$name" >>"$gate_from"; fi
+    done
 }
 
-# Whether the libraries that a gate has proved are there, and are of the sources as they stand.
+# Whether the libraries that a gate has proved are all there, and are of the sources as they stand.
 gate_is_current() {
     local name
-    [ -f "$gate_from" ] && [ "$(cat "$gate_from")" = "$(sum_of_sources)" ] || return
-    for name in $(libraries_of_archive); do
-        if [ ! -d "$top/crates/$name" ]; then continue; fi
+    [ -f "$gate_from" ] && [ "$(head -n 1 "$gate_from")" = "$(sum_of_sources)" ] || return
+    for name in $(tail -n +2 "$gate_from"); do
         [ -d "$(gate_library_of "$name")/$name.rlib" ] || return
     done
 }
