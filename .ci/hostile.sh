@@ -393,7 +393,8 @@ repeating_tests() {
     done
 }
 
-# The tests, as `rt ci` built them, with growths refused.
+# The tests with growths refused: those of the program as `rt ci` built them, and those of the
+# crates of tests as `.ci/tried` did.
 refused_tests() {
     local crate before=$passed
     : >f

@@ -5,9 +5,10 @@ top=$(cd "$(dirname "${BASH_SOURCE[0]}")/.." && pwd)
 program="$top/crates/meshrun/out/meshrun"
 built_from="$program.sources"
 archive="$top/crates/teurlaks_c/out/libteurlaks_c.a"
-# What a gate that passed proved: the sum of its sources; and a file that was made before it.
+# What a gate that passed proved: the sum of its sources.
 gate_from="$top/crates/teurlaks_c/out/gate.sources"
-gate_begun="$top/crates/teurlaks_c/out/gate.begun"
+# What `./check --all` passed: a sum of the sources and the edits.
+all_from="$top/crates/teurlaks_c/out/all.sources"
 
 # The kit's command.
 find_rt() {
@@ -30,6 +31,17 @@ sum_of_sources() {
         LC_ALL=C sort -z | xargs -0 sha256sum | sha256sum)
 }
 
+# A sum of all that `./check --all` proves and tries, edits too.
+sum_of_all() {
+    (cd "$top" && find crates.txt crates -name out -prune -o -type f -print0 |
+        LC_ALL=C sort -z | xargs -0 sha256sum | sha256sum)
+}
+
+# Whether `./check --all` has passed over the sources and edits as they stand.
+all_is_current() {
+    [ -f "$all_from" ] && [ "$(sum_of_all)" = "$(cat "$all_from")" ]
+}
+
 sum_of_build() {
     sum_of_sources
     sha256sum <"$program"
@@ -46,34 +58,82 @@ keep_sum() {
     if [ "$(sum_of_sources)" = "$1" ]; then sum_of_build >"$built_from"; fi
 }
 
-# The libraries that the archive stands on, of the repository and of the kit.
-libraries_of_archive() {
-    sed -n 's/^teurlaks_c staticlib: *//p' "$top/crates.txt"
+# The folder of the library that the gate has proved of a crate. Work on the crates goes on beside
+# it.
+gate_library_of() {
+    echo "$top/crates/$1/out/rlib/gate"
 }
 
-# The library that the kit has built of a crate.
-library_of() {
-    echo "$top/crates/$1/out/rlib/$1.rlib"
+# The crates of crates.txt.
+names_of_crates() {
+    sed -n 's/^\([a-z0-9_]*\)\>.*:.*/\1/p' "$top/crates.txt"
 }
 
-# To be called behind `rt ci`, where it has proved all crates, with the sum of the sources before it and a file that was made before it.
-keep_gate_sum() {
-    if [ "$(sum_of_sources)" = "$1" ]; then
-        cp -p "$2" "$gate_begun"
-        echo "$1" >"$gate_from"
-    fi
+# Copies the crates to a new folder, without what is built and without edits.
+copy_crates() {
+    local to
+    mkdir -p "$1" && to=$(cd "$1" && pwd) || return
+    (cd "$top" && find crates.txt HANDLES crates \( -name out -o -name 'must-fail*' \) -prune -o -type f -print0 |
+        xargs -0 cp --parents -t "$to")
 }
 
-# Whether the libraries are those that the gate has built: what was built before `rt ci` comes back when it ends, in the place of what it has
-# built itself, and a later check may have built one of other sources.
-are_of_gate() {
-    local name built
-    for name in $(libraries_of_archive); do
-        built=$(library_of "$name")/format
-        if [ -d "$top/crates/$name" ] && { [ ! "$built" -nt "$gate_begun" ] || [ ! "$gate_from" -nt "$built" ]; }; then
-            return 1
-        fi
+# Puts the libraries that `rt ci` has proved in this copy of the crates in their place.
+keep_gate_libraries() {
+    local copy=$1 name made to
+    rm -f "$gate_from"
+    for name in $(names_of_crates); do
+        made=$copy/crates/$name/out/rlib/$name.rlib
+        to=$(gate_library_of "$name")
+        rm -rf "$to"
+        if [ -d "$made" ]; then mkdir -p "$to" && cp -r "$made" "$to"; fi
     done
+}
+
+# To be called behind `keep_gate_libraries`, with the sum of the sources that were proved. The
+# libraries that are kept stand below it.
+keep_gate_sum() {
+    local name
+    mkdir -p "$(dirname "$gate_from")"
+    echo "$1" >"$gate_from"
+    for name in $(names_of_crates); do
+        if [ -d "$(gate_library_of "$name")" ]; then echo "$name" >>"$gate_from"; fi
+    done
+}
+
+# Whether the libraries that a gate has proved are all there, and are of the sources as they stand.
+gate_is_current() {
+    local name
+    [ -f "$gate_from" ] && [ "$(head -n 1 "$gate_from")" = "$(sum_of_sources)" ] || return
+    for name in $(tail -n +2 "$gate_from"); do
+        [ -d "$(gate_library_of "$name")/$name.rlib" ] || return
+    done
+}
+
+# Runs a command, and adds what it took to the file COSTS, if that is set: a line `NAME|processor
+# seconds|seconds by the clock`.
+part() {
+    local name=$1 began=$EPOCHSECONDS before status=0
+    shift
+    take_time
+    before=$used
+    "$@" || status=$?
+    take_time
+    if [ -n "${COSTS-}" ]; then
+        echo "$name|$((used - before))|$((EPOCHSECONDS - began))" >>"$COSTS"
+    fi
+    return "$status"
+}
+
+# Sets `used` to the seconds of processor time that this shell and the commands that it has waited
+# for have taken.
+take_time() {
+    local file
+    file=$(mktemp)
+    times >"$file"
+    used=$(awk '
+        { for (i = 1; i <= 2; i++) { split($i, at, /[ms]/); sum += 60 * at[1] + at[2] } }
+        END { print int(sum + 0.5) }' "$file")
+    rm -f "$file"
 }
 
 # The archive's sum, the sources', and what was said of its proof, as `make_archive` keeps them beside it.
@@ -86,40 +146,28 @@ archive_is_current() {
     [ -f "$archive" ] && [ -f "$archive.proof" ] && [ "$(sum_of_archive)" = "$(head -n 2 "$archive.proof")" ]
 }
 
-# What the kit's compiler is told of the archive: the libraries that it stands on, as `rt ci` has left them.
-words_of_archive() {
-    local kit=$1 name rlib
-    words=(--crate-name teurlaks_c src/lib.rt --crate-type staticlib --links teurlaks_c= -L "dependency=$kit/rlibs")
-    for name in std $(libraries_of_archive); do
-        rlib=$kit/rlibs/$name.rlib
-        if [ -d "$top/crates/$name" ]; then
-            rlib=$(library_of "$name")
-            words+=(-L "dependency=${rlib%/*}")
-        fi
-        words+=(--extern "$name=$rlib")
-    done
-    words+=(--antt-project "$kit/rattle/logic/antt-project.json" --logic-built "$kit/logic_built" --toolchain "$kit/toolchain")
-}
-
-# Proves and makes the archive over what `rt ci` has proved of these very sources, if it has. `rt lib` takes none of that with kit 13b, and
-# proves every crate below once more.
+# Makes the archive of one check, which is recorded, over the libraries that the gate has proved of
+# these very sources.
 archive_over_gate() {
-    local kit words
-    if ! [ -f "$gate_from" ] || ! [ -f "$gate_begun" ]; then return 1; fi
-    if [ "$(cat "$gate_from")" != "$(sum_of_sources)" ] || ! are_of_gate; then return 1; fi
-    kit=$(dirname "$(dirname "$(readlink -f "$1")")")
-    words_of_archive "$kit"
-    (cd "$top/crates/teurlaks_c" && "$kit/bin/rattle" build "${words[@]}" --jobs "$(nproc)" -o "$archive")
+    local room status=0
+    room=$(mktemp -d)
+    "$top/.ci/record" teurlaks_c "$room" "$archive" || status=$?
+    rm -rf "$room"
+    return "$status"
 }
 
-# Proves and makes the archive, where that is not done from the sources as they stand. What the kit says is shown where it fails.
+# Proves and makes the archive, where that is not done from the sources as they stand. Without the
+# gate's libraries `rt lib` does so, which proves each crate below. What the kit says is shown where
+# it fails.
 make_archive() {
     local rt said before status=0
     if archive_is_current; then return; fi
     rt=$(find_rt) || return
     said=$(mktemp)
     before=$(sum_of_sources)
-    if ! archive_over_gate "$rt" >"$said" 2>&1; then
+    if gate_is_current; then
+        archive_over_gate >"$said" 2>&1 || status=$?
+    else
         (cd "$top/crates/teurlaks_c" && "$rt" lib </dev/null) >"$said" 2>&1 || status=$?
     fi
     if [ "$status" = 0 ] && [ "$(sum_of_sources)" = "$before" ] && grep -aq '^logic=proved' "$said"; then
