@@ -170,6 +170,7 @@ impl<T> Slab<T> {
     /// - [`Refused::Ended`] only where each shard has ended;
     /// - [`Refused::PagesSpent`] only where each that has not may have no further page;
     /// - [`Refused::OutOfMemory`] where memory was refused.
+    #[allow(clippy::inline_always)] // So that the halves become a key in registers, where it is used.
     #[inline(always)]
     pub fn insert(&mut self, value: T) -> Result<Key, Refused> {
         let mut why = Refused::OutOfMemory;

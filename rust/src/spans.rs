@@ -143,7 +143,8 @@ impl Spans {
         let Some(mut gap) = self.place_of(span) else {
             return;
         };
-        self.free.extend(self.places[gap].take().map(|home| number_of(home.mark)));
+        self.free
+            .extend(self.places[gap].take().map(|home| number_of(home.mark)));
         self.room += 1;
         // Of those behind the gap, each that is looked for by way of it closes it.
         let mut place = self.place_after(gap);
