@@ -1,4 +1,4 @@
--- Rows of bits that keep to one class. No public clause cites this module.
+-- Rows of bits that keep to one class, as a runner is handed their masks.
 use Rattle.std.specs.Prelude.{ℕ, ◌≡◌, ◌==◌, Bool, true, false, List, length, Option, Some, None}
 use Rattle.std.specs.List.{slice_get}
 use Rattle.bitmap.specs.Slots.{has_bit}

@@ -1,4 +1,4 @@
--- The rows of bits of a graph. No public clause cites this module.
+-- The rows of bits of a graph, and what a runner fills.
 use Rattle.std.specs.Prelude.{ℕ, ◌≡◌, ◌<◌, ◌≤◌, ◌+◌, ◌*◌, ◌&&◌, Bool, List, Option, length, slice_index_or, take, drop}
 use Rattle.std.specs.List.{slice_get}
 use Rattle.bitmap.specs.Slots.{SlotSet, has_bit}

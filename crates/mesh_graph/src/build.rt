@@ -70,7 +70,8 @@ impl<'a> Graph<'a> {
 }
 
 /// How many steps the rows of the groups take over so many sets: one for each slot of a group and 64 sets. A group with more slots than
-/// [`MOST_BY_SLOTS`] takes as many as one with that number, since its row goes by words.
+/// [`MOST_BY_SLOTS`] counts as one with that number, since its row goes by words. No clause says the number: it decides how many
+/// threads fill rows, and no row depends on it.
 pub fn steps_over(groups: &[Entry], sets: usize) -> usize {
     let mut slots = 0usize;
     for entry in groups {
