@@ -187,8 +187,8 @@ impl<L: Log> Core<L> {
         self.step_by(&AtHand, event)
     }
 
-    /// The same, where a mark has its graph's rows filled by a runner, as by threads ([`ByThreads`](mesh_graph::ByThreads)), in as many
-    /// pieces as the core has shards. What is answered does not depend on it.
+    /// What [`Core::step`] does. The runner fills the rows of a mark's graph, as by threads ([`ByThreads`](mesh_graph::ByThreads)), in at
+    /// most as many pieces as the core has shards. The reply does not depend on it.
     #[inline(always)]
     pub fn step_by<R: Runner>(&mut self, runner: &R, event: Event) -> Reply
         requires { R.ready runner.now }

@@ -71,12 +71,12 @@ impl Page {
         self.words[first..first + object.len()].copy_from_slice(object);
     }
 
-    /// Has its words in a block that is asked for now, and gives the one that it had back: so a source of pages that hands out its
-    /// lowest free block first empties its upper end.
+    /// Moves the words to a block that it asks for now, and gives the old one back. A source of pages that hands out its lowest free
+    /// block first can so empty its upper end.
     ///
     /// # Errors
     ///
-    /// `AllocError` where the block is refused. The words are the same either way.
+    /// `AllocError` if the block is refused. The words are the same either way.
     pub fn renew(&mut self, alloc: Global) -> Result<(), AllocError>
         ensures { self.new ≡ self.old }
     {

@@ -32,8 +32,8 @@ impl Shard<Counted> {
     }
 }
 
-// Has each of the groups forget its guests in which no slot is live, and gives room back that no group has, where half of it would do for
-// those that are here and those that room is reserved for: most of it is of groups that were folded.
+// Has each group forget its guests in which no slot is live. Then gives back the room of groups that were folded, if half of it is enough
+// for the groups that are here and for those that room is reserved for.
 fn forget_all(groups: &mut Vec<Group<Counted>>, directory: &mut Directory, room: usize)
     requires room { vec_len groups.old + room ≤ vec_capacity groups.old }
     requires known { KnowsGuests groups.old.items directory.old.entries }
@@ -49,7 +49,7 @@ fn forget_all(groups: &mut Vec<Group<Counted>>, directory: &mut Directory, room:
     give_back(groups, room);
 }
 
-// Gives back what half of the room would do without.
+// Gives room back if half of it is enough.
 fn give_back(groups: &mut Vec<Group<Counted>>, room: usize)
     requires { vec_len groups.old + room ≤ vec_capacity groups.old }
     ensures items { groups.new.items ≡ groups.old.items }

@@ -22,12 +22,12 @@ impl<L: Log> Shard<L> {
         trim_all(&mut self.groups)
     }
 
-    /// Has the page of the group at the index in a block that is asked for now, and changes nothing else: a source of pages that hands out
-    /// its lowest free block first so empties its upper end.
+    /// Moves the page of the group at the index, if it has one, to a block that it asks for now, and changes nothing else. A source of
+    /// pages that hands out its lowest free block first can so empty its upper end.
     ///
     /// # Errors
     ///
-    /// `AllocError` where the block is refused.
+    /// `AllocError` if the block is refused.
     pub fn renew(&mut self, index: usize) -> Result<(), AllocError>
         requires { index < length self.old.groups }
         ensures same { self.new ≡ self.old }
