@@ -1,23 +1,23 @@
 // Shards behind locks.
-ghost use Rattle.std.specs.Prelude.{◌≡◌, ◌≢◌, ◌<◌, ◌≤◌, Err, IfOk, IsSome, None, Ok, OnErr, OnOk, is_some, length, vec_len};
+ghost use Rattle.std.specs.Prelude.{◌≡◌, ◌≢◌, ◌≤◌, Err, IfOk, IsSome, None, Ok, OnErr, OnOk, Some, is_some, length, map, option_map, vec_len};
 ghost use Rattle.certificate.specs.Plans.{IsBestPlanOf, IsCertificateOf, IsShortOf};
 ghost use Rattle.certificate.specs.Text.{IsWritable};
 ghost use Rattle.marks.specs.Plans.{next_pair};
 ghost use Rattle.mesh_graph.specs.declared.build.TheConstants.{MOST_GROUPS};
 ghost use Rattle.arena.specs.Seats.{IsTableOf};
 ghost use Rattle.arena.specs.Stewards.{Steps, begun};
-ghost use Rattle.span.specs.declared.limits.TheConstants.{MOST_SHARDS};
 
+use crate::folding::Folding;
 use crate::gate::Gate;
 use crate::hints::{Hints, Place};
-use crate::locks::{LockedShard, reopen_all, totals_of};
+use crate::locks::{LockedShard, LockedShards, lock_all, totals_of};
 use crate::patience::{Patience, Tries, Waits};
 use crate::ring_table::RingTable;
 use crate::steward::Steward;
 use abandoned::Pool;
 use certificate::Certificate;
-use fold::{Step, fold_one};
-use latch::{Busy, Latch};
+use fold::Step;
+use latch::{Busy, Latch, LatchGuard};
 use marks::{Limits, MarkError, Totals, mark_in, mark_some_in};
 use mesh_graph::{AtHand, MOST_GROUPS, Runner};
 use shard::Shard;
@@ -219,7 +219,7 @@ impl<G: Gate, L: Log> Arena<G, L> {
         ensures err { IfOk result (λ made. OnErr made (steward.new ≡ steward.old)) }
         ensures busy { OnErr result (steward.new ≡ steward.old) }
     {
-        if steward.plan.is_open() {
+        if steward.has_plan() {
             return Ok(Err(MarkError::PlanOpen));
         }
         let Ok(mut guards) = Vec::with_capacity(self.alloc, self.shards.len()) else {
@@ -229,20 +229,21 @@ impl<G: Gate, L: Log> Arena<G, L> {
         for shard in &self.shards {
             guards.push_reserved(LockedShard::new(patience.lock(shard)?));
         }
-        Ok(self.mark_locked(runner, steward, sight, &mut *pool, guards.as_mut_slice()))
+        Ok(self.mark_lent(runner, steward, sight, &mut pool, guards.as_mut_slice()))
     }
 
-    // A mark of what is in sight of the pool and the shards, whose locks are held, where no plan is open.
-    fn mark_locked<N: Runner>(
+    // A mark of what is in sight of the pool and of all shards, which their locks lend, if no plan is open.
+    fn mark_lent<N: Runner>(
         &self,
         runner: &N,
         steward: &mut Steward,
         sight: Sight,
-        pool: &mut Pool<L>,
+        pool: &mut LatchGuard<'_, Pool<L>>,
         shards: &mut [LockedShard<'_, L>],
     ) -> Result<Certificate, MarkError>
         requires none { steward.old.plan ≡ None }
-        requires some { 1 ≤ length shards.old }
+        requires pool { pool.old.latch.now ≡ self.now.pool }
+        requires lent { map (λ shard. shard.guard.latch.now) shards.old ≡ self.now.shards.items }
         requires runner { N.ready runner.now }
         ensures best { IfOk result (λ found. IsBestPlanOf found.snapshot found.plan) }
         ensures short { IfOk result (λ found. IsShortOf found.snapshot found.plan found.short) }
@@ -253,11 +254,12 @@ impl<G: Gate, L: Log> Arena<G, L> {
         ensures too_many { sight ≡ Sight.Sparsest → result ≢ Err MarkError.TooMany }
         ensures err { OnErr result (steward.new ≡ steward.old) }
     {
+        let pool = &mut *pool.value;
         let found = match sight {
             Sight::All => mark_in(runner, self.alloc, pool, shards)?,
             Sight::Sparsest => mark_some_in(runner, self.alloc, pool, shards)?,
         };
-        steward.plan.begin(found.plan.pairs());
+        steward.begin(found.plan.pairs());
         Ok(found)
     }
 
@@ -308,15 +310,15 @@ impl<G: Gate, L: Log> Arena<G, L> {
         ensures err { IfOk result (λ step. OnErr step (steward.new ≡ steward.old)) }
         ensures busy { OnErr result (steward.new ≡ steward.old) }
     {
-        if !steward.plan.is_open() {
+        if !steward.has_plan() {
             return Ok(Ok(Stepped::NoPlan));
         }
-        let Some((abandoned, owned)) = steward.plan.next() else {
+        let Some((abandoned, owned)) = steward.next() else {
             return Ok(Ok(Stepped::NoPairLeft));
         };
-        match self.fold(patience, abandoned, owned)? {
+        match self.fold(patience, abandoned, owned)?.into_step() {
             Ok(step) => {
-                steward.plan.advance();
+                steward.advance();
                 Ok(Ok(Stepped::Taken(abandoned, owned, step)))
             }
             Err(refused) => Ok(Err(refused)),
@@ -358,13 +360,12 @@ impl<G: Gate, L: Log> Arena<G, L> {
         ensures plan { OnOk result (steward.new ≡ record steward.old { plan = None }) }
         ensures busy { OnErr result (steward.new ≡ steward.old) }
     {
-        if !steward.plan.is_open() {
+        if !steward.has_plan() {
             return Ok(false);
         }
         let mut pool = patience.lock(&self.pool)?;
-        reopen_all(patience, &self.shards)?;
-        pool.plan_closed();
-        steward.plan.end();
+        let mut shards = self.lock_all(patience)?;
+        steward.end(self, &mut pool, shards.as_mut_slice());
         Ok(true)
     }
 
@@ -387,11 +388,38 @@ impl<G: Gate, L: Log> Arena<G, L> {
     // Pages and live keys of the pool and of all shards.
     fn totals_within<P: Patience>(&self, patience: &P) -> Result<Totals, P::Busy> {
         let pool = patience.lock(&self.pool)?;
-        let shards = totals_of(patience, &self.shards)?;
-        Ok(Totals {
-            pages: shards.pages.saturating_add(pool.pages()),
-            live: shards.live.saturating_add(pool.live()),
-        })
+        let shards = self.lock_all(patience)?;
+        Ok(self.totals_lent(&pool, shards.as_slice()))
+    }
+
+    // The same of the pool and of all shards, which their locks lend.
+    fn totals_lent(
+        &self,
+        pool: &LatchGuard<'_, Pool<L>>,
+        shards: &[Option<LockedShard<'_, L>>],
+    ) -> Totals
+        requires pool { pool.now.latch.now ≡ self.now.pool }
+        requires lent { map (option_map (λ shard. shard.guard.latch.now)) shards.now
+            ≡ map Some self.now.shards.items }
+    {
+        let totals = totals_of(shards);
+        Totals {
+            pages: totals.pages.saturating_add(pool.value.pages()),
+            live: totals.live.saturating_add(pool.value.live()),
+        }
+    }
+
+    // The locks of all shards.
+    pub(crate) fn lock_all<P: Patience>(
+        &self,
+        patience: &P,
+    ) -> Result<LockedShards<'_, L>, P::Busy>
+        ensures lent { IfOk result (λ locked. map (option_map (λ shard. shard.guard.latch.now))
+            locked.items ≡ map Some self.now.shards.items) }
+    {
+        // An arena has 64 shards at most.
+        let _ = self.limits.shards();
+        lock_all(patience, &self.shards)
     }
 
     // Why no mark is made where there is no room for the guards of all locks: told under all locks, without memory.
@@ -402,64 +430,30 @@ impl<G: Gate, L: Log> Arena<G, L> {
         if pool.has_plan() {
             return Ok(MarkError::PlanOpen);
         }
-        let has_too_many = pool.pages() > MOST_GROUPS
-            || totals_of(patience, &self.shards)?.pages > MOST_GROUPS;
+        let shards = self.lock_all(patience)?;
+        let has_too_many =
+            pool.pages() > MOST_GROUPS || totals_of(shards.as_slice()).pages > MOST_GROUPS;
         Ok(match sight {
             Sight::All if has_too_many => MarkError::TooMany,
             Sight::All | Sight::Sparsest => MarkError::OutOfMemory,
         })
     }
 
-    // Folds the pair in the shard that has its owned group: the one that its hint names, or else the first that has it. The pool's
-    // lock is held meanwhile, so no group moves. Where no shard has that group, it is nowhere.
+    // Folds the pair in the shard that has its owned group: the one that its hint names, or else the
+    // first of all, under the locks of all. The pool's lock is held meanwhile, so no group moves.
     fn fold<P: Patience>(
         &self,
         patience: &P,
         abandoned: SpanId,
         owned: SpanId,
-    ) -> Result<Result<Step, AllocError>, P::Busy> {
+    ) -> Result<Folding, P::Busy> {
         let mut pool = patience.lock(&self.pool)?;
         if let Place::Shard(number) = self.hints.place_of(owned) {
-            if let Some(step) = self.fold_in(patience, &mut *pool, number, abandoned, owned)? {
-                return Ok(step);
+            if let Some(folding) = self.fold_at(patience, &mut *pool, number, abandoned, owned)? {
+                return Ok(folding);
             }
         }
-        let mut refused = None;
-        for number in 0..self.limits.shards() {
-            match self.fold_in(patience, &mut *pool, number, abandoned, owned) {
-                Ok(None) => {}
-                Ok(Some(step)) => return Ok(step),
-                Err(busy) => refused = Some(busy),
-            }
-        }
-        match refused {
-            Some(busy) => Err(busy),
-            None => Ok(Ok(Step::Absent)),
-        }
-    }
-
-    // Folds the pair in the shard of this number, if that has the owned group, and notes that the spans that came are there.
-    fn fold_in<P: Patience>(
-        &self,
-        patience: &P,
-        pool: &mut Pool<L>,
-        number: u32,
-        abandoned: SpanId,
-        owned: SpanId,
-    ) -> Result<Option<Result<Step, AllocError>>, P::Busy>
-        requires { number < MOST_SHARDS }
-    {
-        let Some(lock) = self.shards.get(number as usize) else {
-            return Ok(None);
-        };
-        let mut shard = patience.lock(lock)?;
-        if !shard.has(owned) {
-            return Ok(None);
-        }
-        let step = fold_one(pool, &mut *shard, abandoned, owned);
-        if step.is_ok() {
-            self.hints.note_group(&*shard, owned, Place::Shard(number));
-        }
-        Ok(Some(step))
+        let mut shards = self.lock_all(patience)?;
+        Ok(self.fold_lent(&mut *pool, shards.as_mut_slice(), abandoned, owned))
     }
 }

@@ -1,13 +1,14 @@
 // Spans that can never be live again, which an arena forgets.
-ghost use Rattle.std.specs.Prelude.{◌≡◌, ◌↔◌, IfOk, IsErr, IsSome};
+ghost use Rattle.std.specs.Prelude.{◌≡◌, ◌↔◌, IfOk, IsErr, IsSome, Some, map, option_map};
 
 use crate::arena::Arena;
 use crate::error::PlanOpen;
 use crate::gate::Gate;
-use crate::locks::forget_all;
+use crate::locks::{LockedShard, forget_all};
 use crate::patience::{Patience, Tries, Waits};
 use crate::steward::Steward;
-use latch::Busy;
+use abandoned::Pool;
+use latch::{Busy, LatchGuard};
 use span::Counted;
 use std::sync::Wait;
 
@@ -44,7 +45,7 @@ impl<G: Gate> Arena<G, Counted> {
         self.forget_within(&Tries, steward)
     }
 
-    // Has the shards and the pool forget, where no plan is open. The pool does so once no lock of a shard can be refused any more.
+    // Has the shards and the pool forget, if no plan is open, once it has all locks.
     fn forget_within<P: Patience>(
         &self,
         patience: &P,
@@ -53,11 +54,25 @@ impl<G: Gate> Arena<G, Counted> {
         ensures plan_open { IfOk result
             (λ forgotten. IsErr forgotten ↔ IsSome steward.now.plan) }
     {
-        if steward.plan.is_open() {
+        if steward.has_plan() {
             return Ok(Err(PlanOpen));
         }
         let mut pool = patience.lock(&self.pool)?;
-        let owned = forget_all(patience, &self.shards)?;
-        Ok(Ok(owned.saturating_add(pool.forget())))
+        let mut shards = self.lock_all(patience)?;
+        Ok(Ok(self.forget_lent(&mut pool, shards.as_mut_slice())))
+    }
+
+    // The same in the pool and in all shards, which their locks lend.
+    fn forget_lent(
+        &self,
+        pool: &mut LatchGuard<'_, Pool<Counted>>,
+        shards: &mut [Option<LockedShard<'_, Counted>>],
+    ) -> usize
+        requires pool { pool.old.latch.now ≡ self.now.pool }
+        requires lent { map (option_map (λ shard. shard.guard.latch.now)) shards.old
+            ≡ map Some self.now.shards.items }
+    {
+        let owned = forget_all(shards);
+        owned.saturating_add(pool.value.forget())
     }
 }

@@ -70,6 +70,7 @@ mod counting;
 mod ending;
 mod error;
 mod finding;
+mod folding;
 mod forgetting;
 mod freeing;
 mod gate;

@@ -1,22 +1,30 @@
-// What is done under the locks of all shards without memory. Each call takes every lock, ascending, before the first shard is
-// looked at or changed, and lets each go when that shard is done with: the last one first. So all of it stands at one time, when
-// all locks were held.
-ghost use Rattle.std.specs.Prelude.{◌≡◌};
+// The locks of all shards at one time. They are taken ascending, before the first shard is looked at
+// or changed, so all that is done under them stands at one time. An array keeps the guards, so that
+// they take no memory. Each guard names the latch that lends it.
+ghost use Rattle.std.specs.Prelude.{◌≡◌, ◌≤◌, IfOk, Some, length, map, option_map};
+ghost use Rattle.marks.specs.Closings.{reopened};
+ghost use Rattle.span.specs.declared.limits.TheConstants.{MOST_SHARDS};
 
 use crate::patience::Patience;
+use arrayvec::ArrayVec;
 use latch::{Latch, LatchGuard};
 use marks::{LendsShard, Totals};
 use shard::Shard;
-use span::{Counted, Log, SpanId};
+use span::{Counted, Log, MOST_SHARDS, SpanId};
 
-// A shard under its lock, as a mark takes it.
+// As a length.
+const MOST_LOCKED: usize = MOST_SHARDS as usize;
+
+/// A shard under its lock, as a mark takes it.
 #[derive(Drop)]
 pub(crate) struct LockedShard<'a, L: Log> {
-    guard: LatchGuard<'a, Shard<L>>,
+    pub(crate) guard: LatchGuard<'a, Shard<L>>,
 }
 
 impl<'a, L: Log> LockedShard<'a, L> {
-    pub(crate) fn new(guard: LatchGuard<'a, Shard<L>>) -> LockedShard<'a, L> {
+    pub(crate) fn new(guard: LatchGuard<'a, Shard<L>>) -> LockedShard<'a, L>
+        ensures { result.guard.latch.now ≡ guard.entry.latch.now }
+    {
         LockedShard { guard }
     }
 }
@@ -38,45 +46,67 @@ impl<'a, L: Log> LendsShard for LockedShard<'a, L> {
     }
 }
 
-/// Opens all groups of the shards, or none where another thread has one of them.
-pub(crate) fn reopen_all<L: Log, P: Patience>(
+/// The shards of an arena under their locks, by their numbers.
+pub(crate) type LockedShards<'a, L> = ArrayVec<Option<LockedShard<'a, L>>, MOST_LOCKED>;
+
+/// Takes the locks of all shards.
+pub(crate) fn lock_all<'a, L: Log, P: Patience>(
     patience: &P,
-    shards: &[Latch<Shard<L>>],
-) -> Result<(), P::Busy> {
-    let Some((first, rest)) = shards.split_first() else {
-        return Ok(());
-    };
-    let mut shard = patience.lock(first)?;
-    reopen_all(patience, rest)?;
-    shard.reopen();
-    Ok(())
+    shards: &'a [Latch<Shard<L>>],
+) -> Result<LockedShards<'a, L>, P::Busy>
+    requires few { length shards.now ≤ MOST_SHARDS }
+    ensures lent { IfOk result (λ locked.
+        map (option_map (λ shard. shard.guard.latch.now)) locked.items ≡ map Some shards.now) }
+{
+    let mut locked = ArrayVec::new();
+    for shard in shards {
+        locked.push(Some(LockedShard::new(patience.lock(shard)?)));
+    }
+    Ok(locked)
+}
+
+/// Opens all groups of the shards.
+pub(crate) fn reopen_all<L: Log>(shards: &mut [Option<LockedShard<'_, L>>])
+    ensures { map (option_map (λ shard. shard.guard.value.value)) shards.new
+        ≡ map (option_map reopened) (map (option_map (λ shard. shard.guard.value.value)) shards.old) }
+{
+    for shard in shards.iter_mut() {
+        reopen_one(shard);
+    }
+}
+
+// Opens all groups of the shard, if there is one.
+fn reopen_one<L: Log>(shard: &mut Option<LockedShard<'_, L>>)
+    ensures { option_map (λ shard. shard.guard.value.value) shard.new
+        ≡ option_map reopened (option_map (λ shard. shard.guard.value.value) shard.old) }
+{
+    if let Some(shard) = shard {
+        let guard = &mut shard.guard;
+        guard.value.reopen();
+    }
 }
 
 /// How many pages the shards have, and how many keys are live in them.
-pub(crate) fn totals_of<L: Log, P: Patience>(
-    patience: &P,
-    shards: &[Latch<Shard<L>>],
-) -> Result<Totals, P::Busy> {
-    let Some((first, rest)) = shards.split_first() else {
-        return Ok(Totals { pages: 0, live: 0 });
-    };
-    let shard = patience.lock(first)?;
-    let others = totals_of(patience, rest)?;
-    Ok(Totals {
-        pages: others.pages.saturating_add(shard.pages()),
-        live: others.live.saturating_add(shard.live()),
-    })
+pub(crate) fn totals_of<L: Log>(shards: &[Option<LockedShard<'_, L>>]) -> Totals {
+    let mut totals = Totals { pages: 0, live: 0 };
+    for shard in shards {
+        if let Some(shard) = shard {
+            let shard = shard.shard();
+            totals.pages = totals.pages.saturating_add(shard.pages());
+            totals.live = totals.live.saturating_add(shard.live());
+        }
+    }
+    totals
 }
 
-/// Has the shards forget each guest in which no slot is live, or none where another thread has one of them. It gives how many went.
-pub(crate) fn forget_all<P: Patience>(
-    patience: &P,
-    shards: &[Latch<Shard<Counted>>],
-) -> Result<usize, P::Busy> {
-    let Some((first, rest)) = shards.split_first() else {
-        return Ok(0);
-    };
-    let mut shard = patience.lock(first)?;
-    let others = forget_all(patience, rest)?;
-    Ok(others.saturating_add(shard.forget()))
+/// Has the shards forget each guest in which no slot is live. It gives how many went.
+pub(crate) fn forget_all(shards: &mut [Option<LockedShard<'_, Counted>>]) -> usize {
+    let mut forgotten = 0usize;
+    for shard in shards.iter_mut() {
+        if let Some(shard) = shard {
+            let guard = &mut shard.guard;
+            forgotten = forgotten.saturating_add(guard.value.forget());
+        }
+    }
+    forgotten
 }

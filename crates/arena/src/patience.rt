@@ -1,4 +1,6 @@
 // How a call comes to a lock that another thread may have.
+ghost use Rattle.std.specs.Prelude.{◌≡◌, IfOk};
+
 use latch::{Busy, Latch, LatchGuard};
 use std::convert::Infallible;
 use std::sync::Wait;
@@ -9,7 +11,8 @@ pub(crate) trait Patience {
     type Busy: Drop;
 
     /// The guard of the lock.
-    fn lock<'a, T: Drop>(&self, latch: &'a Latch<T>) -> Result<LatchGuard<'a, T>, Self::Busy>;
+    fn lock<'a, T: Drop>(&self, latch: &'a Latch<T>) -> Result<LatchGuard<'a, T>, Self::Busy>
+        ensures { IfOk result (λ guard. guard.latch.now ≡ latch.now) };
 }
 
 /// Waits until it has the lock.

@@ -6,7 +6,8 @@ use std::ops::{Deref, DerefMut};
 
 /// Lends the value of a [`Latch`] to one thread, and gives it back where it is dropped.
 pub struct LatchGuard<'a, T: Drop> {
-    latch: &'a Latch<T>,
+    /// The latch that lends it.
+    pub latch: &'a Latch<T>,
     turn: Turn<T>,
     /// What is lent.
     pub value: Box<T>,
@@ -16,6 +17,7 @@ pub struct LatchGuard<'a, T: Drop> {
 impl<'a, T: Drop> LatchGuard<'a, T> {
     pub(crate) fn new(latch: &'a Latch<T>, turn: Turn<T>, value: Box<T>) -> LatchGuard<'a, T>
         requires { turn ≡ latch.now }
+        ensures { result.latch.now ≡ latch.now }
     {
         LatchGuard { latch, turn, value }
     }

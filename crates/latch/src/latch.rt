@@ -114,7 +114,9 @@ impl<T: Drop> Latch<T> {
     /// [`Busy`] where another thread has the value at each look.
     // Inlined, the guard stays in registers: a call passes it through memory.
     #[inline(always)]
-    pub fn try_lock(&self) -> Result<LatchGuard<'_, T>, Busy> {
+    pub fn try_lock(&self) -> Result<LatchGuard<'_, T>, Busy>
+        ensures { IfOk result (λ guard. guard.latch.now ≡ self.now) }
+    {
         let Hold { turn, value } = self.try_hold()?;
         Ok(LatchGuard::new(self, turn, value))
     }
@@ -194,7 +196,9 @@ impl<T: Drop> Latch<T> {
 
     /// The guard, once no other thread has the value: between two tries it lets other threads run. It takes no memory. That its turn
     /// comes is not promised.
-    pub fn lock<R: Wait>(&self, rt: &R) -> LatchGuard<'_, T> {
+    pub fn lock<R: Wait>(&self, rt: &R) -> LatchGuard<'_, T>
+        ensures { result.latch.now ≡ self.now }
+    {
         for _ in rt.forever() {
             if let Ok(guard) = self.try_lock() {
                 return guard;

@@ -1,0 +1,126 @@
+// Folds of pairs of a plan, each under the pool's lock and that of the shard which has the owned group.
+ghost use Rattle.std.specs.Prelude.{◌≡◌, ◌<◌, ◌≤◌, All, IfOk, IfSome, None, Some, false, length, map, option_map};
+ghost use Rattle.fold.specs.Folds.{Steps};
+ghost use Rattle.groups.specs.Group.{IsElsewhere};
+ghost use Rattle.span.specs.declared.limits.TheConstants.{MOST_SHARDS};
+
+use crate::arena::Arena;
+use crate::gate::Gate;
+use crate::hints::Place;
+use crate::locks::LockedShard;
+use crate::patience::Patience;
+use abandoned::Pool;
+use fold::{Step, fold_one};
+use marks::LendsShard;
+use shard::Shard;
+use span::{Log, SpanId};
+use std::alloc::AllocError;
+
+/// What came of a pair, or that memory was refused. Only this module makes one: in the shard that has
+/// the owned group, or where all shards are lent and none has it.
+#[derive(Drop)]
+pub(crate) struct Folding {
+    step: Result<Step, AllocError>,
+}
+
+impl Folding {
+    pub(crate) fn into_step(self) -> Result<Step, AllocError>
+        ensures { result ≡ self.step }
+    {
+        self.step
+    }
+}
+
+impl<G: Gate, L: Log> Arena<G, L> {
+    // Folds the pair in the shard of this number, if that has the owned group, and notes that the
+    // spans that came are there.
+    pub(crate) fn fold_at<P: Patience>(
+        &self,
+        patience: &P,
+        pool: &mut Pool<L>,
+        number: u32,
+        abandoned: SpanId,
+        owned: SpanId,
+    ) -> Result<Option<Folding>, P::Busy>
+        requires { number < MOST_SHARDS }
+    {
+        let Some(latch) = self.shards.get(number as usize) else {
+            return Ok(None);
+        };
+        let mut shard = patience.lock(latch)?;
+        if !shard.has(owned) {
+            return Ok(None);
+        }
+        Ok(Some(self.fold_onto(pool, &mut *shard, number, abandoned, owned)))
+    }
+
+    // Folds the pair in the shard that has the owned group, where all shards are lent. If none has it,
+    // the pair is absent.
+    pub(crate) fn fold_lent(
+        &self,
+        pool: &mut Pool<L>,
+        shards: &mut [Option<LockedShard<'_, L>>],
+        abandoned: SpanId,
+        owned: SpanId,
+    ) -> Folding
+        requires few { length shards.old ≤ MOST_SHARDS }
+        requires lent { map (option_map (λ shard. shard.guard.latch.now)) shards.old
+            ≡ map Some self.now.shards.items }
+    {
+        if let Some(number) = number_with(shards, owned) {
+            if let Some(shard) = &mut shards[number] {
+                let guard = &mut shard.guard;
+                return self.fold_onto(pool, &mut *guard.value, number as u32, abandoned, owned);
+            }
+        }
+        Folding {
+            step: Ok(Step::Absent),
+        }
+    }
+
+    // Folds the pair in the shard of this number, which has the owned group, and notes that the spans
+    // that came are there.
+    fn fold_onto(
+        &self,
+        pool: &mut Pool<L>,
+        shard: &mut Shard<L>,
+        number: u32,
+        abandoned: SpanId,
+        owned: SpanId,
+    ) -> Folding
+        requires number { number < MOST_SHARDS }
+        ensures steps { IfOk result.step
+            (λ step. Steps pool.old shard.old abandoned owned step pool.new shard.new) }
+    {
+        let step = fold_one(pool, shard, abandoned, owned);
+        if step.is_ok() {
+            self.hints.note_group(shard, owned, Place::Shard(number));
+        }
+        Folding { step }
+    }
+}
+
+// The number of the first of these shards that has the group; none of them has it if there is none.
+fn number_with<L: Log>(shards: &[Option<LockedShard<'_, L>>], owned: SpanId) -> Option<usize>
+    ensures within { IfSome result (λ number. number < length shards.now) }
+    ensures nowhere { result ≡ None → All (λ locked. IfSome locked
+        (λ shard. (IsElsewhere shard.guard.value.value.groups owned → ⊥) → ⊥)) shards.now }
+{
+    for number in 0..shards.len() {
+        if has(&shards[number], owned) {
+            return Some(number);
+        }
+    }
+    None
+}
+
+// Whether there is a shard that has the group.
+fn has<L: Log>(shard: &Option<LockedShard<'_, L>>, owned: SpanId) -> bool
+    ensures { result ≡ false → IfSome shard.now
+        (λ shard. (IsElsewhere shard.guard.value.value.groups owned → ⊥) → ⊥) }
+{
+    match shard {
+        Some(shard) => shard.shard().has(owned),
+        None => false,
+    }
+}
