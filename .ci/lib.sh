@@ -69,6 +69,13 @@ names_of_crates() {
     sed -n 's/^\([a-z0-9_]*\)\>.*:.*/\1/p' "$top/crates.txt"
 }
 
+# The crates of ours that a crate of crates.txt uses.
+names_below() {
+    local used
+    used=$(sed -n "s/^$1\>[^:]*: *//p" "$top/crates.txt")
+    names_of_crates | grep -xF -f <(tr ' ' '\n' <<<"$used")
+}
+
 # Copies the crates to a new folder, without what is built and without edits.
 copy_crates() {
     local to
@@ -170,12 +177,23 @@ make_archive() {
     else
         (cd "$top/crates/teurlaks_c" && "$rt" lib </dev/null) >"$said" 2>&1 || status=$?
     fi
-    if [ "$status" = 0 ] && [ "$(sum_of_sources)" = "$before" ] && grep -aq '^logic=proved' "$said"; then
-        { sum_of_archive && grep -a '^logic=' "$said" | tail -n 1; } >"$archive.proof"
+    if [ "$status" = 0 ] && [ "$(sum_of_sources)" = "$before" ] && keep_archive_proof "$said"; then
+        :
     else
         cat "$said" >&2
         status=1
     fi
     rm -f "$said"
     return "$status"
+}
+
+# Notes of which sources the archive is, and the verdict in a file of what was said of its proof.
+keep_archive_proof() {
+    grep -aq '^logic=proved' "$1" || return
+    { sum_of_archive && grep -a '^logic=' "$1" | tail -n 1; } >"$archive.proof"
+}
+
+# Puts an archive that was made in its place, with the verdict in a file of what was said.
+keep_archive() {
+    mkdir -p "$(dirname "$archive")" && mv "$1" "$archive" && keep_archive_proof "$2"
 }
