@@ -106,8 +106,10 @@ fn a_slab_by_hand() -> Result<(), Refused> {
 /// An open plan is no moment to forget.
 fn not_while_a_plan_is_open() -> Result<(), Refused> {
     let (mut store, mut slab) = (Store::new()?, Slab::new()?);
-    (store.insert(1)?, slab.insert(1)?);
-    (store.mark()?, slab.mark()?);
+    store.insert(1)?;
+    store.mark()?;
+    slab.insert(1)?;
+    slab.mark()?;
     assert_eq!(store.forget(), Err(Refused::PlanOpen));
     assert_eq!(slab.forget(), Err(Refused::PlanOpen));
     Ok(())
