@@ -97,7 +97,7 @@ SOURCES = {
         "fn light(": ["compiler_fence(Ordering::SeqCst)"],
         "fn heavy(": ["system::fence()", "give_up()"],
         "pub fn fence(": ["full_fence(Ordering::SeqCst)", "membarrier(PRIVATE_EXPEDITED)"],
-        "fn membarrier(": ["syscall(MEMBARRIER, command, flags, processor) == 0"],
+        "fn membarrier(": ["= unsafe { syscall(MEMBARRIER, command, flags, processor) == 0 }"],
     },
 }
 
