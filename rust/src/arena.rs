@@ -73,8 +73,8 @@ const RING: u32 = 256;
 /// does what the arena is asked for is tested: of this crate by threads that each find what they expect (`tests/arena.rs`), and of the calls that
 /// make receipts by runs whose receipts are audited against one history (`docs/PROMISES.md`, *Running threads*). It is tested, too, that a call is
 /// made again where a lock was taken. That one call at a time is made on a handle its types see to, which are `Send` and not `Sync`; and where a seat
-/// keeps its shard and another thread takes that back ([`Seat`]), an agreement between the two, which is argued (`src/arena/lane.rs`) and tested
-/// (`tests/keeping.rs`), and not proved.
+/// keeps its shard and another thread takes that back ([`Seat`]), an agreement between the two, which is argued (`src/arena/lane.rs`), gone over by
+/// a model (`models/kept_shards.py`) and tested (`tests/keeping.rs`), and not proved.
 ///
 /// A [`SharedStore`](crate::SharedStore) is called by any thread through `&self`, and has locks of the standard library. An arena has proved ones,
 /// frees that wait for nobody, and folds between shards; in return each thread needs a seat. A look-up, a free and a put of a thread's own value take

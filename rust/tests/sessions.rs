@@ -221,7 +221,8 @@ fn a_plan_is_closed_by_the_last_of_two_sessions() -> Result<(), Refused> {
         assert_eq!(arena.mark()?.folds, 1);
         let (first, second) = (here.session(), there.session());
         drop(arena);
-        (drop(first), drop(second));
+        drop(first);
+        drop(second);
         assert_eq!((here.end(), there.end()), (Ok(()), Ok(())));
         Ok(())
     })

@@ -118,6 +118,7 @@ impl<T> Shard<T> {
     /// Compacts as `Core::compact` does, in pieces, forgets then, and says how many pages went.
     pub fn compact(&self) -> Result<usize, Refused> {
         let mut has_pool = self.lock_pool();
+        self.forget_some()?;
         let gone = self.fold_all(&mut has_pool)?;
         self.forget_some()?;
         Ok(gone)
