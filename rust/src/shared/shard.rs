@@ -115,7 +115,8 @@ impl<T> Shard<T> {
         self.has_pool.lock().unwrap_or_else(PoisonError::into_inner)
     }
 
-    /// Compacts as `Core::compact` does, in pieces, forgets then, and says how many pages went.
+    /// Compacts as `Core::compact` does, in pieces, and says how many pages went. It forgets before, since what is forgotten need not move, and
+    /// at its end.
     pub fn compact(&self) -> Result<usize, Refused> {
         let mut has_pool = self.lock_pool();
         self.forget_some()?;
