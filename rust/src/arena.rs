@@ -1,6 +1,7 @@
 //! Plain values that threads share, each from a seat of its own, under the locks of the proved library.
 
 mod fence;
+mod inside;
 mod keys;
 mod lane;
 mod lanes;
@@ -20,7 +21,7 @@ use crate::raw;
 use crate::refused::Refused;
 use lane::Owner;
 use lanes::Lanes;
-use share::{Share, Turn};
+use share::{no_wait_in_a_session, Share, Turn};
 use std::cell::Cell;
 use std::fmt;
 use std::marker::PhantomData;
@@ -72,8 +73,8 @@ const RING: u32 = 256;
 /// does what the arena is asked for is tested: of this crate by threads that each find what they expect (`tests/arena.rs`), and of the calls that
 /// make receipts by runs whose receipts are audited against one history (`docs/PROMISES.md`, *Running threads*). It is tested, too, that a call is
 /// made again where a lock was taken. That one call at a time is made on a handle its types see to, which are `Send` and not `Sync`; and where a seat
-/// keeps its shard and another thread takes that back ([`Seat`]), an agreement between the two, which is argued (`src/arena/lane.rs`) and tested
-/// (`tests/keeping.rs`), and not proved.
+/// keeps its shard and another thread takes that back ([`Seat`]), an agreement between the two, which is argued (`src/arena/lane.rs`), gone over by
+/// a model (`models/kept_shards.py`) and tested (`tests/keeping.rs`), and not proved.
 ///
 /// A [`SharedStore`](crate::SharedStore) is called by any thread through `&self`, and has locks of the standard library. An arena has proved ones,
 /// frees that wait for nobody, and folds between shards; in return each thread needs a seat. A look-up, a free and a put of a thread's own value take
@@ -224,7 +225,8 @@ impl<T> Arena<T> {
     ///
     /// - [`Refused::PlanOpen`]: a plan is open;
     /// - [`Refused::TooMany`]: a side has more than 4,096 groups that have a page, of which [`Arena::mark_some`] takes some;
-    /// - [`Refused::OutOfMemory`]: none of these holds, and memory was refused.
+    /// - [`Refused::OutOfMemory`]: none of these holds, and memory was refused;
+    /// - [`Refused::Busy`]: it would wait for a session, and its thread is in one ([`Seat::session`]).
     pub fn mark(&mut self) -> Result<Marked, Refused> {
         // SAFETY: the handle has a steward, and no other call runs on it.
         marked(
@@ -240,7 +242,8 @@ impl<T> Arena<T> {
     /// # Errors
     ///
     /// - [`Refused::PlanOpen`]: a plan is open;
-    /// - [`Refused::OutOfMemory`]: none is, and memory was refused.
+    /// - [`Refused::OutOfMemory`]: none is, and memory was refused;
+    /// - [`Refused::Busy`]: as of [`Arena::mark`].
     pub fn mark_some(&mut self) -> Result<Marked, Refused> {
         // SAFETY: the handle has a steward, and no other call runs on it.
         marked(
@@ -254,7 +257,8 @@ impl<T> Arena<T> {
     /// # Errors
     ///
     /// - [`Refused::NoPlan`]: no plan is open;
-    /// - [`Refused::OutOfMemory`]: memory was refused; the pair is then still the next.
+    /// - [`Refused::OutOfMemory`]: memory was refused; the pair is then still the next;
+    /// - [`Refused::Busy`]: as of [`Arena::mark`]; the pair is then still the next.
     pub fn step(&mut self) -> Result<Stepped, Refused> {
         // SAFETY: as in `mark_some`.
         stepped(
@@ -267,7 +271,8 @@ impl<T> Arena<T> {
     ///
     /// # Errors
     ///
-    /// [`Refused::NoPlan`] alone, where no plan is open.
+    /// - [`Refused::NoPlan`]: no plan is open;
+    /// - [`Refused::Busy`]: as of [`Arena::mark`]; the plan is then still open.
     pub fn close(&mut self) -> Result<(), Refused> {
         done(self.close_if_open())
     }
@@ -296,7 +301,8 @@ impl<T> Arena<T> {
     /// # Errors
     ///
     /// - [`Refused::PlanOpen`]: a plan is open;
-    /// - [`Refused::OutOfMemory`]: memory was refused to a mark or to a step; what was folded before stays so, and no plan is open.
+    /// - [`Refused::OutOfMemory`]: memory was refused to a mark or to a step; what was folded before stays so, and no plan is open;
+    /// - [`Refused::Busy`]: as of [`Arena::mark`]; what was folded before stays so, and a plan is open if its close was refused.
     pub fn mesh(&mut self) -> Result<usize, Refused> {
         let mut gone = 0;
         loop {
@@ -327,7 +333,9 @@ impl<T> Arena<T> {
     ///
     /// # Errors
     ///
-    /// [`Refused::PlanOpen`] while a plan is open, and [`Refused::Recorded`] where the run is recorded.
+    /// - [`Refused::PlanOpen`]: a plan is open;
+    /// - [`Refused::Recorded`]: the run is recorded;
+    /// - [`Refused::Busy`]: as of [`Arena::mark`].
     pub fn forget(&mut self) -> Result<usize, Refused> {
         // SAFETY: as in `mark_some`.
         let raw::ForgetReply { status, count } = self
@@ -356,12 +364,19 @@ impl<T> Arena<T> {
     }
 
     /// How many pages there are and how many keys are live, at one time: it holds all locks meanwhile.
+    ///
+    /// # Panics
+    ///
+    /// If it would wait for a session, and its thread is in one ([`Seat::session`]).
     #[must_use]
     pub fn totals(&mut self) -> Totals {
         // SAFETY: as in `mark_some`.
         let totals = self
             .turn
             .at_steward(|| unsafe { raw::teurlaks_steward_totals(self.share.handle()) });
+        if totals.status == raw::BUSY {
+            no_wait_in_a_session();
+        }
         debug_assert!(
             matches!(totals.status, raw::OK | raw::NO_CORE),
             "totals are refused only where the arena is over"
@@ -375,8 +390,11 @@ impl<T> Arena<T> {
 
 impl<T> Drop for Arena<T> {
     fn drop(&mut self) {
-        // Else the groups of its plan would take no value, and their shards could not end.
-        self.close_if_open();
+        // Else the groups of its plan would take no value, and their shards could not end. When that would wait for a session of
+        // this thread, who leaves the session does so.
+        if self.close_if_open() == raw::BUSY {
+            self.turn.leave_plan(self.share.take());
+        }
     }
 }
 

@@ -35,6 +35,9 @@ pub enum Refused {
     Recorded,
     /// The recorded arena has ended.
     Over,
+    /// The call would wait for a session of an arena, and its thread is in one ([`Seat::session`](crate::arena::Seat::session)): that is to be
+    /// dropped first.
+    Busy,
     /// A status that no contract allows here: the archive is not the one that this crate is written for.
     Unknown(u32),
 }
@@ -55,6 +58,7 @@ impl Refused {
             raw::RING_FULL => Refused::RingFull,
             raw::RECORDED => Refused::Recorded,
             raw::NO_CORE => Refused::Over,
+            raw::BUSY => Refused::Busy,
             other => Refused::Unknown(other),
         }
     }
@@ -76,6 +80,7 @@ impl fmt::Display for Refused {
             Refused::NoSeatLeft => "each seat of the arena was handed out",
             Refused::Recorded => "the run is recorded: nothing is forgotten",
             Refused::Over => "the recorded arena has ended",
+            Refused::Busy => "the call would wait for a session, and its thread is in one: drop that first",
             Refused::Unknown(status) => {
                 return write!(f, "the archive answered {status}, which this crate does not know")
             }

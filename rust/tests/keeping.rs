@@ -413,6 +413,101 @@ fn all_is_as_ever_where_there_is_no_fence() {
     }
 }
 
+/// What the steward takes back is of seats that are there: one that was dropped has let go of its shard.
+#[test]
+fn a_seat_that_is_dropped_lets_go() -> Result<(), Refused> {
+    let mut arena = Arena::open(limits(3))?;
+    let (gone, keys) = keeping(&mut arena);
+    let (stays, others) = keeping(&mut arena);
+    drop(gone);
+    assert_eq!(arena.totals().live, 128);
+    assert!(!stays.keeps_its_shard());
+    assert_eq!((stays.get(keys[7]), stays.get(others[7])), (Some(7), Some(7)));
+    Ok(())
+}
+
+/// A key that was left to another seat goes there when the turn of the shard is over in which it waits.
+#[test]
+fn what_was_left_to_others_is_handed_over_at_a_turn() -> Result<(), Refused> {
+    let mut arena = Arena::with_lanes(limits(2), 256, 2)?;
+    let (mut here, mut there) = (arena.seat()?, arena.seat()?);
+    let left = there.insert(7)?;
+    // A shard takes 64 values in its turn.
+    for rounds in [1, 300] {
+        fill(&mut here, 64 * rounds - 1);
+        assert_eq!((here.free_later(left), there.tend()), (Ok(()), Ok(0)));
+        fill(&mut here, 1);
+        assert_eq!(there.tend(), Ok(1));
+    }
+    Ok(())
+}
+
+/// Said by the test below to itself.
+const FILTER: &str = "TEURLAKS_TEST_FILTER";
+
+/// Has the system refuse this thread any `membarrier` from now on, and says whether it does so.
+#[cfg(all(target_os = "linux", target_arch = "x86_64"))]
+fn refuse_fences() -> bool {
+    /// What is done with a call: a code, where to go if so and if not, and a number.
+    #[repr(C)]
+    struct Step(u16, u8, u8, u32);
+    #[repr(C)]
+    struct Filter {
+        steps: u16,
+        first: *const Step,
+    }
+    const NO_NEW_PRIVILEGES: i32 = 38;
+    const SECCOMP: i32 = 22;
+    const BY_FILTER: u64 = 2;
+    extern "C" {
+        fn prctl(option: i32, ...) -> i32;
+    }
+    let steps = [
+        Step(0x20, 0, 0, 0),           // load the number of the call
+        Step(0x15, 0, 1, 324),         // is it membarrier?
+        Step(0x06, 0, 0, 0x0005_0001), // then it is refused
+        Step(0x06, 0, 0, 0x7fff_0000), // else it is made
+    ];
+    let filter = Filter {
+        steps: 4,
+        first: steps.as_ptr(),
+    };
+    // SAFETY: so many steps stand there.
+    unsafe {
+        prctl(NO_NEW_PRIVILEGES, 1_u64, 0_u64, 0_u64, 0_u64) == 0
+            && prctl(SECCOMP, BY_FILTER, &filter as *const Filter) == 0
+    }
+}
+
+#[cfg(not(all(target_os = "linux", target_arch = "x86_64")))]
+fn refuse_fences() -> bool {
+    false
+}
+
+/// Who takes a shard back asks the system for a fence, which is seen by what comes of a refusal.
+#[test]
+fn the_system_is_asked_for_the_fence() -> Result<(), Refused> {
+    if !are_kept() || env::var_os(SWITCH).is_some() {
+        return Ok(());
+    }
+    if env::var_os(FILTER).is_some() {
+        let mut arena = Arena::open(limits(2))?;
+        let (there, (_here, keys)) = (arena.seat()?, keeping(&mut arena));
+        if refuse_fences() {
+            println!("the filter is there");
+            assert_eq!(there.get(keys[7]), Some(7));
+        }
+        return Ok(());
+    }
+    let mut run = Command::new(env::current_exe().unwrap());
+    let words = ["the_system_is_asked_for_the_fence", "--nocapture", "--quiet"];
+    let done = run.args(words).env(FILTER, "1").output().unwrap();
+    let told = String::from_utf8_lossy(&done.stdout);
+    let is_refused = !done.status.success() && String::from_utf8_lossy(&done.stderr).contains("membarrier");
+    assert!(is_refused || !told.contains("the filter is there"), "{told}");
+    Ok(())
+}
+
 /// Nobody waits for ever for a shard that can't be taken back.
 #[test]
 fn a_fence_that_is_refused_later_ends_the_process() {

@@ -94,7 +94,10 @@ mod system {
     fn membarrier(command: c_int) -> bool {
         let (flags, processor): (c_uint, c_int) = (0, 0);
         // SAFETY: the call takes these three numbers, and reads and writes no memory of the process.
-        unsafe { syscall(MEMBARRIER, command, flags, processor) == 0 }
+        let is_done = unsafe { syscall(MEMBARRIER, command, flags, processor) == 0 };
+        #[cfg(test)]
+        super::tests::count(is_done && command == PRIVATE_EXPEDITED);
+        is_done
     }
 }
 
@@ -106,5 +109,56 @@ mod system {
 
     pub fn fence() -> bool {
         false
+    }
+}
+
+#[cfg(test)]
+mod tests {
+    use crate::arena::{Arena, Seat};
+    use crate::{Key, Limits, Refused};
+    use std::sync::atomic::{AtomicUsize, Ordering};
+
+    static FENCES: AtomicUsize = AtomicUsize::new(0);
+
+    /// Counts a fence that the system has had.
+    pub fn count(is_done: bool) {
+        FENCES.fetch_add(usize::from(is_done), Ordering::Relaxed);
+    }
+
+    fn fences() -> usize {
+        FENCES.load(Ordering::Relaxed)
+    }
+
+    /// So many values, after which the seat keeps its shard.
+    fn fill(seat: &mut Seat<u64>) -> Result<Vec<Key>, Refused> {
+        let keys = (0..64).map(|value| seat.insert(value)).collect();
+        assert!(seat.keeps_its_shard());
+        keys
+    }
+
+    /// It is one test, since the count is the process's.
+    #[test]
+    fn who_takes_back_has_one_fence() -> Result<(), Refused> {
+        if !super::is_there() {
+            return Ok(());
+        }
+        let limits = Limits {
+            shards: 3,
+            ..Limits::default()
+        };
+        let mut arena = Arena::open(limits)?;
+        let (mut first, mut second, third) = (arena.seat()?, arena.seat()?, arena.seat()?);
+        let (keys, others) = (fill(&mut first)?, fill(&mut second)?);
+        assert!((0..1000).all(|_| first.contains(keys[0])));
+        assert_eq!(fences(), 0, "who keeps its shard has none");
+        assert_eq!((third.get(keys[7]), fences()), (Some(7), 1));
+        assert_eq!((third.get(keys[8]), fences()), (Some(8), 1));
+        assert_eq!((third.get(others[7]), fences()), (Some(7), 2));
+        // The steward takes all of them behind one.
+        assert!((0..9000).all(|_| first.contains(keys[0]) && second.contains(others[0])));
+        assert!(first.keeps_its_shard() && second.keeps_its_shard());
+        assert_eq!((arena.totals().live, fences()), (128, 3));
+        assert!(!first.keeps_its_shard() && !second.keeps_its_shard());
+        Ok(())
     }
 }

@@ -1,12 +1,14 @@
 //! Walks over the live keys of an arena.
 
 use super::lane::Owner;
-use super::share::{Place, Share, Turn};
+use super::share::{no_wait_in_a_session, Place, Share, Turn};
 use crate::names::Key;
 use crate::raw;
 use std::fmt;
 
 /// The live keys of an arena, while its threads go on: of [`Arena::keys`](super::Arena::keys) and [`Seat::keys`](super::Seat::keys).
+///
+/// Its `next` panics when it would wait for a session of its own thread ([`Seat::session`](super::Seat::session)).
 #[must_use = "iterators are lazy and do nothing unless consumed"]
 pub struct Keys<'a> {
     whose: Whose<'a>,
@@ -59,6 +61,9 @@ impl Iterator for Keys<'_> {
                 unsafe { raw::teurlaks_steward_next(share.handle(), walk) }
             }),
         };
+        if next.status == raw::BUSY {
+            no_wait_in_a_session();
+        }
         (next.status == raw::OK).then(|| Key::of(next.key)).flatten()
     }
 }

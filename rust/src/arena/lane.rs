@@ -8,30 +8,38 @@
 //! The rules:
 //!
 //! - The door changes under the lock `taking` alone. It is open, or the owner keeps the shard (`KEPT`), or keeps it and somebody wants it (`WANTED`).
-//!   Only the owner closes it.
+//!   Only the owner closes it. Each time begins a new keeping, which has a number.
 //! - While the door is open, the handle is the owner's alone.
 //! - While it is not, the owner uses the handle under `taking`, or else it says that it is in a call, has a light fence, sees that nobody wants the
 //!   shard, makes the call, and says that it is out of it.
-//! - A taker has `taking`, sees that the shard is kept, says that it is wanted, has a heavy fence, and waits until the owner is in no call. Then
-//!   it pauses the handle, opens the door, and gives `taking` back.
+//! - An owner that sees its shard wanted opens the door itself, under `taking` and in no call.
+//! - A taker says under `taking` that the shard is wanted, and notes the keeping. It gives `taking` back and has a heavy fence.
+//!   Then it has `taking` again and looks once more. When the door is still closed, in the same keeping, it waits until the
+//!   owner is in no call, pauses the handle and opens the door.
+//! - A taker that finds another keeping leaves the shard alone: it has to want that anew, behind a new fence.
 //!
 //! That they never both use it: an owner that uses it under `taking`, or while the door is open, meets no taker. One that begins a call looks at the
-//! door before the taker's heavy fence or after it. If after, it sees the shard wanted, and makes no call, or the door open, and the taker is done.
+//! door before the taker's heavy fence or after it. Within one keeping the door stays wanted once it is. So an owner that looks
+//! after the fence sees the shard wanted, and makes no call, or the door open, and the taker is done.
 //! If before, what it had stored before that look, that it is in a call, the taker sees, and waits for the end of the call. What either wrote the
 //! other sees: the end of a call is a release that the taker acquires, and the door's opening one that the owner acquires.
 //!
-//! That nobody waits for ever: the owner is in no call while it waits for a lock, and no call of the library waits. Who takes from several lanes locks
-//! them in the order of their shards, and waits under these locks for calls alone.
+//! That nobody waits for ever: the owner is in no call while it waits for a lock, and no call of the library waits. Who takes
+//! from several lanes wants them all behind one fence, and then has one lock at a time, under which it waits for one call.
+//! So a seat whose call is over goes on, whoever else is waited for.
+//!
+//! `rust/models/kept_shards.py` goes over all interleavings of these steps, and reads here that they stand as it has them.
 
 use super::fence;
+use super::inside;
 use crate::core::MOST_SHARDS;
 use crate::raw;
-use std::array;
 use std::cell::{Cell, UnsafeCell};
 use std::marker::PhantomData;
 use std::ptr;
-use std::sync::atomic::{AtomicBool, AtomicU32, AtomicU8, Ordering};
+use std::sync::atomic::{AtomicBool, AtomicU32, AtomicU64, AtomicU8, Ordering};
 use std::sync::{Arc, Mutex, MutexGuard, PoisonError};
+use std::time::Duration;
 use std::{hint, thread};
 
 /// The shard is at its lock, or in a session.
@@ -57,6 +65,12 @@ const NEVER: u32 = u32::MAX;
 /// How often a taker looks whether the owner's call is over, before it lets others run.
 const LOOKS: u32 = 100;
 
+/// How often it lets others run before it sleeps. By a sleep also a real-time thread lets an owner run that waits for its processor.
+const MOST_TURNS: u32 = 32;
+
+/// How long a thread sleeps at a time that waits for another: that one waits for a processor then, or marks.
+pub(super) const SLEEP: Duration = Duration::from_micros(20);
+
 /// What is in it is on cache lines of its own, of which processors fetch two at a time.
 #[repr(align(128))]
 struct Apart<T>(T);
@@ -80,9 +94,40 @@ struct Door {
     state: AtomicU8,
     // The first shard of the seat that has the lane. It is a hint.
     seat: AtomicU8,
-    // How many calls it waits when a seat next takes the shard back. It is written to under `taking`.
-    penalty: AtomicU32,
-    taking: Mutex<()>,
+    // The thread that has the shard in a session, or 0. It says for whom a call would wait.
+    session: AtomicU64,
+    taking: Mutex<Terms>,
+}
+
+/// What is known of the door under its lock alone.
+struct Terms {
+    // How often the owner has kept the shard.
+    keepings: u64,
+    // How many calls it waits when a seat next takes the shard back.
+    penalty: u32,
+    // How many it makes, once this keeping is over, before the next one: as the first who wants the shard says.
+    left: u32,
+}
+
+impl Terms {
+    fn new() -> Terms {
+        Terms {
+            keepings: 0,
+            penalty: AFTER_TAKEN,
+            left: FIRST,
+        }
+    }
+
+    /// Says how many calls the owner makes after this taker.
+    fn note_taker(&mut self, by: Taker) {
+        self.left = match by {
+            Taker::Steward => AFTER_TAKEN,
+            Taker::Seat => self.penalty,
+        };
+        if let Taker::Seat = by {
+            self.penalty = MOST_AFTER_TAKEN.min(2 * self.penalty);
+        }
+    }
 }
 
 // SAFETY: that a handle may be used by another thread, one at a time, is proved in `crates/teurlaks_c` (`unsafe impl Send for ShareHandle`, with its
@@ -102,8 +147,8 @@ impl Lane {
             door: Apart(Door {
                 state: AtomicU8::new(OPEN),
                 seat: AtomicU8::new(0),
-                penalty: AtomicU32::new(AFTER_TAKEN),
-                taking: Mutex::new(()),
+                session: AtomicU64::new(inside::NO_THREAD),
+                taking: Mutex::new(Terms::new()),
             }),
         }
     }
@@ -114,21 +159,50 @@ impl Lane {
         self.door.0.state.load(Ordering::Relaxed) & KEPT != 0
     }
 
-    fn lock(&self) -> MutexGuard<'_, ()> {
+    fn is_wanted(&self) -> bool {
+        self.door.0.state.load(Ordering::Relaxed) & WANTED != 0
+    }
+
+    fn lock(&self) -> MutexGuard<'_, Terms> {
         self.door.0.taking.lock().unwrap_or_else(PoisonError::into_inner)
     }
 
-    /// Says that its shard is wanted, where it is kept, and gives the lock under which it may be taken.
-    fn want(&self) -> Option<MutexGuard<'_, ()>> {
-        let taking = self.lock();
-        self.is_kept().then(|| {
+    /// Says that its shard is wanted, if it is kept, and gives the number of this keeping.
+    fn want(&self, by: Taker) -> Option<u64> {
+        let mut terms = self.lock();
+        if !self.is_kept() {
+            return None;
+        }
+        if !self.is_wanted() {
+            terms.note_taker(by);
             self.door.0.state.store(KEPT | WANTED, Ordering::Relaxed);
-            taking
-        })
+        }
+        Some(terms.keepings)
+    }
+
+    /// Takes the shard back that was wanted in the keeping of this number, unless that is over.
+    ///
+    /// # Safety
+    ///
+    /// The caller had a heavy fence after that want, and is in no call.
+    unsafe fn take(&self, keeping: u64) {
+        let terms = self.lock();
+        if self.is_kept() && terms.keepings == keeping {
+            self.await_call();
+            // SAFETY: this thread has the lock, and had a heavy fence after the shard was wanted in this keeping. The owner's last look at
+            // the door that missed this was before the fence, so the wait was for that call, too; and each later look finds the shard
+            // wanted, until the door is open.
+            unsafe { self.open(terms.left) };
+        }
     }
 
     fn seat(&self) -> u8 {
         self.door.0.seat.load(Ordering::Relaxed)
+    }
+
+    /// The thread that has the shard in a session, as far as this one knows.
+    fn session(&self) -> u64 {
+        self.door.0.session.load(Ordering::Relaxed)
     }
 
     /// Gives the shard back to its lock, and has the owner make so many calls before it keeps it again.
@@ -144,29 +218,30 @@ impl Lane {
         self.door.0.state.store(OPEN, Ordering::Release);
     }
 
+    fn is_in_call(&self) -> bool {
+        self.owner.0.in_call.load(Ordering::Acquire)
+    }
+
     /// Waits until the owner is in no call.
     fn await_call(&self) {
-        let mut looks = 0;
-        while self.owner.0.in_call.load(Ordering::Acquire) {
-            looks += 1;
-            if looks % LOOKS == 0 {
+        let mut turns = 0;
+        while (0..LOOKS).all(|_| self.is_in_call_still()) {
+            if turns < MOST_TURNS {
                 thread::yield_now();
+                turns += 1;
+            } else {
+                thread::sleep(SLEEP);
             }
-            hint::spin_loop();
         }
     }
 
-    /// How many calls the owner is to make, after this thread took the shard.
-    fn penalty(&self, by: Taker) -> u32 {
-        match by {
-            Taker::Steward => AFTER_TAKEN,
-            Taker::Seat => {
-                let penalty = self.door.0.penalty.load(Ordering::Relaxed);
-                let next = MOST_AFTER_TAKEN.min(2 * penalty);
-                self.door.0.penalty.store(next, Ordering::Relaxed);
-                penalty
-            }
+    /// Whether it is, after a pause if so.
+    fn is_in_call_still(&self) -> bool {
+        let is_in_call = self.is_in_call();
+        if is_in_call {
+            hint::spin_loop();
         }
+        is_in_call
     }
 }
 
@@ -190,39 +265,54 @@ impl AllLanes {
         (AllLanes(lanes), owners)
     }
 
-    /// Takes the shard of this number back, where it is kept, with the others of its seat, which are asked for as well mostly. It says whether it
-    /// did. The caller is in no call.
+    /// Takes the shard of this number back, where it is kept, with the others of its seat, which are asked for as well mostly. It says whether
+    /// there was any that it wanted. The caller is in no call.
     pub fn take_back(&self, by: Taker, shard: u32) -> bool {
         let named = self.0.get(shard as usize).filter(|lane| lane.is_kept());
         named.is_some_and(|named| take_back(by, &self.0, |lane| lane.seat() == named.seat()))
     }
 
-    /// Takes back all shards that are kept, and says whether there was any. The caller is in no call.
+    /// Takes back all shards that are kept, and says whether there was any that it wanted. The caller is in no call.
     pub fn take_all_back(&self, by: Taker) -> bool {
         self.0.iter().any(|lane| lane.is_kept()) && take_back(by, &self.0, |_| true)
     }
+
+    /// Whether this thread has the shard of this number in a session.
+    pub fn is_in_session_here(&self, shard: u32) -> bool {
+        let thread = inside::this_thread();
+        self.0.get(shard as usize).is_some_and(|lane| lane.session() == thread)
+    }
+
+    /// Whether this thread has any shard in a session.
+    pub fn any_in_session_here(&self) -> bool {
+        let thread = inside::this_thread();
+        self.0.iter().any(|lane| lane.session() == thread)
+    }
+
+    /// Whether any shard is in a session, of whichever thread.
+    pub fn any_in_session(&self) -> bool {
+        self.0.iter().any(|lane| lane.session() != inside::NO_THREAD)
+    }
 }
 
-/// Takes back which of these are meant and kept, behind one fence, and says whether there was any that it took.
+/// Takes back which of these are meant and kept, behind one fence, and says whether there was any that it wanted. It waits for the call of one lane
+/// at a time: the owners of the others open their doors themselves, or make no call that it has to wait for.
 #[cold]
 fn take_back(by: Taker, lanes: &[Arc<Lane>], is_meant: impl Fn(&Lane) -> bool) -> bool {
-    let mut taken: [Option<MutexGuard<'_, ()>>; MOST_SHARDS] = array::from_fn(|_| None);
-    for (lane, taken) in lanes.iter().zip(&mut taken) {
+    let mut keepings: [Option<u64>; MOST_SHARDS] = [None; MOST_SHARDS];
+    for (lane, keeping) in lanes.iter().zip(&mut keepings) {
         if lane.is_kept() && is_meant(lane) {
-            *taken = lane.want();
+            *keeping = lane.want(by);
         }
     }
-    if taken.iter().all(Option::is_none) {
+    if keepings.iter().all(Option::is_none) {
         return false;
     }
     fence::heavy();
-    for (lane, taken) in lanes.iter().zip(&mut taken) {
-        if let Some(_taking) = taken.take() {
-            lane.await_call();
-            // SAFETY: this thread has the lock, and had a heavy fence after it said that the shard is wanted. The owner's last look at the door
-            // that missed this was before the fence, so the wait was for that call, too; and each later look finds the shard wanted, until the
-            // door is open.
-            unsafe { lane.open(lane.penalty(by)) };
+    for (lane, keeping) in lanes.iter().zip(keepings) {
+        if let Some(keeping) = keeping {
+            // SAFETY: the fence came after the want.
+            unsafe { lane.take(keeping) };
         }
     }
     true
@@ -323,16 +413,17 @@ impl Owner {
     /// Lets go of the shard, where it is kept, and else waits until nobody takes it.
     #[inline]
     pub fn let_go(&self) {
-        self.open_door(|lane| {
+        self.open_door(|lane, terms| {
+            let left = if lane.is_wanted() { terms.left } else { FIRST };
             // SAFETY: this is the owner, it has the lock, and it is in no call.
-            unsafe { lane.open(FIRST) };
+            unsafe { lane.open(left) };
         });
     }
 
     /// Whether it kept the shard: if so, it goes on as a session, which nobody takes back.
     pub fn goes_on_as_session(&self) -> bool {
         let mut kept = false;
-        self.open_door(|lane| {
+        self.open_door(|lane, _| {
             kept = true;
             lane.door.0.state.store(OPEN, Ordering::Release);
         });
@@ -347,18 +438,23 @@ impl Owner {
 
     /// Opens the door so, where it is not open once nobody takes the shard.
     #[inline]
-    fn open_door(&self, open: impl FnOnce(&Lane)) {
+    fn open_door(&self, open: impl FnOnce(&Lane, &Terms)) {
         if !self.is_open() {
             self.open_closed_door(open);
         }
     }
 
     #[cold]
-    fn open_closed_door(&self, open: impl FnOnce(&Lane)) {
-        let _taking = self.lane.lock();
+    fn open_closed_door(&self, open: impl FnOnce(&Lane, &Terms)) {
+        let terms = self.lane.lock();
         if self.lane.is_kept() {
-            open(&self.lane);
+            open(&self.lane, &terms);
         }
+    }
+
+    /// Says that this thread has the shard in a session, or that nobody has.
+    pub fn note_session(&self, thread: u64) {
+        self.lane.door.0.session.store(thread, Ordering::Relaxed);
     }
 
     /// Counts a call of its own shard that was made while the door was open, and says whether it may keep that now.
@@ -381,12 +477,15 @@ impl Owner {
             self.lane.owner.0.left.store(NEVER, Ordering::Relaxed);
             return;
         }
-        let _taking = self.lane.lock();
+        let mut terms = self.lane.lock();
         // SAFETY: the handle has a seat, and this is the owner, who has the lock.
         let status = unsafe { raw::teurlaks_seat_session(self.lane.owner.0.handle.get()) };
         self.count_anew();
         match status {
-            raw::OK => self.lane.door.0.state.store(KEPT, Ordering::Release),
+            raw::OK => {
+                terms.keepings += 1;
+                self.lane.door.0.state.store(KEPT, Ordering::Release);
+            }
             raw::BUSY => {}
             _ => self.lane.owner.0.left.store(NEVER, Ordering::Relaxed),
         }
@@ -411,5 +510,7 @@ impl Drop for Owner {
     fn drop(&mut self) {
         // SAFETY: the handle has what the library left there, or nothing, and nobody uses it after: no taker does while the door is open.
         self.alone(|handle| unsafe { raw::teurlaks_share_drop(handle) });
+        // A session that was forgotten is over.
+        self.note_session(inside::NO_THREAD);
     }
 }

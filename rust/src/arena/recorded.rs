@@ -162,6 +162,8 @@ impl<T> Arena<T> {
             let refused = Refused::Config;
             return Err(NotTaken { seat, refused });
         }
+        // One that was forgotten.
+        seat.pause();
         let steward = self.share.handle();
         // SAFETY: the one handle has a steward, the other a seat, and no other call runs on either.
         let leave = |lane| unsafe { raw::teurlaks_seat_leave(steward, lane) };

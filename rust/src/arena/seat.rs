@@ -1,10 +1,11 @@
 //! What a thread does at its seat.
 
+use super::inside::{Inside, NO_THREAD};
 use super::keys::Keys;
 use super::lane::Owner;
 use super::lanes::Lanes;
 use super::session::Session;
-use super::share::{Answer, Place, Turn};
+use super::share::{no_wait_in_a_session, Answer, Place, Turn};
 use crate::bytes::MOST_WORDS;
 use crate::core::{done, was_put, was_set};
 use crate::names::{Group, Key};
@@ -38,7 +39,7 @@ pub struct Seat<T> {
     lanes: Lanes,
     turn: Turn,
     // Whether the lane whose turn it is has a session. No lane keeps its shard meanwhile.
-    in_session: Cell<bool>,
+    inside: Inside,
     // A value of any other type is none of this arena, whatever its lifetime: it is read at all seats.
     values: PhantomData<Cell<T>>,
 }
@@ -49,18 +50,33 @@ impl<T> Seat<T> {
         Seat {
             lanes,
             turn,
-            in_session: Cell::new(false),
+            inside: Inside::nothing(),
             values: PhantomData,
         }
     }
 
     /// Keeps the seat's shard for this thread over many calls, until the session is dropped, and nobody takes it back: a call on what is in that
-    /// shard takes no lock then, from the first one on and on each system. It waits until no other thread has the shard.
+    /// shard takes no lock then, from the first one on and on each system. It waits until no other thread has the shard. The session is of
+    /// this thread: it is not `Send`.
     ///
     /// Whoever else wants the shard waits meanwhile: those who look up, set or free a value there, and the steward, whose mark, close, forgetting
     /// and totals want all shards. So a session is for a burst of calls and is not kept while its thread does something else. A session lets go of
     /// its shard for a moment where the steward waits, and where a call needs a lock that another thread has, so that two sessions never wait for
     /// each other.
+    ///
+    /// While a thread is in a session of an arena, it makes its calls on that arena by the session. Another one may need the shard
+    /// of the session, and it does not wait for that:
+    ///
+    /// - at another seat `set` and `tend` are refused with [`Refused::Busy`]; and `get`, `contains`, `free`, `remove` and a step of
+    ///   `keys` panic;
+    /// - of the arena a mark, a step, a close, a mesh and a forgetting are refused so; and `totals` and a step of `keys` panic;
+    /// - an arena that is dropped leaves a plan that is open to the thread, which closes it when it leaves the session.
+    ///
+    /// The same comes of a call that has waited for some 0.3 seconds, while its thread is in a session, also of another arena, and
+    /// there is a session of another thread in the arena that is called. So two threads that wait for each other's sessions come
+    /// to an end.
+    ///
+    /// A session that is forgotten ([`std::mem::forget`]) goes on until its seat is dropped, as one of the thread that began it.
     ///
     /// In a recorded arena ([`Arena::open_recorded`](super::Arena::open_recorded)) a session keeps no shard, and makes its calls as the seat does,
     /// each with its receipt.
@@ -82,11 +98,22 @@ impl<T> Seat<T> {
     pub fn session(&mut self) -> Session<'_, T> {
         self.lanes.others().iter().for_each(Owner::let_go);
         if self.lanes.here().goes_on_as_session() {
-            self.in_session.set(true);
+            self.begin_inside();
         } else {
             self.hold();
         }
         Session::new(self)
+    }
+
+    /// Notes that the lane whose turn it is has a session.
+    fn begin_inside(&self) {
+        self.lanes.here().note_session(self.inside.begin());
+    }
+
+    /// Notes that it has none.
+    fn end_inside(&self) {
+        self.lanes.here().note_session(NO_THREAD);
+        self.inside.end();
     }
 
     /// Has the lane whose turn it is begin a session, once no other thread has the shard. A recorded seat has none.
@@ -96,18 +123,24 @@ impl<T> Seat<T> {
             unsafe { raw::teurlaks_seat_session(handle) }
         });
         debug_assert!(matches!(status, raw::OK | raw::CONFIG), "the handle has a seat");
-        self.in_session.set(status == raw::OK);
+        if status == raw::OK {
+            self.begin_inside();
+        }
     }
 
-    /// Lets others at the shard.
+    /// Lets others at the shard, if it has a session.
     pub(super) fn pause(&self) {
+        if !self.inside.is_in_session() {
+            return;
+        }
         // SAFETY: as in `hold`.
         let status = self
             .lanes
             .here()
             .alone(|handle| unsafe { raw::teurlaks_seat_pause(handle) });
         debug_assert_eq!(status, raw::OK, "the handle has a seat");
-        self.in_session.set(false);
+        self.end_inside();
+        self.turn.close_left_plan();
     }
 
     /// Makes a call on what is in the shard whose turn it is.
@@ -115,7 +148,7 @@ impl<T> Seat<T> {
     #[allow(clippy::inline_always)]
     #[inline(always)]
     fn ask_here<A: Answer>(&self, call: impl FnMut(*mut raw::ShareHandle) -> A) -> A {
-        if self.in_session.get() {
+        if self.inside.is_in_session() {
             return self.ask_in_session(Place::Here, call);
         }
         self.ask(self.lanes.here(), Place::Here, call)
@@ -127,7 +160,7 @@ impl<T> Seat<T> {
     #[inline(always)]
     fn ask_of<A: Answer>(&self, key: Key, call: impl FnMut(*mut raw::ShareHandle) -> A) -> A {
         let place = Place::Named(key.shard());
-        if self.in_session.get() {
+        if self.inside.is_in_session() {
             return self.ask_in_session(place, call);
         }
         let lane = if self.lanes.is_one() {
@@ -186,17 +219,17 @@ impl<T> Seat<T> {
 
     /// Makes a call for which the library ends the session, where there is one, and begins another.
     #[inline]
-    fn ask_seat<A: Answer>(&self, lane: &Owner, call: impl FnMut(*mut raw::ShareHandle) -> A) -> A {
-        if self.in_session.get() {
-            return self.ask_paused(lane, Place::Anywhere, call);
+    fn ask_seat<A: Answer>(&self, lane: &Owner, place: Place, call: impl FnMut(*mut raw::ShareHandle) -> A) -> A {
+        if self.inside.is_in_session() {
+            return self.ask_paused(lane, place, call);
         }
-        self.turn.at_seat(lane, Place::Anywhere, call)
+        self.turn.at_seat(lane, place, call)
     }
 
     /// Lets go of the shard, makes the call as a seat does, and goes on with the session, where there is one.
     #[cold]
     fn ask_paused<A: Answer>(&self, lane: &Owner, place: Place, call: impl FnMut(*mut raw::ShareHandle) -> A) -> A {
-        let in_session = self.in_session.get();
+        let in_session = self.inside.is_in_session();
         if in_session {
             self.pause();
         }
@@ -210,7 +243,7 @@ impl<T> Seat<T> {
     /// Has the next of the seat's shards take its turn, in the session, too, where there is one.
     #[cold]
     fn next_lane(&mut self) {
-        let in_session = self.in_session.get();
+        let in_session = self.inside.is_in_session();
         if in_session {
             self.pause();
         }
@@ -240,10 +273,31 @@ impl<T> Seat<T> {
     }
 }
 
-/// Ends the process, where a recorded arena is refused memory for the receipt of a call that can't answer so.
+/// Whether the status says that the key was live.
+#[inline]
+fn was_live(status: u32) -> bool {
+    match status {
+        raw::OK => true,
+        raw::NONE => false,
+        other => {
+            answer_nothing(other);
+            false
+        }
+    }
+}
+
+/// What comes of a status that a call can't answer. A recorded arena that is refused memory for a receipt ends the process.
+///
+/// # Panics
+///
+/// If the call would wait for a session, and its thread is in one.
 #[cold]
-fn no_room_for_a_receipt() -> ! {
-    handle_alloc_error(Layout::new::<[u64; 6]>())
+fn answer_nothing(status: u32) {
+    match status {
+        raw::OUT_OF_MEMORY => handle_alloc_error(Layout::new::<[u64; 6]>()),
+        raw::BUSY => no_wait_in_a_session(),
+        _ => {}
+    }
 }
 
 impl<T: Copy> Seat<T> {
@@ -298,6 +352,10 @@ impl<T: Copy> Seat<T> {
     }
 
     /// The value of the key, where it is live, of whichever shard.
+    ///
+    /// # Panics
+    ///
+    /// If it would wait for a session, and its thread is in one ([`Seat::session`]).
     #[inline]
     #[must_use]
     pub fn get(&self, key: Key) -> Option<T> {
@@ -307,18 +365,16 @@ impl<T: Copy> Seat<T> {
         let got = self.ask_of(key, move |handle| unsafe {
             raw::teurlaks_seat_get_words(handle, key.raw(), first, MOST_WORDS)
         });
-        if got.status == raw::OUT_OF_MEMORY {
-            no_room_for_a_receipt();
-        }
         // SAFETY: the library is proved to find what was put or set, and at all seats only values of this type were.
-        (got.status == raw::OK).then(|| unsafe { words.as_ptr().cast::<T>().read_unaligned() })
+        was_live(got.status).then(|| unsafe { words.as_ptr().cast::<T>().read_unaligned() })
     }
 
     /// Sets the key to the value in place, and says whether it did: where it is live. It takes no memory.
     ///
     /// # Errors
     ///
-    /// As of [`Core::set`](crate::Core::set).
+    /// - [`Refused::Busy`]: it would wait for a session, and its thread is in one ([`Seat::session`]);
+    /// - else as of [`Core::set`](crate::Core::set).
     #[inline]
     pub fn set(&mut self, key: Key, value: T) -> Result<bool, Refused> {
         let mut words = [MaybeUninit::uninit(); MOST_WORDS];
@@ -332,6 +388,10 @@ impl<T: Copy> Seat<T> {
 
     /// Frees the key, and gives its value, where it was live: that of a moment before, which another thread may have set since. Of threads that take
     /// out one key, one gets a value.
+    ///
+    /// # Panics
+    ///
+    /// If it would wait for a session, and its thread is in one ([`Seat::session`]).
     #[inline]
     pub fn remove(&mut self, key: Key) -> Option<T> {
         let value = self.get(key)?;
@@ -341,6 +401,10 @@ impl<T: Copy> Seat<T> {
 
 impl<T> Seat<T> {
     /// Whether the key is live, of whichever shard.
+    ///
+    /// # Panics
+    ///
+    /// If it would wait for a session, and its thread is in one ([`Seat::session`]).
     #[inline]
     #[must_use]
     pub fn contains(&self, key: Key) -> bool {
@@ -349,10 +413,7 @@ impl<T> Seat<T> {
         let got = self.ask_of(key, move |handle| unsafe {
             raw::teurlaks_seat_get_words(handle, key.raw(), none, 0)
         });
-        if got.status == raw::OUT_OF_MEMORY {
-            no_room_for_a_receipt();
-        }
-        got.status != raw::NONE
+        got.status == raw::TOO_SMALL || was_live(got.status)
     }
 
     /// The live keys of all shards, one after another, as [`Arena::keys`](super::Arena::keys) gives them.
@@ -361,14 +422,15 @@ impl<T> Seat<T> {
     }
 
     /// Frees the key, and says whether it was live. The key finds nothing from then on, at any seat. It takes no memory.
+    ///
+    /// # Panics
+    ///
+    /// If it would wait for a session, and its thread is in one ([`Seat::session`]).
     #[inline]
     pub fn free(&mut self, key: Key) -> bool {
         // SAFETY: as in `insert_here`.
         let status = self.ask_of(key, move |handle| unsafe { raw::teurlaks_seat_free(handle, key.raw()) });
-        if status == raw::OUT_OF_MEMORY {
-            no_room_for_a_receipt();
-        }
-        status == raw::OK
+        was_live(status)
     }
 
     /// Leaves the key to the seat of the shard that gave it out, which frees it when it next tends ([`Seat::tend`]); until then it is live. It
@@ -406,11 +468,14 @@ impl<T> Seat<T> {
     ///
     /// # Errors
     ///
-    /// [`Refused::OutOfMemory`] where memory was refused. What was freed before stays so, and the other keys are still there.
+    /// What was freed before stays so, and the other keys are still there:
+    ///
+    /// - [`Refused::OutOfMemory`]: memory was refused;
+    /// - [`Refused::Busy`]: it would wait for a session, and its thread is in one ([`Seat::session`]).
     pub fn tend(&mut self) -> Result<usize, Refused> {
         let mut taken = 0;
         for lane in self.lanes.all() {
-            let tended = self.ask_seat(lane, |handle| {
+            let tended = self.ask_seat(lane, Place::Anywhere, |handle| {
                 // SAFETY: as in `insert_here`.
                 let tended = unsafe { raw::teurlaks_seat_tend(handle) };
                 taken += tended.count;
@@ -433,7 +498,7 @@ impl<T> Seat<T> {
     pub fn end(&mut self) -> Result<(), Refused> {
         for (ended, lane) in self.lanes.all().enumerate() {
             // SAFETY: as in `insert_here`.
-            let refused = done(self.ask_seat(lane, |handle| unsafe { raw::teurlaks_seat_end(handle) }));
+            let refused = done(self.ask_seat(lane, Place::Here, |handle| unsafe { raw::teurlaks_seat_end(handle) }));
             if refused.is_err() {
                 self.begin_first(ended)?;
                 return refused;
@@ -456,7 +521,7 @@ impl<T> Seat<T> {
     fn begin_first(&self, count: usize) -> Result<(), Refused> {
         self.lanes.all().take(count).try_for_each(|lane| {
             // SAFETY: as in `insert_here`.
-            done(self.ask_seat(lane, |handle| unsafe { raw::teurlaks_seat_begin(handle) }))
+            done(self.ask_seat(lane, Place::Here, |handle| unsafe { raw::teurlaks_seat_begin(handle) }))
         })
     }
 
@@ -475,7 +540,9 @@ impl<T> Seat<T> {
         for (number, lane) in self.lanes.all().enumerate() {
             let part = most / lanes + usize::from(number < most % lanes);
             // SAFETY: as in `insert_here`.
-            let retired = self.ask_seat(lane, |handle| unsafe { raw::teurlaks_seat_retire(handle, part) });
+            let retired = self.ask_seat(lane, Place::Here, |handle| unsafe {
+                raw::teurlaks_seat_retire(handle, part)
+            });
             match done(retired.status) {
                 Ok(()) => gone += retired.count,
                 Err(_) if gone > 0 => break,
@@ -490,7 +557,7 @@ impl<T> Seat<T> {
     pub fn trim(&mut self) -> usize {
         let trim = |lane: &Owner| {
             // SAFETY: as in `insert_here`.
-            let trimmed = self.ask_seat(lane, |handle| unsafe { raw::teurlaks_seat_trim(handle) });
+            let trimmed = self.ask_seat(lane, Place::Here, |handle| unsafe { raw::teurlaks_seat_trim(handle) });
             debug_assert_eq!(trimmed.status, raw::OK, "a trim is not refused");
             trimmed.count
         };
@@ -510,7 +577,9 @@ impl<T> Seat<T> {
     pub fn adopt(&mut self) -> Result<Group, Refused> {
         for _ in 0..self.lanes.len() {
             // SAFETY: as in `insert_here`.
-            let adopted = self.ask_seat(self.lanes.here(), |handle| unsafe { raw::teurlaks_seat_adopt(handle) });
+            let adopted = self.ask_seat(self.lanes.here(), Place::Here, |handle| unsafe {
+                raw::teurlaks_seat_adopt(handle)
+            });
             match done(adopted.status) {
                 Err(Refused::PagesSpent) => self.next_lane(),
                 answer => return answer.map(|()| Group(adopted.head)),

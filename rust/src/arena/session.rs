@@ -4,6 +4,7 @@ use super::seat::Seat;
 use crate::names::{Group, Key};
 use crate::refused::Refused;
 use std::fmt;
+use std::marker::PhantomData;
 
 /// A [`Seat`] whose thread has the seat's shard, until the session is dropped: [`Seat::session`] says what it is for, and who waits for it. A shard that
 /// the seat keeps of itself is taken back by whoever asks for it; that of a session is not.
@@ -14,14 +15,25 @@ use std::fmt;
 ///
 /// Of the calls on what is in the shard it is proved that each does there exactly what the shard's own call does: an insert keeps the value under
 /// a key that was never given out, and a look-up finds what the shard shows of the key.
+///
+/// A session is of the thread that began it, which other calls of that thread rest on, so it is not `Send`:
+///
+/// ```compile_fail
+/// fn send<S: Send>() {}
+/// send::<teurlaks::arena::Session<'static, u64>>();
+/// ```
 pub struct Session<'s, T> {
     seat: &'s mut Seat<T>,
+    of_this_thread: PhantomData<*const ()>,
 }
 
 impl<'s, T> Session<'s, T> {
     /// A session of the seat, which keeps its shard.
     pub(super) fn new(seat: &'s mut Seat<T>) -> Session<'s, T> {
-        Session { seat }
+        Session {
+            seat,
+            of_this_thread: PhantomData,
+        }
     }
 }
 

@@ -1,12 +1,12 @@
 //! A handle to a steward, and calls that wait where another thread has a lock.
 
-use super::lane::{AllLanes, Owner, Taker};
+use super::inside;
+use super::lane::{AllLanes, Owner, Taker, SLEEP};
 use crate::raw;
 use std::cell::UnsafeCell;
 use std::sync::atomic::{AtomicBool, Ordering};
-use std::sync::Arc;
-use std::time::Duration;
-use std::{hint, ptr, thread};
+use std::sync::{Arc, Mutex, PoisonError};
+use std::{hint, mem, ptr, thread};
 
 /// A handle to the steward of an arena.
 pub(super) struct Share {
@@ -16,12 +16,16 @@ pub(super) struct Share {
 }
 
 impl Share {
+    /// A handle of nothing, which is dropped as any other.
+    fn nothing() -> Share {
+        Share {
+            handle: UnsafeCell::new(raw::ShareHandle { at: ptr::null_mut() }),
+        }
+    }
+
     /// What the call leaves to a handle of nothing, or the status where that is not `OK`.
     pub fn new(leave: impl FnOnce(*mut raw::ShareHandle) -> u32) -> Result<Share, u32> {
-        // A handle of nothing is dropped below as any other, which does nothing.
-        let share = Share {
-            handle: UnsafeCell::new(raw::ShareHandle { at: ptr::null_mut() }),
-        };
+        let share = Share::nothing();
         match leave(share.handle()) {
             raw::OK => Ok(share),
             other => Err(other),
@@ -32,6 +36,11 @@ impl Share {
     #[inline]
     pub fn handle(&self) -> *mut raw::ShareHandle {
         self.handle.get()
+    }
+
+    /// Takes what the handle has, and leaves it nothing.
+    pub fn take(&mut self) -> Share {
+        mem::replace(self, Share::nothing())
     }
 }
 
@@ -86,7 +95,7 @@ answers!(
 /// Where what a call asks for is, and so whose shard it may need.
 #[derive(Clone, Copy)]
 pub(super) enum Place {
-    /// In the caller's own shard.
+    /// In the caller's own shard, or in the pool.
     Here,
     /// In the shard of this number, or where its keys have moved.
     Named(u32),
@@ -117,6 +126,9 @@ pub(super) struct Turn {
 struct Shared {
     steward_waits: AtomicBool,
     lanes: AllLanes,
+    // The steward of an arena that was dropped in a session of its own thread, with a plan that is still open.
+    left: Mutex<Option<Share>>,
+    has_left: AtomicBool,
 }
 
 impl Turn {
@@ -126,6 +138,8 @@ impl Turn {
         let shared = Shared {
             steward_waits: AtomicBool::new(false),
             lanes,
+            left: Mutex::new(None),
+            has_left: AtomicBool::new(false),
         };
         let shared = Arc::new(shared);
         (Turn { shared }, owners)
@@ -137,6 +151,7 @@ impl Turn {
     }
 
     /// Makes the call of a seat that keeps no shard, again and again while another thread has a lock that it needs: it has changed nothing then.
+    /// It is `BUSY` after all when it would wait for a session, and its thread is in one.
     #[inline]
     pub fn at_seat<A: Answer>(
         &self,
@@ -174,6 +189,37 @@ impl Turn {
         self.shared.steward_waits.load(Ordering::Relaxed)
     }
 
+    /// Leaves the steward with its open plan to whoever next leaves a session.
+    pub fn leave_plan(&self, steward: Share) {
+        *self.shared.left.lock().unwrap_or_else(PoisonError::into_inner) = Some(steward);
+        self.shared.has_left.store(true, Ordering::Relaxed);
+    }
+
+    /// Closes the plan of a steward that was left, if there is one and this thread need not wait for a session.
+    #[inline]
+    pub fn close_left_plan(&self) {
+        if self.shared.has_left.load(Ordering::Relaxed) {
+            self.close_plan_of_left();
+        }
+    }
+
+    /// Whoever else is at it will be done without this thread, which might be in another session.
+    #[cold]
+    fn close_plan_of_left(&self) {
+        let Ok(mut left) = self.shared.left.try_lock() else {
+            return;
+        };
+        if let Some(steward) = left.take() {
+            // SAFETY: the handle has a steward, and who has the lock alone calls it.
+            let status = self.at_steward(|| unsafe { raw::teurlaks_steward_close(steward.handle()) });
+            if status == raw::BUSY {
+                *left = Some(steward);
+            } else {
+                self.shared.has_left.store(false, Ordering::Relaxed);
+            }
+        }
+    }
+
     /// Lets others run while the steward waits, for a while at most: it may wait for a processor too.
     #[cold]
     fn let_steward(&self) {
@@ -190,14 +236,31 @@ impl Turn {
     fn insist<A: Answer>(&self, by: Taker, place: Place, mut call: impl FnMut() -> A) -> A {
         let mut patience = Patience::new();
         loop {
-            if !self.take_back(by, place, &patience) {
+            let is_in_vain = self.waits_in_vain(place, &patience);
+            if !self.take_back(by, place, &patience) && !is_in_vain {
                 patience.wait();
             }
             let answer = call();
-            if answer.status() != raw::BUSY {
+            if answer.status() != raw::BUSY || is_in_vain {
                 return answer;
             }
         }
+    }
+
+    /// Whether the call may wait for ever, since its thread is in a session: of the shard that it needs, or of another one, while
+    /// some thread that may wait for this one is in a session here.
+    fn waits_in_vain(&self, place: Place, patience: &Patience) -> bool {
+        if !inside::is_in_session() {
+            return false;
+        }
+        let lanes = &self.shared.lanes;
+        let is_own = match place {
+            // No other session has the lock of a seat's own shard, or the pool's.
+            Place::Here => return false,
+            Place::Named(shard) => lanes.is_in_session_here(shard),
+            Place::Anywhere => lanes.any_in_session_here(),
+        };
+        is_own && patience.is_worn() || patience.is_spent() && lanes.any_in_session()
     }
 
     /// Takes back what lanes keep of what the call may need, and says whether there was any. Where the key's shard is not kept, mostly a thread has
@@ -212,6 +275,12 @@ impl Turn {
     }
 }
 
+/// Says why a call gives nothing back that has no word for a refusal.
+#[cold]
+pub(super) fn no_wait_in_a_session() -> ! {
+    panic!("the call would wait for a session, and its thread is in one: drop that first, or make the call by it");
+}
+
 /// How often a seat lets others run before a call, while the steward waits.
 const MOST_YIELDS: u32 = 32;
 
@@ -224,8 +293,8 @@ const SOME_WAITS: u32 = 8;
 /// How often it waits before it sleeps.
 const MOST_WAITS: u32 = 32;
 
-/// How long it sleeps at a time: who has the lock waits for a processor then, or marks.
-const SLEEP: Duration = Duration::from_micros(20);
+/// How often it waits, some 0.3 seconds in all and nearly all of that asleep, before it takes what it waits for to be a session.
+const MOST_SLEEPS: u32 = 1 << 12;
 
 /// Waits longer and longer. The library itself looks at a lock 50 times before it answers that another thread has it.
 struct Patience {
@@ -242,12 +311,22 @@ impl Patience {
         self.times >= SOME_WAITS
     }
 
+    /// Whether it has waited until it would sleep.
+    fn is_worn(&self) -> bool {
+        self.times >= MOST_WAITS
+    }
+
+    /// Whether it has waited for longer than a lock is held that is in no session.
+    fn is_spent(&self) -> bool {
+        self.times >= MOST_SLEEPS
+    }
+
     fn wait(&mut self) {
         match self.times {
             few if few < MOST_PAUSES => (0..1 << few).for_each(|_| hint::spin_loop()),
             some if some < MOST_WAITS => thread::yield_now(),
-            _ => return thread::sleep(SLEEP),
+            _ => thread::sleep(SLEEP),
         }
-        self.times += 1;
+        self.times = self.times.saturating_add(1);
     }
 }

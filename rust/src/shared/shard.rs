@@ -110,9 +110,34 @@ impl<T> Shard<T> {
         self.piece(|store| store.trim(0).unwrap_or(0)).unwrap_or(0)
     }
 
-    /// Compacts as `Core::compact` does, in pieces, and says how many pages went.
+    /// Whoever has it compacts or forgets alone.
+    fn lock_pool(&self) -> MutexGuard<'_, bool> {
+        self.has_pool.lock().unwrap_or_else(PoisonError::into_inner)
+    }
+
+    /// Compacts as `Core::compact` does, in pieces, and says how many pages went. It forgets before, since what is forgotten need not move, and
+    /// at its end.
     pub fn compact(&self) -> Result<usize, Refused> {
-        let mut has_pool = self.has_pool.lock().unwrap_or_else(PoisonError::into_inner);
+        let mut has_pool = self.lock_pool();
+        self.forget_some()?;
+        let gone = self.fold_all(&mut has_pool)?;
+        self.forget_some()?;
+        Ok(gone)
+    }
+
+    /// Forgets as `Core::forget` does, behind a compaction that is under way, and says how many spans went.
+    pub fn forget(&self) -> usize {
+        let _alone = self.lock_pool();
+        // It is refused only while a plan is open: whoever opens one closes it before another has the pool.
+        self.forget_some().unwrap_or(0)
+    }
+
+    fn forget_some(&self) -> Result<usize, Refused> {
+        self.piece(Store::forget).unwrap_or(Ok(0))
+    }
+
+    /// Trims, folds as long as that gives a sixteenth of the pages back, and says how many pages went.
+    fn fold_all(&self, has_pool: &mut bool) -> Result<usize, Refused> {
         let mut gone = self.trim();
         // What a refusal has left in the pool.
         self.adopt_all()?;
