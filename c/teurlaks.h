@@ -237,7 +237,9 @@ struct teurlaks_retire_reply teurlaks_retire(struct teurlaks_handle *handle, uin
 struct teurlaks_trim_reply teurlaks_trim(struct teurlaks_handle *handle, uint32_t shard);
 
 /* Forgets the spans that can never be live again, with their generations: those that were folded and of which nothing is live, and those of
- * the pool on whose page nothing is live any more. What a shard has opened stays with it, since it takes puts again. Nothing else changes that a caller sees. TEURLAKS_PLAN_OPEN while a plan is open, and no other refusal. Takes no memory. */
+ * the pool on whose page nothing is live any more. What a shard has opened stays with it, since it takes puts again. Nothing else changes
+ * that a caller sees. TEURLAKS_PLAN_OPEN while a plan is open, and no other refusal. It gives memory back: the generations, and the room of
+ * tables of which a quarter would do. It asks for none but for a smaller table in the place of a larger one, which stays if there is none. */
 struct teurlaks_forget_reply teurlaks_forget(struct teurlaks_handle *handle);
 
 /* Moves the pool's group of lowest head that has a page to the shard. Where several causes hold, it is refused for the shard if there is one
