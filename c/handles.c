@@ -1,6 +1,6 @@
-/* Handles that are NULL, that never had a core, a seat or a steward, that have it no more, or that have the other of these two: each call
- * answers them, with its pointers to words and bytes there or NULL. With TEURLAKS_UNTESTED it is the archive that answers, and no pointer is
- * NULL. */
+/* The table of README.md of what is answered: handles that are NULL, that never had a core, a seat or a steward, that have it no more, or
+ * that have another of these; pointers to words, bytes, texts and walks that are NULL; and numbers that name nothing. With
+ * TEURLAKS_UNTESTED it is the archive that answers, and no pointer but to bytes is NULL. */
 #include "teurlaks.h"
 #include "wanted.h"
 #include <stdlib.h>
@@ -38,16 +38,24 @@ static void each_call(struct teurlaks_handle *none, struct teurlaks_key key) {
     WANT(teurlaks_step(none).status == TEURLAKS_NO_CORE);
     WANT(teurlaks_close(none) == TEURLAKS_NO_CORE);
     WANT(teurlaks_certificate(none, text, sizeof text).status == TEURLAKS_NO_CORE && text[0] == 7);
-    WANT(teurlaks_put_bytes(none, 0, bytes, sizeof bytes).status == TEURLAKS_NO_CORE);
+    for (size_t len = 0; len <= 300; len += 10) {
+        const void *at = len <= sizeof bytes ? bytes : NULL;
+        WANT(teurlaks_put_bytes(none, 0, at, len).status == TEURLAKS_NO_CORE);
+        WANT(teurlaks_set_bytes(none, key, at, len) == TEURLAKS_NO_CORE);
+    }
     WANT(teurlaks_get_bytes(none, key, bytes, sizeof bytes) == TEURLAKS_NO_CORE && bytes[0] == 7);
-    WANT(teurlaks_set_bytes(none, key, bytes, sizeof bytes) == TEURLAKS_NO_CORE);
+    WANT(teurlaks_get_bytes(none, key, NULL, 4) == TEURLAKS_NO_CORE);
     teurlaks_drop(none);
 }
+
+/* A key whose numbers no span, shard or slot has. */
+static const struct teurlaks_key greatest = {
+    .serial = UINT32_MAX, .generation = UINT32_MAX, .shard = 255, .slot = 255, .reserved = 65535};
 
 static void each_key(struct teurlaks_handle *none) {
     each_call(none, (struct teurlaks_key){0});
     each_call(none, least);
-    each_call(none, (struct teurlaks_key){.serial = UINT32_MAX, .generation = UINT32_MAX, .shard = 255, .slot = 255, .reserved = 65535});
+    each_call(none, greatest);
     WANT(!none || !none->at);
 }
 
@@ -90,44 +98,211 @@ static void each_call_of_a_steward(struct teurlaks_share_handle *none) {
     WANT(teurlaks_steward_next(none, &walk).status == TEURLAKS_NO_CORE && walk.shard == 1 && walk.serial == 2 && walk.slot == 3);
     struct teurlaks_arena_totals_reply totals = teurlaks_steward_totals(none);
     WANT(totals.status == TEURLAKS_NO_CORE && totals.pages == 0 && totals.live == 0);
+    struct teurlaks_share_handle seat = {0};
+    WANT(teurlaks_seat_leave(none, &seat) == TEURLAKS_NO_CORE);
 }
 
 static void each_call_of_a_share(struct teurlaks_share_handle *none, struct teurlaks_key key) {
     each_call_of_a_seat(none, key);
     each_call_of_a_steward(none);
+    WANT(teurlaks_arena_audit(none) == TEURLAKS_NO_CORE);
     teurlaks_share_drop(none);
     WANT(!none || !none->at);
 }
 
-/* A seat in the place of the steward and the steward in that of a seat are answered as handles of nothing, and what has something is given
- * nothing more. */
+/* What has something is given nothing more, whatever the numbers, and keeps what it has. */
+static void has_share(struct teurlaks_share_handle *share, struct teurlaks_share_handle *steward) {
+    const uint8_t *at = share->at;
+    WANT(teurlaks_arena_open(share, 2, 4, 1, 9) == TEURLAKS_HAS_CORE);
+    WANT(teurlaks_arena_open(share, 0, 0, 0, 0) == TEURLAKS_HAS_CORE);
+    WANT(teurlaks_arena_open_recorded(share, 2, 4, 1, 9) == TEURLAKS_HAS_CORE);
+    WANT(share == steward || teurlaks_steward_seat(steward, share) == TEURLAKS_HAS_CORE);
+    WANT(share->at == at);
+}
+
+/* NULL beside a handle that has something, and one handle in two places. */
+static void nowhere_at_shares(struct teurlaks_share_handle *steward,
+                              struct teurlaks_share_handle *seat, struct teurlaks_key key) {
+#ifndef TEURLAKS_UNTESTED
+    each_call_of_a_share(NULL, key);
+    WANT(teurlaks_arena_open(NULL, 1, 1, 1, 1) == TEURLAKS_NO_CORE);
+    WANT(teurlaks_arena_open_recorded(NULL, 1, 1, 1, 1) == TEURLAKS_NO_CORE);
+    WANT(teurlaks_steward_seat(steward, NULL) == TEURLAKS_NO_CORE);
+    WANT(teurlaks_seat_leave(steward, NULL) == TEURLAKS_NO_CORE);
+    WANT(teurlaks_seat_leave(NULL, seat) == TEURLAKS_NO_CORE);
+    WANT(teurlaks_seat_put_words(seat, NULL, 4).status == TEURLAKS_CONFIG);
+    WANT(teurlaks_seat_set_words(seat, key, NULL, 1) == TEURLAKS_CONFIG);
+    WANT(teurlaks_seat_get_words(seat, key, NULL, 16).status == TEURLAKS_TOO_SMALL);
+    WANT(teurlaks_steward_certificate(steward, NULL, 16).status == TEURLAKS_NONE);
+    struct teurlaks_share_handle none = {0}, *some[] = {steward, seat, &none};
+    for (size_t i = 0; i < sizeof some / sizeof some[0]; i++) {
+        WANT(teurlaks_seat_next(some[i], NULL).status == TEURLAKS_CONFIG);
+        WANT(teurlaks_steward_next(some[i], NULL).status == TEURLAKS_CONFIG);
+    }
+    WANT(teurlaks_seat_next(NULL, NULL).status == TEURLAKS_NO_CORE);
+    WANT(teurlaks_steward_next(NULL, NULL).status == TEURLAKS_NO_CORE);
+    WANT(teurlaks_seat_put_words(&none, NULL, 4).status == TEURLAKS_NO_CORE);
+    WANT(teurlaks_seat_set_words(&none, key, NULL, 1) == TEURLAKS_NO_CORE);
+    WANT(teurlaks_seat_get_words(&none, key, NULL, 16).status == TEURLAKS_NO_CORE);
+    WANT(teurlaks_steward_certificate(&none, NULL, 16).status == TEURLAKS_NO_CORE);
+    WANT(teurlaks_steward_seat(steward, steward) == TEURLAKS_HAS_CORE);
+    WANT(teurlaks_steward_seat(seat, seat) == TEURLAKS_HAS_CORE);
+    WANT(teurlaks_steward_seat(&none, &none) == TEURLAKS_NO_CORE);
+    WANT(teurlaks_seat_leave(steward, steward) == TEURLAKS_NO_CORE);
+    WANT(teurlaks_seat_leave(seat, seat) == TEURLAKS_NO_CORE);
+    WANT(teurlaks_seat_leave(&none, &none) == TEURLAKS_NO_CORE);
+#else
+    (void)steward, (void)seat, (void)key;
+#endif
+}
+
+/* Numbers that name no object, and no number of words that an object has. */
+static void numbers_at_shares(struct teurlaks_share_handle *steward,
+                              struct teurlaks_share_handle *seat, struct teurlaks_key key) {
+    struct teurlaks_word words[16] = {{7, 7}};
+    for (size_t len = 0; len <= 16; len++) {
+        if (len == 1 || len == 4 || len == 16) continue;
+        WANT(teurlaks_seat_put_words(seat, words, len).status == TEURLAKS_CONFIG);
+        WANT(teurlaks_seat_set_words(seat, key, words, len) == TEURLAKS_CONFIG);
+    }
+    struct teurlaks_key wrong[] = {{0}, greatest, {.serial = 9, .generation = 1}};
+    for (size_t i = 0; i < sizeof wrong / sizeof wrong[0]; i++) {
+        WANT(teurlaks_seat_get_words(seat, wrong[i], words, 16).status == TEURLAKS_NONE);
+        WANT(teurlaks_seat_set_words(seat, wrong[i], words, 1) == TEURLAKS_NONE);
+        WANT(teurlaks_seat_free(seat, wrong[i]) == TEURLAKS_NONE);
+    }
+    WANT(teurlaks_seat_free_later(seat, greatest) == TEURLAKS_NONE);
+    struct teurlaks_walk walk = {UINT32_MAX, UINT32_MAX, UINT32_MAX};
+    WANT(teurlaks_seat_next(seat, &walk).status == TEURLAKS_NONE);
+    WANT(teurlaks_steward_next(steward, &walk).status == TEURLAKS_NONE);
+}
+
+/* A seat in the place of the steward and the steward in that of a seat are answered as handles of nothing, and so is what is dropped. */
 static void shares(void) {
     struct teurlaks_share_handle steward = {0}, seat = {0};
     each_call_of_a_share(&seat, least);
     WANT(teurlaks_arena_open(&steward, 0, 4, 1, 9) == TEURLAKS_CONFIG && !steward.at);
-    WANT(teurlaks_arena_open(&steward, 2, 4, 1, 9) == TEURLAKS_OK && teurlaks_arena_open(&steward, 0, 4, 1, 9) == TEURLAKS_HAS_CORE);
-    WANT(teurlaks_steward_seat(&steward, &seat) == TEURLAKS_OK && teurlaks_steward_seat(&steward, &seat) == TEURLAKS_HAS_CORE);
+    WANT(teurlaks_arena_open(&steward, 2, 4, 1, 9) == TEURLAKS_OK);
+    WANT(teurlaks_steward_seat(&steward, &seat) == TEURLAKS_OK);
+    has_share(&steward, &steward);
+    has_share(&seat, &steward);
     struct teurlaks_put_reply put = teurlaks_seat_put_words(&seat, &one, 1);
     WANT(put.status == TEURLAKS_OK);
     each_call_of_a_seat(&steward, put.key);
     each_call_of_a_steward(&seat);
-    WANT(teurlaks_seat_put_words(&seat, &one, 2).status == TEURLAKS_CONFIG && teurlaks_seat_set_words(&seat, put.key, &one, 0) == TEURLAKS_CONFIG);
-#ifndef TEURLAKS_UNTESTED
-    each_call_of_a_share(NULL, put.key);
-    WANT(teurlaks_arena_open(NULL, 1, 1, 1, 1) == TEURLAKS_NO_CORE && teurlaks_steward_seat(&steward, NULL) == TEURLAKS_NO_CORE);
-    WANT(teurlaks_seat_put_words(&seat, NULL, 4).status == TEURLAKS_CONFIG && teurlaks_seat_set_words(&seat, put.key, NULL, 1) == TEURLAKS_CONFIG);
-    WANT(teurlaks_seat_get_words(&seat, put.key, NULL, 16).status == TEURLAKS_TOO_SMALL);
-#endif
-    WANT(teurlaks_steward_totals(&steward).live == 1 && teurlaks_seat_free(&seat, put.key) == TEURLAKS_OK);
+    WANT(teurlaks_seat_leave(&seat, &steward) == TEURLAKS_NO_CORE && seat.at && steward.at);
+    WANT(teurlaks_arena_audit(&steward) == TEURLAKS_NO_CORE);
+    WANT(teurlaks_arena_audit(&seat) == TEURLAKS_NO_CORE);
+    nowhere_at_shares(&steward, &seat, put.key);
+    numbers_at_shares(&steward, &seat, put.key);
+    WANT(teurlaks_steward_totals(&steward).live == 1);
+
+    /* The seat goes on without the steward. */
     teurlaks_share_drop(&steward);
+    WANT(teurlaks_seat_free(&seat, put.key) == TEURLAKS_OK);
     teurlaks_share_drop(&seat);
     each_call_of_a_share(&seat, put.key);
     each_call_of_a_share(&steward, put.key);
 }
 
+/* A seat that has left is a handle of nothing, and one of another arena stays what it is. */
+static void left_seats(void) {
+    struct teurlaks_share_handle steward = {0}, other = {0}, seat = {0}, strange = {0};
+    WANT(teurlaks_arena_open(&steward, 1, 4, 1, 9) == TEURLAKS_OK);
+    WANT(teurlaks_arena_open(&other, 1, 4, 1, 9) == TEURLAKS_OK);
+    WANT(teurlaks_steward_seat(&steward, &seat) == TEURLAKS_OK);
+    WANT(teurlaks_steward_seat(&other, &strange) == TEURLAKS_OK);
+    WANT(teurlaks_steward_seat(&steward, &(struct teurlaks_share_handle){0}) == TEURLAKS_NONE);
+    WANT(teurlaks_seat_leave(&steward, &strange) == TEURLAKS_CONFIG && strange.at);
+    WANT(teurlaks_seat_leave(&steward, &other) == TEURLAKS_NO_CORE && other.at);
+    WANT(teurlaks_seat_leave(&steward, &seat) == TEURLAKS_OK);
+    each_call_of_a_share(&seat, least);
+    WANT(teurlaks_seat_leave(&steward, &seat) == TEURLAKS_NO_CORE);
+    teurlaks_share_drop(&strange);
+    teurlaks_share_drop(&other);
+    teurlaks_share_drop(&steward);
+}
+
+/* A handle with an audited run has neither a steward nor a seat: it is audited again, and dropped. */
+static void audited_runs(void) {
+    struct teurlaks_share_handle steward = {0}, run = {0}, seat = {0};
+    WANT(teurlaks_arena_open_recorded(&run, 1, 4, 1, 9) == TEURLAKS_OK);
+    WANT(teurlaks_arena_open(&steward, 1, 4, 1, 9) == TEURLAKS_OK);
+    has_share(&run, &steward);
+    WANT(teurlaks_steward_seat(&run, &seat) == TEURLAKS_OK);
+    has_share(&seat, &run);
+    WANT(teurlaks_seat_leave(&steward, &seat) == TEURLAKS_CONFIG);
+    WANT(teurlaks_arena_audit(&run) == TEURLAKS_UNFINISHED);
+    WANT(teurlaks_seat_leave(&run, &seat) == TEURLAKS_OK);
+    WANT(teurlaks_arena_audit(&run) == TEURLAKS_OK);
+    each_call_of_a_seat(&run, least);
+    each_call_of_a_steward(&run);
+    has_share(&run, &steward);
+    WANT(teurlaks_seat_leave(&steward, &run) == TEURLAKS_NO_CORE);
+    WANT(teurlaks_arena_audit(&run) == TEURLAKS_OK);
+    teurlaks_share_drop(&run);
+    each_call_of_a_share(&run, least);
+    teurlaks_share_drop(&steward);
+}
+
+/* Numbers that name no shard of the core, no object of it, or no number of words that an object has. */
+static void numbers(struct teurlaks_handle *core, struct teurlaks_key key) {
+    struct teurlaks_word words[16] = {{7, 7}};
+    WANT(teurlaks_put(core, 2, one).status == TEURLAKS_CONFIG);
+    WANT(teurlaks_put_words(core, 2, words, 4).status == TEURLAKS_CONFIG);
+    WANT(teurlaks_put_bytes(core, 2, words, 9).status == TEURLAKS_CONFIG);
+    WANT(teurlaks_end(core, 2) == TEURLAKS_CONFIG && teurlaks_begin(core, 2) == TEURLAKS_CONFIG);
+    WANT(teurlaks_retire(core, 2, 1).status == TEURLAKS_CONFIG);
+    WANT(teurlaks_trim(core, 2).status == TEURLAKS_CONFIG);
+    for (size_t len = 0; len <= 16; len++) {
+        if (len == 1 || len == 4 || len == 16) continue;
+        WANT(teurlaks_put_words(core, 0, words, len).status == TEURLAKS_CONFIG);
+        WANT(teurlaks_set_words(core, key, words, len) == TEURLAKS_CONFIG);
+    }
+    struct teurlaks_key wrong[] = {{0}, greatest, {.serial = 9, .generation = 1}};
+    for (size_t i = 0; i < sizeof wrong / sizeof wrong[0]; i++) {
+        WANT(teurlaks_get(core, wrong[i]).status == TEURLAKS_NONE);
+        WANT(teurlaks_get_words(core, wrong[i], words, 16).status == TEURLAKS_NONE);
+        WANT(teurlaks_get_bytes(core, wrong[i], words, 1) == TEURLAKS_NONE);
+        WANT(teurlaks_set(core, wrong[i], one) == TEURLAKS_NONE);
+        WANT(teurlaks_set_words(core, wrong[i], words, 1) == TEURLAKS_NONE);
+        WANT(teurlaks_set_bytes(core, wrong[i], words, 1) == TEURLAKS_NONE);
+        WANT(teurlaks_free(core, wrong[i]) == TEURLAKS_NONE);
+    }
+    /* What is no key at all begins a walk, as a key of zeros does. */
+    WANT(teurlaks_next(core, wrong[0]).status == TEURLAKS_OK);
+    WANT(teurlaks_next(core, greatest).status == TEURLAKS_OK);
+    WANT(teurlaks_next(core, wrong[2]).status == TEURLAKS_NONE);
+}
+
+/* Bytes at NULL, or of a number that no object holds, are refused, and those of the key stay. */
+static void bytes_of(struct teurlaks_handle *core, struct teurlaks_key key) {
+    uint8_t bytes[257] = {0}, kept[16];
+    size_t live = teurlaks_totals(core).live;
+    for (size_t len = 0; len <= 257; len++) {
+        WANT(teurlaks_put_bytes(core, 0, NULL, len).status == TEURLAKS_CONFIG);
+        WANT(teurlaks_set_bytes(core, key, NULL, len) == TEURLAKS_CONFIG);
+    }
+    for (size_t len = 0; len <= 257; len += 257) {
+        WANT(teurlaks_put_bytes(core, 0, bytes, len).status == TEURLAKS_CONFIG);
+        WANT(teurlaks_set_bytes(core, key, bytes, len) == TEURLAKS_CONFIG);
+    }
+    WANT(teurlaks_get_bytes(core, key, NULL, 0) == TEURLAKS_OK);
+    WANT(teurlaks_get_bytes(core, key, bytes, 0) == TEURLAKS_OK && bytes[0] == 0);
+    WANT(teurlaks_get_bytes(core, key, NULL, 16) == TEURLAKS_CONFIG);
+    WANT(teurlaks_get_bytes(core, key, NULL, 17) == TEURLAKS_TOO_SMALL);
+    WANT(teurlaks_get_bytes(core, least, kept, 16) == TEURLAKS_OK);
+    WANT(!memcmp(kept, &one, sizeof kept) && teurlaks_totals(core).live == live);
+}
+
 /* NULL for the words of an object is no words, and for a room no room. */
 static void nowhere(struct teurlaks_handle *core, struct teurlaks_key key) {
 #ifndef TEURLAKS_UNTESTED
+    struct teurlaks_handle none = {0};
+    WANT(teurlaks_put_words(&none, 0, NULL, 4).status == TEURLAKS_NO_CORE);
+    WANT(teurlaks_set_words(&none, key, NULL, 1) == TEURLAKS_NO_CORE);
+    WANT(teurlaks_get_words(&none, key, NULL, 16).status == TEURLAKS_NO_CORE);
+    WANT(teurlaks_certificate(&none, NULL, 16).status == TEURLAKS_NO_CORE);
     each_key(NULL);
     WANT(teurlaks_new(NULL, 1, 1, 1, 1) == TEURLAKS_NO_CORE);
     WANT(teurlaks_put_words(core, 0, NULL, 4).status == TEURLAKS_CONFIG);
@@ -146,10 +321,21 @@ static void nowhere(struct teurlaks_handle *core, struct teurlaks_key key) {
 #endif
 }
 
+/* An adoption by a shard that there is not is refused for the plan and for the pool before. */
+static void adoptions(struct teurlaks_handle *core) {
+    uint32_t marked = teurlaks_mark(core).status;
+    WANT(marked == TEURLAKS_OK || marked == TEURLAKS_PLAN_OPEN);
+    WANT(teurlaks_adopt(core, 2).status == TEURLAKS_PLAN_OPEN);
+    WANT(teurlaks_close(core) == TEURLAKS_OK);
+    WANT(teurlaks_adopt(core, 2).status == TEURLAKS_NOTHING_TO_ADOPT);
+    WANT(teurlaks_end(core, 0) == TEURLAKS_OK);
+    WANT(teurlaks_adopt(core, 2).status == TEURLAKS_CONFIG);
+}
+
 /* Each status has a text of its own, and no other number has one. */
 static void texts(void) {
-    const char *unknown = teurlaks_strerror(TEURLAKS_BUSY + 1);
-    for (uint32_t status = 0; status <= TEURLAKS_BUSY; status++) {
+    const char *unknown = teurlaks_strerror(TEURLAKS_BARRIER_FAULT + 1);
+    for (uint32_t status = 0; status <= TEURLAKS_BARRIER_FAULT; status++) {
         WANT(teurlaks_strerror(status) != unknown);
         for (uint32_t other = 0; other < status; other++) WANT(teurlaks_strerror(other) != teurlaks_strerror(status));
     }
@@ -167,13 +353,18 @@ int main(void) {
     /* A second core is refused, whatever its numbers, and the first stays. */
     WANT(teurlaks_new(&core, 2, 4, 1, 9) == TEURLAKS_HAS_CORE && teurlaks_new(&core, 0, 0, 0, 0) == TEURLAKS_HAS_CORE);
     WANT(teurlaks_get(&core, put.key).value.low == one.low);
+    numbers(&core, put.key);
+    bytes_of(&core, put.key);
     nowhere(&core, put.key);
+    adoptions(&core);
 
     teurlaks_drop(&core);
     each_key(&core);
     WANT(teurlaks_new(&core, 1, 1, 1, 1) == TEURLAKS_OK);
     teurlaks_drop(&core);
     shares();
+    left_seats();
+    audited_runs();
     texts();
     return 0;
 }

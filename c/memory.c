@@ -1,5 +1,6 @@
-/* What a core takes from the allocator and gives back, counted block by block. Link it with
- * -Wl,--wrap=malloc,--wrap=realloc,--wrap=free. */
+/* What a core and an arena take from the allocator and give back, counted block by block: each call
+ * of which teurlaks.h says that it takes no memory, what goes with pages, and what goes with spans
+ * that are forgotten. Link it with -Wl,--wrap=malloc,--wrap=realloc,--wrap=free. */
 #include "teurlaks.h"
 #include <stdio.h>
 #include <stdlib.h>
@@ -13,7 +14,9 @@ struct header {
     size_t unused;
 };
 
-static size_t calls, blocks, bytes, pages, others;
+static size_t calls, blocks, bytes, most_bytes, pages, others;
+/* Whether no further block is to be had. */
+static int is_spent;
 
 void *__real_malloc(size_t size);
 void __real_free(void *block);
@@ -21,6 +24,7 @@ void __real_free(void *block);
 static void enter(size_t size) {
     blocks++;
     bytes += size;
+    if (most_bytes < bytes) most_bytes = bytes;
     pages += size == PAGE;
 }
 
@@ -31,7 +35,7 @@ static void leave(size_t size) {
 }
 
 void *__wrap_malloc(size_t size) {
-    struct header *made = __real_malloc(sizeof *made + size);
+    struct header *made = is_spent ? NULL : __real_malloc(sizeof *made + size);
     calls++;
     if (!made) return NULL;
     made->size = size;
@@ -62,6 +66,14 @@ void *__wrap_realloc(void *block, size_t size) {
             printf("memory.c:%d: %s (%zu calls, %zu blocks, %zu bytes, %zu pages)\n", __LINE__, #holds, calls, blocks, bytes, pages);             \
             exit(1);                                                                                                                             \
         }                                                                                                                                        \
+    } while (0)
+
+/* The call is answered so, asks the allocator for nothing, and gives nothing back. */
+#define QUIETLY(is_answered)                                                                       \
+    do {                                                                                           \
+        size_t before = calls;                                                                     \
+        WANT(is_answered);                                                                         \
+        WANT(calls == before);                                                                     \
     } while (0)
 
 static struct teurlaks_handle core;
@@ -97,9 +109,17 @@ static void look_up(uint32_t shard, size_t first, size_t slot) {
     }
 }
 
-/* What takes no memory asks for none, and gives none back: look-ups, frees, walks and totals. */
+/* What takes no memory asks for none, and gives none back: look-ups, sets, frees, walks and totals. */
 static void quiet_calls(void) {
+    struct teurlaks_word word = {7, 8};
+    uint8_t room[16];
+    struct teurlaks_key key = keys[0][1][0];
     size_t before = calls;
+    WANT(teurlaks_set(&core, key, word) == TEURLAKS_OK);
+    WANT(teurlaks_get_words(&core, key, &word, 1).status == TEURLAKS_OK && word.low == 7);
+    WANT(teurlaks_set_words(&core, key, &(struct teurlaks_word){1, 0}, 1) == TEURLAKS_OK);
+    WANT(teurlaks_get_bytes(&core, key, room, 16) == TEURLAKS_OK && room[0] == 1);
+    WANT(teurlaks_totals(&core).live == 2 * PAGES * SLOTS);
     for (size_t page = 0; page < PAGES; page++) {
         keep(0, page, page ? 0 : SLOTS);
         keep(1, page, 1);
@@ -174,6 +194,183 @@ static void end_without_lists(void) {
     WANT(put.status == TEURLAKS_OK && teurlaks_free(&core, put.key) == TEURLAKS_OK);
     WANT(teurlaks_end(&core, 2) == TEURLAKS_OK);
     WANT(blocks == before + 1);
+    QUIETLY(teurlaks_begin(&core, 2) == TEURLAKS_OK);
+}
+
+/* Each guest that the folds have brought goes once nothing in it is live, and so do the three
+ * groups of the pool that have no page; and with each its block of generations. */
+static void forget_guests(void) {
+    for (size_t page = 2; page < PAGES; page++) {
+        QUIETLY(teurlaks_free(&core, keys[0][page][0]) == TEURLAKS_OK);
+        WANT(teurlaks_get(&core, keys[0][page][0]).status == TEURLAKS_NONE);
+    }
+    size_t before = blocks;
+    struct teurlaks_forget_reply forgotten = teurlaks_forget(&core);
+    WANT(forgotten.status == TEURLAKS_OK && forgotten.count == PAGES - 2 + 3);
+    WANT(blocks <= before - (PAGES - 2 + 3));
+    look_up(1, 0, 1);
+    WANT_PAGES(PAGES + PAGES / 2 + 1);
+}
+
+/* Many spans of 16 slots, of which the first key is kept and the others are freed. */
+#ifndef MANY
+#define MANY 20000
+#endif
+enum { OF_SPAN = 16, STAY = MANY / 20 };
+
+static const struct teurlaks_word large[OF_SPAN];
+static struct teurlaks_key firsts[MANY];
+
+/* The core has none of the spans any more. What it keeps of so many is room for others to come; a
+ * list of what it has forgotten would be more. */
+static void wants_little(size_t before) { WANT(bytes - before <= 80 * MANY); }
+
+/* Frees the first keys of these spans, which are in the pool. */
+static void free_firsts(struct teurlaks_handle *many, size_t from, size_t to) {
+    for (size_t span = from; span < to; span++)
+        WANT(teurlaks_free(many, firsts[span]) == TEURLAKS_OK);
+}
+
+/* A core forgets the spans of its pool also if the allocator has nothing more. What could have gone
+ * to smaller tables then goes with the next forgetting. */
+static void core_forgets(void) {
+    struct teurlaks_handle many = {0};
+    WANT(teurlaks_new(&many, 1, MANY, 1, 9) == TEURLAKS_OK);
+    size_t empty = bytes;
+    for (size_t put = 0; put < MANY * OF_SPAN; put++) {
+        struct teurlaks_put_reply reply = teurlaks_put_words(&many, 0, large, OF_SPAN);
+        WANT(reply.status == TEURLAKS_OK);
+        if (reply.key.slot == 0) firsts[put / OF_SPAN] = reply.key;
+    }
+    for (size_t span = 0; span < MANY; span++)
+        for (uint8_t slot = 1; slot < OF_SPAN; slot++) {
+            struct teurlaks_key key = firsts[span];
+            key.slot = slot;
+            QUIETLY(teurlaks_free(&many, key) == TEURLAKS_OK);
+        }
+    WANT(teurlaks_end(&many, 0) == TEURLAKS_OK);
+    free_firsts(&many, STAY, MANY);
+    size_t before = bytes;
+    is_spent = 1;
+    struct teurlaks_forget_reply forgotten = teurlaks_forget(&many);
+    is_spent = 0;
+    WANT(forgotten.status == TEURLAKS_OK && forgotten.count == MANY - STAY && bytes < before);
+    forgotten = teurlaks_forget(&many);
+    WANT(forgotten.status == TEURLAKS_OK && forgotten.count == 0);
+    WANT(bytes <= before - 240 * (MANY - STAY));
+    free_firsts(&many, 0, STAY);
+    forgotten = teurlaks_forget(&many);
+    WANT(forgotten.status == TEURLAKS_OK && forgotten.count == STAY);
+    wants_little(empty);
+    teurlaks_drop(&many);
+}
+
+static struct teurlaks_share_handle steward, seat, other;
+
+/* Keys of objects of one word, put at a seat. */
+static void put_at(struct teurlaks_share_handle *at, struct teurlaks_key *put, size_t count) {
+    for (size_t i = 0; i < count; i++) {
+        struct teurlaks_word word = {i, 0};
+        struct teurlaks_put_reply reply = teurlaks_seat_put_words(at, &word, 1);
+        WANT(reply.status == TEURLAKS_OK);
+        put[i] = reply.key;
+    }
+}
+
+/* A look-up, a set and a free of a key, which then finds nothing. */
+static void quiet_at(struct teurlaks_share_handle *at, struct teurlaks_key key) {
+    struct teurlaks_word word = {9, 9};
+    QUIETLY(teurlaks_seat_set_words(at, key, &word, 1) == TEURLAKS_OK);
+    QUIETLY(teurlaks_seat_get_words(at, key, &word, 1).status == TEURLAKS_OK);
+    QUIETLY(teurlaks_seat_free(at, key) == TEURLAKS_OK);
+    QUIETLY(teurlaks_seat_free(at, key) == TEURLAKS_NONE);
+    QUIETLY(teurlaks_seat_get_words(at, key, &word, 1).status == TEURLAKS_NONE);
+}
+
+/* Calls of seats, of their own shard and of another, with a session and without. */
+static void quiet_seats(void) {
+    struct teurlaks_key put[8];
+    struct teurlaks_walk walk = {0, 0, 0};
+    put_at(&seat, put, 8);
+    quiet_at(&seat, put[0]);
+    quiet_at(&other, put[1]);
+    QUIETLY(teurlaks_seat_session(&seat) == TEURLAKS_OK);
+    quiet_at(&seat, put[2]);
+    QUIETLY(teurlaks_seat_session(&seat) == TEURLAKS_OK);
+    QUIETLY(teurlaks_seat_pause(&seat) == TEURLAKS_OK);
+    QUIETLY(teurlaks_seat_session(&other) == TEURLAKS_OK);
+    quiet_at(&other, put[3]);
+    QUIETLY(teurlaks_seat_next(&other, &walk).status == TEURLAKS_OK);
+    QUIETLY(teurlaks_steward_next(&steward, &walk).status == TEURLAKS_OK);
+    QUIETLY(teurlaks_steward_totals(&steward).live == 4);
+    QUIETLY(teurlaks_steward_close(&steward) == TEURLAKS_NO_PLAN);
+    QUIETLY(teurlaks_seat_begin(&seat) == TEURLAKS_RUNNING);
+}
+
+/* Keys that are left to a seat, some full blocks of them and one that is handed over. */
+static void quiet_ring(void) {
+    enum { LEFT = 200 };
+    static struct teurlaks_key put[LEFT];
+    put_at(&seat, put, LEFT);
+    for (size_t i = 0; i < LEFT; i++)
+        QUIETLY(teurlaks_seat_free_later(&other, put[i]) == TEURLAKS_OK);
+    QUIETLY(teurlaks_seat_hand_over(&other) == TEURLAKS_OK);
+    QUIETLY(teurlaks_seat_tend(&seat).count == LEFT);
+}
+
+/* A trim gives pages back, and asks for nothing. */
+static void trim_at(void) {
+    static struct teurlaks_key put[4 * SLOTS];
+    put_at(&other, put, 4 * SLOTS);
+    for (size_t i = 0; i < 4 * SLOTS; i++)
+        QUIETLY(teurlaks_seat_free(&other, put[i]) == TEURLAKS_OK);
+    size_t asked = calls, kept = blocks;
+    struct teurlaks_trim_reply trimmed = teurlaks_seat_trim(&other);
+    WANT(trimmed.status == TEURLAKS_OK && trimmed.count == 4);
+    WANT(calls == asked + 4 && blocks == kept - 4);
+}
+
+/* A steward forgets as a core does. */
+static void steward_forgets(void) {
+    size_t empty = bytes;
+    for (size_t put = 0; put < MANY * OF_SPAN; put++) {
+        struct teurlaks_put_reply reply = teurlaks_seat_put_words(&seat, large, OF_SPAN);
+        WANT(reply.status == TEURLAKS_OK);
+        if (reply.key.slot == 0) firsts[put / OF_SPAN] = reply.key;
+    }
+    for (size_t span = 0; span < MANY; span++)
+        for (uint8_t slot = 1; slot < OF_SPAN; slot++) {
+            struct teurlaks_key key = firsts[span];
+            key.slot = slot;
+            QUIETLY(teurlaks_seat_free(&seat, key) == TEURLAKS_OK);
+        }
+    WANT(teurlaks_seat_end(&seat) == TEURLAKS_OK);
+    QUIETLY(teurlaks_seat_begin(&seat) == TEURLAKS_OK);
+    for (size_t span = 0; span < MANY; span++)
+        WANT(teurlaks_seat_free(&other, firsts[span]) == TEURLAKS_OK);
+    size_t before = bytes;
+    is_spent = 1;
+    struct teurlaks_forget_reply forgotten = teurlaks_steward_forget(&steward);
+    is_spent = 0;
+    WANT(forgotten.status == TEURLAKS_OK && forgotten.count == MANY && bytes < before);
+    forgotten = teurlaks_steward_forget(&steward);
+    WANT(forgotten.status == TEURLAKS_OK && forgotten.count == 0);
+    wants_little(empty);
+}
+
+static void arena(void) {
+    WANT(teurlaks_arena_open(&steward, 2, MANY + 64, 256, 9) == TEURLAKS_OK);
+    WANT(teurlaks_steward_seat(&steward, &seat) == TEURLAKS_OK);
+    WANT(teurlaks_steward_seat(&steward, &other) == TEURLAKS_OK);
+    quiet_seats();
+    quiet_ring();
+    QUIETLY(teurlaks_seat_session(&seat) == TEURLAKS_OK);
+    quiet_ring();
+    trim_at();
+    steward_forgets();
+    teurlaks_share_drop(&steward);
+    teurlaks_share_drop(&seat);
+    teurlaks_share_drop(&other);
 }
 
 int main(void) {
@@ -188,8 +385,13 @@ int main(void) {
     fold();
     trim();
     end_without_lists();
+    forget_guests();
     teurlaks_drop(&core);
+    core_forgets();
+    arena();
     WANT(blocks == 0 && bytes == 0);
-    printf("each page that a fold, an end, a free or a trim regained was given back to the allocator\n");
+    printf("each page that a fold, an end, a free or a trim regained was given back,\n"
+           "and so was what %d forgotten spans took\n",
+           MANY);
     return 0;
 }

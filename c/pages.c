@@ -2,20 +2,24 @@
  * the physical pages that its meshing regains. Link it in place of the kit's liblibc_c.a, which asks malloc for everything.
  *
  * A request of exactly 4,096 bytes (a page of objects) or of 1,024 bytes (the generations of 256 slots of which one has passed 255) is a
- * block of a range of its own; all else goes to malloc. A range is address space that is reserved once and opened bit by bit:
+ * block of a range of its own; all else goes to malloc. A range is address space that is reserved and opened bit by bit:
  *
  *   0                                opened             reserved
  *   | used | free | used | free, kept |  no memory yet  |
  *            no memory     memory, for the next request
  *
+ * - All address space of a range is reserved at once, as one stretch, since it costs nothing. If the process has a limit of it
+ *   (RLIMIT_AS, `ulimit -v`), or the system refuses so much, a range has several stretches: each is as long as all before it, or half
+ *   of that or less if no more is to be had. So no more is reserved than twice what has been used, and OPEN pages.
  * - The lowest free block is taken first, so that the upper end of the range empties.
  * - A system page all of whose blocks are free is kept at first. When KEEP of them are kept they are all handed to the system, in
  *   runs where neighbours are free. So at most KEEP - 1 system pages of a range are neither used nor given back.
- * - Where a range cannot be had, or is spent, or the system opens no more of it, malloc is asked, and where that refuses the request is
- *   refused.
+ * - If a range is spent, or the system reserves or opens no more of it, malloc is asked, and if that refuses the request is refused.
  * - When the last block of all comes back, as with the last core that is dropped, what is kept goes to the system too. If more than
  *   LET_GO bytes were asked of malloc since the last such time, glibc's malloc_trim(0) has malloc do likewise, which else keeps
  *   some MB of free blocks; it looks at all of the process's free blocks.
+ * - When the library is unloaded (dlclose), a range with no block in use is unmapped; of another one, whose blocks a program has not
+ *   given back, what was never opened. The same is done when the process ends, as a call may still come then.
  *
  * Any number of threads may call: each range has a lock, which is not held while the system takes pages back. The forked child of a
  * process with threads makes no call, as teurlaks.h says.
@@ -28,21 +32,23 @@
 #include <stdlib.h>
 #include <string.h>
 #include <sys/mman.h>
+#include <sys/resource.h>
 #include <unistd.h>
 #ifdef __GLIBC__
 #include <malloc.h>
 #endif
 
 #define SYSTEM_PAGE 4096
-/* System pages of a range: a multiple of 4,096. 1,048,576 of them are 4 GB, sixteen full cores. */
+/* System pages of a range: a multiple of 4,096. 1,048,576 of them are 4 GB, one full shard. */
 #ifndef RANGE_PAGES
 #define RANGE_PAGES 1048576
 #endif
-#define RANGE_BYTES ((size_t)RANGE_PAGES * SYSTEM_PAGE)
-/* How many system pages a range opens at a time. */
+/* How many system pages a range opens at a time, and the least that it reserves. */
 #ifndef OPEN
 #define OPEN 256
 #endif
+/* How many stretches a range may have. */
+#define STRETCHES 64
 /* How many free system pages a range keeps, less one. 1: each is given back at once. */
 #ifndef KEEP
 #define KEEP 64
@@ -67,18 +73,27 @@ struct blocks {
     uint64_t warm[RANGE_PAGES / 64];
 };
 
-enum state { NEW, RESERVED, NOT_TO_BE_HAD };
+/* Address space of a range that lies side by side. */
+struct stretch {
+    uint8_t *base;       /* these two are written once, before there are pages */
+    size_t first;        /* how many system pages of the range stand before it */
+    atomic_size_t pages; /* 0: there is no stretch, here and from here on */
+};
 
 struct range {
     pthread_mutex_t lock;
-    _Atomic(uint8_t *) base; /* written once, before the first block is handed out */
+    struct stretch stretches[STRETCHES];
     struct blocks *blocks;
-    size_t size;   /* of a block */
-    size_t per;    /* blocks of a system page */
-    size_t opened; /* blocks that may be used */
-    size_t next;   /* blocks from here on were never used */
-    size_t kept;   /* how many system pages are warm */
-    enum state state;
+    size_t size;      /* of a block */
+    size_t per;       /* blocks of a system page */
+    size_t count;     /* of stretches */
+    size_t reserved;  /* system pages of all stretches */
+    size_t opened;    /* blocks that may be used */
+    size_t next;      /* blocks from here on were never used */
+    size_t used;      /* blocks that the library has */
+    size_t kept;      /* how many system pages are warm */
+    size_t returning; /* how many calls are handing pages to the system */
+    int is_closed;    /* whether it hands out no block any more */
 };
 
 /* System pages that lie side by side. */
@@ -116,25 +131,57 @@ static ptrdiff_t least_of(const struct blocks *b) {
     return -1;
 }
 
-static void reserve(struct range *r) {
-    void *at = MAP_FAILED;
-    if (sysconf(_SC_PAGESIZE) == SYSTEM_PAGE)
-        at = mmap(NULL, RANGE_BYTES, PROT_NONE, MAP_PRIVATE | MAP_ANONYMOUS | MAP_NORESERVE, -1, 0);
-    r->state = at == MAP_FAILED ? NOT_TO_BE_HAD : RESERVED;
-    if (r->state == NOT_TO_BE_HAD) return;
+/* Where a system page of the range stands. */
+static uint8_t *page_at(struct range *r, size_t page) {
+    struct stretch *s = r->stretches;
+    while (page - s->first >= s->pages) s++;
+    return s->base + (page - s->first) * SYSTEM_PAGE;
+}
+
+/* Where a block of the range stands. */
+static uint8_t *block_at(struct range *r, size_t n) { return page_at(r, n / r->per) + n % r->per * r->size; }
+
+/* Whether address space is dear: it may also be wanted for something else. */
+static int is_limited(void) {
+    struct rlimit limit;
+    return getrlimit(RLIMIT_AS, &limit) == 0 && limit.rlim_cur != RLIM_INFINITY;
+}
+
+/* Reserves a further stretch, and tells whether it could be had. */
+static int reserve(struct range *r) {
+    size_t left = RANGE_PAGES - r->reserved, pages = left;
+    if (is_limited()) pages = r->reserved < OPEN ? OPEN : r->reserved;
+    if (pages > left) pages = left;
+    if (pages == 0 || r->count == STRETCHES || sysconf(_SC_PAGESIZE) != SYSTEM_PAGE) return 0;
+    void *at;
+    while ((at = mmap(NULL, pages * SYSTEM_PAGE, PROT_NONE, MAP_PRIVATE | MAP_ANONYMOUS | MAP_NORESERVE, -1, 0)) == MAP_FAILED) {
+        if (pages <= OPEN) return 0;
+        pages = pages / 2 < OPEN ? OPEN : pages / 2;
+    }
     /* A huge page would be memory for 512 pages, used or not. That the system has none is no matter. */
-    madvise(at, RANGE_BYTES, MADV_NOHUGEPAGE);
-    atomic_store_explicit(&r->base, at, memory_order_release);
+    madvise(at, pages * SYSTEM_PAGE, MADV_NOHUGEPAGE);
+    struct stretch *s = &r->stretches[r->count++];
+    s->base = at;
+    s->first = r->reserved;
+    atomic_store_explicit(&s->pages, pages, memory_order_release);
+    r->reserved += pages;
+    return 1;
+}
+
+/* Opens further blocks, which are all of the last stretch, and tells whether there are some. */
+static int open_more(struct range *r) {
+    size_t open = r->opened / r->per;
+    if (open == r->reserved && !reserve(r)) return 0;
+    size_t left = r->reserved - open, more = left < OPEN ? left : OPEN;
+    if (mprotect(page_at(r, open), more * SYSTEM_PAGE, PROT_READ | PROT_WRITE)) return 0;
+    r->opened += more * r->per;
+    return 1;
 }
 
 /* A block that was never used, or NULL. */
 static void *fresh(struct range *r) {
-    if (r->next == r->opened) {
-        size_t open = r->opened / r->per, more = RANGE_PAGES - open < OPEN ? RANGE_PAGES - open : OPEN;
-        if (more == 0 || mprotect(r->base + open * SYSTEM_PAGE, more * SYSTEM_PAGE, PROT_READ | PROT_WRITE)) return NULL;
-        r->opened += more * r->per;
-    }
-    return r->base + r->next++ * r->size;
+    if (r->next == r->opened && !open_more(r)) return NULL;
+    return block_at(r, r->next++);
 }
 
 /* The block, which is no longer free; nor is its system page counted among the warm ones. */
@@ -145,20 +192,25 @@ static void *taken(struct range *r, size_t n) {
         r->blocks->warm[page / 64] &= ~(1ull << page % 64);
         r->kept--;
     }
-    return r->base + n * r->size;
+    return block_at(r, n);
 }
 
 /* A block, or NULL. */
 static void *take(struct range *r) {
     void *at = NULL;
     pthread_mutex_lock(&r->lock);
-    if (r->state == NEW) reserve(r);
-    if (r->state == RESERVED) {
+    if (!r->is_closed) {
         ptrdiff_t n = least_of(r->blocks);
         at = n < 0 ? fresh(r) : taken(r, n);
+        r->used += at != NULL;
     }
     pthread_mutex_unlock(&r->lock);
     return at;
+}
+
+/* Whether the page goes on what the run has, in the same stretch. */
+static int goes_on(struct range *r, const struct run *run, uint32_t page) {
+    return run->to == page && page_at(r, page - 1) + SYSTEM_PAGE == page_at(r, page);
 }
 
 /* The warm pages, as runs, which are neither warm nor free from then on. Answers how many runs there are. */
@@ -170,7 +222,7 @@ static size_t cool_down(struct range *r, struct run runs[KEEP]) {
             r->blocks->warm[w] &= r->blocks->warm[w] - 1;
             r->kept--;
             for (size_t i = 0; i < r->per; i++) erase(r->blocks, page * r->per + i);
-            if (many && runs[many - 1].to == page) runs[many - 1].to++;
+            if (many && goes_on(r, &runs[many - 1], page)) runs[many - 1].to++;
             else runs[many++] = (struct run){page, page + 1};
         }
     return many;
@@ -180,18 +232,21 @@ static size_t cool_down(struct range *r, struct run runs[KEEP]) {
 static void give_back(struct range *r) {
     struct run runs[KEEP];
     size_t many = cool_down(r, runs);
+    r->returning++;
     pthread_mutex_unlock(&r->lock);
     for (size_t i = 0; i < many; i++)
-        madvise(r->base + (size_t)runs[i].from * SYSTEM_PAGE, (size_t)(runs[i].to - runs[i].from) * SYSTEM_PAGE, MADV_DONTNEED);
+        madvise(page_at(r, runs[i].from), (size_t)(runs[i].to - runs[i].from) * SYSTEM_PAGE, MADV_DONTNEED);
     pthread_mutex_lock(&r->lock);
+    r->returning--;
     for (size_t i = 0; i < many; i++)
         for (size_t n = runs[i].from * r->per; n < runs[i].to * r->per; n++) insert(r->blocks, n);
 }
 
-static void put_back(struct range *r, void *at) {
-    size_t n = ((uint8_t *)at - r->base) / r->size, page = n / r->per;
+static void put_back(struct range *r, size_t n) {
+    size_t page = n / r->per;
     uint64_t all = (1ull << r->per) - 1;
     pthread_mutex_lock(&r->lock);
+    r->used--;
     insert(r->blocks, n);
     /* Where the page has blocks that were never used, these are not in the set, so it is not given back. */
     if ((r->blocks->low[page * r->per / 64] >> page * r->per % 64 & all) == all) {
@@ -204,13 +259,24 @@ static void put_back(struct range *r, void *at) {
 static struct range *const ranges[] = {&pages, &quarters};
 enum { RANGES = sizeof ranges / sizeof ranges[0] };
 
-/* Whose block it is, or NULL for one of malloc. */
-static struct range *of(const void *at) {
+/* A block, by its range and its number there. */
+struct found {
+    struct range *range;
+    size_t n;
+};
+
+/* Which block it is; its range is NULL if it is one of malloc. */
+static struct found find(const void *at) {
     for (int i = 0; i < RANGES; i++) {
-        uint8_t *base = atomic_load_explicit(&ranges[i]->base, memory_order_acquire);
-        if (base && (uintptr_t)at - (uintptr_t)base < RANGE_BYTES) return ranges[i];
+        struct range *r = ranges[i];
+        for (struct stretch *s = r->stretches; s < r->stretches + STRETCHES; s++) {
+            size_t pages = atomic_load_explicit(&s->pages, memory_order_acquire);
+            if (pages == 0) break;
+            size_t from = (uintptr_t)at - (uintptr_t)s->base;
+            if (from < pages * SYSTEM_PAGE) return (struct found){r, s->first * r->per + from / r->size};
+        }
     }
-    return NULL;
+    return (struct found){NULL, 0};
 }
 
 /* Hands all that is kept to the system, once nothing is in use. That another thread takes a block meanwhile is no matter. */
@@ -240,14 +306,14 @@ struct got rattle_alloc(size_t size, size_t least) {
 }
 
 void rattle_dealloc(void *at) {
-    struct range *r = of(at);
-    if (r) put_back(r, at);
+    struct found block = find(at);
+    if (block.range) put_back(block.range, block.n);
     else free(at);
     if (atomic_fetch_sub_explicit(&in_use, 1, memory_order_relaxed) == 1) let_go();
 }
 
 struct got rattle_realloc(void *at, size_t old, size_t size, size_t least) {
-    if (!of(at)) {
+    if (!find(at).range) {
         atomic_fetch_add_explicit(&asked, size, memory_order_relaxed);
         void *now = realloc(at, size ? size : least);
         return (struct got){now != NULL, now ? now : nothing};
@@ -258,4 +324,34 @@ struct got rattle_realloc(void *at, size_t old, size_t size, size_t least) {
         rattle_dealloc(at);
     }
     return got;
+}
+
+/* Unmaps the end of a stretch, from this page of it on. Whatever the system lays there is not of the range then. */
+static void unmap(struct stretch *s, size_t from) {
+    size_t pages = s->pages;
+    atomic_store_explicit(&s->pages, from, memory_order_release);
+    if (from < pages) munmap(s->base + from * SYSTEM_PAGE, (pages - from) * SYSTEM_PAGE);
+}
+
+/* Gives the address space of the range back, but for what is opened, if a block there is in use. Called with the lock. */
+static void close_range_of(struct range *r) {
+    int is_used = r->used || r->returning;
+    size_t opened = is_used ? r->opened / r->per : 0;
+    r->is_closed = 1;
+    while (r->count && r->reserved > opened) {
+        struct stretch *s = &r->stretches[--r->count];
+        size_t left = opened > s->first ? opened - s->first : 0;
+        unmap(s, left);
+        r->reserved = s->first + left;
+    }
+}
+
+/* When the library is unloaded, or the process ends. A call that a thread is in then goes on: it may have been forked away, and its lock with
+ * it, so that this does not wait for one. */
+__attribute__((destructor)) static void unload(void) {
+    for (int i = 0; i < RANGES; i++)
+        if (pthread_mutex_trylock(&ranges[i]->lock) == 0) {
+            close_range_of(ranges[i]);
+            pthread_mutex_unlock(&ranges[i]->lock);
+        }
 }

@@ -1,12 +1,14 @@
 /* Tests of pages.c: that pages leave the process, that no byte has two holders, whatever threads ask, and what comes of refusals.
  * Link it with -Wl,--wrap=malloc,--wrap=mmap,--wrap=mprotect. With -DFEW it is built for a range of 4,096 pages, which is spent. The word
- * `mmap` or `mprotect` has that refused. With -DWATCHED=1, under a sanitizer or valgrind, resident size is not looked at. */
+ * `mmap` or `mprotect` has that refused. With `large` only address space of more than 16 MB is refused, and with `limit` the process has 1 GB
+ * of it: blocks stand in several stretches then. With -DWATCHED=1, under a sanitizer or valgrind, resident size is not looked at. */
 #include "wanted.h"
 #include <pthread.h>
 #include <stdint.h>
 #include <stdio.h>
 #include <stdlib.h>
 #include <string.h>
+#include <sys/resource.h>
 
 #ifndef ROUNDS
 #define ROUNDS 100000
@@ -23,12 +25,13 @@ struct got {
 struct got rattle_alloc(size_t size, size_t least), rattle_realloc(void *at, size_t old, size_t size, size_t least);
 void rattle_dealloc(void *at);
 
-static int refuse_mmap, refuse_mprotect, refuse_malloc;
+static int refuse_mprotect, refuse_malloc, are_apart;
+static size_t most = SIZE_MAX; /* bytes that a call of mmap may ask for */
 void *__real_mmap(void *, size_t, int, int, int, long), *__real_malloc(size_t);
 int __real_mprotect(void *, size_t, int);
 
 void *__wrap_mmap(void *at, size_t size, int protection, int flags, int file, long from) {
-    return refuse_mmap ? (void *)-1 : __real_mmap(at, size, protection, flags, file, from);
+    return size > most ? (void *)-1 : __real_mmap(at, size, protection, flags, file, from);
 }
 
 int __wrap_mprotect(void *at, size_t size, int protection) { return refuse_mprotect ? -1 : __real_mprotect(at, size, protection); }
@@ -120,7 +123,7 @@ static void refused(void) {
     struct got one = rattle_alloc(4096, 1), other = rattle_alloc(1024, 1);
     refuse_malloc = 0;
     WANT(!one.ok && !other.ok && one.at && other.at);
-    refuse_mmap = refuse_mprotect = 0;
+    most = SIZE_MAX, refuse_mprotect = 0;
     rattle_dealloc(alloc(4096, 1));
 }
 
@@ -137,11 +140,12 @@ static long resident(void) {
     return resident * 4;
 }
 
-/* Blocks come in order, freed ones leave the process and come again, the lowest first, and the others keep their bytes. */
+/* Blocks come in order, side by side in a stretch. Freed ones leave the process and come again, the lowest first, and the others keep their
+ * bytes. */
 static void leave_and_come(void) {
     for (int i = 0; i < COUNT; i++) {
         WANT((uintptr_t)page[i] % 4096 == 0 && (uintptr_t)quarter[i] % 1024 == 0);
-        WANT(i == 0 || (page[i] == page[i - 1] + 4096 && quarter[i] == quarter[i - 1] + 1024));
+        WANT(i == 0 || are_apart || (page[i] == page[i - 1] + 4096 && quarter[i] == quarter[i - 1] + 1024));
     }
     long full = resident();
     for (int i = 1; i < COUNT; i += 2) rattle_dealloc(page[i]);
@@ -176,16 +180,33 @@ static void all_goes(void) {
 }
 #endif
 
+/* Of a gigabyte of address space, most is still there for others. */
+static void leaves_room(void) {
+    void *room = malloc(700 << 20);
+    WANT(room);
+    free(room);
+}
+
+static void limit_to_a_gigabyte(void) {
+    struct rlimit gigabyte = {1 << 30, 1 << 30};
+    WANT(setrlimit(RLIMIT_AS, &gigabyte) == 0);
+}
+
 int main(int argc, char **argv) {
     const char *what = argc > 1 ? argv[1] : "";
-    refuse_mmap = !strcmp(what, "mmap");
+    int is_limited = !strcmp(what, "limit"), is_refused = !strcmp(what, "mmap");
     refuse_mprotect = !strcmp(what, "mprotect");
-    if (refuse_mmap || refuse_mprotect) refused();
+    if (is_refused) most = 0;
+    if (!strcmp(what, "large")) most = 16 << 20;
+    if (is_limited) limit_to_a_gigabyte();
+    are_apart = is_limited || most < SIZE_MAX;
+    if (is_refused || refuse_mprotect) refused();
     else {
         for (int i = 0; i < COUNT; i++) {
             page[i] = alloc(4096, 1);
             quarter[i] = alloc(1024, 2);
         }
+        if (is_limited) leaves_room();
 #ifndef FEW
         leave_and_come();
 #endif

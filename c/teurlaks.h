@@ -4,7 +4,7 @@
  *
  * Each call but teurlaks_new may be given a handle that has no core, since none was made or it was dropped, and every call NULL in its place:
  * it answers TEURLAKS_NO_CORE, a teurlaks_drop does nothing, and a teurlaks_totals counts nothing. What is answered of a handle without a core
- * is proved; NULL is tested for in C (teurlaks_calls.h).
+ * is proved; NULL is tested for in C (teurlaks_calls.h). A table of README.md says call by call what is answered and what is undefined.
  *
  * What a caller owes, since nothing can check it:
  * - A handle begins as zeros. Only the library reads or writes it and what it points to, and of two copies of a handle one is never used again.
@@ -237,7 +237,9 @@ struct teurlaks_retire_reply teurlaks_retire(struct teurlaks_handle *handle, uin
 struct teurlaks_trim_reply teurlaks_trim(struct teurlaks_handle *handle, uint32_t shard);
 
 /* Forgets the spans that can never be live again, with their generations: those that were folded and of which nothing is live, and those of
- * the pool on whose page nothing is live any more. What a shard has opened stays with it, since it takes puts again. Nothing else changes that a caller sees. TEURLAKS_PLAN_OPEN while a plan is open, and no other refusal. Takes no memory. */
+ * the pool on whose page nothing is live any more. What a shard has opened stays with it, since it takes puts again. Nothing else changes
+ * that a caller sees. TEURLAKS_PLAN_OPEN while a plan is open, and no other refusal. It gives memory back: the generations, and the room of
+ * tables of which a quarter would do. It asks for none but for a smaller table in the place of a larger one, which stays if there is none. */
 struct teurlaks_forget_reply teurlaks_forget(struct teurlaks_handle *handle);
 
 /* Moves the pool's group of lowest head that has a page to the shard. Where several causes hold, it is refused for the shard if there is one
@@ -363,7 +365,7 @@ struct teurlaks_trim_reply teurlaks_seat_trim(struct teurlaks_share_handle *hand
 struct teurlaks_adopt_reply teurlaks_seat_adopt(struct teurlaks_share_handle *handle);
 
 /* The live key of the arena that comes next in the walk, which then stands behind it: no key comes twice, and each that is live all the while
- * comes. TEURLAKS_NONE at the end of the walk. After TEURLAKS_BUSY the next call goes on from there. */
+ * comes. TEURLAKS_NONE at the end of the walk. After TEURLAKS_BUSY the next call goes on from there. NULL for the walk is TEURLAKS_CONFIG. */
 struct teurlaks_next_reply teurlaks_seat_next(struct teurlaks_share_handle *handle, struct teurlaks_walk *walk);
 
 /* As teurlaks_mark, of all shards at one time. */

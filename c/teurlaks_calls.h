@@ -1,9 +1,9 @@
 /* The calls of teurlaks.h with their pointers tested, and the texts of what they answer. teurlaks.h includes this file.
  *
- * The archive's functions are proved for a pointer to a handle, with a core or without, and for pointers to words and bytes that are there.
- * A NULL in the place of one is tested for here, in C: of a handle it is answered as a handle without a core is, and of words and bytes as
- * none of them. A compiler that sees that a pointer is not NULL leaves the test out. Define TEURLAKS_UNTESTED before teurlaks.h is
- * included to call the archive's functions by themselves.
+ * The archive's functions are proved for a pointer to a handle, with a core or without, and for pointers to words, bytes and walks that are
+ * there, each apart from the others. What else C can pass is tested for here: NULL, and one handle in two places. README.md's table says
+ * what each call answers then. A compiler that sees that a pointer is not NULL leaves the test out. Define TEURLAKS_UNTESTED before
+ * teurlaks.h is included to call the archive's functions by themselves.
  */
 #ifndef TEURLAKS_CALLS_H
 #define TEURLAKS_CALLS_H
@@ -163,10 +163,13 @@ TEURLAKS_INLINE uint32_t teurlaks_tested_arena_audit(struct teurlaks_share_handl
 }
 
 TEURLAKS_INLINE uint32_t teurlaks_tested_seat_leave(struct teurlaks_share_handle *handle, struct teurlaks_share_handle *seat) {
-    return handle && seat ? teurlaks_seat_leave(handle, seat) : (uint32_t)TEURLAKS_NO_CORE;
+    /* A handle has a steward or a seat, and not both. */
+    int are_two = handle && seat && handle != seat;
+    return are_two ? teurlaks_seat_leave(handle, seat) : (uint32_t)TEURLAKS_NO_CORE;
 }
 
 TEURLAKS_INLINE uint32_t teurlaks_tested_steward_seat(struct teurlaks_share_handle *handle, struct teurlaks_share_handle *out) {
+    if (handle && handle == out) return handle->at ? TEURLAKS_HAS_CORE : TEURLAKS_NO_CORE;
     return handle && out ? teurlaks_steward_seat(handle, out) : (uint32_t)TEURLAKS_NO_CORE;
 }
 
@@ -231,12 +234,14 @@ TEURLAKS_INLINE struct teurlaks_retire_reply teurlaks_tested_seat_retire(struct 
 
 TEURLAKS_INLINE struct teurlaks_next_reply teurlaks_tested_seat_next(struct teurlaks_share_handle *handle, struct teurlaks_walk *walk) {
     struct teurlaks_next_reply none = {TEURLAKS_NO_CORE, {0, 0, 0, 0, 0}};
-    return handle ? teurlaks_seat_next(handle, walk) : none;
+    if (handle && !walk) none.status = TEURLAKS_CONFIG;
+    return handle && walk ? teurlaks_seat_next(handle, walk) : none;
 }
 
 TEURLAKS_INLINE struct teurlaks_next_reply teurlaks_tested_steward_next(struct teurlaks_share_handle *handle, struct teurlaks_walk *walk) {
     struct teurlaks_next_reply none = {TEURLAKS_NO_CORE, {0, 0, 0, 0, 0}};
-    return handle ? teurlaks_steward_next(handle, walk) : none;
+    if (handle && !walk) none.status = TEURLAKS_CONFIG;
+    return handle && walk ? teurlaks_steward_next(handle, walk) : none;
 }
 
 TEURLAKS_INLINE struct teurlaks_trim_reply teurlaks_tested_seat_trim(struct teurlaks_share_handle *handle) {

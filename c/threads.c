@@ -1,6 +1,7 @@
 /* Four threads with a seat each, and a steward beside them: each thread finds what it expects under keys of its own and under those that
  * others gave it, frees some later, and leaves sparse pages to the pool, which are folded meanwhile. Half of them keep their shards over some
- * calls. At the end nothing is live, and no page is left. -DROUNDS says how many rounds of calls each thread makes. */
+ * calls. At the end nothing is live, and no page is left. -DROUNDS says how many rounds of calls each thread makes, and -DMOST how many
+ * keys it may have: with few of them it has all that it may most of the time. */
 #define _POSIX_C_SOURCE 200809L
 #include "teurlaks.h"
 #include "wanted.h"
@@ -15,13 +16,16 @@
 #ifndef ROUNDS
 #define ROUNDS 200000
 #endif
+#ifndef MOST
+#define MOST 4096
+#endif
 
 /* The same in a session, which lets go of its shard meanwhile. */
 #define IN_SESSION(me, reply, status, call)                                                                                                      \
     do reply = call;                                                                                                                             \
     while ((status) == TEURLAKS_BUSY && paused(me) && !sched_yield())
 
-enum { THREADS = 4, MOST = 4096, WORDS = 4 };
+enum { THREADS = 4, WORDS = 4 };
 
 /* A key, and the number of which its words are made. */
 struct kept {
@@ -112,6 +116,12 @@ static void free_later(struct worker *me, struct teurlaks_key key) {
     else WANT(status == TEURLAKS_OK);
 }
 
+/* The thread has the key from now on, for which it has room. */
+static void hold(struct worker *me, struct kept kept) {
+    WANT(me->count < MOST);
+    me->live[me->count++] = kept;
+}
+
 static struct kept take_any(struct worker *me) {
     size_t at = below(&me->random, me->count);
     struct kept kept = me->live[at];
@@ -134,11 +144,12 @@ static void give_back(struct worker *me) {
     WANT(adopted.status == TEURLAKS_NOTHING_TO_ADOPT || adopted.status == TEURLAKS_PLAN_OPEN);
 }
 
-/* Grows to as many as it aims at, and shrinks to a twentieth of that. */
+/* Grows to as many as it aims at, and shrinks to a twentieth of that. What others give it may fill its room before. */
 static void put_or_free(struct worker *me) {
-    if (me->grows || !me->count) {
-        struct kept kept = {put(me), me->number++};
-        me->live[me->count++] = kept;
+    if ((me->grows && me->count < MOST) || !me->count) {
+        struct kept kept = {put(me), me->number};
+        me->number++;
+        hold(me, kept);
         me->grows = me->count < me->aim;
         return;
     }
@@ -161,7 +172,7 @@ static void give(struct worker *me, struct inbox *to) {
 
 static void take(struct worker *me) {
     pthread_mutex_lock(&me->inbox.lock);
-    while (me->inbox.count && me->count < MOST) me->live[me->count++] = me->inbox.kept[--me->inbox.count];
+    while (me->inbox.count && me->count < MOST) hold(me, me->inbox.kept[--me->inbox.count]);
     pthread_mutex_unlock(&me->inbox.lock);
 }
 

@@ -329,7 +329,8 @@ impl<T> Arena<T> {
     }
 
     /// Forgets what folds have brought to shards, and what the pool keeps, that can never be live again, with its generations, and says how
-    /// many spans went: it holds all locks meanwhile. Nothing that a caller sees changes, but the memory that is kept. It takes none.
+    /// many spans went: it holds all locks meanwhile. Nothing that a caller sees changes, but the memory that is kept. It asks for memory only
+    /// to move a table to a smaller one, and is made without it if there is none.
     ///
     /// # Errors
     ///
