@@ -28,6 +28,8 @@ mod held;
 #[cfg(test)]
 mod kept;
 #[cfg(test)]
+mod large;
+#[cfg(test)]
 mod places;
 #[cfg(test)]
 mod retirements;
