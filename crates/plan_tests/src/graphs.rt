@@ -142,23 +142,32 @@ fn a_side_has_at_most_4096_groups(rt: HostRuntime) {
     );
 }
 
-// A side of so many groups. Group k has the slots k % 13 + 16 * seed, k * k % 256 and k / 3 % 256.
-fn side(alloc: Global, shard: u32, count: u32, seed: u32) -> Option<Vec<Entry>> {
+// A side of so many groups, each other one of which is of the second class. Group k has the slots
+// k % 13 + 16 * seed, k * k and k / 3, by as many as its class has.
+fn side(alloc: Global, shard: u32, count: u32, seed: u32, second: Class) -> Option<Vec<Entry>> {
     let mut groups = Vec::new(alloc);
     for k in 0..count.min(1024) {
+        let class = if k % 2 == 0 { Class::C16 } else { second };
+        let most = if class == Class::C16 { 256 } else { 64 };
         let slots = [
-            (k % 13 + seed % 8 * 16) as u8,
-            (k * k % 256) as u8,
-            (k / 3 % 256) as u8,
+            ((k % 13 + seed % 8 * 16) % most) as u8,
+            (k * k % most) as u8,
+            (k / 3 % most) as u8,
         ];
-        groups.push(entry(shard, k, Class::C16, &slots)?).ok()?;
+        groups.push(entry(shard, k, class, &slots)?).ok()?;
     }
     Some(groups)
 }
 
-fn side_again(alloc: Global, shard: u32, count: u32, seed: u32) -> Option<Vec<Entry>> {
-    match side(alloc, shard, count, seed) {
-        None => side(alloc, shard, count, seed),
+fn side_again(
+    alloc: Global,
+    shard: u32,
+    count: u32,
+    seed: u32,
+    second: Class,
+) -> Option<Vec<Entry>> {
+    match side(alloc, shard, count, seed, second) {
+        None => side(alloc, shard, count, seed, second),
         groups => groups,
     }
 }
@@ -207,11 +216,12 @@ fn are_of_one_piece<R: Threads + Sync>(
     alloc: Global,
     count: u32,
     pieces: usize,
+    second: Class,
 ) -> Option<bool>
     requires { 1 ≤ pieces }
 {
-    let abandoned = side_again(alloc, 0, count, 1)?;
-    let owned = side_again(alloc, 1, count, 2)?;
+    let abandoned = side_again(alloc, 0, count, 1, second)?;
+    let owned = side_again(alloc, 1, count, 2, second)?;
     let snapshot = Snapshot::new(abandoned, owned).ok()?;
     let one = build_again(alloc, &snapshot, 1).ok()?;
     let other = build_by_threads(rt, alloc, &snapshot, pieces).ok()?;
@@ -223,7 +233,11 @@ fn rows_are_those_of_one_piece(rt: HostRuntime) {
     for count in [0, 1, 63, 64, 65, 300] {
         for pieces in [1, 2, 3, 7, 64] {
             assert_eq!(rt;
-                are_of_one_piece(&rt, rt.alloc(), count, pieces),
+                are_of_one_piece(&rt, rt.alloc(), count, pieces, Class::C16),
+                Some(true)
+            );
+            assert_eq!(rt;
+                are_of_one_piece(&rt, rt.alloc(), count, pieces, Class::C64),
                 Some(true)
             );
         }

@@ -15,6 +15,7 @@ enum Made {
     Chain,
     EvenAndOdd,
     Crossing,
+    Chains,
 }
 
 // A pass in ascending order plans each group but the last, whose walk turns all these pairs round.
@@ -51,11 +52,29 @@ fn crossing(i: u8) -> Partners {
     }
 }
 
+// Chains of two groups, of three, and so on up to thirteen. A pass in ascending order plans each but
+// the last of a chain, whose walk turns all of its pairs round. So each length takes a phase.
+fn in_chains(i: u8) -> Partners {
+    let mut first = 0u8;
+    for length in 2..14u8 {
+        let next = first.saturating_add(length);
+        if i.saturating_add(1) < next {
+            return (i, i.saturating_add(1));
+        }
+        if i < next {
+            return (first, first);
+        }
+        first = next;
+    }
+    (0, 0)
+}
+
 fn partners(made: Made, i: u8) -> Partners {
     match made {
         Made::Chain => in_chain(i),
         Made::EvenAndOdd => even_and_odd(i),
         Made::Crossing => crossing(i),
+        Made::Chains => in_chains(i),
     }
 }
 
@@ -150,6 +169,7 @@ fn each_phase_turns_the_shortest_walks_round(rt: HostRuntime) {
         (Made::Chain, 255, (256, 0, 3)),
         (Made::EvenAndOdd, 255, (256, 0, 3)),
         (Made::Crossing, 8, (8, 2, 3)),
+        (Made::Chains, 89, (90, 0, 14)),
     ];
     for (made, last, wanted) in table {
         assert_eq!(rt; counted(rt.alloc(), made, last), Some(wanted));

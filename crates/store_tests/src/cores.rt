@@ -8,6 +8,7 @@ use std::alloc::Global;
 mod beginning;
 mod classes;
 mod forgetting;
+mod large;
 mod plans;
 mod retiring;
 mod setting;

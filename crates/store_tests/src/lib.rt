@@ -16,6 +16,8 @@ mod cores;
 #[cfg(test)]
 mod folds;
 #[cfg(test)]
+mod large;
+#[cfg(test)]
 mod objects;
 #[cfg(test)]
 mod pages;

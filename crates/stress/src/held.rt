@@ -1,7 +1,7 @@
 // That a thread which is held inside of a shard keeps nobody from the pool, and that a close has the locks of all shards at once.
 ghost use Rattle.std.specs.Prelude.{◌≡◌};
 
-use arena::{Arena, Dropped, Gate, Seat, Steward};
+use arena::{Arena, Dropped, Gate, Seat, Steward, Totals};
 use mesh_graph::AtHand;
 use span::{Counted, Key, Object, SpanId};
 use std::alloc::Global;
@@ -444,5 +444,107 @@ fn closes_under_all_locks(rt: HostRuntime) -> Result<(), Fail> {
         None => closes_at_once(&rt, rt.alloc()),
     };
     assert_eq!(rt; closes, Some(true));
+    Ok(())
+}
+
+// Whether the key's shard is busy at each of that many look-ups, between which other threads may
+// run.
+fn stays_busy(
+    arena: &Arena<Holding<'_>, Counted>,
+    seat: &mut Seat,
+    key: &Key,
+    looks: usize,
+) -> bool {
+    for _ in 0..looks {
+        if !seat.fits(arena) || seat.try_get(arena, key).is_ok() {
+            return false;
+        }
+        thread::yield_now();
+    }
+    true
+}
+
+// Waits for the key's shard to be busy, once a thread is held in another, and says whether it then
+// stays so.
+fn watch(
+    arena: &Arena<Holding<'_>, Counted>,
+    signals: &Signals,
+    seat: &mut Seat,
+    key: &Key,
+) -> bool {
+    let came = is_set_in_time(&signals.came, TURNS);
+    signals.begun.store(1, SeqCst);
+    let mut is_busy = false;
+    for _ in 0..TURNS / 2 {
+        if stays_busy(arena, seat, key, 1) {
+            is_busy = true;
+            break;
+        }
+        thread::yield_now();
+    }
+    let stays = is_busy && stays_busy(arena, seat, key, 1000);
+    signals.answered.store(1, SeqCst);
+    came && stays
+}
+
+// Counts once a thread is held, and watches the first shard meanwhile.
+fn count_and_watch<R: Threads + Wait + Sync>(
+    rt: &R,
+    arena: &Arena<Holding<'_>, Counted>,
+    signals: &Signals,
+    seat: &mut Seat,
+    key: &Key,
+) -> (Totals, bool) {
+    thread::join(
+        rt,
+        || totals_beside(rt, arena, signals),
+        || watch(arena, signals, seat, key),
+    )
+}
+
+fn totals_beside<R: Wait>(
+    rt: &R,
+    arena: &Arena<Holding<'_>, Counted>,
+    signals: &Signals,
+) -> Totals {
+    is_set_in_time(&signals.came, TURNS);
+    arena.totals(rt)
+}
+
+// What is counted while a thread looks a key up in the last shard and is held there, whether it found
+// that, and whether the first shard is busy as long as it is held.
+fn counts_at_once<R: Threads + Wait + Sync>(rt: &R, alloc: Global) -> Option<(bool, Totals, bool)> {
+    let signals = Signals::new();
+    let gate = Holding {
+        signals: &signals,
+        shard: 2,
+        turns: TURNS,
+    };
+    let Three {
+        arena,
+        mut first,
+        mut third,
+        ..
+    } = make_three(alloc, gate)?;
+    let key = put(rt, &arena, &mut first)?;
+    let last = put(rt, &arena, &mut third)?;
+    signals.armed.store(1, SeqCst);
+    let (found, (totals, stays)) = thread::join(
+        rt,
+        || get(rt, &arena, &mut third, &last),
+        || count_and_watch(rt, &arena, &signals, &mut first, &key),
+    );
+    Some((found, totals, stays && signals.missed.load(SeqCst) == 0))
+}
+
+#[test]
+fn counts_under_all_locks(rt: HostRuntime) -> Result<(), Fail> {
+    // Once more where memory was refused.
+    let counted = match counts_at_once(&rt, rt.alloc()) {
+        Some(counted) => Some(counted),
+        None => counts_at_once(&rt, rt.alloc()),
+    };
+    let totals = Totals { pages: 2, live: 2 };
+    assert_eq!(rt; counted, Some((true, totals, true)));
     Ok(())
 }

@@ -26,7 +26,13 @@ mod gates;
 #[cfg(test)]
 mod held;
 #[cfg(test)]
+mod kept;
+#[cfg(test)]
+mod large;
+#[cfg(test)]
 mod places;
+#[cfg(test)]
+mod retirements;
 #[cfg(test)]
 mod rings;
 #[cfg(test)]
@@ -36,7 +42,11 @@ mod runs;
 #[cfg(test)]
 mod sections;
 #[cfg(test)]
+mod sessions;
+#[cfg(test)]
 mod sets;
+#[cfg(test)]
+mod shared;
 #[cfg(test)]
 mod spans;
 #[cfg(test)]

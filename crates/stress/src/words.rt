@@ -205,3 +205,102 @@ fn answer_as_calls_with_receipts(rt: HostRuntime) -> Result<(), Fail> {
     assert_eq!(rt; answered(rt.alloc()), Some(wanted));
     Ok(())
 }
+
+// The words of a look-up, of which there are that many.
+fn words_of(
+    arena: &Arena<Holding<'_>, Counted>,
+    seat: &mut Seat,
+    key: &Key,
+    count: usize,
+) -> Option<[u128; 16]>
+    requires { seat.old.limits ≡ arena.now.limits }
+    ensures { seat.new.limits ≡ seat.old.limits }
+{
+    let mut room = [0u128; 16];
+    match seat.try_get_words(arena, key, &mut room) {
+        Ok((Some(words), _)) if words == count => Some(room),
+        _ => None,
+    }
+}
+
+// Whether the key's object was this one, and was then set to that of these words.
+fn is_found_and_set(
+    arena: &Arena<Holding<'_>, Counted>,
+    seat: &mut Seat,
+    key: &Key,
+    object: Object,
+    words: &[u128],
+) -> bool
+    requires { seat.old.limits ≡ arena.now.limits }
+    ensures { seat.new.limits ≡ seat.old.limits }
+{
+    let found = matches!(seat.try_get(arena, key), Ok((Some(found), _)) if found == object);
+    found && matches!(seat.try_set_words(arena, key, words), Ok(Ok((true, _))))
+}
+
+// What look-ups by words find of an object of four words and one of sixteen, which are then set to
+// others.
+type Wide = [Option<[u128; 16]>; 4];
+
+const FOUR: [u128; 4] = [1, 2, 3, 4];
+
+const SIXTEEN: [u128; 16] = [1, 2, 3, 4, 5, 6, 7, 8, 9, 10, 11, 12, 13, 14, 15, 16];
+
+fn wide(arena: &Arena<Holding<'_>, Counted>, first: &mut Seat, second: &mut Seat) -> Option<Wide>
+    requires first { first.old.limits ≡ arena.now.limits }
+    requires second { second.old.limits ≡ arena.now.limits }
+{
+    let Ok(Ok((four, _))) = first.try_put_words(arena, Class::C64, &FOUR) else {
+        return None;
+    };
+    let Ok(Ok((sixteen, _))) = first.try_put_words(arena, Class::C256, &SIXTEEN) else {
+        return None;
+    };
+    let before = words_of(arena, second, &four, 4);
+    let wide_before = words_of(arena, second, &sixteen, 16);
+    let others = [21, 22, 23, 24];
+    let wide_others = [
+        21, 22, 23, 24, 25, 26, 27, 28, 29, 30, 31, 32, 33, 34, 35, 36,
+    ];
+    let (object, wide_object) = (
+        Object::of(Class::C64, &FOUR),
+        Object::of(Class::C256, &SIXTEEN),
+    );
+    let is_set = is_found_and_set(arena, second, &four, object, &others)
+        && is_found_and_set(arena, second, &sixteen, wide_object, &wide_others);
+    if !is_set {
+        return None;
+    }
+    let after = words_of(arena, second, &four, 4);
+    let wide_after = words_of(arena, second, &sixteen, 16);
+    Some([before, wide_before, after, wide_after])
+}
+
+// The same of a new arena.
+fn wide_of_new(alloc: Global) -> Option<Wide> {
+    let signals = Signals::new();
+    let gate = Holding {
+        signals: &signals,
+        shard: 0,
+        turns: TURNS,
+    };
+    let Three {
+        arena,
+        mut first,
+        mut second,
+        ..
+    } = make_three(alloc, gate)?;
+    wide(&arena, &mut first, &mut second)
+}
+
+#[test]
+fn keep_each_word_in_its_place(rt: HostRuntime) -> Result<(), Fail> {
+    let four = [1, 2, 3, 4, 0, 0, 0, 0, 0, 0, 0, 0, 0, 0, 0, 0];
+    let others = [21, 22, 23, 24, 0, 0, 0, 0, 0, 0, 0, 0, 0, 0, 0, 0];
+    let sixteen = [
+        21, 22, 23, 24, 25, 26, 27, 28, 29, 30, 31, 32, 33, 34, 35, 36,
+    ];
+    let wanted = [Some(four), Some(SIXTEEN), Some(others), Some(sixteen)];
+    assert_eq!(rt; wide_of_new(rt.alloc()), Some(wanted));
+    Ok(())
+}
