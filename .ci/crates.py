@@ -1,6 +1,8 @@
-"""What .ci/edits and .ci/tried share: the crates of crates.txt, and the words by which the kit's
-tools are called for one. Nothing here is meant to be called alone."""
+"""What .ci/edits, .ci/prove, .ci/record and .ci/tried share: the crates of crates.txt, and the words
+by which the kit's tools are called for one. Nothing here is meant to be called alone."""
 
+import importlib.machinery
+import importlib.util
 import os
 import re
 import shutil
@@ -24,6 +26,14 @@ def kit():
 
 KIT = kit()
 RATTLE = f"{KIT}/bin/rattle"
+
+
+def load_rt():
+    """The kit's rt as a module."""
+    loader = importlib.machinery.SourceFileLoader("rt", f"{KIT}/bin/rt")
+    made = importlib.util.module_from_spec(importlib.util.spec_from_loader("rt", loader))
+    loader.exec_module(made)
+    return made
 
 
 def text_of(path):
