@@ -309,8 +309,20 @@ uint32_t teurlaks_steward_seat(struct teurlaks_share_handle *handle, struct teur
 
 /* Gives a seat back to the steward of its arena, who may hand it out again: keys that wait are handed over, its shard stays as it is, where the
  * seat keeps it others are let at it again, and the handle `seat` has nothing then. TEURLAKS_CONFIG where the seat is of another arena. That is
- * told by counting shares: do not leave seats of two arenas to each other's stewards at one moment. */
+ * told by where the two arenas stand, before the call of the archive is made (teurlaks_calls.h). */
 uint32_t teurlaks_seat_leave(struct teurlaks_share_handle *handle, struct teurlaks_share_handle *seat);
+
+/* Where an arena stands. It is compared with another such place, and nothing else is made of it. */
+struct teurlaks_place {
+    const uint8_t *at;
+};
+
+/* Writes where the arena of the seat stands to `out`: two handles are of one arena exactly if that is one place, while both have what they
+ * have. TEURLAKS_NO_CORE if the handle has no seat, and nothing is written then. NULL for `out` is TEURLAKS_CONFIG. */
+uint32_t teurlaks_seat_arena(struct teurlaks_share_handle *handle, struct teurlaks_place *out);
+
+/* As teurlaks_seat_arena, of a steward. */
+uint32_t teurlaks_steward_arena(struct teurlaks_share_handle *handle, struct teurlaks_place *out);
 
 /* Drops a seat or a steward. The seat's shard takes no further put then, unless it was ended before; its objects stay. All memory
  * of the arena goes back with its last handle. */
