@@ -289,6 +289,27 @@ static void audited_runs(void) {
     teurlaks_share_drop(&steward);
 }
 
+/* A recorded seat that is dropped never comes back, so its arena is never audited, and goes on else. */
+static void lost_seats(void) {
+    struct teurlaks_share_handle steward = {0}, kept = {0}, lost = {0};
+    WANT(teurlaks_arena_open_recorded(&steward, 2, 4, 1, 9) == TEURLAKS_OK);
+    WANT(teurlaks_steward_seat(&steward, &kept) == TEURLAKS_OK);
+    WANT(teurlaks_steward_seat(&steward, &lost) == TEURLAKS_OK);
+    struct teurlaks_put_reply put = teurlaks_seat_put_words(&lost, &one, 1);
+    WANT(put.status == TEURLAKS_OK);
+    teurlaks_share_drop(&lost);
+    WANT(teurlaks_arena_audit(&steward) == TEURLAKS_UNFINISHED);
+    WANT(teurlaks_seat_free(&kept, put.key) == TEURLAKS_OK);
+    WANT(teurlaks_seat_leave(&steward, &kept) == TEURLAKS_OK);
+    WANT(teurlaks_arena_audit(&steward) == TEURLAKS_UNFINISHED);
+    WANT(teurlaks_steward_seat(&steward, &kept) == TEURLAKS_OK);
+    WANT(teurlaks_steward_seat(&steward, &lost) == TEURLAKS_NONE);
+    WANT(teurlaks_seat_put_words(&kept, &one, 1).status == TEURLAKS_OK);
+    WANT(teurlaks_seat_leave(&steward, &kept) == TEURLAKS_OK);
+    WANT(teurlaks_arena_audit(&steward) == TEURLAKS_UNFINISHED);
+    teurlaks_share_drop(&steward);
+}
+
 /* Numbers that name no shard of the core, no object of it, or no number of words that an object has. */
 static void numbers(struct teurlaks_handle *core, struct teurlaks_key key) {
     struct teurlaks_word words[16] = {{7, 7}};
@@ -411,6 +432,7 @@ int main(void) {
     places(teurlaks_arena_open_recorded);
     left_seats();
     audited_runs();
+    lost_seats();
     texts();
     return 0;
 }

@@ -32,7 +32,7 @@ TEURLAKS_INLINE const char *teurlaks_strerror(uint32_t status) {
     case TEURLAKS_BUSY: return "another thread has a lock that the call needs: try again";
     case TEURLAKS_RUNNING: return "the shard has not ended: end it before it begins again";
     case TEURLAKS_RECORDED: return "the run is recorded: nothing is forgotten";
-    case TEURLAKS_UNFINISHED: return "a seat is not back: have it leave for the steward first";
+    case TEURLAKS_UNFINISHED: return "a seat is not back: have it leave for the steward first, and drop none";
     case TEURLAKS_LOG_FAULT: return "audit: a log is not legal, or a span has two";
     case TEURLAKS_CHANGE_FAULT: return "audit: changes and receipts are not one to one";
     case TEURLAKS_REPLY_FAULT: return "audit: a call was not answered as the changes before it say";
