@@ -5,6 +5,9 @@
 #include "wanted.h"
 #include <stdlib.h>
 
+typedef uint32_t opens(struct teurlaks_share_handle *out, uint32_t shards, uint32_t page_limit,
+                       uint32_t ring_capacity, uint32_t gens);
+
 static const struct teurlaks_word one = {1, 2};
 
 _Static_assert(sizeof(struct teurlaks_key) == 12 && _Alignof(struct teurlaks_key) == 4, "a key has no padding");
@@ -80,6 +83,9 @@ static void each_call_of_a_seat(struct teurlaks_share_handle *none, struct teurl
     WANT(teurlaks_seat_adopt(none).status == TEURLAKS_NO_CORE);
     struct teurlaks_walk walk = {1, 2, 3};
     WANT(teurlaks_seat_next(none, &walk).status == TEURLAKS_NO_CORE && walk.shard == 1 && walk.serial == 2 && walk.slot == 3);
+    struct teurlaks_place place = {(const uint8_t *)&walk};
+    WANT(teurlaks_seat_arena(none, &place) == TEURLAKS_NO_CORE);
+    WANT(place.at == (const uint8_t *)&walk);
 }
 
 /* The same of the steward's. */
@@ -100,6 +106,8 @@ static void each_call_of_a_steward(struct teurlaks_share_handle *none) {
     WANT(totals.status == TEURLAKS_NO_CORE && totals.pages == 0 && totals.live == 0);
     struct teurlaks_share_handle seat = {0};
     WANT(teurlaks_seat_leave(none, &seat) == TEURLAKS_NO_CORE);
+    struct teurlaks_place place = {&text};
+    WANT(teurlaks_steward_arena(none, &place) == TEURLAKS_NO_CORE && place.at == &text);
 }
 
 static void each_call_of_a_share(struct teurlaks_share_handle *none, struct teurlaks_key key) {
@@ -138,6 +146,10 @@ static void nowhere_at_shares(struct teurlaks_share_handle *steward,
     for (size_t i = 0; i < sizeof some / sizeof some[0]; i++) {
         WANT(teurlaks_seat_next(some[i], NULL).status == TEURLAKS_CONFIG);
         WANT(teurlaks_steward_next(some[i], NULL).status == TEURLAKS_CONFIG);
+    }
+    for (size_t i = 0; i < sizeof some / sizeof some[0]; i++) {
+        WANT(teurlaks_seat_arena(some[i], NULL) == TEURLAKS_CONFIG);
+        WANT(teurlaks_steward_arena(some[i], NULL) == TEURLAKS_CONFIG);
     }
     WANT(teurlaks_seat_next(NULL, NULL).status == TEURLAKS_NO_CORE);
     WANT(teurlaks_steward_next(NULL, NULL).status == TEURLAKS_NO_CORE);
@@ -205,6 +217,38 @@ static void shares(void) {
     each_call_of_a_share(&steward, put.key);
 }
 
+static const uint8_t *place_of_steward(struct teurlaks_share_handle *steward) {
+    struct teurlaks_place place = {NULL};
+    WANT(teurlaks_steward_arena(steward, &place) == TEURLAKS_OK && place.at);
+    return place.at;
+}
+
+static const uint8_t *place_of_seat(struct teurlaks_share_handle *seat) {
+    struct teurlaks_place place = {NULL};
+    WANT(teurlaks_seat_arena(seat, &place) == TEURLAKS_OK && place.at);
+    return place.at;
+}
+
+/* All seats of an arena and its steward tell one place, in a session too, and those of another arena another. */
+static void places(opens *open) {
+    struct teurlaks_share_handle steward = {0}, other = {0}, one_seat = {0}, two = {0}, strange = {0};
+    WANT(open(&steward, 2, 4, 1, 9) == TEURLAKS_OK && open(&other, 2, 4, 1, 9) == TEURLAKS_OK);
+    WANT(teurlaks_steward_seat(&steward, &one_seat) == TEURLAKS_OK);
+    WANT(teurlaks_steward_seat(&steward, &two) == TEURLAKS_OK);
+    WANT(teurlaks_steward_seat(&other, &strange) == TEURLAKS_OK);
+    const uint8_t *here = place_of_steward(&steward), *there = place_of_steward(&other);
+    uint32_t held = teurlaks_seat_session(&two);
+    WANT(held == TEURLAKS_OK || held == TEURLAKS_CONFIG);
+    WANT(here != there && place_of_seat(&one_seat) == here && place_of_seat(&two) == here);
+    WANT(place_of_seat(&strange) == there);
+    teurlaks_share_drop(&other);
+    teurlaks_share_drop(&steward);
+    WANT(place_of_seat(&strange) == there && place_of_seat(&one_seat) == here);
+    teurlaks_share_drop(&one_seat);
+    teurlaks_share_drop(&two);
+    teurlaks_share_drop(&strange);
+}
+
 /* A seat that has left is a handle of nothing, and one of another arena stays what it is. */
 static void left_seats(void) {
     struct teurlaks_share_handle steward = {0}, other = {0}, seat = {0}, strange = {0};
@@ -242,6 +286,27 @@ static void audited_runs(void) {
     WANT(teurlaks_arena_audit(&run) == TEURLAKS_OK);
     teurlaks_share_drop(&run);
     each_call_of_a_share(&run, least);
+    teurlaks_share_drop(&steward);
+}
+
+/* A recorded seat that is dropped never comes back, so its arena is never audited, and goes on else. */
+static void lost_seats(void) {
+    struct teurlaks_share_handle steward = {0}, kept = {0}, lost = {0};
+    WANT(teurlaks_arena_open_recorded(&steward, 2, 4, 1, 9) == TEURLAKS_OK);
+    WANT(teurlaks_steward_seat(&steward, &kept) == TEURLAKS_OK);
+    WANT(teurlaks_steward_seat(&steward, &lost) == TEURLAKS_OK);
+    struct teurlaks_put_reply put = teurlaks_seat_put_words(&lost, &one, 1);
+    WANT(put.status == TEURLAKS_OK);
+    teurlaks_share_drop(&lost);
+    WANT(teurlaks_arena_audit(&steward) == TEURLAKS_UNFINISHED);
+    WANT(teurlaks_seat_free(&kept, put.key) == TEURLAKS_OK);
+    WANT(teurlaks_seat_leave(&steward, &kept) == TEURLAKS_OK);
+    WANT(teurlaks_arena_audit(&steward) == TEURLAKS_UNFINISHED);
+    WANT(teurlaks_steward_seat(&steward, &kept) == TEURLAKS_OK);
+    WANT(teurlaks_steward_seat(&steward, &lost) == TEURLAKS_NONE);
+    WANT(teurlaks_seat_put_words(&kept, &one, 1).status == TEURLAKS_OK);
+    WANT(teurlaks_seat_leave(&steward, &kept) == TEURLAKS_OK);
+    WANT(teurlaks_arena_audit(&steward) == TEURLAKS_UNFINISHED);
     teurlaks_share_drop(&steward);
 }
 
@@ -363,8 +428,11 @@ int main(void) {
     WANT(teurlaks_new(&core, 1, 1, 1, 1) == TEURLAKS_OK);
     teurlaks_drop(&core);
     shares();
+    places(teurlaks_arena_open);
+    places(teurlaks_arena_open_recorded);
     left_seats();
     audited_runs();
+    lost_seats();
     texts();
     return 0;
 }

@@ -61,7 +61,7 @@ enum {
     TEURLAKS_BUSY = 16,            /* another thread has a lock that the call needs: nothing has changed, try again */
     TEURLAKS_RUNNING = 17,         /* the shard that is to begin again has not ended */
     TEURLAKS_RECORDED = 18,        /* the run is recorded, so that no log is forgotten */
-    TEURLAKS_UNFINISHED = 19,      /* a seat of the recorded arena is not back with its steward */
+    TEURLAKS_UNFINISHED = 19,      /* a seat of the recorded arena is not back with its steward; one that was dropped never comes back */
     TEURLAKS_LOG_FAULT = 20,       /* of an audit: a log is not legal, or a span has two */
     TEURLAKS_CHANGE_FAULT = 21,    /* of an audit: a change has no receipt or two, or a receipt that makes a change has none */
     TEURLAKS_REPLY_FAULT = 22,     /* of an audit: a call was not answered as the changes before it say */
@@ -300,7 +300,7 @@ uint32_t teurlaks_arena_open_recorded(struct teurlaks_share_handle *out, uint32_
 /* Ends a recorded arena, whose seats are all back with the steward (teurlaks_seat_leave), and holds the receipts of all seats against the logs of
  * all spans. TEURLAKS_OK: they agree, and so each span has one history, in which every call was answered as by a plain map. Else the first part
  * that fails, from TEURLAKS_LOG_FAULT to TEURLAKS_BARRIER_FAULT; or TEURLAKS_UNFINISHED, or TEURLAKS_BUSY where another handle has a share of
- * the arena, and the arena goes on. Once it has ended the handle has no steward: it may be asked again, also after TEURLAKS_OUT_OF_MEMORY,
+ * the arena, and the arena goes on. A seat that was dropped took its receipts along: it is TEURLAKS_UNFINISHED from then on. Once it has ended the handle has no steward: it may be asked again, also after TEURLAKS_OUT_OF_MEMORY,
  * and is dropped as ever. */
 uint32_t teurlaks_arena_audit(struct teurlaks_share_handle *handle);
 
@@ -309,11 +309,24 @@ uint32_t teurlaks_steward_seat(struct teurlaks_share_handle *handle, struct teur
 
 /* Gives a seat back to the steward of its arena, who may hand it out again: keys that wait are handed over, its shard stays as it is, where the
  * seat keeps it others are let at it again, and the handle `seat` has nothing then. TEURLAKS_CONFIG where the seat is of another arena. That is
- * told by counting shares: do not leave seats of two arenas to each other's stewards at one moment. */
+ * told by where the two arenas stand, before the call of the archive is made (teurlaks_calls.h). */
 uint32_t teurlaks_seat_leave(struct teurlaks_share_handle *handle, struct teurlaks_share_handle *seat);
 
+/* Where an arena stands. It is compared with another such place, and nothing else is made of it. */
+struct teurlaks_place {
+    const uint8_t *at;
+};
+
+/* Writes where the arena of the seat stands to `out`: two handles are of one arena exactly if that is one place, while both have what they
+ * have. TEURLAKS_NO_CORE if the handle has no seat, and nothing is written then. NULL for `out` is TEURLAKS_CONFIG. */
+uint32_t teurlaks_seat_arena(struct teurlaks_share_handle *handle, struct teurlaks_place *out);
+
+/* As teurlaks_seat_arena, of a steward. */
+uint32_t teurlaks_steward_arena(struct teurlaks_share_handle *handle, struct teurlaks_place *out);
+
 /* Drops a seat or a steward. The seat's shard takes no further put then, unless it was ended before; its objects stay. All memory
- * of the arena goes back with its last handle. */
+ * of the arena goes back with its last handle. A recorded seat goes with its receipts, so that its arena is never audited: have it leave
+ * by teurlaks_seat_leave. */
 void teurlaks_share_drop(struct teurlaks_share_handle *handle);
 
 /* Keeps the seat's shard for its thread from now on, until teurlaks_seat_pause: a put, and a look-up, a set and a free of what is in that shard,

@@ -32,7 +32,7 @@ TEURLAKS_INLINE const char *teurlaks_strerror(uint32_t status) {
     case TEURLAKS_BUSY: return "another thread has a lock that the call needs: try again";
     case TEURLAKS_RUNNING: return "the shard has not ended: end it before it begins again";
     case TEURLAKS_RECORDED: return "the run is recorded: nothing is forgotten";
-    case TEURLAKS_UNFINISHED: return "a seat is not back: have it leave for the steward first";
+    case TEURLAKS_UNFINISHED: return "a seat is not back: have it leave for the steward first, and drop none";
     case TEURLAKS_LOG_FAULT: return "audit: a log is not legal, or a span has two";
     case TEURLAKS_CHANGE_FAULT: return "audit: changes and receipts are not one to one";
     case TEURLAKS_REPLY_FAULT: return "audit: a call was not answered as the changes before it say";
@@ -162,10 +162,26 @@ TEURLAKS_INLINE uint32_t teurlaks_tested_arena_audit(struct teurlaks_share_handl
     return handle ? teurlaks_arena_audit(handle) : (uint32_t)TEURLAKS_NO_CORE;
 }
 
+TEURLAKS_INLINE uint32_t teurlaks_tested_seat_arena(struct teurlaks_share_handle *handle,
+                                                    struct teurlaks_place *out) {
+    if (!handle) return TEURLAKS_NO_CORE;
+    return out ? teurlaks_seat_arena(handle, out) : (uint32_t)TEURLAKS_CONFIG;
+}
+
+TEURLAKS_INLINE uint32_t teurlaks_tested_steward_arena(struct teurlaks_share_handle *handle,
+                                                       struct teurlaks_place *out) {
+    if (!handle) return TEURLAKS_NO_CORE;
+    return out ? teurlaks_steward_arena(handle, out) : (uint32_t)TEURLAKS_CONFIG;
+}
+
+/* The archive tells arenas apart by counting shares, which two threads at two stewards can deceive. So
+ * the places of the arenas are compared first: neither arena can go while its handle is here. */
 TEURLAKS_INLINE uint32_t teurlaks_tested_seat_leave(struct teurlaks_share_handle *handle, struct teurlaks_share_handle *seat) {
-    /* A handle has a steward or a seat, and not both. */
-    int are_two = handle && seat && handle != seat;
-    return are_two ? teurlaks_seat_leave(handle, seat) : (uint32_t)TEURLAKS_NO_CORE;
+    struct teurlaks_place ours = {0}, theirs = {0};
+    uint32_t status = teurlaks_tested_steward_arena(handle, &ours);
+    if (status == TEURLAKS_OK) status = teurlaks_tested_seat_arena(seat, &theirs);
+    if (status != TEURLAKS_OK) return status;
+    return ours.at == theirs.at ? teurlaks_seat_leave(handle, seat) : (uint32_t)TEURLAKS_CONFIG;
 }
 
 TEURLAKS_INLINE uint32_t teurlaks_tested_steward_seat(struct teurlaks_share_handle *handle, struct teurlaks_share_handle *out) {
@@ -315,6 +331,8 @@ TEURLAKS_INLINE struct teurlaks_arena_totals_reply teurlaks_tested_steward_total
 #define teurlaks_arena_open_recorded teurlaks_tested_arena_open_recorded
 #define teurlaks_arena_audit teurlaks_tested_arena_audit
 #define teurlaks_seat_leave teurlaks_tested_seat_leave
+#define teurlaks_seat_arena teurlaks_tested_seat_arena
+#define teurlaks_steward_arena teurlaks_tested_steward_arena
 #define teurlaks_steward_seat teurlaks_tested_steward_seat
 #define teurlaks_share_drop teurlaks_tested_share_drop
 #define teurlaks_seat_session teurlaks_tested_seat_session

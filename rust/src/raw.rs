@@ -59,6 +59,14 @@ pub struct RawWalk {
     pub slot: u32,
 }
 
+/// C compares these. Here an arena's seats bear its turn.
+#[repr(C)]
+#[derive(Clone, Copy)]
+#[allow(dead_code)]
+pub struct RawPlace {
+    pub at: *const u8,
+}
+
 #[repr(C)]
 #[derive(Clone, Copy)]
 pub struct NextReply {
@@ -186,6 +194,10 @@ extern "C" {
     ) -> u32;
     pub fn teurlaks_arena_audit(handle: *mut ShareHandle) -> u32;
     pub fn teurlaks_seat_leave(handle: *mut ShareHandle, seat: *mut ShareHandle) -> u32;
+    #[allow(dead_code)]
+    pub fn teurlaks_seat_arena(handle: *mut ShareHandle, out: *mut RawPlace) -> u32;
+    #[allow(dead_code)]
+    pub fn teurlaks_steward_arena(handle: *mut ShareHandle, out: *mut RawPlace) -> u32;
     pub fn teurlaks_steward_seat(handle: *mut ShareHandle, out: *mut ShareHandle) -> u32;
     pub fn teurlaks_share_drop(handle: *mut ShareHandle);
     pub fn teurlaks_seat_session(handle: *mut ShareHandle) -> u32;

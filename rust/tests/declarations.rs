@@ -219,6 +219,7 @@ fn exported() -> Declarations {
         "walks",
         "stewards",
         "leaving",
+        "places",
         "recorded_stewards",
     ] {
         of_rust(
@@ -227,8 +228,8 @@ fn exported() -> Declarations {
             &mut declarations,
         );
     }
-    assert_eq!(declarations.functions.len(), 51);
-    assert_eq!(declarations.structs.len(), 20);
+    assert_eq!(declarations.functions.len(), 53);
+    assert_eq!(declarations.structs.len(), 21);
     declarations
 }
 

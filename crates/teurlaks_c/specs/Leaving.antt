@@ -55,6 +55,14 @@ AreAlike (Steward steward) (Session left) = left.session.seat.limits ≡ (arc_va
 AreAlike (RecordedSteward steward) (RecordedSeat seat) = seat.kept.seat.limits ≡ (arc_value steward.arena).limits
 AreAlike steward seat = ⊥
 
+-- a handle with a seat is told of, and no other
+abbrev pub TellsSeat : Option Share → ℕ → Type 0
+TellsSeat held says = (HasNoSeat held × (says ≡ no_core)) ⊎ ((HasNoSeat held → ⊥) × (says ≡ done))
+
+-- a handle with a steward is told of, and no other
+abbrev pub TellsSteward : Option Share → ℕ → Type 0
+TellsSteward held says = (HasNoSteward held × (says ≡ no_core)) ⊎ ((HasNoSteward held → ⊥) × (says ≡ done))
+
 -- why a seat is not taken: there is no steward, or no seat; or there are both, and the seat is of another arena; or the two are alike, and memory is refused
 abbrev pub IsNotTaken : Share → Share → ℕ → Type 0
 IsNotTaken steward seat says = ((HasNoSteward (Some steward) ⊎ HasNoSeat (Some seat)) × (says ≡ no_core))

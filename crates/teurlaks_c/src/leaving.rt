@@ -134,8 +134,10 @@ fn make_room_for_kept(steward: &mut RecordedSteward, seat: &RecordedSeat) -> Res
     }
 }
 
-// Whether both are shares of one value, of which nobody else makes shares now: a share more of theirs is then one of ours. Shares that
-// go meanwhile can hide it, each of them once. The library has no comparison of places; that it tells two arenas apart is tested.
+// Whether both are shares of one value, of which nobody else makes shares now: a share more of theirs
+// is then one of ours. Shares that go meanwhile can hide it, each of them once. Another steward that is
+// given a seat of ours makes a share of it, and deceives this. So callers compare places before
+// (`places.rt`): the library has no comparison of them.
 fn is_one<T: Drop>(ours: &Arc<T, Global>, theirs: &Arc<T, Global>) -> bool {
     for _ in 0..COUNTS {
         let before = Arc::strong_count(ours);

@@ -15,7 +15,8 @@
 //! A [`ShareHandle`](share_handle::ShareHandle) is the same for threads: it has a seat of an arena, or its steward, each with a share of the
 //! arena, which goes with the last of them. Its calls (`seats.rt`, `stewards.rt`) wait for nobody: where another thread has a lock that a call
 //! needs, it answers `BUSY`, with nothing changed. Both kinds of handle may go to another thread, which is proved (`Send`); a call has its
-//! handle to itself. A seat that its thread is done with goes back to the steward (`leaving.rt`).
+//! handle to itself. A seat that its thread is done with goes back to the steward (`leaving.rt`), of whose arena it is if both stand at one
+//! place (`places.rt`).
 //!
 //! An arena may be *recorded* (`recorded.rt`): it keeps its logs, and each seat the receipts of its calls, which are the calls of any arena
 //! (`recorded_calls.rt`). Once all seats are back the steward ends it, and has the receipts held against the logs (`recorded_stewards.rt`):
@@ -49,6 +50,7 @@ mod held;
 mod keys;
 mod leaving;
 mod meshing;
+mod places;
 mod recorded;
 mod recorded_calls;
 mod recorded_stewards;
@@ -74,6 +76,7 @@ pub use meshing::{
     teurlaks_adopt, teurlaks_begin, teurlaks_certificate, teurlaks_close, teurlaks_end,
     teurlaks_forget, teurlaks_mark, teurlaks_retire, teurlaks_step, teurlaks_trim,
 };
+pub use places::{teurlaks_seat_arena, teurlaks_steward_arena};
 pub use recorded_stewards::{teurlaks_arena_audit, teurlaks_arena_open_recorded};
 pub use seats::{
     teurlaks_seat_adopt, teurlaks_seat_begin, teurlaks_seat_end, teurlaks_seat_free,

@@ -38,6 +38,13 @@ pub struct RawWalk {
     pub slot: u32,
 }
 
+/// Where an arena stands, to be compared with another such place.
+#[repr(C)]
+#[derive(Clone, Copy)]
+pub struct RawPlace {
+    pub at: *const u8,
+}
+
 /// What a put answers: the key where the status is `OK`.
 #[repr(C)]
 #[derive(Clone, Copy)]

@@ -41,7 +41,8 @@ impl fmt::Display for AuditCause {
 pub enum AuditError {
     /// The receipts of the seats do not agree with the logs of the spans: the first part that fails.
     Fault(AuditCause),
-    /// A seat is not back with the arena ([`Arena::take_back`]). Nothing has changed.
+    /// A seat is not back with the arena ([`Arena::take_back`]). Nothing has changed. A seat that was dropped took its receipts along and
+    /// never comes back, so its arena is never audited.
     Unfinished,
     /// The run of the arena is not recorded ([`Arena::open_recorded`]). Nothing has changed.
     NotRecorded,
