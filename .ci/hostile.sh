@@ -33,6 +33,23 @@ cut_texts() {
     done
 }
 
+# Hands the program each beginning of each trace of examples/, which it replays by threads.
+cut_texts_by_threads() {
+    local file
+    for file in "$examples"/*.trace; do
+        while [ "$(jobs -rp | wc -l)" -ge 2 ]; do wait -n; done
+        TEXTS_TRACE=$file TEXTS_THREADS=1 LD_PRELOAD=$PWD/texts.so "$built" run &
+    done >out 2>err
+    wait
+    for file in "$examples"/*.trace; do
+        if grep -q "^texts: $file: [1-9][0-9]* texts, 0 answered wrongly\$" out; then
+            pass
+        else
+            fail "${built##*/} is to answer each beginning of ${file##*/} by threads"
+        fi
+    done
+}
+
 # Counts a run that ends within a minute with status 0, and writes so many lines, of which these are the last.
 expect_end() {
     local lines=$1 said=$2 under=(timeout 60)
@@ -180,7 +197,8 @@ refused_calls() {
         expect_threads "$examples/$name.replies" "$examples/$name.cert" --replies "$examples/$name.trace"
     done
     under=()
-    for name in adoption fold_twice set_wherever_it_is trimmed_pages service_without_end begins_again; do
+    for name in one_fold second_choice adoption fold_twice set_wherever_it_is trimmed_pages \
+        service_without_end begins_again; do
         audited "$examples/$name.report" >report
         expect_memory "$examples/$name.report" "$examples/$name.cert" run --serial "$examples/$name.trace" --certificate f
         expect_memory report "$examples/$name.cert" run "$examples/$name.trace" --certificate f
@@ -345,6 +363,7 @@ hostile_use() {
         return
     fi
     cut_texts
+    cut_texts_by_threads
     short_streams
     interrupted_streams
     refused_calls

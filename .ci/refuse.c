@@ -10,14 +10,17 @@
                      many kilobytes the process had resident at most
 
    A test refuses by itself, by what no memory can meet: a request of 2^62 + N bytes, N not 0, is refused, and so is the N-th growth
-   from then on; a request of 2^62 bytes ends that, and is met exactly where a growth was refused meanwhile. Where this library isn't
-   loaded both are refused, and nothing else is. */
+   from then on; a request of 2^62 bytes ends that, and is met exactly where a growth was refused meanwhile. A request of 2^62 + 2^61 + N
+   bytes is met exactly where the blocks that stand have N bytes at most, as the allocator has cut them. Where this library isn't loaded
+   all three are refused, and nothing else is. */
 
 typedef unsigned long size;
 
 void *__libc_malloc(size);
 void *__libc_calloc(size, size);
 void *__libc_realloc(void *, size);
+void __libc_free(void *);
+size malloc_usable_size(void *);
 int *__errno_location(void);
 char *getenv(const char *);
 long syscall(long, ...);
@@ -31,11 +34,14 @@ enum { OF_EINTR = 4, OF_EAGAIN = 11, OF_ENOMEM = 12, OF_ENOSPC = 28 };
 enum { OF_READ = 0, OF_WRITE = 1, OF_EXIT_GROUP = 231 };
 enum { APPENDED = 02001 | 0100 };
 
-static const size COMMAND = (size)1 << 62;
+static const size COMMAND = (size)1 << 62, MEASURE = (size)1 << 61;
 
 /* How many growths there were, which of them a test has refused, and whether it was. */
 static unsigned long growths, refused, armed_at;
 static int was_refused;
+
+/* How many bytes the blocks have that stand. */
+static size standing;
 
 /* What the environment asks for. */
 static unsigned long growth_at, write_at, writes;
@@ -96,20 +102,45 @@ static int refuses(void) {
 /* Takes what a test asks for, and says whether its request is met. */
 static int is_met(size bytes) {
     int met = bytes == COMMAND && was_refused;
+    if (bytes >= COMMAND + MEASURE) {
+        failed(OF_ENOMEM);
+        return __atomic_load_n(&standing, __ATOMIC_SEQ_CST) <= bytes - COMMAND - MEASURE;
+    }
     was_refused = 0;
     __atomic_store_n(&armed_at, bytes == COMMAND ? 0 : __atomic_load_n(&growths, __ATOMIC_SEQ_CST) + (bytes - COMMAND), __ATOMIC_SEQ_CST);
     failed(OF_ENOMEM);
     return met;
 }
 
-void *malloc(size bytes) {
-    if (bytes >= COMMAND) return is_met(bytes) ? __libc_malloc(1) : 0;
-    return refuses() ? 0 : __libc_malloc(bytes);
+/* The block, which stands from now on. */
+static void *counted(void *block) {
+    if (block) __atomic_add_fetch(&standing, malloc_usable_size(block), __ATOMIC_SEQ_CST);
+    return block;
 }
 
-void *calloc(size count, size bytes) { return refuses() ? 0 : __libc_calloc(count, bytes); }
+/* Counts that a block of so many bytes stands no more. */
+static void uncount(size bytes) { __atomic_sub_fetch(&standing, bytes, __ATOMIC_SEQ_CST); }
 
-void *realloc(void *block, size bytes) { return refuses() ? 0 : __libc_realloc(block, bytes); }
+void *malloc(size bytes) {
+    if (bytes >= COMMAND) return is_met(bytes) ? counted(__libc_malloc(1)) : 0;
+    return refuses() ? 0 : counted(__libc_malloc(bytes));
+}
+
+void *calloc(size count, size bytes) { return refuses() ? 0 : counted(__libc_calloc(count, bytes)); }
+
+void *realloc(void *block, size bytes) {
+    size before = block ? malloc_usable_size(block) : 0;
+    void *grown;
+    if (refuses()) return 0;
+    grown = __libc_realloc(block, bytes);
+    if (grown || !bytes) uncount(before);
+    return counted(grown);
+}
+
+void free(void *block) {
+    if (block) uncount(malloc_usable_size(block));
+    __libc_free(block);
+}
 
 /* Whether this call is the one that is interrupted: each other of its kind. */
 static int is_turn(int *turn) { return is_interrupted && (*turn = !*turn); }

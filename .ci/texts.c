@@ -6,7 +6,7 @@
    of a trace is answered with a whole report, or refused at the line in which it ends, or at the next where that is missing; a
    beginning of a certificate is refused as cut, at the line in which it ends. A text with another byte is answered with a whole report
    or verdict, or refused at a line. The one line that is written says how many texts there were, and how many were answered
-   otherwise; the status is 0 where none was. */
+   otherwise; the status is 0 where none was. Where TEXTS_THREADS stands, the runs are by threads, whose report ends with its audit. */
 
 typedef unsigned long size;
 
@@ -33,7 +33,7 @@ struct text {
 };
 
 static struct text text, out, err;
-static int is_trace, in_file, out_file, err_file;
+static int is_trace, is_by_threads, in_file, out_file, err_file;
 
 static void read_all(int file, struct text *to) {
     long taken;
@@ -82,12 +82,21 @@ static int is_refused_at(long last) {
     return is_refused_at_some_line() && (refused_line("header adopt") == last + 1 || refused_line("header form limit thread ended adopt bound unknown early") == last);
 }
 
-/* Whether the last line of standard output is that of a report's or a verdict's end. */
+/* The place at which the line of standard output begins whose line feed stands at that place. */
+static long line_to(long end) {
+    while (end > 0 && out.bytes[end - 1] != '\n') end--;
+    return end;
+}
+
+/* Whether the last line of standard output is that of a report's or a verdict's end, or the one before the audit is. */
 static int is_whole(void) {
-    long at = out.length - 1;
-    if (out.length == 0 || out.bytes[at] != '\n') return 0;
-    while (at > 0 && out.bytes[at - 1] != '\n') at--;
-    return begins(out.bytes + at, is_trace ? "end pages " : "accepted folds ");
+    long end = out.length - 1;
+    if (out.length == 0 || out.bytes[end] != '\n') return 0;
+    if (is_by_threads) {
+        end = line_to(end) - 1;
+        if (end < 0 || !begins(out.bytes + end + 1, "audit ok\n")) return 0;
+    }
+    return begins(out.bytes + line_to(end), is_trace ? "end pages " : "accepted folds ");
 }
 
 /* What a run of the program came to. */
@@ -135,6 +144,7 @@ __attribute__((constructor)) static void begin(void) {
     int file;
     if (!name) return;
     is_trace = trace != 0;
+    is_by_threads = getenv("TEXTS_THREADS") != 0;
     file = open(name, 0);
     in_file = memfd_create("in", 0), out_file = memfd_create("out", 0), err_file = memfd_create("err", 0);
     if (file < 0 || in_file < 0 || out_file < 0 || err_file < 0) _exit(UNABLE);

@@ -2,6 +2,7 @@
 use crate::refusing::{Rounds, Script, Subject};
 use abandoned::{AdoptError, ReceiveError};
 use arena::{Arena, NoGate, Seat, Stepped, Steward};
+use certificate::Certificate;
 use marks::MarkError;
 use mesh_graph::AtHand;
 use shard::PutError;
@@ -56,6 +57,7 @@ pub(crate) enum Call {
         seat: usize,
     },
     Mark,
+    MarkSome,
     Step,
     Close,
 }
@@ -214,11 +216,22 @@ fn mark<R: Wait>(rt: &R, arena: &Arena<NoGate>, steward: &mut Steward) -> Option
     if !steward.fits(arena) {
         return None;
     }
-    Some(match arena.mark(rt, &AtHand, steward) {
+    Some(told_of_mark(arena.mark(rt, &AtHand, steward)))
+}
+
+fn mark_some<R: Wait>(rt: &R, arena: &Arena<NoGate>, steward: &mut Steward) -> Option<Told> {
+    if !steward.fits(arena) {
+        return None;
+    }
+    Some(told_of_mark(arena.mark_some(rt, &AtHand, steward)))
+}
+
+fn told_of_mark(marked: Result<Certificate, MarkError>) -> Told {
+    match marked {
         Ok(found) => Told::Marked(found.plan.pairs().len(), found.short.ids().len()),
         Err(MarkError::OutOfMemory) => Told::OutOfMemory,
         Err(error) => Told::NotMarked(error),
-    })
+    }
 }
 
 fn step<R: Wait>(rt: &R, arena: &Arena<NoGate>, steward: &mut Steward) -> Option<Told> {
@@ -259,6 +272,7 @@ fn answer<R: Wait>(rt: &R, stand: &mut Stand, call: Call) -> Option<Told> {
         Call::Trim { seat } => trim(rt, arena, seats.get_mut(seat)?),
         Call::Adopt { seat } => adopt(rt, arena, seats.get_mut(seat)?),
         Call::Mark => mark(rt, arena, steward),
+        Call::MarkSome => mark_some(rt, arena, steward),
         Call::Step => step(rt, arena, steward),
         Call::Close => close(rt, arena, steward),
     }
@@ -346,9 +360,9 @@ fn add_wide_puts(calls: &mut Vec<Call>, seat: usize, count: u32) -> Option<()> {
 }
 
 // A mark with its steps, puts in their midst, and its close.
-fn add_mark(calls: &mut Vec<Call>, seat: usize) -> Option<()> {
-    add(calls, Call::Mark)?;
-    add(calls, Call::Mark)?;
+fn add_mark(calls: &mut Vec<Call>, seat: usize, mark: Call) -> Option<()> {
+    add(calls, mark)?;
+    add(calls, mark)?;
     add(calls, Call::Step)?;
     add_puts(calls, seat, 2)?;
     for _ in 0..4 {
@@ -418,7 +432,7 @@ fn calls_of(alloc: Global) -> Option<Vec<Call>> {
     add_later(&mut calls)?;
     add(&mut calls, Call::End { seat: 0 })?;
     add_sets(&mut calls, 2, 0, 2)?;
-    add_mark(&mut calls, 1)?;
+    add_mark(&mut calls, 1, Call::Mark)?;
     add_puts(&mut calls, 2, 30)?;
     add_wide_puts(&mut calls, 2, 17)?;
     add(&mut calls, Call::Retire { seat: 2, most: 1 })?;
@@ -428,7 +442,7 @@ fn calls_of(alloc: Global) -> Option<Vec<Call>> {
     add_puts(&mut calls, 3, 30)?;
     add_frees(&mut calls, 0, 3, 0, 24)?;
     add_frees(&mut calls, 0, 2, 20, 30)?;
-    add_mark(&mut calls, 3)?;
+    add_mark(&mut calls, 3, Call::MarkSome)?;
     add(&mut calls, Call::Adopt { seat: 3 })?;
     add_last_frees(&mut calls)?;
     add(&mut calls, Call::Trim { seat: 3 })?;

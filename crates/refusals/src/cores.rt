@@ -180,10 +180,11 @@ fn add_later(events: &mut Vec<Event>) -> Result<(), AllocError> {
     Ok(())
 }
 
-// Two marks, of which the second is refused, with steps, in the midst of which there are puts, and a close.
-fn add_mark(events: &mut Vec<Event>, shard: u32) -> Result<(), AllocError> {
-    add(events, Event::Mark)?;
-    add(events, Event::Mark)?;
+// Two marks, of which the second is refused, with steps, in the midst of which there are puts, and a
+// close.
+fn add_mark(events: &mut Vec<Event>, shard: u32, mark: Event) -> Result<(), AllocError> {
+    add(events, mark)?;
+    add(events, mark)?;
     add(events, Event::Step)?;
     add_puts(events, shard, Class::C16, 3)?;
     for _ in 0..5 {
@@ -221,7 +222,7 @@ fn events_of(alloc: Global) -> Result<Vec<Event>, AllocError> {
     add_later(&mut events)?;
     add(&mut events, Event::End { shard: 0 })?;
     add_sets(&mut events, 0, 1, Class::C64, Class::C256)?;
-    add_mark(&mut events, 1)?;
+    add_mark(&mut events, 1, Event::Mark)?;
     add_puts(&mut events, 2, Class::C16, 8)?;
     add_puts(&mut events, 2, Class::C256, 17)?;
     add_puts(&mut events, 3, Class::C256, 1)?;
@@ -237,7 +238,7 @@ fn events_of(alloc: Global) -> Result<Vec<Event>, AllocError> {
         5,
         &[0, 1, 2, 3, 4, 5, 6, 7, 8, 9, 10, 11, 12, 13, 14, 15],
     )?;
-    add_mark(&mut events, 5)?;
+    add_mark(&mut events, 5, Event::MarkSome)?;
     add_sets(&mut events, 1, 0, Class::C16, Class::C64)?;
     add(&mut events, Event::Trim { shard: 2 })?;
     add(&mut events, Event::Adopt { shard: 5 })?;

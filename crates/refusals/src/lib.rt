@@ -9,6 +9,9 @@
 //! What refuses is a library in C that is loaded before the tests (`.ci/refuse.c`), which `check` does once they are built. Without it
 //! nothing is refused, and the tests pass, having seen one round of each call.
 //!
+//! The library also counts the bytes of all blocks that stand, so that a forgetting is seen to give them
+//! back, and to ask for none.
+//!
 //! # Examples
 //!
 //! ```text
@@ -23,6 +26,8 @@ mod arenas;
 mod cores;
 #[cfg(test)]
 mod ends;
+#[cfg(test)]
+mod forgetting;
 #[cfg(test)]
 mod openings;
 #[cfg(test)]

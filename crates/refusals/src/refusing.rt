@@ -5,6 +5,9 @@ use std::sync::Wait;
 /// What a test asks of the library that refuses: no memory has so many bytes, so it is refused where the library isn't loaded.
 const COMMAND: usize = 1 << 62;
 
+/// With so many bytes more it asks whether those stand at most.
+const MEASURE: usize = COMMAND + (1 << 61);
+
 /// No call takes so many growths.
 pub(crate) const MOST: u32 = 2000;
 
@@ -16,6 +19,28 @@ pub(crate) fn refuse(alloc: Global, number: u32) {
 /// Nothing is refused any more. Says whether a growth was.
 pub(crate) fn was_refused(alloc: Global) -> bool {
     Vec::<u8>::with_capacity(alloc, COMMAND).is_ok()
+}
+
+/// How many bytes the blocks have that stand, where the library is loaded, which counts them.
+pub(crate) fn standing(alloc: Global) -> Option<usize> {
+    let (mut low, mut high) = (0usize, 1usize << 40);
+    if !stand_at_most(alloc, high) {
+        return None;
+    }
+    // There are more than `low` or none, and at most `high`.
+    for _ in 0..40 {
+        let middle = low + (high - low) / 2;
+        if stand_at_most(alloc, middle) {
+            high = middle;
+        } else {
+            low = middle;
+        }
+    }
+    Some(high)
+}
+
+fn stand_at_most(alloc: Global, bytes: usize) -> bool {
+    Vec::<u8>::with_capacity(alloc, MEASURE + bytes).is_ok()
 }
 
 /// What a round of a call came to, in which one growth was to be refused.
