@@ -267,7 +267,8 @@ impl<T> Arena<T> {
         )
     }
 
-    /// Closes the open plan; pairs that are left are dropped. It takes no memory. An arena that is dropped closes its plan.
+    /// Closes the open plan; pairs that are left are dropped. It takes no memory. An arena that is dropped closes its plan, or leaves
+    /// that to the end of a session of its own thread.
     ///
     /// # Errors
     ///
@@ -348,7 +349,7 @@ impl<T> Arena<T> {
 
     /// The live keys, one after another, while other threads go on: no key comes twice, and each that is live all the while comes; one that
     /// is put or freed meanwhile may come or not. They come by the shards that gave them out, and by when they first did. It takes one lock
-    /// at a time.
+    /// at a time. A step panics if it would wait for a session, and its thread is in one ([`Seat::session`]).
     ///
     /// ```
     /// use teurlaks::{arena::Arena, Limits};

@@ -7,8 +7,8 @@ use common::{kilobytes, Random};
 use std::env;
 use teurlaks::{Refused, SharedStore, Slab, Store};
 
-/// How many values come in a round, of which one in 20 stays, as of those before.
-const VALUES: u64 = 50_000;
+/// How many values come in a round, of which one in 20 stays, as of those before. They are enough for a shared store to fold.
+const VALUES: u64 = 100_000;
 
 /// The round after which memory grows no more.
 const SETTLED: usize = 9;
@@ -16,7 +16,7 @@ const SETTLED: usize = 9;
 /// How many rounds there are, unless the variable `ROUNDS` says more.
 fn rounds() -> usize {
     let asked = env::var("ROUNDS").ok().and_then(|rounds| rounds.parse().ok());
-    asked.unwrap_or(24)
+    asked.unwrap_or(20)
 }
 
 /// Does so many rounds, and holds what is resident after the last one against what was after the one in which it had settled.

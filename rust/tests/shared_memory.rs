@@ -3,7 +3,8 @@
 
 mod common;
 
-use common::{kilobytes, with_data_left};
+use common::{kilobytes, with_data_left, with_data_owed};
+use std::mem;
 use std::sync::atomic::{AtomicBool, Ordering};
 use std::thread;
 use teurlaks::{Key, Refused, SharedStore};
@@ -55,6 +56,16 @@ fn most_of_it_leaves_the_process() -> Result<(), Refused> {
     Ok(())
 }
 
+/// Takes all blocks that the allocator gives out.
+fn take_all(blocks: &mut Vec<Vec<u8>>) {
+    for bytes in [1 << 20, 1 << 16, 1 << 12, 1 << 8, 1 << 4] {
+        let mut block = Vec::new();
+        while blocks.len() < blocks.capacity() && block.try_reserve_exact(bytes).is_ok() {
+            blocks.push(mem::take(&mut block));
+        }
+    }
+}
+
 /// Inserts until memory is refused, and compacts where hardly any is left: each may be tried again, and no value is lost.
 fn refused_where_there_is_none() -> Result<(), Refused> {
     let store = SharedStore::new()?;
@@ -70,7 +81,13 @@ fn refused_where_there_is_none() -> Result<(), Refused> {
     assert!(!keys.contains(&key) && store.remove(key) == Some([1; 30]));
 
     store.retain(|_, [number, ..]| number * 7919 % 100 < 5);
-    let refused = with_data_left(0, || store.compact());
+    // What one shard forgets would do for the next one, so nothing is left to the allocator either.
+    let mut all = Vec::with_capacity(1 << 20);
+    let refused = with_data_owed(16 << 20, || {
+        take_all(&mut all);
+        store.compact()
+    });
+    drop(all);
     assert_eq!(refused, Err(Refused::OutOfMemory));
     let found = || {
         keys.iter().zip(0..).all(|(key, number)| {

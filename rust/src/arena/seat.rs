@@ -25,6 +25,7 @@ use std::ptr::NonNull;
 /// It may go to another thread (`Send`), and is of one thread at a time (not `Sync`). A call that needs a lock which another thread has waits for
 /// it: it pauses, lets others run, and then sleeps for 20 microseconds at a time. Most calls hold a lock for well below a microsecond; a mark holds
 /// all of them for as long as it plans. While the steward waits for a lock, each call of a seat lets others run before it begins, up to 32 times.
+/// A call whose thread is in a session waits for no session ([`Seat::session`]).
 ///
 /// A seat that has made 64 calls on its own shard keeps that until somebody else asks for it, so that calls on what is there take no lock. Whoever does
 /// ask takes the shard back, in some microseconds and also while the seat's thread sleeps; the seat then keeps it again after 4,096 calls, and after
@@ -416,7 +417,8 @@ impl<T> Seat<T> {
         got.status == raw::TOO_SMALL || was_live(got.status)
     }
 
-    /// The live keys of all shards, one after another, as [`Arena::keys`](super::Arena::keys) gives them.
+    /// The live keys of all shards, one after another, as [`Arena::keys`](super::Arena::keys) gives them. A step panics if it would wait for
+    /// a session, and its thread is in one ([`Seat::session`]).
     pub fn keys(&self) -> Keys<'_> {
         Keys::of_seat(self.lanes.here(), &self.turn)
     }

@@ -6,8 +6,8 @@ use crate::refused::Refused;
 use std::fmt;
 use std::marker::PhantomData;
 
-/// A [`Seat`] whose thread has the seat's shard, until the session is dropped: [`Seat::session`] says what it is for, and who waits for it. A shard that
-/// the seat keeps of itself is taken back by whoever asks for it; that of a session is not.
+/// A [`Seat`] whose thread has the seat's shard, until the session is dropped: [`Seat::session`] says what it is for, who waits for it, and which
+/// calls its thread can't make meanwhile. A shard that the seat keeps of itself is taken back by whoever asks for it; that of a session is not.
 ///
 /// Its calls are those of the seat. A call on what is in the shard takes no lock; one on what is elsewhere tries the lock of that place, and where
 /// another thread has it the session lets go of its own shard until the call is made, as it does for [`Session::tend`], [`Session::end`],

@@ -50,6 +50,13 @@ struct Resource {
     line: &'static str,
 }
 
+impl Resource {
+    /// How many bytes the process has of it.
+    fn bytes(&self) -> u64 {
+        1024 * kilobytes(self.line)
+    }
+}
+
 const ADDRESS_SPACE: Resource = Resource {
     number: 9,
     line: "VmSize:",
@@ -68,17 +75,21 @@ extern "C" {
 
 /// Runs the call with so many bytes of address space left. The limit is the process's.
 pub fn with_bytes_left<R>(bytes: u64, call: impl FnOnce() -> R) -> R {
-    with_left(ADDRESS_SPACE, bytes, call)
+    with_limit(&ADDRESS_SPACE, ADDRESS_SPACE.bytes() + bytes, call)
 }
 
 /// Runs the call with so many bytes left that may be written to. The limit is the process's.
 pub fn with_data_left<R>(bytes: u64, call: impl FnOnce() -> R) -> R {
-    with_left(DATA, bytes, call)
+    with_limit(&DATA, DATA.bytes() + bytes, call)
 }
 
-fn with_left<R>(resource: Resource, bytes: u64, call: impl FnOnce() -> R) -> R {
+/// Runs the call while the process has so many bytes more than it may: it gets none, also once it has given some back. The limit is the process's.
+pub fn with_data_owed<R>(bytes: u64, call: impl FnOnce() -> R) -> R {
+    with_limit(&DATA, DATA.bytes().saturating_sub(bytes), call)
+}
+
+fn with_limit<R>(resource: &Resource, soft: u64, call: impl FnOnce() -> R) -> R {
     let mut old = Limit { soft: 0, hard: 0 };
-    let soft = 1024 * kilobytes(resource.line) + bytes;
     // SAFETY: all calls are given a limit that is there.
     unsafe {
         assert_eq!(getrlimit(resource.number, &mut old), 0);
