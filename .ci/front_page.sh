@@ -1,27 +1,56 @@
-# What `check` asks of README: that it is short, that it shows the output which the program has, and that each limit and figure of its tables is
-# that of the source or the measurement from which it comes. It is called from `check`, and counts by its `passed` and `failed`.
+# What `check` asks of README: that it is short, that what it links to exists, that it shows what
+# the program prints, and that each limit and figure of its tables is that of the source or of the
+# measurement. `check` calls `front_page`, and counts by its own `passed` and `failed`.
 # shellcheck shell=bash disable=SC2016,SC2154
 
-# Counts whether README has this line, or this part of one.
-has_line() {
-    if grep -qF -- "$1" "$top/README.md"; then
+# Counts whether a command succeeds: `asks MESSAGE COMMAND [WORD..]`.
+asks() {
+    local message=$1
+    shift
+    if "$@"; then
         passed=$((passed + 1))
     else
         failed=$((failed + 1))
-        echo "check: README is to have: $1"
+        echo "check: README must $message"
     fi
+}
+
+# Counts whether README has this text on one line.
+has_line() {
+    asks "have: $1" grep -qF -- "$1" "$top/README.md"
+}
+
+# Whether no line of README has more than 100 columns. Names the lines that do.
+is_narrow() {
+    awk 'length > 100 { print "README.md:" FNR; wide = 1 } END { exit wide }' "$top/README.md"
+}
+
+# Whether the first block of text in README is the report of the run that stands above it.
+shows_report() {
+    awk '/^```text$/ { on = ++blocks == 1; next } /^```$/ { on = 0 } on' "$top/README.md" |
+        cmp -s - "$top/examples/one_fold.report"
+}
+
+# Counts each file that README links to.
+count_links() {
+    local target
+    while read -r target; do
+        asks "link to files that exist: $target" [ -e "$top/$target" ]
+    done < <(grep -oE '\]\([^):#]+' "$top/README.md" | cut -c 3-)
 }
 
 # The number that a constant of a crate has, written with commas.
 limit() {
-    sed -n "s/^pub const $2: [a-z0-9]* = \(.*\);\$/\1/p" "$top/crates/$1" | sed 's/^u32::MAX$/4294967295/; s/_//g' | with_commas
+    sed -n "s/^pub const $2: [a-z0-9]* = \(.*\);\$/\1/p" "$top/crates/$1" |
+        sed 's/^u32::MAX$/4294967295/; s/_//g' | with_commas
 }
 
 with_commas() {
     sed -E ':again; s/([0-9])([0-9]{3})($|[^0-9])/\1,\2\3/; t again'
 }
 
-# A cell of a table of bench/README: the table's place in its section, the row's first cells, and the number of the column, from 1.
+# A cell of a table of bench/README: the section, the table's place in it, the row's first cells,
+# and the number of the column, from 1.
 cell() {
     awk -v section="$1" -v table="$2" -v row="| $3 |" -v column="$4" -F ' *[|] *' '
         /^#/ { inside = $0 ~ "^#+ " section "$"; tables = 0 }
@@ -31,58 +60,46 @@ cell() {
     ' "$top/bench/README.md"
 }
 
-# The same, without its part below one.
+# The same, to the nearest whole number.
 rounded() {
     cell "$@" | awk '{ printf "%.0f\n", $0 }'
 }
 
-# Counts whether README and this section of bench/README both have the text.
-cited() {
-    if grep -qF -- "$2" "$top/README.md" && awk -v section="$1" '/^#/ { on = $0 ~ "^#+ " section "$" } on' "$top/bench/README.md" | grep -qF -- "$2"; then
-        passed=$((passed + 1))
-    else
-        failed=$((failed + 1))
-        echo "check: README is to cite $2 of '$1' in bench/README"
-    fi
+# Counts a row of the table of costs, by its name in README and by its row in bench/README.
+one_thread() {
+    local times='Called from Rust' memory='What a live value keeps resident'
+    has_line "$1 $(rounded "$times" 1 "$2" 2) | $(rounded "$times" 1 "$2" 4) | | $(
+        cell "$memory" 1 "$2" 2) |"
+}
+
+# The same of four threads, by its column in bench/README.
+four_threads() {
+    local times='A seat that keeps its shard'
+    has_line "| $1, four threads | $(rounded "$times" 1 '`churn` | 4' "$2") | $(
+        rounded "$times" 1 '`own` | 4' "$2") | $(rounded "$times" 1 '`other` | 4' "$2") | |"
 }
 
 front_page() {
-    local from_rust='Called from Rust' shared='A seat that keeps its shard' resident='What a live value keeps resident'
-    local before=$passed many='pages of a shard at a time; spans that it ever opens'
-    if [ "$(wc -l <"$top/README.md")" -le 150 ]; then
-        passed=$((passed + 1))
-    else
-        failed=$((failed + 1))
-        echo "check: README is to have 150 lines at most"
-    fi
-    # The first run that it shows is that of an example.
-    if awk '/^\$ \.\/meshrun run --serial examples\/one_fold\.trace$/ { on = 1; next } /^```$/ { on = 0 } on' "$top/README.md" |
-        cmp -s - "$top/examples/one_fold.report"; then
-        passed=$((passed + 1))
-    else
-        failed=$((failed + 1))
-        echo "check: README is to show examples/one_fold.report"
-    fi
-    has_line "| shards, of one thread each | $(limit span/src/limits.rt MOST_SHARDS);"
-    has_line "| $many | $(limit span/src/limits.rt MOST_PAGES), and $(limit trace_text/src/header.rt TRACE_PAGES) of a trace; $(limit span/src/limits.rt MOST_SPANS), "
-    has_line " and $(limit trace_runner/src/replay.rt TRACE_SPANS) of a trace |"
-    has_line "| slots of a page, for objects of 16, 64, 256 bytes | $(sed -n 's/^ *Class::C[0-9]* => \([0-9]*\),$/\1/p' "$top/crates/span/src/class.rt" |
-        head -n 3 | paste -sd ' ' | sed 's/ /, /g') |"
-    has_line "| groups on a side of a plan | $(limit mesh_graph/src/build.rt MOST_GROUPS);"
-    has_line "| keys on a ring, by which a worker leaves frees to the thread of another shard | $(limit span/src/limits.rt MOST_RING_KEYS) |"
-    has_line "| a free and a put, 1,000 live, ns | $(rounded "$from_rust" 1 teurlaks 2); as \`Slab<T>\` $(rounded "$from_rust" 1 teurlaks-slab 2) | $(
-        rounded "$from_rust" 1 slab 2) | $(rounded "$from_rust" 1 slotmap 2) | $(rounded "$from_rust" 1 sharded-slab 2) |"
-    has_line "| a look-up, 1,000 live, ns | $(rounded "$from_rust" 1 teurlaks 4); as \`Slab<T>\` $(rounded "$from_rust" 1 teurlaks-slab 4) | $(
-        rounded "$from_rust" 1 slab 4) | $(rounded "$from_rust" 1 slotmap 4) | $(rounded "$from_rust" 1 sharded-slab 4) |"
-    has_line "| resident bytes a live value of 16 bytes | $(cell "$resident" 1 teurlaks 2); as \`Slab<T>\` $(cell "$resident" 1 teurlaks-slab 2) | $(
-        cell "$resident" 1 slab 2) | $(cell "$resident" 1 slotmap 2) | $(cell "$resident" 1 sharded-slab 2) |"
-    has_line "| a free and a put by four threads, at an \`Arena\`; in a \`SharedStore\`, ns | $(rounded "$shared" 1 '`churn` | 4' 4); $(
-        rounded "$shared" 1 '`churn` | 4' 3) | | | $(rounded "$shared" 1 '`churn` | 4' 8) |"
-    has_line "| a look-up of an own value by four threads, at an \`Arena\`; in a \`SharedStore\`, ns | $(rounded "$shared" 1 '`own` | 4' 4); $(
-        rounded "$shared" 1 '`own` | 4' 3) | | | $(rounded "$shared" 1 '`own` | 4' 8) |"
-    has_line "| a look-up of another thread's value by four threads, at an \`Arena\`; in a \`SharedStore\`, ns | $(rounded "$shared" 1 '`other` | 4' 4); $(
-        rounded "$shared" 1 '`other` | 4' 3) | | | $(rounded "$shared" 1 '`other` | 4' 8) |"
-    cited 'A core without an end' '292,484'
-    cited 'A recorded Redis' '54 %'
+    local before=$passed shards groups
+    asks 'have at most 1,000 words' [ "$(wc -w <"$top/README.md")" -le 1000 ]
+    asks 'have lines of at most 100 columns' is_narrow
+    count_links
+    has_line './meshrun run --serial examples/one_fold.trace'
+    asks 'show examples/one_fold.report' shows_report
+    shards=$(limit span/src/limits.rt MOST_SHARDS)
+    groups=$(limit mesh_graph/src/build.rt MOST_GROUPS)
+    has_line "| shards, one thread each | $shards | $shards |"
+    has_line "| pages of a shard at once | $(limit span/src/limits.rt MOST_PAGES) | $(
+        limit trace_text/src/header.rt TRACE_PAGES) |"
+    has_line "| pages a shard ever opens | $(limit span/src/limits.rt MOST_SPANS) | $(
+        limit trace_runner/src/replay.rt TRACE_SPANS) |"
+    has_line "| pages per side of a plan | $groups | $groups |"
+    one_thread '| `Core` |' teurlaks
+    one_thread '| `Slab<T>` |' teurlaks-slab
+    one_thread '| `slab`, `slotmap` |' slab
+    one_thread '| `slab`, `slotmap` |' slotmap
+    four_threads '`Arena<T>`' 4
+    four_threads '`SharedStore<T>`' 3
+    four_threads '`sharded-slab`' 8
     echo "check: README and what it cites: $((passed - before)) passed"
 }
