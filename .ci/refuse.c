@@ -10,9 +10,10 @@
                      many kilobytes the process had resident at most
 
    A test refuses by itself, by what no memory can meet: a request of 2^62 + N bytes, N not 0, is refused, and so is the N-th growth
-   from then on; a request of 2^62 bytes ends that, and is met exactly where a growth was refused meanwhile. A request of 2^62 + 2^61 + N
-   bytes is met exactly where the blocks that stand have N bytes at most, as the allocator has cut them. Where this library isn't loaded
-   all three are refused, and nothing else is. */
+   from then on; a request of 2^62 bytes ends that, and is met exactly where a growth was refused meanwhile.
+   It asks how much memory stands by a request of 2^62 + 2^61 + N bytes, which is met exactly if all
+   blocks together have N bytes at most, as the allocator has cut them. Where this library isn't
+   loaded each of these requests is refused, and nothing else is. */
 
 typedef unsigned long size;
 
@@ -126,7 +127,9 @@ void *malloc(size bytes) {
     return refuses() ? 0 : counted(__libc_malloc(bytes));
 }
 
-void *calloc(size count, size bytes) { return refuses() ? 0 : counted(__libc_calloc(count, bytes)); }
+void *calloc(size count, size bytes) {
+    return refuses() ? 0 : counted(__libc_calloc(count, bytes));
+}
 
 void *realloc(void *block, size bytes) {
     size before = block ? malloc_usable_size(block) : 0;

@@ -6,7 +6,9 @@
    of a trace is answered with a whole report, or refused at the line in which it ends, or at the next where that is missing; a
    beginning of a certificate is refused as cut, at the line in which it ends. A text with another byte is answered with a whole report
    or verdict, or refused at a line. The one line that is written says how many texts there were, and how many were answered
-   otherwise; the status is 0 where none was. Where TEXTS_THREADS stands, the runs are by threads, whose report ends with its audit. */
+   otherwise; the status is 0 where none was.
+
+   With TEXTS_THREADS the runs are by threads, and a whole report ends with its audit. */
 
 typedef unsigned long size;
 
@@ -88,7 +90,8 @@ static long line_to(long end) {
     return end;
 }
 
-/* Whether the last line of standard output is that of a report's or a verdict's end, or the one before the audit is. */
+/* Whether the last line of standard output, or the one before the audit, is that of a report's or a
+   verdict's end. */
 static int is_whole(void) {
     long end = out.length - 1;
     if (out.length == 0 || out.bytes[end] != '\n') return 0;

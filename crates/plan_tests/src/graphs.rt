@@ -142,17 +142,25 @@ fn a_side_has_at_most_4096_groups(rt: HostRuntime) {
     );
 }
 
+// The slot of the number, by as many as the class has.
+fn slot_in(class: Class, number: u32) -> u8 {
+    match class {
+        Class::C16 => (number % 256) as u8,
+        Class::C64 => (number % 64) as u8,
+        Class::C256 => (number % 16) as u8,
+    }
+}
+
 // A side of so many groups, each other one of which is of the second class. Group k has the slots
 // k % 13 + 16 * seed, k * k and k / 3, by as many as its class has.
 fn side(alloc: Global, shard: u32, count: u32, seed: u32, second: Class) -> Option<Vec<Entry>> {
     let mut groups = Vec::new(alloc);
     for k in 0..count.min(1024) {
         let class = if k % 2 == 0 { Class::C16 } else { second };
-        let most = if class == Class::C16 { 256 } else { 64 };
         let slots = [
-            ((k % 13 + seed % 8 * 16) % most) as u8,
-            (k * k % most) as u8,
-            (k / 3 % most) as u8,
+            slot_in(class, k % 13 + seed % 8 * 16),
+            slot_in(class, k * k),
+            slot_in(class, k / 3),
         ];
         groups.push(entry(shard, k, class, &slots)?).ok()?;
     }

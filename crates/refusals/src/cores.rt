@@ -180,8 +180,8 @@ fn add_later(events: &mut Vec<Event>) -> Result<(), AllocError> {
     Ok(())
 }
 
-// Two marks, of which the second is refused, with steps, in the midst of which there are puts, and a
-// close.
+// Two marks, of which the second is refused, with steps, in the midst of which there are puts, and
+// a close.
 fn add_mark(events: &mut Vec<Event>, shard: u32, mark: Event) -> Result<(), AllocError> {
     add(events, mark)?;
     add(events, mark)?;

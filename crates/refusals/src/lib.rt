@@ -9,8 +9,8 @@
 //! What refuses is a library in C that is loaded before the tests (`.ci/refuse.c`), which `check` does once they are built. Without it
 //! nothing is refused, and the tests pass, having seen one round of each call.
 //!
-//! The library also counts the bytes of all blocks that stand, so that a forgetting is seen to give them
-//! back, and to ask for none.
+//! The library also counts the bytes of all blocks that stand, by which a forgetting is seen to keep
+//! nothing of what it forgets.
 //!
 //! # Examples
 //!

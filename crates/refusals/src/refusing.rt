@@ -29,7 +29,7 @@ pub(crate) fn standing(alloc: Global) -> Option<usize> {
     }
     // There are more than `low` or none, and at most `high`.
     for _ in 0..40 {
-        let middle = low + (high - low) / 2;
+        let middle = low.saturating_add(high.saturating_sub(low) / 2);
         if stand_at_most(alloc, middle) {
             high = middle;
         } else {
@@ -40,7 +40,7 @@ pub(crate) fn standing(alloc: Global) -> Option<usize> {
 }
 
 fn stand_at_most(alloc: Global, bytes: usize) -> bool {
-    Vec::<u8>::with_capacity(alloc, MEASURE + bytes).is_ok()
+    Vec::<u8>::with_capacity(alloc, MEASURE.saturating_add(bytes)).is_ok()
 }
 
 /// What a round of a call came to, in which one growth was to be refused.

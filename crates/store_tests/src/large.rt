@@ -21,7 +21,7 @@ fn shard<L: Log>(alloc: Global, number: u32) -> Option<Shard<L>> {
 
 // Fills that many pages with objects of sixteen words, of which a page has as many.
 fn fill<L: Log>(shard: &mut Shard<L>, pages: u32) -> Option<()> {
-    for number in 0..pages * 16 {
+    for number in 0..pages.saturating_mul(16) {
         let object = Object::of(Class::C256, &[u128::from(number); 16]);
         shard.put(object).ok()?;
     }

@@ -53,18 +53,19 @@ fn put_words(arena: &Shards, seat: &mut Seat, class: Class, word: u128) -> Optio
 
 // Fills that many new pages with objects of the class.
 fn fill<R: Wait>(rt: &R, arena: &Shards, seat: &mut Seat, class: Class, pages: u32) -> Option<()> {
-    for number in 0..pages * objects_in(class) {
+    let objects = u32::from(last_slot(class)) + 1;
+    for number in 0..pages.saturating_mul(objects) {
         put_by(rt, arena, seat, class, number)?;
     }
     Some(())
 }
 
-// How many objects of the class a page has.
-fn objects_in(class: Class) -> u32 {
+// The last slot of a page of objects of the class.
+fn last_slot(class: Class) -> u8 {
     match class {
-        Class::C16 => 256,
-        Class::C64 => 64,
-        Class::C256 => 16,
+        Class::C16 => 255,
+        Class::C64 => 63,
+        Class::C256 => 15,
     }
 }
 
@@ -95,11 +96,12 @@ fn thin_out<R: Wait>(
     is_last: bool,
 ) -> Option<()> {
     fill(rt, arena, seat, class, 250)?;
-    let last = objects_in(class) as u8 - 1;
+    let last = last_slot(class);
+    let before = last.saturating_sub(1);
     let shard = seat.worker();
-    for serial in first..first + 250 {
-        strike_below(arena, seat, shard, serial, last - 1)?;
-        let other = if is_last { last - 1 } else { last };
+    for serial in first..first.saturating_add(250) {
+        strike_below(arena, seat, shard, serial, before)?;
+        let other = if is_last { before } else { last };
         strike(arena, seat, &key(shard, serial, other)?)?;
     }
     Some(())
@@ -262,7 +264,8 @@ fn retire_groups(arena: &Shards, seat: &mut Seat, first: u32, is_owned: bool) ->
         }
         for slot in 0..IN_CHAINS {
             if !is_live(number, slot, is_owned) {
-                strike(arena, seat, &key(0, first + u32::from(number), slot)?)?;
+                let serial = first.saturating_add(u32::from(number));
+                strike(arena, seat, &key(0, serial, slot)?)?;
             }
         }
         retire(arena, seat, 1)?;
@@ -383,11 +386,9 @@ fn is_set<R: Wait>(
     }
 }
 
-// How often a key is set by its shard's seat; how many calls set it then, one after another;
-// whether it is set in a session, and by another seat in the pool; and what is found of it.
-type Sets = (u32, u32, [bool; 2], Option<Object>);
-
-fn set_often<R: Wait>(rt: &R, alloc: Global) -> Option<Sets> {
+// Sets a key 2,100,000 times, and then by each call. It gives whether the key is then set in a
+// session, and by another seat in the pool, and what is found of it.
+fn set_often<R: Wait>(rt: &R, alloc: Global) -> Option<([bool; 2], Option<Object>)> {
     let Shared {
         arena,
         mut first,
@@ -395,19 +396,21 @@ fn set_often<R: Wait>(rt: &R, alloc: Global) -> Option<Sets> {
         ..
     } = make_shared(alloc, 2)?;
     let key = put(&*arena, &mut first, 5)?;
-    let mut count = 0u32;
-    while count < 2_100_000 && is_set(rt, &*arena, &mut first, &key, u128::from(count), 0) {
-        count = count.saturating_add(1);
+    for word in 0..2_100_000u32 {
+        if !is_set(rt, &*arena, &mut first, &key, u128::from(word), 0) {
+            return None;
+        }
     }
-    let mut calls = 0u32;
-    while calls < 3 && is_set(rt, &*arena, &mut first, &key, 8, calls) {
-        calls = calls.saturating_add(1);
+    for call in 0..3u32 {
+        if !is_set(rt, &*arena, &mut first, &key, 8, call) {
+            return None;
+        }
     }
     let (mut first, in_session) = set_in_session(&arena, first, &key)?;
     retire(&*arena, &mut first, 1)?;
     let in_pool = is_set(rt, &*arena, &mut second, &key, 7, 1);
     let found = get(&*arena, &mut first, &key)?.ok()?;
-    Some((count, calls, [in_session, in_pool], found))
+    Some(([in_session, in_pool], found))
 }
 
 fn set_in_session(arena: &Arc<Shards, Global>, seat: Seat, key: &Key) -> Option<(Seat, bool)> {
@@ -420,7 +423,7 @@ fn set_in_session(arena: &Arc<Shards, Global>, seat: Seat, key: &Key) -> Option<
 fn sets_a_key_two_million_times(rt: HostRuntime) -> Result<(), Fail> {
     let set = set_often(&rt, rt.alloc());
     let found = Some(Object::c16(7));
-    assert_eq!(rt; set, Some((2_100_000, 3, [true; 2], found)));
+    assert_eq!(rt; set, Some(([true; 2], found)));
     Ok(())
 }
 

@@ -8,7 +8,7 @@ use std::test::Fail;
 
 // Fills pages with objects of sixteen words, of which each has as many.
 fn fill(arena: &Shards, seat: &mut Seat, pages: u32) -> Option<()> {
-    for number in 0..pages * 16 {
+    for number in 0..pages.saturating_mul(16) {
         let object = Object::of(Class::C256, &[u128::from(number); 16]);
         put_object(arena, seat, object)?;
     }

@@ -242,18 +242,16 @@ fn is_found_and_set(
 // others.
 type Wide = [Option<[u128; 16]>; 4];
 
-const FOUR: [u128; 4] = [1, 2, 3, 4];
-
-const SIXTEEN: [u128; 16] = [1, 2, 3, 4, 5, 6, 7, 8, 9, 10, 11, 12, 13, 14, 15, 16];
-
 fn wide(arena: &Arena<Holding<'_>, Counted>, first: &mut Seat, second: &mut Seat) -> Option<Wide>
     requires first { first.old.limits ≡ arena.now.limits }
     requires second { second.old.limits ≡ arena.now.limits }
 {
-    let Ok(Ok((four, _))) = first.try_put_words(arena, Class::C64, &FOUR) else {
+    let words = [1, 2, 3, 4];
+    let wide_words = [1, 2, 3, 4, 5, 6, 7, 8, 9, 10, 11, 12, 13, 14, 15, 16];
+    let Ok(Ok((four, _))) = first.try_put_words(arena, Class::C64, &words) else {
         return None;
     };
-    let Ok(Ok((sixteen, _))) = first.try_put_words(arena, Class::C256, &SIXTEEN) else {
+    let Ok(Ok((sixteen, _))) = first.try_put_words(arena, Class::C256, &wide_words) else {
         return None;
     };
     let before = words_of(arena, second, &four, 4);
@@ -263,8 +261,8 @@ fn wide(arena: &Arena<Holding<'_>, Counted>, first: &mut Seat, second: &mut Seat
         21, 22, 23, 24, 25, 26, 27, 28, 29, 30, 31, 32, 33, 34, 35, 36,
     ];
     let (object, wide_object) = (
-        Object::of(Class::C64, &FOUR),
-        Object::of(Class::C256, &SIXTEEN),
+        Object::of(Class::C64, &words),
+        Object::of(Class::C256, &wide_words),
     );
     let is_set = is_found_and_set(arena, second, &four, object, &others)
         && is_found_and_set(arena, second, &sixteen, wide_object, &wide_others);
@@ -300,7 +298,8 @@ fn keep_each_word_in_its_place(rt: HostRuntime) -> Result<(), Fail> {
     let sixteen = [
         21, 22, 23, 24, 25, 26, 27, 28, 29, 30, 31, 32, 33, 34, 35, 36,
     ];
-    let wanted = [Some(four), Some(SIXTEEN), Some(others), Some(sixteen)];
+    let wide = [1, 2, 3, 4, 5, 6, 7, 8, 9, 10, 11, 12, 13, 14, 15, 16];
+    let wanted = [Some(four), Some(wide), Some(others), Some(sixteen)];
     assert_eq!(rt; wide_of_new(rt.alloc()), Some(wanted));
     Ok(())
 }

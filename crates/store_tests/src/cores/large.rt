@@ -34,19 +34,20 @@ fn free<L: Log>(core: &mut Core<L>, key: Key) -> Option<()> {
     if core.free(&key) { Some(()) } else { None }
 }
 
-// How many objects of the class a page has.
-fn objects_in(class: Class) -> u32 {
+// The last slot of a page of objects of the class.
+fn last_slot(class: Class) -> u8 {
     match class {
-        Class::C16 => 256,
-        Class::C64 => 64,
-        Class::C256 => 16,
+        Class::C16 => 255,
+        Class::C64 => 63,
+        Class::C256 => 15,
     }
 }
 
 // Fills that many new pages with objects of the class, and gives the last key.
 fn fill<L: Log>(core: &mut Core<L>, shard: u32, class: Class, pages: u32) -> Option<Key> {
     let mut last = None;
-    for number in 0..pages * objects_in(class) {
+    let objects = u32::from(last_slot(class)) + 1;
+    for number in 0..pages.saturating_mul(objects) {
         last = Some(put(core, shard, class, u128::from(number))?);
     }
     last
@@ -85,10 +86,11 @@ fn thin_out<L: Log>(
     is_last: bool,
 ) -> Option<()> {
     fill(core, shard, class, 250)?;
-    let last = objects_in(class) as u8 - 1;
-    for serial in first..first + 250 {
-        free_below(core, shard, serial, last - 1)?;
-        let other = if is_last { last - 1 } else { last };
+    let last = last_slot(class);
+    let before = last.saturating_sub(1);
+    for serial in first..first.saturating_add(250) {
+        free_below(core, shard, serial, before)?;
+        let other = if is_last { before } else { last };
         free(core, key(shard, serial, other, 1)?)?;
     }
     Some(())
@@ -155,7 +157,8 @@ fn retire_groups<L: Log>(core: &mut Core<L>, first: u32, is_owned: bool) -> Opti
         }
         for slot in 0..IN_CHAINS {
             if !is_live(number, slot, is_owned) {
-                free(core, key(0, first + u32::from(number), slot, 1)?)?;
+                let serial = first.saturating_add(u32::from(number));
+                free(core, key(0, serial, slot, 1)?)?;
             }
         }
         let retire = Event::Retire { shard: 0, most: 1 };
