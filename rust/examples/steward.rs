@@ -1,5 +1,6 @@
-//! `steward SEATS`: how long a mesh of the steward takes beside so many threads that make calls at their seats without a pause, in the median and at
-//! most, of 100. With `TEURLAKS_FENCE=missing` no seat keeps its shard.
+//! `steward SEATS`: how long a mesh of the steward takes beside so many threads that make calls at
+//! their seats without a pause, in the median and at most, of 100. With `TEURLAKS_FENCE=missing` no
+//! seat keeps its shard.
 
 use std::process::ExitCode;
 use std::sync::atomic::{AtomicBool, Ordering};
@@ -66,7 +67,7 @@ fn main() -> ExitCode {
         Ok(mut took) => {
             took.sort_unstable();
             let (median, longest) = (took[MESHES / 2], took[MESHES - 1]);
-            println!("beside {seats} busy seats a mesh took {median:?} in the median, and {longest:?} at most");
+            println!("beside {seats} busy seats: median {median:?}, longest {longest:?}");
             ExitCode::SUCCESS
         }
         Err(refused) => {

@@ -1,19 +1,25 @@
 #!/usr/bin/env python3
-"""Goes over all interleavings of the agreement by which a seat keeps its shard and others take that back.
+"""Goes over all interleavings of the agreement by which a seat keeps its shard.
 
-  kept_shards.py            checks the agreement, that the code stands as it is modelled, and each fault
+  kept_shards.py            checks the agreement, whether the code has its steps, and each fault
   kept_shards.py NAME ...   checks the agreement with these faults alone
 
-The model is of one lane of rust/src/arena/lane.rs: its owner, and takers, each of which takes the shard back. Who takes from
-several lanes does so with one lock at a time, so for one lane the others are but a delay between two steps, which an
-interleaving is too. What is checked of each state that can be reached: no two threads use the handle at once, nobody uses
-it once it is dropped, and somebody can go on until all are done.
+The model is of one lane of rust/src/arena/lane.rs: its owner, and takers, each of which takes the
+shard back. Who takes from several lanes has one lock at a time. So for one lane the others are but
+a delay between two steps, which an interleaving is too. What is checked of each state that can be
+reached: no two threads use the handle at once, nobody uses it once it is dropped, and somebody can
+go on until all are done.
 
-Trusted is this of x86-64: stores of a thread reach memory in their order, some time after they were made, and a thread
-sees its own at once; an exchange, as by which a lock is taken, finds all earlier stores of its thread in memory. And this
-of Linux's membarrier(2), with PRIVATE_EXPEDITED: when it returns, the stores that each thread of the process made before some
-moment since it was called are in memory, and loads behind that moment are made after it. Of the compiler: a release comes
-after what stands before it, an acquire before what stands behind it, and a light fence keeps both.
+Trusted of x86-64: stores of a thread reach memory in their order, some time after they were made,
+and the thread sees its own at once. An exchange, as by which a lock is taken, finds all earlier
+stores of its thread in memory.
+
+Trusted of Linux's membarrier(2), with PRIVATE_EXPEDITED: when it returns, each thread of the
+process has been at some moment since it was called by which its earlier stores are in memory, and
+after which its later loads are made.
+
+Trusted of the compiler: a release comes after what stands before it, an acquire before what stands
+behind it, and a light fence keeps both.
 
 A fault is one wrong step. Each must be found, but those that are named as harmless, with why.
 """
@@ -33,15 +39,15 @@ CALLS, TAKERS, TAKES = 3, 2, 1
 
 FAULTS = {
     "no_heavy_fence": "a taker has no membarrier",
-    "no_full_fence": "a taker's own stores may reach memory after the membarrier has fenced the owner",
+    "no_full_fence": "a taker's own stores may reach memory once the owner was fenced",
     "fence_before_want": "a taker has its fence before it says that the shard is wanted",
     "look_before_say": "the owner looks at the door before it says that it is in a call",
     "no_wait": "a taker does not wait for the owner's call",
     "wanted_passed_over": "the owner makes its call though the shard is wanted",
     "over_too_early": "the owner says that its call is over before it is: its release is relaxed",
-    "open_too_early": "a taker opens the door before it has paused the handle: its release is relaxed",
-    "owner_opens_too_early": "the owner opens the door and gives the lock back before it has paused the handle",
-    "kept_too_early": "the owner closes the door, and gives the lock back, before the handle has its session",
+    "open_too_early": "a taker opens the door before its pause is done: its release is relaxed",
+    "owner_opens_too_early": "the owner opens the door and unlocks it before its pause is done",
+    "kept_too_early": "the owner closes the door and unlocks it before the session has begun",
     "owner_opens_without_lock": "the owner opens its door without the lock",
     "keeps_without_lock": "the owner keeps its shard without the lock",
     "takes_without_lock": "a taker waits and opens the door without the lock",
@@ -51,10 +57,11 @@ FAULTS = {
 }
 
 HARMLESS = {
-    "owner_opens_too_early": "while the door is open the handle is the owner's alone, also for the pause that is still to "
-    "come; it is written as a taker writes it",
-    "keeps_without_lock": "while the door is open no taker changes it or uses the handle, so the lock "
-    "orders nothing that the release does not; it is taken so that the door changes under it alone",
+    "owner_opens_too_early": "while the door is open the handle is the owner's alone, also for the "
+    "pause that is still to come; it is written as a taker writes it",
+    "keeps_without_lock": "while the door is open no taker changes it or uses the handle, so the "
+    "lock orders nothing that the release does not; it is taken so that the door changes under it "
+    "alone",
 }
 
 
@@ -101,7 +108,8 @@ SOURCES = {
     },
 }
 
-# How often these stand in lane.rs: there are no other steps that change the door, or say that the owner is in a call.
+# How often these stand in lane.rs: no other steps change the door, or say that the owner is in a
+# call, or use the handle.
 CHANGES = {"in_call.store(": 2, "state.store(": 4, "keepings += 1": 1, "handle.get()": 6}
 
 
@@ -114,7 +122,7 @@ class Thread(NamedTuple):
 
 
 class State(NamedTuple):
-    """What memory has, the stores of each thread that are on their way there, and who uses the handle."""
+    """What memory has, the stores of each thread on their way there, and who uses the handle."""
 
     memory: tuple
     threads: tuple
@@ -166,13 +174,15 @@ class View:
     def is_done_with(self):
         return self.having(users=self.state.users - {self.thread})
 
-    def to(self, at, noted=0):
-        left = self.state.threads[self.thread].left
-        return self.having(threads=replaced(self.state.threads, self.thread, Thread(at, noted, left)))
+    def being(self, thread):
+        return self.having(threads=replaced(self.state.threads, self.thread, thread))
+
+    def to(self, at, noted=None):
+        return self.being(self.state.threads[self.thread]._replace(at=at, noted=noted))
 
     def one_less(self):
-        at, noted, left = self.state.threads[self.thread]
-        return self.having(threads=replaced(self.state.threads, self.thread, Thread(at, noted, left - 1)))
+        thread = self.state.threads[self.thread]
+        return self.being(thread._replace(left=thread.left - 1))
 
 
 class Owner:
@@ -369,13 +379,13 @@ class Taker:
 
 def first_state():
     """A seat that keeps its shard, and takers that begin."""
-    takers = (Thread("begin", 0, TAKES),) * TAKERS
-    threads = (Thread("begin", 0, CALLS),) + takers
+    takers = (Thread("begin", None, TAKES),) * TAKERS
+    threads = (Thread("begin", None, CALLS),) + takers
     return State((0, KEPT, 1, FREE), threads, ((),) * len(threads), frozenset(), False)
 
 
 def successors(state, programs):
-    """The states that may come next: a thread makes its step, or its oldest store reaches memory."""
+    """The states that may come next: a thread's step, or its oldest store reaches memory."""
     for thread, stores in enumerate(state.stores):
         if stores:
             (place, value), later = stores[0], stores[1:]

@@ -66,15 +66,19 @@ const RING: u32 = 256;
 ///
 /// # What is proved, and what is tested
 ///
-/// Of each call it is proved that it returns, that it does nothing undefined, and that it is the call of the arena that it is named for, which
-/// works under its locks by calls on proved shards and a proved pool; that nothing has changed where another thread has a lock that it needs, or,
-/// of a tend, that it tells how far it came; and that a handle may go to another thread. No receipt is made here, but in a recorded arena
-/// ([`Arena::open_recorded`]), whose audit says of a run that is over that its calls have one history. That a call beside other threads
-/// does what the arena is asked for is tested: of this crate by threads that each find what they expect (`tests/arena.rs`), and of the calls that
-/// make receipts by runs whose receipts are audited against one history (`docs/PROMISES.md`, *Running threads*). It is tested, too, that a call is
-/// made again where a lock was taken. That one call at a time is made on a handle its types see to, which are `Send` and not `Sync`; and where a seat
-/// keeps its shard and another thread takes that back ([`Seat`]), an agreement between the two, which is argued (`src/arena/lane.rs`), gone over by
-/// a model (`models/kept_shards.py`) and tested (`tests/keeping.rs`), and not proved.
+/// Of each call it is proved that it returns, that it does nothing undefined, and that it is the
+/// call of the arena that it is named for, which works under its locks by calls on proved shards
+/// and a proved pool; that nothing has changed where another thread has a lock that it needs, or,
+/// of a tend, that it tells how far it came; and that a handle may go to another thread. No receipt
+/// is made here, but in a recorded arena ([`Arena::open_recorded`]), whose audit says of a run that
+/// is over that its calls have one history. That a call beside other threads does what the arena is
+/// asked for is tested: of this crate by threads that each find what they expect
+/// (`tests/arena.rs`), and of the calls that make receipts by runs whose receipts are audited
+/// against one history (`docs/PROMISES.md`, *Running threads*). It is tested, too, that a call is
+/// made again where a lock was taken. That one call at a time is made on a handle its types see to,
+/// which are `Send` and not `Sync`; and where a seat keeps its shard and another thread takes that
+/// back ([`Seat`]), an agreement between the two, which is argued (`src/arena/lane.rs`), gone over
+/// by a model (`models/kept_shards.py`) and tested (`tests/keeping.rs`), and not proved.
 ///
 /// A [`SharedStore`](crate::SharedStore) is called by any thread through `&self`, and has locks of the standard library. An arena has proved ones,
 /// frees that wait for nobody, and folds between shards; in return each thread needs a seat. A look-up, a free and a put of a thread's own value take
@@ -226,7 +230,8 @@ impl<T> Arena<T> {
     /// - [`Refused::PlanOpen`]: a plan is open;
     /// - [`Refused::TooMany`]: a side has more than 4,096 groups that have a page, of which [`Arena::mark_some`] takes some;
     /// - [`Refused::OutOfMemory`]: none of these holds, and memory was refused;
-    /// - [`Refused::Busy`]: it would wait for a session, and its thread is in one ([`Seat::session`]).
+    /// - [`Refused::Busy`]: it would wait for a session, and its thread is in one
+    ///   ([`Seat::session`]).
     pub fn mark(&mut self) -> Result<Marked, Refused> {
         // SAFETY: the handle has a steward, and no other call runs on it.
         marked(
@@ -267,8 +272,8 @@ impl<T> Arena<T> {
         )
     }
 
-    /// Closes the open plan; pairs that are left are dropped. It takes no memory. An arena that is dropped closes its plan, or leaves
-    /// that to the end of a session of its own thread.
+    /// Closes the open plan; pairs that are left are dropped. It takes no memory. An arena that is
+    /// dropped closes its plan, or leaves that to the end of a session of its own thread.
     ///
     /// # Errors
     ///
@@ -302,8 +307,10 @@ impl<T> Arena<T> {
     /// # Errors
     ///
     /// - [`Refused::PlanOpen`]: a plan is open;
-    /// - [`Refused::OutOfMemory`]: memory was refused to a mark or to a step; what was folded before stays so, and no plan is open;
-    /// - [`Refused::Busy`]: as of [`Arena::mark`]; what was folded before stays so, and a plan is open if its close was refused.
+    /// - [`Refused::OutOfMemory`]: memory was refused to a mark or to a step; what was folded
+    ///   before stays so, and no plan is open;
+    /// - [`Refused::Busy`]: as of [`Arena::mark`]; what was folded before stays so, and a plan is
+    ///   open if its close was refused.
     pub fn mesh(&mut self) -> Result<usize, Refused> {
         let mut gone = 0;
         loop {
@@ -347,9 +354,11 @@ impl<T> Arena<T> {
         Ok(count)
     }
 
-    /// The live keys, one after another, while other threads go on: no key comes twice, and each that is live all the while comes; one that
-    /// is put or freed meanwhile may come or not. They come by the shards that gave them out, and by when they first did. It takes one lock
-    /// at a time. A step panics if it would wait for a session, and its thread is in one ([`Seat::session`]).
+    /// The live keys, one after another, while other threads go on: no key comes twice, and each
+    /// that is live all the while comes; one that is put or freed meanwhile may come or not. They
+    /// come by the shards that gave them out, and by when they first did. It takes one lock at a
+    /// time. A step panics if it would wait for a session, and its thread is in one
+    /// ([`Seat::session`]).
     ///
     /// ```
     /// use teurlaks::{arena::Arena, Limits};
@@ -392,8 +401,8 @@ impl<T> Arena<T> {
 
 impl<T> Drop for Arena<T> {
     fn drop(&mut self) {
-        // Else the groups of its plan would take no value, and their shards could not end. When that would wait for a session of
-        // this thread, who leaves the session does so.
+        // Else the groups of its plan would take no value, and their shards could not end. When
+        // that would wait for a session of this thread, who leaves the session does so.
         if self.close_if_open() == raw::BUSY {
             self.turn.leave_plan(self.share.take());
         }

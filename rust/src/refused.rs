@@ -35,8 +35,8 @@ pub enum Refused {
     Recorded,
     /// The recorded arena has ended.
     Over,
-    /// The call would wait for a session of an arena, and its thread is in one ([`Seat::session`](crate::arena::Seat::session)): that is to be
-    /// dropped first.
+    /// The call would wait for a session of an arena, and its thread is in one
+    /// ([`Seat::session`](crate::arena::Seat::session)): that is to be dropped first.
     Busy,
     /// A status that no contract allows here: the archive is not the one that this crate is written for.
     Unknown(u32),

@@ -340,12 +340,14 @@ impl<T> SharedStore<T> {
         self.shards.iter().map(Shard::compact).sum()
     }
 
-    /// Gives back the pages of one shard on which no key is live, folds its sparse pages onto others until that hardly gives any back, and says how
-    /// many pages went. Every key stays valid. Pages are folded from 68 of them on, or once they have been. At its end it forgets, as
-    /// [`SharedStore::forget_shard`] does.
+    /// Gives back the pages of one shard on which no key is live, folds its sparse pages onto
+    /// others until that hardly gives any back, and says how many pages went. Every key stays
+    /// valid. Pages are folded from 68 of them on, or once they have been. At its end it forgets,
+    /// as [`SharedStore::forget_shard`] does.
     ///
-    /// Others go on meanwhile, in this shard too: its lock is held for 16 pages at a time, for one plan, or for the forgetting, and then let go of for
-    /// those who wait. A value that is kept there meanwhile may take a new page. Another compaction of the shard waits for this one.
+    /// Others go on meanwhile, in this shard too: its lock is held for 16 pages at a time, for one
+    /// plan, or for the forgetting, and then let go of for those who wait. A value that is kept
+    /// there meanwhile may take a new page. Another compaction of the shard waits for this one.
     ///
     /// As of [`Core::compact`](crate::Core::compact), each fold uses up one of the 4,294,967,295 pages that a shard may open in its life.
     ///
@@ -356,7 +358,8 @@ impl<T> SharedStore<T> {
         self.shards.get(shard as usize).ok_or(Refused::Config)?.compact()
     }
 
-    /// Forgets of each shard in turn what [`SharedStore::forget_shard`] does of one, and says how many pages that were folded were forgotten.
+    /// Forgets of each shard in turn what [`SharedStore::forget_shard`] does of one, and says how
+    /// many pages that were folded were forgotten.
     ///
     /// It takes no memory and is not refused. [`SharedStore::compact`] does so too.
     ///
@@ -377,8 +380,10 @@ impl<T> SharedStore<T> {
         self.shards.iter().map(Shard::forget).sum()
     }
 
-    /// Forgets the pages of one shard that were folded onto others and whose keys are all gone, with the generations that are kept of them, and says
-    /// how many. Nothing else changes, and it takes no memory: keys of what was forgotten find nothing, as before, and none is given out again.
+    /// Forgets the pages of one shard that were folded onto others and whose keys are all gone,
+    /// with the generations that are kept of them, and says how many. Nothing else changes, and it
+    /// takes no memory: keys of what was forgotten find nothing, as before, and none is given out
+    /// again.
     ///
     /// It holds the shard's lock meanwhile, and waits for a compaction of the shard.
     ///

@@ -1,5 +1,5 @@
-//! Memory that stays flat over rounds of inserts, frees and folds, since what can never be live again is forgotten. It is one test, since what is
-//! resident is the process's.
+//! Memory that stays flat over rounds of inserts, frees and folds, since what can never be live
+//! again is forgotten. It is one test, since what is resident is the process's.
 
 mod common;
 
@@ -7,7 +7,8 @@ use common::{kilobytes, Random};
 use std::env;
 use teurlaks::{Refused, SharedStore, Slab, Store};
 
-/// How many values come in a round, of which one in 20 stays, as of those before. They are enough for a shared store to fold.
+/// How many values come in a round, of which one in 20 stays, as of those before. They are enough
+/// for a shared store to fold.
 const VALUES: u64 = 100_000;
 
 /// The round after which memory grows no more.
@@ -19,8 +20,12 @@ fn rounds() -> usize {
     asked.unwrap_or(20)
 }
 
-/// Does so many rounds, and holds what is resident after the last one against what was after the one in which it had settled.
-fn stays_flat(name: &str, mut round: impl FnMut(&mut Random) -> Result<(), Refused>) -> Result<(), Refused> {
+/// Does so many rounds, and holds what is resident after the last one against what was after the
+/// one in which it had settled.
+fn stays_flat<R>(name: &str, mut round: R) -> Result<(), Refused>
+where
+    R: FnMut(&mut Random) -> Result<(), Refused>,
+{
     let mut random = Random(88_172_645_463_325_252);
     let base = kilobytes("VmRSS:");
     let mut resident = Vec::new();

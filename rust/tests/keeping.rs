@@ -413,7 +413,8 @@ fn all_is_as_ever_where_there_is_no_fence() {
     }
 }
 
-/// What the steward takes back is of seats that are there: one that was dropped has let go of its shard.
+/// What the steward takes back is of seats that are there: one that was dropped has let go of its
+/// shard.
 #[test]
 fn a_seat_that_is_dropped_lets_go() -> Result<(), Refused> {
     let mut arena = Arena::open(limits(3))?;
@@ -426,7 +427,8 @@ fn a_seat_that_is_dropped_lets_go() -> Result<(), Refused> {
     Ok(())
 }
 
-/// A key that was left to another seat goes there when the turn of the shard is over in which it waits.
+/// A key that was left to another seat goes there when the turn of the shard is over in which it
+/// waits.
 #[test]
 fn what_was_left_to_others_is_handed_over_at_a_turn() -> Result<(), Refused> {
     let mut arena = Arena::with_lanes(limits(2), 256, 2)?;
@@ -503,7 +505,8 @@ fn the_system_is_asked_for_the_fence() -> Result<(), Refused> {
     let words = ["the_system_is_asked_for_the_fence", "--nocapture", "--quiet"];
     let done = run.args(words).env(FILTER, "1").output().unwrap();
     let told = String::from_utf8_lossy(&done.stdout);
-    let is_refused = !done.status.success() && String::from_utf8_lossy(&done.stderr).contains("membarrier");
+    let complains = String::from_utf8_lossy(&done.stderr).contains("membarrier");
+    let is_refused = !done.status.success() && complains;
     assert!(is_refused || !told.contains("the filter is there"), "{told}");
     Ok(())
 }

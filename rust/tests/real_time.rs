@@ -1,5 +1,5 @@
-//! A real-time thread that asks for what a seat keeps, while that seat's thread waits for the same processor, mostly within a call. Only a taker that
-//! sleeps lets the owner run there.
+//! A real-time thread that asks for what a seat keeps, while that seat's thread waits for the same
+//! processor, mostly within a call. Only a taker that sleeps lets the owner run there.
 #![cfg(all(target_os = "linux", target_arch = "x86_64"))]
 
 use std::sync::atomic::{AtomicBool, Ordering};
@@ -11,7 +11,8 @@ use teurlaks::{Key, Limits, Refused};
 /// How often it asks.
 const ROUNDS: usize = 20;
 
-/// How long it may wait, but for some times when other programs have the processor. A thread that never sleeps waits for a second and more.
+/// How long it may wait, but for some times when other programs have the processor. A thread that
+/// never sleeps waits for a second and more.
 const LONGEST: Duration = Duration::from_millis(300);
 const BUT_FOR: usize = 3;
 
@@ -46,14 +47,16 @@ fn own(seat: &Seat<u64>, keys: &[Key], is_kept: &AtomicBool, done: &AtomicBool) 
     }
 }
 
-/// Asks for what the other seat keeps, again and again once it keeps that, and says how long each call took.
+/// Asks for what the other seat keeps, again and again once it keeps that, and says how long each
+/// call took.
 fn ask(seat: &Seat<u64>, key: Key, is_kept: &AtomicBool) -> Vec<Duration> {
     let ask = |round| {
         let begun = Instant::now();
         while !is_kept.load(Ordering::Relaxed) && begun.elapsed() < Duration::from_secs(2) {
             thread::sleep(Duration::from_millis(1));
         }
-        // The owner is in one of its calls when this thread is woken, and then waits for the processor.
+        // The owner is in one of its calls when this thread is woken, and then waits for the
+        // processor.
         thread::sleep(Duration::from_micros(500 + 37 * round));
         let begun = Instant::now();
         assert_eq!(seat.get(key), Some(7));
@@ -97,7 +100,7 @@ fn it_waits_for_milliseconds() -> Result<(), Refused> {
             );
             assert!(waits[ROUNDS - 1 - BUT_FOR] < LONGEST, "it waited for {waits:?}");
         }
-        None => println!("the system refuses a real-time thread, so how long one waits stays unknown"),
+        None => println!("the system refuses a real-time thread: its waits stay unknown"),
     }
     Ok(())
 }

@@ -1,4 +1,5 @@
-//! Threads in a session that make calls outside of it: no call waits for a session of its own thread.
+//! Threads in a session that make calls outside of it: no call waits for a session of its own
+//! thread.
 
 use std::any::Any;
 use std::mem;
@@ -113,7 +114,8 @@ fn another_seat_does_not_wait_for_its_own_thread() -> Result<(), Refused> {
     })
 }
 
-/// What the session's shard has adopted is found out to be there, also of a key that another shard gave out.
+/// What the session's shard has adopted is found out to be there, also of a key that another shard
+/// gave out.
 #[test]
 fn another_seat_does_not_wait_for_what_was_adopted() -> Result<(), Refused> {
     comes_to_an_end(|| {

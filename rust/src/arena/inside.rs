@@ -1,5 +1,5 @@
-//! Which sessions a thread is in. A thread that is in one does not wait for another: else it might wait for itself, or for a
-//! thread that waits for it.
+//! Which sessions a thread is in. A thread that is in one does not wait for another: else it might
+//! wait for itself, or for a thread that waits for it.
 
 use std::cell::Cell;
 use std::sync::atomic::{AtomicU64, Ordering};
@@ -49,7 +49,8 @@ impl Inside {
         self.0.get()
     }
 
-    /// Ends the session, if there is one. One that was forgotten may end in another thread, whose sessions stay as many.
+    /// Ends the session, if there is one. One that was forgotten may end in another thread, whose
+    /// sessions stay as many.
     pub fn end(&self) {
         if self.0.replace(NO_THREAD) == this_thread() {
             SESSIONS.with(|sessions| sessions.set(sessions.get() - 1));

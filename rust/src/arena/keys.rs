@@ -8,7 +8,8 @@ use std::fmt;
 
 /// The live keys of an arena, while its threads go on: of [`Arena::keys`](super::Arena::keys) and [`Seat::keys`](super::Seat::keys).
 ///
-/// Its `next` panics when it would wait for a session of its own thread ([`Seat::session`](super::Seat::session)).
+/// Its `next` panics when it would wait for a session of its own thread
+/// ([`Seat::session`](super::Seat::session)).
 #[must_use = "iterators are lazy and do nothing unless consumed"]
 pub struct Keys<'a> {
     whose: Whose<'a>,

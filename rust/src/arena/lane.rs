@@ -13,22 +13,28 @@
 //! - While it is not, the owner uses the handle under `taking`, or else it says that it is in a call, has a light fence, sees that nobody wants the
 //!   shard, makes the call, and says that it is out of it.
 //! - An owner that sees its shard wanted opens the door itself, under `taking` and in no call.
-//! - A taker says under `taking` that the shard is wanted, and notes the keeping. It gives `taking` back and has a heavy fence.
-//!   Then it has `taking` again and looks once more. When the door is still closed, in the same keeping, it waits until the
-//!   owner is in no call, pauses the handle and opens the door.
-//! - A taker that finds another keeping leaves the shard alone: it has to want that anew, behind a new fence.
+//! - A taker says under `taking` that the shard is wanted, and notes the keeping. It gives `taking`
+//!   back and has a heavy fence. Then it has `taking` again and looks once more. When the door is
+//!   still closed, in the same keeping, it waits until the owner is in no call, pauses the handle
+//!   and opens the door.
+//! - A taker that finds another keeping leaves the shard alone: it has to want that anew, behind a
+//!   new fence.
 //!
-//! That they never both use it: an owner that uses it under `taking`, or while the door is open, meets no taker. One that begins a call looks at the
-//! door before the taker's heavy fence or after it. Within one keeping the door stays wanted once it is. So an owner that looks
-//! after the fence sees the shard wanted, and makes no call, or the door open, and the taker is done.
-//! If before, what it had stored before that look, that it is in a call, the taker sees, and waits for the end of the call. What either wrote the
-//! other sees: the end of a call is a release that the taker acquires, and the door's opening one that the owner acquires.
+//! That they never both use it: an owner that uses it under `taking`, or while the door is open,
+//! meets no taker. One that begins a call looks at the door before the taker's heavy fence or after
+//! it. Within one keeping the door stays wanted once it is. So an owner that looks after the fence
+//! sees the shard wanted, and makes no call, or the door open, and the taker is done. If before,
+//! what it had stored before that look, that it is in a call, the taker sees, and waits for the end
+//! of the call. What either wrote the other sees: the end of a call is a release that the taker
+//! acquires, and the door's opening one that the owner acquires.
 //!
-//! That nobody waits for ever: the owner is in no call while it waits for a lock, and no call of the library waits. Who takes
-//! from several lanes wants them all behind one fence, and then has one lock at a time, under which it waits for one call.
-//! So a seat whose call is over goes on, whoever else is waited for.
+//! That nobody waits for ever: the owner is in no call while it waits for a lock, and no call of
+//! the library waits. Who takes from several lanes wants them all behind one fence, and then has
+//! one lock at a time, under which it waits for one call. So a seat whose call is over goes on,
+//! whoever else is waited for.
 //!
-//! `rust/models/kept_shards.py` goes over all interleavings of these steps, and reads here that they stand as it has them.
+//! `rust/models/kept_shards.py` goes over all interleavings of these steps, and reads here that
+//! they stand as it has them.
 
 use super::fence;
 use super::inside;
@@ -65,10 +71,12 @@ const NEVER: u32 = u32::MAX;
 /// How often a taker looks whether the owner's call is over, before it lets others run.
 const LOOKS: u32 = 100;
 
-/// How often it lets others run before it sleeps. By a sleep also a real-time thread lets an owner run that waits for its processor.
+/// How often it lets others run before it sleeps. By a sleep also a real-time thread lets an owner
+/// run that waits for its processor.
 const MOST_TURNS: u32 = 32;
 
-/// How long a thread sleeps at a time that waits for another: that one waits for a processor then, or marks.
+/// How long a thread sleeps at a time that waits for another: that one waits for a processor then,
+/// or marks.
 pub(super) const SLEEP: Duration = Duration::from_micros(20);
 
 /// What is in it is on cache lines of its own, of which processors fetch two at a time.
@@ -105,7 +113,8 @@ struct Terms {
     keepings: u64,
     // How many calls it waits when a seat next takes the shard back.
     penalty: u32,
-    // How many it makes, once this keeping is over, before the next one: as the first who wants the shard says.
+    // How many it makes, once this keeping is over, before the next one: as the first who wants the
+    // shard says.
     left: u32,
 }
 
@@ -189,8 +198,9 @@ impl Lane {
         let terms = self.lock();
         if self.is_kept() && terms.keepings == keeping {
             self.await_call();
-            // SAFETY: this thread has the lock, and had a heavy fence after the shard was wanted in this keeping. The owner's last look at
-            // the door that missed this was before the fence, so the wait was for that call, too; and each later look finds the shard
+            // SAFETY: this thread has the lock, and had a heavy fence after the shard was wanted in
+            // this keeping. The owner's last look at the door that missed this was before the
+            // fence, so the wait was for that call, too; and each later look finds the shard
             // wanted, until the door is open.
             unsafe { self.open(terms.left) };
         }
@@ -265,14 +275,16 @@ impl AllLanes {
         (AllLanes(lanes), owners)
     }
 
-    /// Takes the shard of this number back, where it is kept, with the others of its seat, which are asked for as well mostly. It says whether
-    /// there was any that it wanted. The caller is in no call.
+    /// Takes the shard of this number back, where it is kept, with the others of its seat, which
+    /// are asked for as well mostly. It says whether there was any that it wanted. The caller is in
+    /// no call.
     pub fn take_back(&self, by: Taker, shard: u32) -> bool {
         let named = self.0.get(shard as usize).filter(|lane| lane.is_kept());
         named.is_some_and(|named| take_back(by, &self.0, |lane| lane.seat() == named.seat()))
     }
 
-    /// Takes back all shards that are kept, and says whether there was any that it wanted. The caller is in no call.
+    /// Takes back all shards that are kept, and says whether there was any that it wanted. The
+    /// caller is in no call.
     pub fn take_all_back(&self, by: Taker) -> bool {
         self.0.iter().any(|lane| lane.is_kept()) && take_back(by, &self.0, |_| true)
     }
@@ -295,8 +307,9 @@ impl AllLanes {
     }
 }
 
-/// Takes back which of these are meant and kept, behind one fence, and says whether there was any that it wanted. It waits for the call of one lane
-/// at a time: the owners of the others open their doors themselves, or make no call that it has to wait for.
+/// Takes back which of these are meant and kept, behind one fence, and says whether there was any
+/// that it wanted. It waits for the call of one lane at a time: the owners of the others open their
+/// doors themselves, or make no call that it has to wait for.
 #[cold]
 fn take_back(by: Taker, lanes: &[Arc<Lane>], is_meant: impl Fn(&Lane) -> bool) -> bool {
     let mut keepings: [Option<u64>; MOST_SHARDS] = [None; MOST_SHARDS];

@@ -56,28 +56,32 @@ impl<T> Seat<T> {
         }
     }
 
-    /// Keeps the seat's shard for this thread over many calls, until the session is dropped, and nobody takes it back: a call on what is in that
-    /// shard takes no lock then, from the first one on and on each system. It waits until no other thread has the shard. The session is of
-    /// this thread: it is not `Send`.
+    /// Keeps the seat's shard for this thread over many calls, until the session is dropped, and
+    /// nobody takes it back: a call on what is in that shard takes no lock then, from the first one
+    /// on and on each system. It waits until no other thread has the shard. The session is of this
+    /// thread: it is not `Send`.
     ///
     /// Whoever else wants the shard waits meanwhile: those who look up, set or free a value there, and the steward, whose mark, close, forgetting
     /// and totals want all shards. So a session is for a burst of calls and is not kept while its thread does something else. A session lets go of
     /// its shard for a moment where the steward waits, and where a call needs a lock that another thread has, so that two sessions never wait for
     /// each other.
     ///
-    /// While a thread is in a session of an arena, it makes its calls on that arena by the session. Another one may need the shard
-    /// of the session, and it does not wait for that:
+    /// While a thread is in a session of an arena, it makes its calls on that arena by the session.
+    /// Another one may need the shard of the session, and it does not wait for that:
     ///
-    /// - at another seat `set` and `tend` are refused with [`Refused::Busy`]; and `get`, `contains`, `free`, `remove` and a step of
-    ///   `keys` panic;
-    /// - of the arena a mark, a step, a close, a mesh and a forgetting are refused so; and `totals` and a step of `keys` panic;
-    /// - an arena that is dropped leaves a plan that is open to the thread, which closes it when it leaves the session.
+    /// - at another seat `set` and `tend` are refused with [`Refused::Busy`]; and `get`,
+    ///   `contains`, `free`, `remove` and a step of `keys` panic;
+    /// - of the arena a mark, a step, a close, a mesh and a forgetting are refused so; and `totals`
+    ///   and a step of `keys` panic;
+    /// - an arena that is dropped leaves a plan that is open to the thread, which closes it when it
+    ///   leaves the session.
     ///
-    /// The same comes of a call that has waited for some 0.3 seconds, while its thread is in a session, also of another arena, and
-    /// there is a session of another thread in the arena that is called. So two threads that wait for each other's sessions come
-    /// to an end.
+    /// The same comes of a call that has waited for some 0.3 seconds, while its thread is in a
+    /// session, also of another arena, and there is a session of another thread in the arena that
+    /// is called. So two threads that wait for each other's sessions come to an end.
     ///
-    /// A session that is forgotten ([`std::mem::forget`]) goes on until its seat is dropped, as one of the thread that began it.
+    /// A session that is forgotten ([`std::mem::forget`]) goes on until its seat is dropped, as one
+    /// of the thread that began it.
     ///
     /// In a recorded arena ([`Arena::open_recorded`](super::Arena::open_recorded)) a session keeps no shard, and makes its calls as the seat does,
     /// each with its receipt.
@@ -287,7 +291,8 @@ fn was_live(status: u32) -> bool {
     }
 }
 
-/// What comes of a status that a call can't answer. A recorded arena that is refused memory for a receipt ends the process.
+/// What comes of a status that a call can't answer. A recorded arena that is refused memory for a
+/// receipt ends the process.
 ///
 /// # Panics
 ///
@@ -374,7 +379,8 @@ impl<T: Copy> Seat<T> {
     ///
     /// # Errors
     ///
-    /// - [`Refused::Busy`]: it would wait for a session, and its thread is in one ([`Seat::session`]);
+    /// - [`Refused::Busy`]: it would wait for a session, and its thread is in one
+    ///   ([`Seat::session`]);
     /// - else as of [`Core::set`](crate::Core::set).
     #[inline]
     pub fn set(&mut self, key: Key, value: T) -> Result<bool, Refused> {
@@ -417,8 +423,9 @@ impl<T> Seat<T> {
         got.status == raw::TOO_SMALL || was_live(got.status)
     }
 
-    /// The live keys of all shards, one after another, as [`Arena::keys`](super::Arena::keys) gives them. A step panics if it would wait for
-    /// a session, and its thread is in one ([`Seat::session`]).
+    /// The live keys of all shards, one after another, as [`Arena::keys`](super::Arena::keys) gives
+    /// them. A step panics if it would wait for a session, and its thread is in one
+    /// ([`Seat::session`]).
     pub fn keys(&self) -> Keys<'_> {
         Keys::of_seat(self.lanes.here(), &self.turn)
     }
@@ -473,7 +480,8 @@ impl<T> Seat<T> {
     /// What was freed before stays so, and the other keys are still there:
     ///
     /// - [`Refused::OutOfMemory`]: memory was refused;
-    /// - [`Refused::Busy`]: it would wait for a session, and its thread is in one ([`Seat::session`]).
+    /// - [`Refused::Busy`]: it would wait for a session, and its thread is in one
+    ///   ([`Seat::session`]).
     pub fn tend(&mut self) -> Result<usize, Refused> {
         let mut taken = 0;
         for lane in self.lanes.all() {

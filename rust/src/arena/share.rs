@@ -126,7 +126,8 @@ pub(super) struct Turn {
 struct Shared {
     steward_waits: AtomicBool,
     lanes: AllLanes,
-    // The steward of an arena that was dropped in a session of its own thread, with a plan that is still open.
+    // The steward of an arena that was dropped in a session of its own thread, with a plan that is
+    // still open.
     left: Mutex<Option<Share>>,
     has_left: AtomicBool,
 }
@@ -195,7 +196,8 @@ impl Turn {
         self.shared.has_left.store(true, Ordering::Relaxed);
     }
 
-    /// Closes the plan of a steward that was left, if there is one and this thread need not wait for a session.
+    /// Closes the plan of a steward that was left, if there is one and this thread need not wait
+    /// for a session.
     #[inline]
     pub fn close_left_plan(&self) {
         if self.shared.has_left.load(Ordering::Relaxed) {
@@ -247,8 +249,8 @@ impl Turn {
         }
     }
 
-    /// Whether the call may wait for ever, since its thread is in a session: of the shard that it needs, or of another one, while
-    /// some thread that may wait for this one is in a session here.
+    /// Whether the call may wait for ever, since its thread is in a session: of the shard that it
+    /// needs, or of another one, while some thread that may wait for this one is in a session here.
     fn waits_in_vain(&self, place: Place, patience: &Patience) -> bool {
         if !inside::is_in_session() {
             return false;
@@ -293,7 +295,8 @@ const SOME_WAITS: u32 = 8;
 /// How often it waits before it sleeps.
 const MOST_WAITS: u32 = 32;
 
-/// How often it waits, some 0.3 seconds in all and nearly all of that asleep, before it takes what it waits for to be a session.
+/// How often it waits, some 0.3 seconds in all and nearly all of that asleep, before it takes what
+/// it waits for to be a session.
 const MOST_SLEEPS: u32 = 1 << 12;
 
 /// Waits longer and longer. The library itself looks at a lock 50 times before it answers that another thread has it.

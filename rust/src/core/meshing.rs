@@ -434,13 +434,15 @@ macro_rules! letting_go {
             self.core.trim(shard)
         }
 
-        /// Forgets pages whose keys are all gone and that were folded onto others, or left to the pool, as
-        /// [`Core::forget`](crate::Core::forget), and says how many. `compact` does so at its end; who retires and meshes by
-        /// hand asks for it now and then, since else the memory for what was folded grows.
+        /// Forgets pages whose keys are all gone and that were folded onto others, or left to the
+        /// pool, as [`Core::forget`](crate::Core::forget), and says how many. `compact` does so at
+        /// its end; who retires and meshes by hand asks for it now and then, since else the memory
+        /// for what was folded grows.
         ///
         /// # Errors
         ///
-        /// [`Refused::PlanOpen`](crate::Refused::PlanOpen) alone, while a plan is open. It takes no memory.
+        /// [`Refused::PlanOpen`](crate::Refused::PlanOpen) alone, while a plan is open. It takes no
+        /// memory.
         pub fn forget(&mut self) -> Result<usize, crate::Refused> {
             self.core.forget()
         }

@@ -115,8 +115,8 @@ impl<T> Shard<T> {
         self.has_pool.lock().unwrap_or_else(PoisonError::into_inner)
     }
 
-    /// Compacts as `Core::compact` does, in pieces, and says how many pages went. It forgets before, since what is forgotten need not move, and
-    /// at its end.
+    /// Compacts as `Core::compact` does, in pieces, and says how many pages went. It forgets
+    /// before, since what is forgotten need not move, and at its end.
     pub fn compact(&self) -> Result<usize, Refused> {
         let mut has_pool = self.lock_pool();
         self.forget_some()?;
@@ -125,10 +125,12 @@ impl<T> Shard<T> {
         Ok(gone)
     }
 
-    /// Forgets as `Core::forget` does, behind a compaction that is under way, and says how many spans went.
+    /// Forgets as `Core::forget` does, behind a compaction that is under way, and says how many
+    /// spans went.
     pub fn forget(&self) -> usize {
         let _alone = self.lock_pool();
-        // It is refused only while a plan is open: whoever opens one closes it before another has the pool.
+        // It is refused only while a plan is open: whoever opens one closes it before another has
+        // the pool.
         self.forget_some().unwrap_or(0)
     }
 
@@ -136,7 +138,8 @@ impl<T> Shard<T> {
         self.piece(Store::forget).unwrap_or(Ok(0))
     }
 
-    /// Trims, folds as long as that gives a sixteenth of the pages back, and says how many pages went.
+    /// Trims, folds as long as that gives a sixteenth of the pages back, and says how many pages
+    /// went.
     fn fold_all(&self, has_pool: &mut bool) -> Result<usize, Refused> {
         let mut gone = self.trim();
         // What a refusal has left in the pool.

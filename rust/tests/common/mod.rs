@@ -83,7 +83,8 @@ pub fn with_data_left<R>(bytes: u64, call: impl FnOnce() -> R) -> R {
     with_limit(&DATA, DATA.bytes() + bytes, call)
 }
 
-/// Runs the call while the process has so many bytes more than it may: it gets none, also once it has given some back. The limit is the process's.
+/// Runs the call while the process has so many bytes more than it may: it gets none, also once it
+/// has given some back. The limit is the process's.
 pub fn with_data_owed<R>(bytes: u64, call: impl FnOnce() -> R) -> R {
     with_limit(&DATA, DATA.bytes().saturating_sub(bytes), call)
 }
