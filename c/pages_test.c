@@ -9,6 +9,7 @@
 #include <stdlib.h>
 #include <string.h>
 #include <sys/resource.h>
+#include <unistd.h>
 
 #ifndef ROUNDS
 #define ROUNDS 100000
@@ -180,6 +181,20 @@ static void all_goes(void) {
 }
 #endif
 
+/* A block that is in use when the process ends. */
+static uint8_t *late;
+
+/* Calls that come after the ranges were closed: the block is whole, and others are to be had. */
+__attribute__((destructor(101))) static void call_late(void) {
+    if (!late) return;
+    struct got page = rattle_alloc(4096, 1), other = rattle_alloc(1024, 1);
+    int is_well = is_whole(&(struct kept){late, 4096, 3}, 4096) && page.ok && other.ok;
+    rattle_dealloc(late);
+    rattle_dealloc(page.at);
+    rattle_dealloc(other.at);
+    if (!is_well) _exit(1);
+}
+
 /* Of a gigabyte of address space, most is still there for others. */
 static void leaves_room(void) {
     void *room = malloc(700 << 20);
@@ -219,5 +234,6 @@ int main(int argc, char **argv) {
 #endif
     }
     threads();
+    late = alloc(4096, 3);
     return 0;
 }

@@ -50,7 +50,7 @@ enum {
     TEURLAKS_PLAN_OPEN = 5,        /* a plan is open: close it first */
     TEURLAKS_TOO_MANY = 6,         /* a side has more than 4,096 groups, too many for a plan */
     TEURLAKS_NOTHING_TO_ADOPT = 7, /* no group of the pool has a page */
-    TEURLAKS_CONFIG = 8,           /* a number is out of its range; or there is no such shard, and no cause above holds */
+    TEURLAKS_CONFIG = 8,           /* a number is out of its range, as a shard's; a pointer is NULL; or a seat is of another arena. No cause above holds */
     TEURLAKS_EMPTIED = 9,          /* the pair's abandoned group had no live key left */
     TEURLAKS_NO_PAIR_LEFT = 10,    /* the open plan is done with */
     TEURLAKS_NO_PLAN = 11,         /* no plan is open */

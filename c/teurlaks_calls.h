@@ -21,7 +21,7 @@ TEURLAKS_INLINE const char *teurlaks_strerror(uint32_t status) {
     case TEURLAKS_PLAN_OPEN: return "a plan is open: close it first";
     case TEURLAKS_TOO_MANY: return "a side has more than 4096 groups, too many for a plan";
     case TEURLAKS_NOTHING_TO_ADOPT: return "no group of the pool has a page: there is nothing to adopt";
-    case TEURLAKS_CONFIG: return "a number is out of its range";
+    case TEURLAKS_CONFIG: return "a number is out of its range, a pointer is NULL, or the seat is of another arena";
     case TEURLAKS_EMPTIED: return "the pair's abandoned group had no live key left";
     case TEURLAKS_NO_PAIR_LEFT: return "the open plan is done with: close it";
     case TEURLAKS_NO_PLAN: return "no plan is open: mark first";

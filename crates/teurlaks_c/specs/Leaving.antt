@@ -55,13 +55,18 @@ AreAlike (Steward steward) (Session left) = left.session.seat.limits ≡ (arc_va
 AreAlike (RecordedSteward steward) (RecordedSeat seat) = seat.kept.seat.limits ≡ (arc_value steward.arena).limits
 AreAlike steward seat = ⊥
 
--- a handle with a seat is told of, and no other
-abbrev pub TellsSeat : Option Share → ℕ → Type 0
-TellsSeat held says = (HasNoSeat held × (says ≡ no_core)) ⊎ ((HasNoSeat held → ⊥) × (says ≡ done))
+-- whether a handle has a seat, also one that keeps its shard, as the status of a call on it says
+abbrev pub seat_status : Option Share → ℕ
+seat_status (Some (Seat seat)) = done
+seat_status (Some (Session session)) = done
+seat_status (Some (RecordedSeat seat)) = done
+seat_status held = no_core
 
--- a handle with a steward is told of, and no other
-abbrev pub TellsSteward : Option Share → ℕ → Type 0
-TellsSteward held says = (HasNoSteward held × (says ≡ no_core)) ⊎ ((HasNoSteward held → ⊥) × (says ≡ done))
+-- whether it has a steward
+abbrev pub steward_status : Option Share → ℕ
+steward_status (Some (Steward steward)) = done
+steward_status (Some (RecordedSteward steward)) = done
+steward_status held = no_core
 
 -- why a seat is not taken: there is no steward, or no seat; or there are both, and the seat is of another arena; or the two are alike, and memory is refused
 abbrev pub IsNotTaken : Share → Share → ℕ → Type 0

@@ -110,7 +110,7 @@ pub extern "C" fn teurlaks_trim(alloc: Global, handle: &mut Handle, shard: u32) 
 
 /// Forgets the spans of the core that can never be live again, with their generations; the count is how many went. Nothing else
 /// changes that a caller sees. Refused with `PLAN_OPEN` alone, while a plan is open. It asks for memory only for smaller tables in the
-/// place of larger ones, which stay where there is none.
+/// place of larger ones, which stay if there is none.
 #[unsafe(no_mangle)]
 pub extern "C" fn teurlaks_forget(alloc: Global, handle: &mut Handle) -> ForgetReply
     ensures live { IsSome handle.old.held → Forgets handle.old.held result handle.new.held }

@@ -1,6 +1,6 @@
 // Where the arena of a seat or a steward stands, by which a caller tells arenas apart.
 ghost use Rattle.std.specs.Prelude.{◌≡◌, Some};
-ghost use Rattle.teurlaks_c.specs.Leaving.{TellsSeat, TellsSteward};
+ghost use Rattle.teurlaks_c.specs.Leaving.{seat_status, steward_status};
 
 use crate::replies::RawPlace;
 use crate::share::Share;
@@ -22,7 +22,8 @@ pub extern "C" fn teurlaks_seat_arena(
     out: &mut RawPlace,
 ) -> u32
     ensures same { handle.new.share ≡ handle.old.share }
-    ensures tells { TellsSeat handle.old.share result }
+    ensures status { result ≡ seat_status handle.old.share }
+    ensures kept { (result ≡ 0 → ⊥) → out.new ≡ out.old }
 {
     let Some(share) = replace(handle, ShareHandle::none()).into_box(alloc) else {
         return NO_CORE;
@@ -40,7 +41,8 @@ pub extern "C" fn teurlaks_steward_arena(
     out: &mut RawPlace,
 ) -> u32
     ensures same { handle.new.share ≡ handle.old.share }
-    ensures tells { TellsSteward handle.old.share result }
+    ensures status { result ≡ steward_status handle.old.share }
+    ensures kept { (result ≡ 0 → ⊥) → out.new ≡ out.old }
 {
     let Some(share) = replace(handle, ShareHandle::none()).into_box(alloc) else {
         return NO_CORE;
@@ -52,7 +54,8 @@ pub extern "C" fn teurlaks_steward_arena(
 
 // The same of what is shared, if it is a seat.
 fn seat_arena_of(share: &Share, out: &mut RawPlace) -> u32
-    ensures { TellsSeat (Some share.now) result }
+    ensures status { result ≡ seat_status (Some share.now) }
+    ensures kept { (result ≡ 0 → ⊥) → out.new ≡ out.old }
 {
     match share {
         Share::Seat(seat) => tell(&seat.arena, out),
@@ -67,7 +70,8 @@ fn seat_arena_of(share: &Share, out: &mut RawPlace) -> u32
 
 // The same, if it is a steward.
 fn steward_arena_of(share: &Share, out: &mut RawPlace) -> u32
-    ensures { TellsSteward (Some share.now) result }
+    ensures status { result ≡ steward_status (Some share.now) }
+    ensures kept { (result ≡ 0 → ⊥) → out.new ≡ out.old }
 {
     match share {
         Share::Steward(steward) => tell(&steward.arena, out),

@@ -259,7 +259,7 @@ pub extern "C" fn teurlaks_steward_close(alloc: Global, handle: &mut ShareHandle
 /// Forgets the spans that can never be live again, with their generations, as `Arena::forget` does; the count is how many went. Nothing
 /// else changes that a caller sees. Refused with `BUSY`, with `PLAN_OPEN` while a plan is open, or with `RECORDED` where the run is
 /// recorded, since its audit needs each log; nothing has changed then. It asks for memory only for smaller tables in the place of larger
-/// ones, which stay where there is none.
+/// ones, which stay if there is none.
 #[unsafe(no_mangle)]
 pub extern "C" fn teurlaks_steward_forget(alloc: Global, handle: &mut ShareHandle) -> ForgetReply
     ensures same { handle.new.share ≡ handle.old.share }
