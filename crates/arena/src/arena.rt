@@ -410,10 +410,7 @@ impl<G: Gate, L: Log> Arena<G, L> {
     }
 
     // The locks of all shards.
-    pub(crate) fn lock_all<P: Patience>(
-        &self,
-        patience: &P,
-    ) -> Result<LockedShards<'_, L>, P::Busy>
+    pub(crate) fn lock_all<P: Patience>(&self, patience: &P) -> Result<LockedShards<'_, L>, P::Busy>
         ensures lent { IfOk result (λ locked. map (option_map (λ shard. shard.guard.latch.now))
             locked.items ≡ map Some self.now.shards.items) }
     {
@@ -431,8 +428,8 @@ impl<G: Gate, L: Log> Arena<G, L> {
             return Ok(MarkError::PlanOpen);
         }
         let shards = self.lock_all(patience)?;
-        let has_too_many =
-            pool.pages() > MOST_GROUPS || totals_of(shards.as_slice()).pages > MOST_GROUPS;
+        let has_too_many = pool.pages() > MOST_GROUPS
+            || totals_of(shards.as_slice()).pages > MOST_GROUPS;
         Ok(match sight {
             Sight::All if has_too_many => MarkError::TooMany,
             Sight::All | Sight::Sparsest => MarkError::OutOfMemory,

@@ -97,7 +97,7 @@ impl Steward {
         ensures closed { pool.new.value.value ≡ record pool.old.value.value { has_plan = false } }
         ensures open { map (option_map (λ shard. shard.guard.value.value)) shards.new
             ≡ map (option_map reopened)
-                (map (option_map (λ shard. shard.guard.value.value)) shards.old) }
+            (map (option_map (λ shard. shard.guard.value.value)) shards.old) }
     {
         reopen_all(shards);
         pool.value.plan_closed();
