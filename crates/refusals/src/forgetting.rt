@@ -10,7 +10,7 @@ use std::alloc::Global;
 use std::sync::Wait;
 
 /// How many spans are forgotten at a time.
-const SPANS: usize = 300;
+const SPANS: usize = 150;
 
 /// What forgets.
 trait Forgets: Sized + Drop {

@@ -63,8 +63,8 @@ fn lose_hint(
         return None;
     }
     let mut last = key;
-    for word in 11..19u128 {
-        last = put(arena, opener, word)?;
+    for number in 11..19u32 {
+        last = put(arena, opener, u128::from(number))?;
         retire(arena, opener, 1)?;
     }
     // A look-up notes where the span is.

@@ -212,10 +212,10 @@ fn marks_some_of_ten_thousand_pages(rt: HostRuntime) {
     assert_eq!(rt; core.and_then(marked), Some((1, totals)));
 }
 
-// Sets the key 2,100,000 times, and then by an event.
+// Sets the key 1,100,000 times, and then by an event.
 fn is_set_often<L: Log>(mut core: Core<L>) -> Option<()> {
     let key = put(&mut core, 0, Class::C16, 7)?;
-    for word in 0..2_100_000u32 {
+    for word in 0..1_100_000u32 {
         if core.set(&key, &[u128::from(word)]) != Ok(true) {
             return None;
         }
@@ -226,7 +226,7 @@ fn is_set_often<L: Log>(mut core: Core<L>) -> Option<()> {
 }
 
 #[test]
-fn sets_a_key_two_million_times(rt: HostRuntime) {
+fn sets_a_key_a_million_times(rt: HostRuntime) {
     let core = new_core(rt.alloc(), 1, 1);
     assert_eq!(rt; core.and_then(is_set_often), Some(()));
 }
