@@ -8,9 +8,10 @@
  *   | used | free | used | free, kept |  no memory yet  |
  *            no memory     memory, for the next request
  *
- * - All address space of a range is reserved at once, as one stretch, since it costs nothing. If the process has a limit of it
- *   (RLIMIT_AS, `ulimit -v`), or the system refuses so much, a range has several stretches: each is as long as all before it, or half
- *   of that or less if no more is to be had. So no more is reserved than twice what has been used, and OPEN pages.
+ * - All address space of a range is reserved at once, as one stretch, since it costs nothing. It costs
+ *   something if the process has a limit of it (RLIMIT_AS, `ulimit -v`). Then each stretch is as long
+ *   as all before it, so that no more is reserved than twice what has been used, and OPEN pages.
+ * - If the system refuses a stretch, one of half its length is asked for, and so on down to OPEN pages.
  * - The lowest free block is taken first, so that the upper end of the range empties.
  * - A system page all of whose blocks are free is kept at first. When KEEP of them are kept they are all handed to the system, in
  *   runs where neighbours are free. So at most KEEP - 1 system pages of a range are neither used nor given back.
@@ -18,8 +19,9 @@
  * - When the last block of all comes back, as with the last core that is dropped, what is kept goes to the system too. If more than
  *   LET_GO bytes were asked of malloc since the last such time, glibc's malloc_trim(0) has malloc do likewise, which else keeps
  *   some MB of free blocks; it looks at all of the process's free blocks.
- * - When the library is unloaded (dlclose), a range with no block in use is unmapped; of another one, whose blocks a program has not
- *   given back, what was never opened. The same is done when the process ends, as a call may still come then.
+ * - When the library is unloaded (dlclose), a range with no block in use is unmapped. If a program has
+ *   not given all blocks of it back, only what was never opened is. The same is done when the process
+ *   ends, since a call may still come then.
  *
  * Any number of threads may call: each range has a lock, which is not held while the system takes pages back. The forked child of a
  * process with threads makes no call, as teurlaks.h says.
@@ -326,14 +328,16 @@ struct got rattle_realloc(void *at, size_t old, size_t size, size_t least) {
     return got;
 }
 
-/* Unmaps the end of a stretch, from this page of it on. Whatever the system lays there is not of the range then. */
+/* Unmaps the end of a stretch, from this page of it on. What the system lays there next is not of the
+ * range. */
 static void unmap(struct stretch *s, size_t from) {
     size_t pages = s->pages;
     atomic_store_explicit(&s->pages, from, memory_order_release);
     if (from < pages) munmap(s->base + from * SYSTEM_PAGE, (pages - from) * SYSTEM_PAGE);
 }
 
-/* Gives the address space of the range back, but for what is opened, if a block there is in use. Called with the lock. */
+/* Gives the address space of the range back, but for what is opened if a block there is in use. Called
+ * with the lock. */
 static void close_range_of(struct range *r) {
     int is_used = r->used || r->returning;
     size_t opened = is_used ? r->opened / r->per : 0;
@@ -346,8 +350,8 @@ static void close_range_of(struct range *r) {
     }
 }
 
-/* When the library is unloaded, or the process ends. A call that a thread is in then goes on: it may have been forked away, and its lock with
- * it, so that this does not wait for one. */
+/* When the library is unloaded, or the process ends. It waits for no lock: in a forked child the thread
+ * that had it may be gone. */
 __attribute__((destructor)) static void unload(void) {
     for (int i = 0; i < RANGES; i++)
         if (pthread_mutex_trylock(&ranges[i]->lock) == 0) {
