@@ -527,3 +527,6 @@ impl Drop for Owner {
         self.note_session(inside::NO_THREAD);
     }
 }
+
+#[cfg(test)]
+mod tests;
