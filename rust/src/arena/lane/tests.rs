@@ -1,13 +1,15 @@
 //! How a taker waits.
 
-use super::{Lane, Ordering};
+use super::super::share::Share;
+use super::{fence, AllLanes, Lane, Ordering, Owner, Taker, WANTED};
+use crate::raw;
 use std::path::{Path, PathBuf};
 use std::sync::mpsc::channel;
 use std::sync::Arc;
 use std::time::{Duration, Instant};
 use std::{fs, thread};
 
-/// How long a taker may take until it sleeps, beside other programs. It takes some milliseconds.
+/// How long what takes milliseconds may take beside other programs.
 const LONG: Duration = Duration::from_secs(30);
 
 /// Where Linux tells of this thread.
@@ -57,4 +59,54 @@ fn who_waits_for_a_call_sleeps() {
     lane.owner.0.in_call.store(false, Ordering::Release);
     taker.join().unwrap();
     assert!(sleeps_soon);
+}
+
+/// The lanes of an arena of two seats, which keep their shards, with its steward.
+fn two_that_keep() -> (Share, AllLanes, Owner, Owner) {
+    // SAFETY: the handle has nothing yet.
+    let open = |out| unsafe { raw::teurlaks_arena_open(out, 2, 16, 8, u32::MAX) };
+    let share = Share::new(open).expect("there is memory");
+    let (lanes, mut owners) = AllLanes::new(2);
+    for owner in &owners {
+        // SAFETY: the one handle has a steward, and the other one nothing yet.
+        let sits = owner.sit(|out| unsafe { raw::teurlaks_steward_seat(share.handle(), out) });
+        assert_eq!(sits, Ok(()));
+        owner.keep();
+        assert!(owner.keeps());
+    }
+    let (second, first) = (owners.pop(), owners.pop());
+    (
+        share,
+        lanes,
+        first.expect("there are two"),
+        second.expect("there are two"),
+    )
+}
+
+/// While a taker waits for the call of one owner, another one opens its own door and goes on.
+#[test]
+fn who_waits_for_one_call_keeps_no_other_owner_waiting() {
+    if !fence::is_there() {
+        return;
+    }
+    let _alone = fence::tests::alone();
+    let (_share, lanes, first, second) = two_that_keep();
+    let call = first.enter().expect("nobody takes its shard");
+    let goes_on = thread::scope(|scope| {
+        let lanes = &lanes;
+        scope.spawn(move || assert!(lanes.take_all_back(Taker::Steward)));
+        let (say, told) = channel();
+        scope.spawn(move || {
+            while lanes.0[1].door.0.state.load(Ordering::Relaxed) & WANTED == 0 {
+                thread::yield_now();
+            }
+            second.let_go();
+            let _ = say.send(());
+            second
+        });
+        let goes_on = told.recv_timeout(LONG);
+        drop(call);
+        goes_on
+    });
+    assert!(goes_on.is_ok() && !first.keeps());
 }
