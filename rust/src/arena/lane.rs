@@ -259,7 +259,7 @@ impl Lane {
 #[derive(Clone, Copy)]
 pub(super) enum Taker {
     Seat,
-    /// It takes all at once, and so costs each of them little.
+    /// It takes all behind one fence, and so costs each of them little.
     Steward,
 }
 
