@@ -113,20 +113,28 @@ mod system {
 }
 
 #[cfg(test)]
-mod tests {
+pub(super) mod tests {
     use crate::arena::{Arena, Seat};
     use crate::{Key, Limits, Refused};
     use std::sync::atomic::{AtomicUsize, Ordering};
+    use std::sync::{Mutex, MutexGuard, PoisonError};
 
     static FENCES: AtomicUsize = AtomicUsize::new(0);
+
+    /// Has a test whose fences count be the only one, since the count is the process's.
+    pub fn alone() -> MutexGuard<'static, ()> {
+        static ALONE: Mutex<()> = Mutex::new(());
+        ALONE.lock().unwrap_or_else(PoisonError::into_inner)
+    }
 
     /// Counts a fence that the system has had.
     pub fn count(is_done: bool) {
         FENCES.fetch_add(usize::from(is_done), Ordering::Relaxed);
     }
 
-    fn fences() -> usize {
-        FENCES.load(Ordering::Relaxed)
+    /// How many fences there were since those.
+    fn fences(before: usize) -> usize {
+        FENCES.load(Ordering::Relaxed) - before
     }
 
     /// So many values, after which the seat keeps its shard.
@@ -136,7 +144,6 @@ mod tests {
         keys
     }
 
-    /// It is one test, since the count is the process's.
     #[test]
     fn who_takes_back_has_one_fence() -> Result<(), Refused> {
         if !super::is_there() {
@@ -146,18 +153,20 @@ mod tests {
             shards: 3,
             ..Limits::default()
         };
+        let _alone = alone();
+        let before = fences(0);
         let mut arena = Arena::open(limits)?;
         let (mut first, mut second, third) = (arena.seat()?, arena.seat()?, arena.seat()?);
         let (keys, others) = (fill(&mut first)?, fill(&mut second)?);
         assert!((0..1000).all(|_| first.contains(keys[0])));
-        assert_eq!(fences(), 0, "who keeps its shard has none");
-        assert_eq!((third.get(keys[7]), fences()), (Some(7), 1));
-        assert_eq!((third.get(keys[8]), fences()), (Some(8), 1));
-        assert_eq!((third.get(others[7]), fences()), (Some(7), 2));
+        assert_eq!(fences(before), 0, "who keeps its shard has none");
+        assert_eq!((third.get(keys[7]), fences(before)), (Some(7), 1));
+        assert_eq!((third.get(keys[8]), fences(before)), (Some(8), 1));
+        assert_eq!((third.get(others[7]), fences(before)), (Some(7), 2));
         // The steward takes all of them behind one.
         assert!((0..9000).all(|_| first.contains(keys[0]) && second.contains(others[0])));
         assert!(first.keeps_its_shard() && second.keeps_its_shard());
-        assert_eq!((arena.totals().live, fences()), (128, 3));
+        assert_eq!((arena.totals().live, fences(before)), (128, 3));
         assert!(!first.keeps_its_shard() && !second.keeps_its_shard());
         Ok(())
     }

@@ -259,7 +259,7 @@ impl Lane {
 #[derive(Clone, Copy)]
 pub(super) enum Taker {
     Seat,
-    /// It takes all at once, and so costs each of them little.
+    /// It takes all behind one fence, and so costs each of them little.
     Steward,
 }
 
@@ -527,3 +527,6 @@ impl Drop for Owner {
         self.note_session(inside::NO_THREAD);
     }
 }
+
+#[cfg(test)]
+mod tests;
