@@ -16,7 +16,8 @@ impl<G: Gate> Arena<G, Counted> {
     /// Forgets the spans that can never be live again, with their generations, under all locks, and answers how many went: each guest of
     /// the shards' groups in which no slot is live, and in the pool each such guest and all spans of groups in which no slot is live. They
     /// take no put, so none of their keys can be live again: each finds nothing, as before. Nothing else that a caller sees
-    /// changes; that this is of what the locks guard no clause can name. It takes no memory.
+    /// changes; that this is of what the locks guard no clause can name. It asks for memory only for a smaller table in the place of a
+    /// larger one, which stays if there is none.
     ///
     /// Only an arena whose logs are counted forgets, since an audit reads all logs. The receipt of a look-up, a set or a free of a key
     /// whose span was forgotten says that nothing was found, after no change: its log is gone.

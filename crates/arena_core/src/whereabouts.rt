@@ -103,7 +103,7 @@ impl Whereabouts {
     }
 
     /// Names no more those spans that do not stand in the shard that is named, and gives memory back where a quarter of it would do.
-    /// It takes none.
+    /// It asks for memory only for that smaller table, and keeps the larger one if there is none.
     pub fn forget<L: Log>(&mut self, shards: &Vec<Shard<L>>)
         ensures { KeepsStanding shards.now.items self.old.entries self.new.entries }
     {

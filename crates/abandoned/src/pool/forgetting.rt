@@ -13,7 +13,8 @@ impl Pool<Counted> {
     /// Forgets the groups in which no slot is live, which have no page, with all their spans, and of each other group the guests in which no
     /// slot is live. Answers how many spans that were. Nothing is put into the pool, and no group without a page is adopted or folded
     /// onto, so none of their keys can be live again: a look-up and a free of one no longer find its span. A head with a live guest stays,
-    /// since its id names the group. It takes no memory, and gives back what the groups had.
+    /// since its id names the group. It gives back what the groups had, and asks for memory only for a smaller table in the place of a
+    /// larger one, which stays if there is none.
     pub fn forget(&mut self) -> usize
         ensures forgets { Forgets self.old result self.new }
         ensures at_most { result ≤ ALL_IDS }
