@@ -75,7 +75,7 @@ static long refused_line(const char *causes) {
 }
 
 static int is_refused_at_some_line(void) {
-    return refused_line(is_trace ? "header form limit thread ended adopt bound unknown early" : "cut form limit set order tail") > 0;
+    return refused_line(is_trace ? "header form limit thread ended adopt bound unknown early" : "cut form limit set order tail version") > 0;
 }
 
 /* Whether the beginning is refused at its last line; where a further line of the header or the mark of an adoption is missing, at the next. */

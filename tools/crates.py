@@ -1,5 +1,5 @@
-"""What .ci/edits, .ci/prove, .ci/record and .ci/tried share: the crates of crates.txt, and the words
-by which the kit's tools are called for one. Nothing here is meant to be called alone."""
+"""What tools/edits, tools/prove, tools/record and tools/tried share: the crates of crates.txt, and
+the words by which the kit's tools are called for one. Nothing here is meant to be called alone."""
 
 import importlib.machinery
 import importlib.util
@@ -86,7 +86,7 @@ def all_crates():
 
 
 def ask_lib(words):
-    """What a function of .ci/lib.sh prints, or None where it fails."""
-    script = '. "$0/.ci/lib.sh" && eval "$1"'
+    """What a function of tools/lib.sh prints, or None where it fails."""
+    script = '. "$0/tools/lib.sh" && eval "$1"'
     ran = subprocess.run(["bash", "-c", script, TOP, words], stdout=subprocess.PIPE, text=True)
     return ran.stdout.strip() if ran.returncode == 0 else None

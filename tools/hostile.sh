@@ -7,7 +7,7 @@
 build_library() {
     local rt
     rt=$(find_rt) || return
-    "$(dirname "$("$rt" doc)")/toolchain/bin/clang" -O2 -fPIC -shared -nostdlib -fuse-ld=lld -o "$1.so" "$top/.ci/$1.c"
+    "$(dirname "$("$rt" doc)")/toolchain/bin/clang" -O2 -fPIC -shared -nostdlib -fuse-ld=lld -o "$1.so" "$top/tools/$1.c"
 }
 
 # Hands the program each beginning of each trace and certificate of examples/, and each text in which one byte is another, two files at a
@@ -223,7 +223,7 @@ names_alike() {
         echo "check: there is no C compiler, so names with hashes that are alike were not tried"
         return
     fi
-    [ -x names ] || "${CC:-cc}" -O2 "$top/.ci/names.c" -o names || return
+    [ -x names ] || "${CC:-cc}" -O2 "$top/tools/names.c" -o names || return
     if [ ! -e alike.trace ]; then
         { printf 'mesh 1\nshards 1\npages 1024\nring 1\ngens 1\n' | tee other.trace && ./names 28000 15; } >alike.trace
         printf '0 put n%05d 0\n' {1..28000} >>other.trace
@@ -386,26 +386,27 @@ run_refused() {
     timeout 60 env "$@" "REFUSE_LOG=$PWD/log" "LD_PRELOAD=$PWD/refuse.so" "$tests" "$test" >out 2>err
 }
 
-# Counts the tests of `refusals`, each of which refuses each growth of its calls by itself: it passes, and growths were refused.
+# Counts the tests of `refusals`, each of which refuses each growth of its calls by itself: it
+# passes, and growths were refused.
 refusing_tests() {
-    local tests=$1 test
-    for test in $(tests_of "$tests"); do
+    local test
+    for test in "$@"; do
         if run_refused "$tests" "$test" && grep -q ' [1-9][0-9]* refused$' log; then
             pass
         else
-            fail "refusals: $test is to pass, and to have growths refused"
+            fail "$test is to pass, and to have growths refused"
         fi
     done
 }
 
-# Counts the tests of a program, whose names begin so, that make a refused call again: they pass whichever of their first 300 growths is
+# Counts tests that make a refused call again: they pass whichever of their first 300 growths is
 # refused, each in a process of its own.
 repeating_tests() {
-    local tests=$1 test number
-    for test in $(tests_of "$tests" | grep "^$2"); do
+    local test number
+    for test in "$@"; do
         for ((number = 1; number <= 300; number++)); do
             if ! run_refused "$tests" "$test" "REFUSE_GROWTH=$number"; then
-                fail "${tests##*/}: $test is to pass where growth $number is refused"
+                fail "$test is to pass where growth $number is refused"
                 continue 2
             fi
             if grep -q ', 0 refused$' log; then break; fi
@@ -414,20 +415,21 @@ repeating_tests() {
     done
 }
 
-# The tests with growths refused: those of the program as `rt ci` built them, and those of the
-# crates of tests as `.ci/tried` did.
+# Tests of the crates of tests with growths refused, over the program that tools/tried made of them.
 refused_tests() {
-    local crate before=$passed
+    local before=$passed kind named=()
     : >f
     if ! build_library refuse; then
         fail "the kit's clang is to compile what is loaded before the tests"
         return
     fi
-    for crate in refusals plan_tests meshrun; do
-        if [ ! -x "$top/crates/$crate/out/${crate}_tests" ]; then fail "there is no program of the tests of $crate"; fi
+    for kind in refusals:: plan_tests:: runner_tests::refused::; do
+        mapfile -t named < <(tests_of "$tests" | grep "^$kind")
+        case $kind in
+            refusals::) refusing_tests "${named[@]}" ;;
+            *) repeating_tests "${named[@]}" ;;
+        esac
+        if [ "${#named[@]}" = 0 ]; then fail "there is no test $kind in $tests"; fi
     done
-    refusing_tests "$top/crates/refusals/out/refusals_tests"
-    repeating_tests "$top/crates/plan_tests/out/plan_tests_tests" ''
-    repeating_tests "$top/crates/meshrun/out/meshrun_tests" tests::refused::
     echo "check: tests with growths refused: $((passed - before)) passed"
 }

@@ -158,7 +158,7 @@ archive_is_current() {
 archive_over_gate() {
     local room status=0
     room=$(mktemp -d)
-    "$top/.ci/record" teurlaks_c "$room" "$archive" || status=$?
+    "$top/tools/record" teurlaks_c "$room" "$archive" || status=$?
     rm -rf "$room"
     return "$status"
 }
