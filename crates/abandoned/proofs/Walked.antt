@@ -1,17 +1,18 @@
 -- What a walk over groups adds up, and that it is the same in whatever order they stand.
-use Rattle.std.proofs.Common.{zero, suc, ◌≡◌, ℕ, ◌+◌, ◌≤◌, Bool, true, false, cond, List, [], ◌∷◌, ◌++◌, length, insert, is_some, Some, slice_get, take, ap, sym, ◌∙◌, refl, arith}
+use Rattle.std.proofs.Common.{zero, suc, ◌≡◌, ℕ, ◌+◌, ◌≤◌, Bool, true, false, cond, List, [], ◌∷◌, ◌++◌, length, insert, is_some, Some, slice_get, take, append_assoc, ap, subst, sym, ◌∙◌, refl, arith}
 use Rattle.std.specs.Prelude.{filter}
 use Rattle.std.specs.List.{sum_by}
 use Rattle.std.specs.List.Sorted.{IsPermutation}
 use Rattle.std.proofs.lemmas.Grind.{flat_map-append}
 use Rattle.std.proofs.lemmas.List.{append-nil, length-append}
-use Rattle.std.proofs.lemmas.List.Sorted.{IsPermutation-cons, IsPermutation-middle, IsPermutation-refl, IsPermutation-sym, IsPermutation-trans, sum_by-IsPermutation}
+use Rattle.std.proofs.lemmas.List.Sorted.{IsPermutation-append_comm, IsPermutation-append_left, IsPermutation-append_right, IsPermutation-cons, IsPermutation-middle, IsPermutation-refl, IsPermutation-sym, IsPermutation-trans, sum_by-IsPermutation}
 use Rattle.std.proofs.lemmas.List.Sums.{sum_by-append, sum_by-cons}
 use Rattle.std.specs.FinSet as set
 use Rattle.span.specs.Log.{live_slots}
 use Rattle.span.specs.State.{SpanState}
 use Rattle.groups.specs.Group.{spans_in, spans_of}
 use Rattle.groups.specs.Spans.{live_count}
+use Rattle.groups.proofs.GroupSpans.{put_in}
 use Rattle.groups.proofs.Lists.{same_some}
 use Rattle.abandoned.specs.Ranked.{arranged, head_rank, in_order, lower}
 use Rattle.abandoned.specs.State.{PooledState}
@@ -142,3 +143,19 @@ module _ {X : Type 0} (p : X → Bool) where
           → IsPermutation (cond b (x ∷ filter p xs) (filter p xs)) (cond b (x ∷ filter p (arranged key xs)) (filter p (arranged key xs)))
       one_more true rest = IsPermutation-cons x (filter p xs) (filter p (arranged key xs)) rest
       one_more false rest = rest
+
+-- the spans of the groups are the same, in whatever order these stand
+IsPermutation-spans_insert : (groups : List PooledState) (at : ℕ) (group : PooledState) → IsPermutation (spans_of group ++ spans_in groups) (spans_in (insert groups at group))
+IsPermutation-spans_insert groups at group =
+    let parts = put_in spans_of groups at group in
+    let its = spans_of group in
+    let moved : IsPermutation ((its ++ parts.left) ++ parts.right) ((parts.left ++ its) ++ parts.right) =
+    IsPermutation-append_left parts.right (its ++ parts.left) (parts.left ++ its) (IsPermutation-append_comm its parts.left) in
+    subst (λ spans. IsPermutation spans (spans_in (insert groups at group))) (append_assoc its parts.left parts.right ∙ ap (λ spans. its ++ spans) (sym parts.whole))
+    (subst (IsPermutation ((its ++ parts.left) ++ parts.right)) (append_assoc parts.left its parts.right ∙ sym parts.after) moved)
+
+pub IsPermutation-spans : (groups : List PooledState) → IsPermutation (spans_in groups) (spans_in (in_order groups))
+IsPermutation-spans [] = IsPermutation-refl []
+IsPermutation-spans (group ∷ groups) = IsPermutation-trans (spans_of group ++ spans_in groups) (spans_of group ++ spans_in (in_order groups)) (spans_in (in_order (group ∷ groups)))
+    (IsPermutation-append_right (spans_of group) (spans_in groups) (spans_in (in_order groups)) (IsPermutation-spans groups))
+    (IsPermutation-spans_insert (in_order groups) (lower head_rank (head_rank group) (in_order groups)) group)

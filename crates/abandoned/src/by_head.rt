@@ -7,6 +7,7 @@ ghost use Rattle.span.specs.SpanLogs.{AreLegal, room_for_logs, span_of_log};
 ghost use Rattle.span.specs.State.{IsSettable, SpanState};
 ghost use Rattle.groups.specs.Pages.{set_group};
 ghost use Rattle.groups.specs.Directory.{KnowsGuests};
+ghost use Rattle.groups.specs.FirstLive.{IsFirstAmong};
 ghost use Rattle.groups.specs.Sound.{AreSoundGroups, IsSoundGroup};
 ghost use Rattle.groups.specs.Spans.{with_free_at, with_set_at, live_count};
 ghost use Rattle.abandoned.specs.Calls.{HasNoPage};
@@ -25,7 +26,7 @@ use crate::pooled::Pooled;
 use crate::ranks::Ranks;
 use crate::walks;
 use groups::Directory;
-use span::{Counted, Entry, Kept, Log, SpanId, SpanLog};
+use span::{Counted, Entry, Kept, Key, Log, SpanId, SpanLog};
 use std::alloc::{AllocError, Global};
 use std::marker::Model;
 
@@ -185,6 +186,20 @@ impl<L: Log> Groups<L> {
         ensures { result ≡ length (paged_in self.now.groups) }
     {
         walks::pages(self.places.as_slice())
+    }
+
+    /// How many groups there are.
+    pub(crate) fn len(&self) -> usize
+        ensures { result ≡ length self.now.groups }
+    {
+        self.places.len()
+    }
+
+    /// The first live key of their spans from this id on, by ids and then by slots.
+    pub(crate) fn first_live(&self, from: SpanId) -> Option<Key>
+        ensures { IsFirstAmong (spans_in self.now.groups) (rank from) result }
+    {
+        walks::first_live(self.places.as_slice(), from)
     }
 
     /// How many keys are live in those that have a page.

@@ -1,6 +1,7 @@
 // The pool and its calls on keys.
 ghost use Rattle.std.specs.Prelude.{◌≡◌, ◌<◌, ◌≤◌, ◌*◌, ◌↔◌, ℕ, [], map, length, IsTrue, IfOk, MatchOption, false, true, if◌then◌else◌, is_some};
 ghost use Rattle.std.specs.List.Sorted.{IsStrictlyIncreasing};
+ghost use Rattle.span.specs.FirstLive.{HasNoneBetween, IsFirstLive};
 ghost use Rattle.span.specs.Ids.{rank};
 ghost use Rattle.span.specs.Order.{HasNoneFrom, IsFirstFrom};
 ghost use Rattle.span.specs.PlainMap as plain;
@@ -90,6 +91,13 @@ impl<L: Log> Pool<L> {
             span_room: 0,
             has_plan: false,
         }
+    }
+
+    /// How many groups it has, with a page or without.
+    pub fn len(&self) -> usize
+        ensures { result ≡ length self.now.groups }
+    {
+        self.groups.len()
     }
 
     /// How many pages it has: one for each group with a live slot.
@@ -200,6 +208,16 @@ impl<L: Log> Pool<L> {
             return None;
         };
         group.span_at(place).first_from(slot)
+    }
+
+    /// The first live key here of the spans from this id on, by ids and then by slots. It looks at
+    /// each span once, and takes no memory.
+    pub fn first_live(&self, from: SpanId) -> Option<Key>
+        ensures first { MatchOption result (HasNoneBetween (shown self.now) (rank from) ALL_IDS)
+            (IsFirstLive (shown self.now) (rank from)) }
+        ensures sound { IsSound self.now }
+    {
+        self.groups.first_live(from)
     }
 
     // The group that the span of the id stands in, and its place there.

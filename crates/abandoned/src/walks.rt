@@ -1,13 +1,16 @@
 // What is counted and told of groups, one after another.
 ghost use Rattle.std.specs.Prelude.{◌≡◌, ◌≤◌, ◌+◌, ◌++◌, ◌*◌, IfOk, length, map};
 ghost use Rattle.span.specs.SpanLogs.{AreLegal, room_for_logs, span_of_log};
+ghost use Rattle.span.specs.Ids.{rank};
+ghost use Rattle.groups.specs.FirstLive.{IsFirstAmong};
 ghost use Rattle.groups.specs.Group.{paged_in, spans_in, summary};
 ghost use Rattle.groups.specs.Spans.{live_count};
 ghost use Rattle.span.specs.declared.limits.TheConstants.{ALL_IDS};
 ghost use Rattle.bitmap.specs.declared.bits.TheConstants.{SLOTS};
 
 use crate::pooled::Pooled;
-use span::{Entry, Kept, Log, SpanLog};
+use groups::earlier;
+use span::{Entry, Kept, Key, Log, SpanId, SpanLog};
 use std::alloc::{AllocError, Global};
 
 /// How many of them have a page.
@@ -68,6 +71,17 @@ pub(crate) fn summaries<L: Log>(
         }
     }
     Ok(list)
+}
+
+/// The first live key of their spans from this id on, by ids and then by slots.
+pub(crate) fn first_live<L: Log>(groups: &[Pooled<L>], from: SpanId) -> Option<Key>
+    ensures { IsFirstAmong (spans_in groups.now) (rank from) result }
+{
+    let mut first = None;
+    for group in groups {
+        first = earlier(first, group.spans().first_live(from));
+    }
+    first
 }
 
 /// Moves the log of each of their spans to the end of a list with room for them.

@@ -1,82 +1,44 @@
 -- The live key that comes next, from what spans, shards and the pool have.
-use Rattle.std.proofs.Common.{◌≡◌, ◌≢◌, ◌⊎◌, ◌≤◌, ◌+◌, ◌*◌, ℕ, zero, suc, Bool, true, false, List, Option, None, Some, inl, inr, refl, sym, ap, subst, ◌∙◌, arith, slice_get, is_some}
-use Rattle.std.specs.Prelude.{MatchOption}
-use Rattle.std.proofs.lemmas.Bool.{cases_eq, cases_lt}
+use Rattle.std.proofs.Common.{◌≡◌, ◌≢◌, ◌⊎◌, ◌<◌, ◌≤◌, ◌+◌, ◌++◌, ◌∷◌, [], ℕ, zero, suc, Bool, true, false, List, Option, None, Some, inl, inr, refl, sym, ap, subst, ◌∙◌, arith, slice_get, is_some}
+use Rattle.std.specs.Prelude.{IfSome, MatchOption}
+use Rattle.std.specs.List.{All, Contains}
+use Rattle.std.proofs.lemmas.List.Elements.{All-contains, All-nil, All-push, All-weaker, Contains-append_left, Contains-push}
+use Rattle.std.proofs.lemmas.Option.{get_or_from_slice_get, slice_get-get_or, slice_get_within}
+use Rattle.std.proofs.lemmas.Bool.{cases_eq}
 use Rattle.std.proofs.lemmas.Option.{none-some}
 use Rattle.span.specs.declared.id.SpanId.{SpanId}
 use Rattle.span.specs.declared.key.Key.{Key}
-use Rattle.span.specs.declared.limits.TheConstants.{ALL_IDS, MOST_SPANS}
+use Rattle.span.specs.declared.limits.TheConstants.{ALL_IDS}
 use Rattle.span.specs.Ids.{rank}
 use Rattle.span.specs.Log.{Value}
+use Rattle.span.specs.FirstLive.{HasNoneBetween, IsFirstLive}
 use Rattle.span.specs.Order.{HasNoneBeyond, HasNoneFrom, IsAfter, IsFirstFrom, IsNextLive}
 use Rattle.span.specs.PlainMap.{PlainMap}
 use Rattle.shard.specs.Shown.{shown as shown_by}
 use Rattle.shard.specs.State.{ShardState}
+use Rattle.groups.specs.FirstLive.{rank_or_end}
+use Rattle.groups.proofs.FirstLive.{IsFirstLive-span, has-none}
 use Rattle.groups.proofs.Lists.{found_at, same_some}
-use Rattle.groups.proofs.Ranks.{id_from_rank}
 use Rattle.abandoned.specs.Shown.{shown as shown_by_pool}
+use Rattle.abandoned.specs.State.{PoolState}
 use Rattle.arena_core.specs.Moved.{Entries, KnowsMoved, named}
-use Rattle.arena_core.specs.NextLive.{HasNoneBetween, HasNoneIn, IsFirstLive}
+use Rattle.arena_core.specs.NextLive.{HasNoneIn, IsFirstStanding}
 use Rattle.arena_core.specs.Sound.{HasSoundGroups}
-use Rattle.arena_core.specs.State.{CoreState, has_span, opened_by, shard_with, shown, shown_at}
-use Rattle.arena_core.proofs.Changes.{at_most_once, past-indicator}
+use Rattle.arena_core.specs.State.{CoreState, has_span, shard_with, shown, shown_at}
+use Rattle.arena_core.proofs.Changes.{at_most_once}
 use Rattle.arena_core.proofs.Owners.{value-missed, value-unpooled}
-use Rattle.arena_core.proofs.Spans.{shard_with-nowhere, times, times-parts, times_in-missed, times_pooled}
+use Rattle.arena_core.proofs.Spans.{shard_with-nowhere, times-parts, times_in-missed, times_pooled}
 use Rattle.arena_core.proofs.Steps.{value-shard}
-use Rattle.span.specs.declared.limits.TheConstants.{ALL_IDS, MOST_SPANS}
+use Rattle.span.specs.declared.limits.TheConstants.{ALL_IDS}
 
 abbrev has_value : PlainMap → Key → Bool
 has_value map key = is_some (map.value_of key)
-
--- a value that is there is not missing
-has-none : (map : PlainMap) (key : Key) → has_value map key ≡ true → map.value_of key ≡ None → ⊥
-has-none map key some none = let e : true ≡ false = sym some ∙ ap is_some none in cc
 
 none-unless : (o : Option Value) → (is_some o ≡ true → ⊥) → o ≡ None
 none-unless None never = refl
 none-unless (Some value) never = absurd (never refl)
 
 module _ (map : PlainMap) where
-  -- ranges
-
-  pub HasNoneBetween-more : (low mid high : ℕ) → HasNoneBetween map low mid → HasNoneBetween map mid high → HasNoneBetween map low high
-  HasNoneBetween-more low mid high first rest key above below = elim (cases_lt (rank key.span) mid) [
-    | inl before ↦ first key above before
-    | inr behind ↦ rest key behind below
-  ]
-
-  pub HasNoneBetween-span : (low : ℕ) (id : SpanId) → HasNoneBetween map low (rank id) → HasNoneFrom map id 0 → HasNoneBetween map low (rank id + 1)
-  HasNoneBetween-span low id before none key above below = elim (cases_lt (rank key.span) (rank id)) [
-    | inl less ↦ before key above less
-    | inr behind ↦ none key (id_from_rank key.span id (omega (arith, behind, below))) (omega arith)
-  ]
-
-  pub IsFirstLive-more : (low mid : ℕ) (key : Key) → low ≤ mid → HasNoneBetween map low mid → IsFirstLive map mid key → IsFirstLive map low key
-  IsFirstLive-more low mid key less none first = record {
-    live = first.live;
-    not_below = omega (arith, first.not_below, less);
-    first = λ other above some. elim (cases_lt (rank other.span) mid) [
-      | inl before ↦ absurd (has-none map other some (none other above before))
-      | inr behind ↦ first.first other behind some
-    ];
-  }
-
-  pub IsFirstLive-span : (low : ℕ) (id : SpanId) (key : Key) → low ≤ rank id → HasNoneBetween map low (rank id) → IsFirstFrom map id 0 key → IsFirstLive map low key
-  IsFirstLive-span low id key less none its = IsFirstLive-more low (rank id) key less none (record {
-    live = its.live;
-    not_below = omega (arith, ap rank its.span_is);
-    first = λ other above some. elim (cases_eq (rank other.span) (rank id)) [
-      | inl same ↦ of_span other (id_from_rank other.span id same) some
-      | inr differ ↦ inr (inl (omega (arith, differ, above, ap rank its.span_is)))
-    ];
-  })
-    where
-      of_span : (other : Key) → other.span ≡ id → has_value map other ≡ true → (other ≡ key) ⊎ IsAfter key other
-      of_span other same some = elim (its.first other same (omega arith) some) [
-        | inl equal ↦ inl equal
-        | inr later ↦ inr (inr (same ∙ sym its.span_is, later))
-      ]
-
   -- what comes next, at the beginning and after a key
 
   pub next-first : (o : Option Key) → MatchOption o (HasNoneBetween map 0 ALL_IDS) (IsFirstLive map 0) → MatchOption o (HasNoneBeyond map None) (IsNextLive map None)
@@ -130,19 +92,6 @@ IsFirstFrom-same a b id slot key same its = record {
 }
 
 module _ (core : CoreState) (sound : HasSoundGroups core) where
-  -- a span that was never opened has no key
-  pub value-unopened : (key : Key) → opened_by core.shards key.span.shard ≤ key.span.serial → (shown core).value_of key ≡ None
-  value-unopened key past =
-      let unopened : times key.span core ≡ 0 = sound.once key.span ∙ past-indicator key.span.serial (opened_by core.shards key.span.shard) past in
-      ap (λ o. (shown_at core.pool o).value_of key) (shard_with-nowhere key.span core.shards (omega (arith, unopened, times-parts key.span core)))
-      ∙ value-unpooled core.pool key (omega (arith, unopened, times-parts key.span core))
-
-  -- beyond the spans that a shard has opened there is none of its number
-  pub HasNoneBetween-opened : (number opened : ℕ) → opened_by core.shards number ≤ opened → HasNoneBetween (shown core) (MOST_SPANS * number + opened) (MOST_SPANS * (number + 1))
-  HasNoneBetween-opened number opened past key above below =
-      let same : key.span.shard ≡ number = omega (arith, above, below, key.span.serial_in_range) in
-      value-unopened key (omega (arith, above, below, same, past, ap (opened_by core.shards) same))
-
   -- what a shard answers is what the core has, where it answers a key
   pub first-shard : (number : ℕ) (shard : ShardState) (id : SpanId) (slot : ℕ) (o : Option Key) → slice_get core.shards number ≡ Some shard
       → MatchOption o (HasNoneFrom (shown_by shard) id slot) (IsFirstFrom (shown_by shard) id slot) → MatchOption o (HasNoneIn core.shards number id slot) (IsFirstFrom (shown core) id slot)
@@ -199,3 +148,95 @@ module _ (shards : List ShardState) (entries : Entries) (knows : KnowsMoved shar
 
   pub owned-named : (it : ℕ) → named entries id ≡ Some it → HasNoneIn shards it id slot → (number : ℕ) → HasNoneIn shards number id slot
   owned-named it is its number = foreign number (λ other. subst (λ n. HasNoneIn shards n id slot) (same_some (sym is ∙ other)) its)
+
+-- the first of what shards and pool show is the first of the core
+
+HasNoneBetween-first : (map : PlainMap) (low : ℕ) (o : Option Key) → MatchOption o (HasNoneBetween map low ALL_IDS) (IsFirstLive map low) → HasNoneBetween map low (rank_or_end o)
+HasNoneBetween-first map low None none = none
+HasNoneBetween-first map low (Some key) first = λ other above below. none-unless (map.value_of other) (λ some. elim (first.first other above some) [
+  | inl equal ↦ omega (arith, below, ap (λ (k : Key). rank k.span) equal)
+  | inr (inl later) ↦ omega (arith, below, later)
+  | inr (inr (same, later)) ↦ omega (arith, below, ap rank same)
+])
+
+HasNoneBetween-less : (map : PlainMap) (low high less : ℕ) → less ≤ high → HasNoneBetween map low high → HasNoneBetween map low less
+HasNoneBetween-less map low high less most none key above below = none key above (omega (arith, below, most))
+
+IsFirstFrom-live : (map : PlainMap) (low : ℕ) (key : Key) → IsFirstLive map low key → IsFirstFrom map key.span 0 key
+IsFirstFrom-live map low key first = record {
+  live = first.live;
+  span_is = refl;
+  not_below = omega arith;
+  first = λ other same above some. elim (first.first other (omega (arith, first.not_below, ap rank same)) some) [
+    | inl equal ↦ inl equal
+    | inr (inl later) ↦ absurd (omega (arith, later, ap rank same))
+    | inr (inr (of, later)) ↦ inr later
+  ];
+}
+
+abbrev Its : List ShardState → PoolState → ℕ → Key → Type 0
+Its shards pool low key = IsFirstLive (shown_by_pool pool) low key ⊎ ((shard : ShardState) × Contains shards shard × IsFirstLive (shown_by shard) low key)
+
+pub IsFirstStanding-pool : (pool : PoolState) (low : ℕ) (o : Option Key) → MatchOption o (HasNoneBetween (shown_by_pool pool) low ALL_IDS) (IsFirstLive (shown_by_pool pool) low)
+    → IsFirstStanding [] pool low o
+IsFirstStanding-pool pool low o first = record {
+  owned = All-nil (λ (shard : ShardState). HasNoneBetween (shown_by shard) low (rank_or_end o));
+  pooled = HasNoneBetween-first (shown_by_pool pool) low o first;
+  its = by_option o first;
+}
+  where
+    by_option : (o : Option Key) → MatchOption o (HasNoneBetween (shown_by_pool pool) low ALL_IDS) (IsFirstLive (shown_by_pool pool) low) → IfSome o (Its [] pool low)
+    by_option None none = tt
+    by_option (Some key) its = inl its
+
+-- one more shard
+pub IsFirstStanding-shard : (shards : List ShardState) (pool : PoolState) (shard : ShardState) (low : ℕ) (a b o : Option Key) → IsFirstStanding shards pool low a
+    → MatchOption b (HasNoneBetween (shown_by shard) low ALL_IDS) (IsFirstLive (shown_by shard) low)
+    → ((o ≡ a) × (rank_or_end a ≤ rank_or_end b)) ⊎ ((o ≡ b) × (rank_or_end b < rank_or_end a)) → IsFirstStanding (shards ++ shard ∷ []) pool low o
+IsFirstStanding-shard shards pool shard low a b o before first (inl (is, most)) = subst (IsFirstStanding (shards ++ shard ∷ []) pool low) (sym is) (record {
+  owned = All-push (λ (s : ShardState). HasNoneBetween (shown_by s) low (rank_or_end a)) shards shard before.owned
+      (HasNoneBetween-less (shown_by shard) low (rank_or_end b) (rank_or_end a) most (HasNoneBetween-first (shown_by shard) low b first));
+  pooled = before.pooled;
+  its = by_option a before.its;
+})
+  where
+    by_option : (o : Option Key) → IfSome o (Its shards pool low) → IfSome o (Its (shards ++ shard ∷ []) pool low)
+    by_option None its = tt
+    by_option (Some key) (inl its) = inl its
+    by_option (Some key) (inr (s, inside, its)) = inr (s, Contains-append_left shards (shard ∷ []) s inside, its)
+IsFirstStanding-shard shards pool shard low a b o before first (inr (is, less)) = subst (IsFirstStanding (shards ++ shard ∷ []) pool low) (sym is) (record {
+  owned = All-push (λ (s : ShardState). HasNoneBetween (shown_by s) low (rank_or_end b)) shards shard
+      (All-weaker (λ (s : ShardState). HasNoneBetween (shown_by s) low (rank_or_end a)) (λ (s : ShardState). HasNoneBetween (shown_by s) low (rank_or_end b))
+      (λ s none. HasNoneBetween-less (shown_by s) low (rank_or_end a) (rank_or_end b) (omega (arith, less)) none) shards before.owned)
+      (HasNoneBetween-first (shown_by shard) low b first);
+  pooled = HasNoneBetween-less (shown_by_pool pool) low (rank_or_end a) (rank_or_end b) (omega (arith, less)) before.pooled;
+  its = by_option b first;
+})
+  where
+    by_option : (o : Option Key) → MatchOption o (HasNoneBetween (shown_by shard) low ALL_IDS) (IsFirstLive (shown_by shard) low) → IfSome o (Its (shards ++ shard ∷ []) pool low)
+    by_option None none = tt
+    by_option (Some key) its = inr (shard, Contains-push shards shard, its)
+
+module _ (core : CoreState) (sound : HasSoundGroups core) (low : ℕ) where
+  none-standing : (high : ℕ) → All (λ shard. HasNoneBetween (shown_by shard) low high) core.shards → HasNoneBetween (shown_by_pool core.pool) low high → HasNoneBetween (shown core) low high
+  none-standing high owned pooled key above below = by_shard (shard_with core.shards key.span) refl
+    where
+      by_shard : (o : Option ShardState) → shard_with core.shards key.span ≡ o → (shown_at core.pool o).value_of key ≡ None
+      by_shard None e = pooled key above below
+      by_shard (Some shard) e =
+          let at = found_at (has_span key.span) core.shards shard e in
+          All-contains (λ (s : ShardState). HasNoneBetween (shown_by s) low high) core.shards shard owned
+          (at.0.0, slice_get_within core.shards at.0.0 shard at.0.1, get_or_from_slice_get core.shards at.0.0 shard shard at.0.1) key above below
+
+  pub first-standing : (o : Option Key) → IsFirstStanding core.shards core.pool low o → MatchOption o (HasNoneBetween (shown core) low ALL_IDS) (IsFirstLive (shown core) low)
+  first-standing None first = none-standing ALL_IDS first.owned first.pooled
+  first-standing (Some key) first = by_owner first.its
+    where
+      none : HasNoneBetween (shown core) low (rank key.span)
+      none = none-standing (rank key.span) first.owned first.pooled
+
+      by_owner : Its core.shards core.pool low key → IsFirstLive (shown core) low key
+      by_owner (inl its) = IsFirstLive-span (shown core) low key.span key its.not_below none
+          (IsFirstFrom-pool core sound key.span 0 key (IsFirstFrom-live (shown_by_pool core.pool) low key its))
+      by_owner (inr (shard, (at, within, is), its)) = IsFirstLive-span (shown core) low key.span key its.not_below none
+          (first-shard core sound at shard key.span 0 (Some key) (slice_get-get_or core.shards at shard within ∙ ap Some is) (IsFirstFrom-live (shown_by shard) low key its))

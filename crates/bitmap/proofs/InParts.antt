@@ -122,7 +122,7 @@ module _ (parts : List SlotSet) (index : ℕ) (within : index / SLOTS < length p
 -- the least number of a part
 
 module _ (parts : List SlotSet) (at : ℕ) (within : at < length parts) (past : SlotSet) where
-  slot_at : (q : ℕ) → q / SLOTS ≡ at → contains (get_or parts at past) (q % SLOTS) ≡ contains (numbers_in parts) q
+  pub slot_at : (q : ℕ) → q / SLOTS ≡ at → contains (get_or parts at past) (q % SLOTS) ≡ contains (numbers_in parts) q
   slot_at q here = ap (λ k. contains (get_or parts k past) (q % SLOTS)) (sym here) ∙ contains-part parts q past (omega (arith, here, within))
 
   pub IsLowestIn-slot : (slot : ℕ) → slot < SLOTS → IsLowest (get_or parts at past) slot → IsLowestIn (numbers_in parts) at (SLOTS * at + slot)

@@ -1,5 +1,5 @@
 // A set of numbers that grows.
-ghost use Rattle.std.specs.Prelude.{◌≡◌, ◌+◌, ◌*◌, ◌/◌, ◌<◌, ◌≤◌, ℕ, false, IfSome, MatchOption, OnErr, OnOk, if◌then◌else◌, nat_lt, vec_len};
+ghost use Rattle.std.specs.Prelude.{◌≡◌, ◌+◌, ◌*◌, ◌/◌, ◌<◌, ◌≤◌, ℕ, false, IfSome, MatchOption, OnErr, OnOk, if◌then◌else◌, nat_lt, true, vec_len};
 ghost use Rattle.std.specs.FinSet as set;
 ghost use Rattle.bitmap.specs.Numbers.{NumbersState};
 ghost use Rattle.bitmap.specs.Parts.{IsSummary, numbers_in};
@@ -8,7 +8,10 @@ ghost use Rattle.bitmap.specs.declared.bits.TheConstants.{SLOTS};
 ghost use Rattle.bitmap.specs.declared.numbers.TheConstants.{MOST_NUMBERS};
 
 use crate::bits::{Bits256, SLOTS};
-use crate::parts::{below, contains_in, fill, grow, insert_in, lowest_in, remove_in};
+use crate::parts::{
+    below, contains_in, fill, gather, gather_all, grow, insert_in, lowest_in, part_at, remove_in,
+    spread, spread_all, summarize, summary_of,
+};
 use std::alloc::{AllocError, Global};
 use std::marker::Model;
 
@@ -158,6 +161,42 @@ impl NumberSet {
                 number - SLOTS,
             );
         }
+    }
+
+    /// Moves the numbers from this one on up by one, so that the set does not have this one. It takes a step for each 64 that
+    /// the set has room for, and no memory.
+    pub fn shift_up(&mut self, number: usize)
+        requires within { number < self.old.room }
+        requires room { (n : ℕ) → set.contains self.old.numbers n ≡ true → n + 1 < self.old.room }
+        ensures below { (n : ℕ) → n < number
+            → set.contains self.new.numbers n ≡ set.contains self.old.numbers n }
+        ensures this { set.contains self.new.numbers number ≡ false }
+        ensures above { (n : ℕ) → number ≤ n
+            → set.contains self.new.numbers (n + 1) ≡ set.contains self.old.numbers n }
+        ensures room { self.new.room ≡ self.old.room }
+    {
+        let before = self.low;
+        self.low = spread(&before, number, &Bits256::empty());
+        spread_all(&mut self.high, number.saturating_sub(SLOTS), before);
+        summarize(&self.high, &mut self.filled);
+        self.top = summary_of(&self.filled);
+        self.remove(number);
+    }
+
+    /// Takes the number out, and moves those above it down by one. It takes a step for each 64 that the set has room for,
+    /// and no memory.
+    pub fn shift_down(&mut self, number: usize)
+        ensures below { (n : ℕ) → n < number
+            → set.contains self.new.numbers n ≡ set.contains self.old.numbers n }
+        ensures above { (n : ℕ) → number ≤ n
+            → set.contains self.new.numbers n ≡ set.contains self.old.numbers (n + 1) }
+        ensures room { self.new.room ≡ self.old.room }
+    {
+        let after = part_at(&self.high, 0);
+        self.low = gather(&self.low, number, &after);
+        gather_all(&mut self.high, number.saturating_sub(SLOTS));
+        summarize(&self.high, &mut self.filled);
+        self.top = summary_of(&self.filled);
     }
 
     /// Has the numbers below the count then, and no others. It takes a step for each 256 that it has room for, and no memory.

@@ -2,7 +2,7 @@
 ghost use Rattle.std.specs.Prelude.{◌≡◌, ◌+◌, ◌*◌, ◌/◌, ◌<◌, ◌≤◌, ℕ, MatchOption, OnErr, OnOk, nat_lt, vec_len};
 ghost use Rattle.std.specs.FinSet as set;
 ghost use Rattle.bitmap.specs.declared.parts.TheConstants.{MOST_PARTS};
-ghost use Rattle.bitmap.specs.Parts.{HasNoneIn, IsLowestIn, has_number, numbers_in};
+ghost use Rattle.bitmap.specs.Parts.{HasNoneIn, IsLowestIn, IsSummary, has_number, numbers_in};
 
 use crate::bits::{Bits256, SLOTS};
 use std::alloc::AllocError;
@@ -100,4 +100,122 @@ pub(crate) fn below(limit: usize) -> Bits256
         slots.insert(slot as u8);
     }
     slots
+}
+
+/// The slots of the part, of which those from the limit on are one higher. Where all are, slot 0 comes
+/// from slot 255 of the part before.
+pub(crate) fn spread(part: &Bits256, limit: usize, before: &Bits256) -> Bits256
+    ensures below { (slot : ℕ) → slot < 256 → slot < limit
+        → set.contains result slot ≡ set.contains part.now slot }
+    ensures above { (slot : ℕ) → slot + 1 < 256 → limit ≤ slot
+        → set.contains result (slot + 1) ≡ set.contains part.now slot }
+    ensures first { limit ≡ 0 → set.contains result 0 ≡ set.contains before.now 255 }
+{
+    if limit >= SLOTS {
+        return *part;
+    }
+    if limit == 0 {
+        return part.up(before);
+    }
+    let high = part.minus(&below(limit));
+    part.minus(&high).union(&high.up(&Bits256::empty()))
+}
+
+/// The slots of the part without the slot at the limit, of which those above it are one lower. Slot
+/// 255 comes from slot 0 of the part after.
+pub(crate) fn gather(part: &Bits256, limit: usize, after: &Bits256) -> Bits256
+    ensures below { (slot : ℕ) → slot < 256 → slot < limit
+        → set.contains result slot ≡ set.contains part.now slot }
+    ensures above { (slot : ℕ) → slot + 1 < 256 → limit ≤ slot
+        → set.contains result slot ≡ set.contains part.now (slot + 1) }
+    ensures last { limit < 256 → set.contains result 255 ≡ set.contains after.now 0 }
+{
+    if limit >= SLOTS {
+        return *part;
+    }
+    if limit == 0 {
+        return part.down(after);
+    }
+    let mut high = part.minus(&below(limit));
+    let low = part.minus(&high);
+    high.remove(limit as u8);
+    low.union(&high.down(after))
+}
+
+/// Moves the numbers from the limit on one up. Where all are, the first comes from slot 255 of the
+/// part before.
+pub(crate) fn spread_all(parts: &mut Vec<Bits256>, limit: usize, before: Bits256)
+    requires { vec_len parts.old ≤ MOST_PARTS }
+    ensures below { (q : ℕ) → q < limit → q < 256 * vec_len parts.old
+        → set.contains (numbers_in parts.new.items) q ≡ set.contains (numbers_in parts.old.items) q }
+    ensures above { (q : ℕ) → limit ≤ q → q + 1 < 256 * vec_len parts.old
+        → set.contains (numbers_in parts.new.items) (q + 1)
+        ≡ set.contains (numbers_in parts.old.items) q }
+    ensures first { limit ≡ 0 → 0 < vec_len parts.old
+        → set.contains (numbers_in parts.new.items) 0 ≡ set.contains before 255 }
+    ensures len { vec_len parts.new ≡ vec_len parts.old }
+{
+    let mut before = before;
+    for part in 0..parts.len() {
+        let this = parts[part];
+        parts[part] = spread(&this, limit.saturating_sub(SLOTS * part), &before);
+        before = this;
+    }
+}
+
+/// Takes the number at the limit out, and moves those above it one down.
+pub(crate) fn gather_all(parts: &mut Vec<Bits256>, limit: usize)
+    requires { vec_len parts.old ≤ MOST_PARTS }
+    ensures below { (q : ℕ) → q < limit
+        → set.contains (numbers_in parts.new.items) q ≡ set.contains (numbers_in parts.old.items) q }
+    ensures above { (q : ℕ) → limit ≤ q → set.contains (numbers_in parts.new.items) q
+        ≡ set.contains (numbers_in parts.old.items) (q + 1) }
+    ensures len { vec_len parts.new ≡ vec_len parts.old }
+{
+    for part in 0..parts.len() {
+        let after = part_at(parts, part + 1);
+        parts[part] = gather(&parts[part], limit.saturating_sub(SLOTS * part), &after);
+    }
+}
+
+/// The part at the index, which has no number where there is none.
+pub(crate) fn part_at(parts: &Vec<Bits256>, part: usize) -> Bits256
+    ensures { (slot : ℕ) → slot < 256
+        → set.contains result slot ≡ set.contains (numbers_in parts.now.items) (256 * part + slot) }
+{
+    if part < parts.len() {
+        parts[part]
+    } else {
+        Bits256::empty()
+    }
+}
+
+/// Notes which of the parts have a number.
+pub(crate) fn summarize(parts: &Vec<Bits256>, filled: &mut Vec<Bits256>)
+    requires many { vec_len parts.now ≤ MOST_PARTS }
+    requires few { vec_len filled.old ≤ MOST_PARTS }
+    requires places { vec_len parts.now ≤ 256 * vec_len filled.old }
+    ensures summary { IsSummary (numbers_in parts.now.items) (numbers_in filled.new.items) }
+    ensures len { vec_len filled.new ≡ vec_len filled.old }
+{
+    fill(filled, 0);
+    for part in 0..parts.len() {
+        if lowest_in(parts, part).is_some() {
+            insert_in(filled, part);
+        }
+    }
+}
+
+/// The parts that have a number, of 256 at most.
+pub(crate) fn summary_of(parts: &Vec<Bits256>) -> Bits256
+    requires { vec_len parts.now ≤ 256 }
+    ensures { IsSummary (numbers_in parts.now.items) result }
+{
+    let mut filled = Bits256::empty();
+    for part in 0..parts.len() {
+        if lowest_in(parts, part).is_some() {
+            filled.insert(part as u8);
+        }
+    }
+    filled
 }

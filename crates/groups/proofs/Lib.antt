@@ -5,6 +5,7 @@ pub mod Entries
 pub mod ForgottenGuests
 pub mod ForgottenShown
 pub mod FilledBy
+pub mod FirstLive
 pub mod FoundGuests
 pub mod FreedGroups
 pub mod GroupSpans

@@ -2,6 +2,7 @@ pub mod Brief
 pub mod Dead
 pub mod Directory
 pub mod DirectoryKept
+pub mod FirstLive
 pub mod Group
 pub mod Pages
 pub mod Shown

@@ -1,11 +1,15 @@
 -- The three classes, told apart.
-use Rattle.std.proofs.Common.{◌≡◌, ◌⊎◌, ℕ, ◌<◌, ◌≤◌, List, length, get_or, set, refl, inl, inr, ap, arith, sym, ◌∙◌, get_or-set_other, get_or-set_same}
+use Rattle.std.proofs.Common.{◌≡◌, ◌⊎◌, ℕ, zero, suc, Some, slice_get, subst, ◌<◌, ◌≤◌, List, length, get_or, set, refl, inl, inr, ap, arith, sym, ◌∙◌, get_or-set_other, get_or-set_same}
 use Rattle.std.specs.List.{slice_index_or}
 use Rattle.std.proofs.lemmas.Option.{get_or_from_slice_get, slice_get-get_or}
 use Rattle.bitmap.specs.Numbers.{NumbersState}
 use Rattle.span.specs.Classes.{width_of}
 use Rattle.span.specs.declared.class.Class.{Class}
 use Rattle.span.specs.declared.class.Class.TheVariants.{C16, C64, C256}
+use Rattle.span.specs.State.{SpanState}
+use Rattle.groups.specs.Group.{spans_of, with_span}
+use Rattle.groups.proofs.Lists.{same_some}
+use Rattle.shard.specs.Group.{GroupState}
 use Rattle.shard.specs.Rooms.{no_numbers, number_of, room_of}
 
 pub class_from_width : (a b : Class) → width_of a ≡ width_of b → a ≡ b
@@ -81,3 +85,27 @@ fits_third sets now three same first second past n fits =
       get_or-set_other (set sets 0 first) 1 2 second past (λ e. absurd (omega (arith, e))),
       get_or-set_other sets 0 2 first past (λ e. absurd (omega (arith, e))),
     ) (fits_read sets now three same C256 past n fits)
+
+-- a fact of the set of a class holds of the one that was read for it
+pub read_set : (sets now : List NumbersState) → length sets ≡ 3 → sets ≡ now → (class : Class) (past : NumbersState) (P : NumbersState → Type 0)
+    → P (slice_index_or now (number_of class) no_numbers) → P (get_or sets (number_of class) past)
+read_set sets now three same class past P holds =
+    subst P (ap (λ (s : List NumbersState). slice_index_or s (number_of class) no_numbers) (sym same) ∙ set_read sets three class past) holds
+
+-- the same of the second set where the first has changed, and of the third where both have
+pub read_second : (sets now : List NumbersState) → length sets ≡ 3 → sets ≡ now → (first past : NumbersState) (P : NumbersState → Type 0)
+    → P (slice_index_or now 1 no_numbers) → P (get_or (set sets 0 first) 1 past)
+read_second sets now three same first past P holds =
+    subst P (sym (get_or-set_other sets 0 1 first past (λ e. absurd (omega (arith, e))))) (read_set sets now three same C64 past P holds)
+
+pub read_third : (sets now : List NumbersState) → length sets ≡ 3 → sets ≡ now → (first second past : NumbersState) (P : NumbersState → Type 0)
+    → P (slice_index_or now 2 no_numbers) → P (get_or (set (set sets 0 first) 1 second) 2 past)
+read_third sets now three same first second past P holds =
+    subst P (sym (get_or-set_other (set sets 0 first) 1 2 second past (λ e. absurd (omega (arith, e))) ∙ get_or-set_other sets 0 2 first past (λ e. absurd (omega (arith, e)))))
+    (read_set sets now three same C256 past P holds)
+
+-- a group keeps its class where one of its spans is replaced by one of the same class
+pub class-with_span : (group : GroupState) (place : ℕ) (span changed : SpanState) → slice_get (spans_of group) place ≡ Some span → changed.class ≡ span.class
+    → (with_span group place changed).head.class ≡ group.head.class
+class-with_span group zero span changed here same = same ∙ ap (λ (s : SpanState). s.class) (sym (same_some here))
+class-with_span group (suc place) span changed here same = refl

@@ -15,6 +15,9 @@ use Rattle.groups.specs.Group.{Ascend, spans_in, spans_of}
 use Rattle.groups.proofs.DeadGuests.{IsSoundGroup-without_dead, before-without_dead, length-live, occupied-without_dead, times-without_dead}
 use Rattle.groups.proofs.GroupSpans.{count-spans_remove, times}
 use Rattle.groups.proofs.Lists.{before-map, count-cons, same_some}
+use Rattle.shard.specs.HeadWindow.{HeadWindow}
+use Rattle.shard.specs.Heads.{KnowsHeads}
+use Rattle.shard.proofs.KnownHeads.{KnowsHeads-same}
 use Rattle.shard.specs.Group.{GroupState, HasNoRoom}
 use Rattle.shard.specs.Moves.{HasGuestRoom}
 use Rattle.shard.specs.Rooms.{HasRooms}
@@ -36,12 +39,20 @@ HasRooms-without_dead class groups rooms has = record {
   others = λ q other there out.
       let before = before-map without_dead groups q other there in
       subst (HasNoRoom class) before.2 (HasNoRoom-without_dead class before.0 (has.others q before.0 before.1 out));
+  of_class = λ q other there member.
+      let before = before-map without_dead groups q other there in
+      ap (λ (g : GroupState). g.head.class) (sym before.2) ∙ has.of_class q before.0 before.1 member;
 }
 
 -- the heads are as they were
 
 heads : (a b : GroupState) → without_dead b ≡ a → a.head.id ≡ b.head.id
 heads a b is = ap (λ (g : GroupState). g.head.id) (sym is)
+
+pub KnowsHeads-without_dead : (number : ℕ) (groups : List GroupState) (window : HeadWindow) → KnowsHeads number groups window → KnowsHeads number (map_list without_dead groups) window
+KnowsHeads-without_dead number groups window knows = KnowsHeads-same number groups window knows (map_list without_dead groups) (λ index group there.
+    let before = before-map without_dead groups index group there in
+    (before.0, before.1, heads group before.0 before.2))
 
 pub IsSound-without_dead : (old : ShardState) → IsSound old → IsSound (record old { groups = map_list without_dead old.groups })
 IsSound-without_dead old sound = record {

@@ -1,17 +1,19 @@
 -- What a shard keeps beside its groups, where one of them is replaced, or none.
-use Rattle.std.proofs.Common.{◌≡◌, ◌≤◌, ℕ, List, length, length-set, Some, set, slice_get, ◌∙◌, ap, arith}
+use Rattle.std.proofs.Common.{◌≡◌, ◌<◌, ◌≤◌, ℕ, List, length, length-set, min, Some, set, slice_get, ◌∙◌, ap, arith}
 use Rattle.std.specs.Prelude.{vec_capacity}
 use Rattle.std.specs.Global.{Vec}
 use Rattle.bitmap.specs.Numbers.{NumbersState}
 use Rattle.span.specs.declared.class.Class.{Class}
 use Rattle.groups.proofs.KnownGuests.{KnowsGuests-replaced}
-use Rattle.groups.proofs.ReplacedGroups.{AreAlike}
+use Rattle.groups.proofs.ReplacedGroups.{AreAlike, head-alike}
 use Rattle.shard.specs.Group.{GroupState}
+use Rattle.shard.specs.HeadWindow.{HeadWindow, end_of, entry_of}
 use Rattle.shard.specs.Kept.{IsKept, state_of}
 use Rattle.shard.specs.Rooms.{HasRooms, room_of, rooms_of}
 use Rattle.shard.specs.Sound.{IsSound}
 use Rattle.shard.specs.declared.shard.Shard.TheInside.{Inside}
 use Rattle.shard.proofs.GuestRoom.{HasGuestRoom-replaced}
+use Rattle.shard.proofs.KnownHeads.{KnowsHeads-moved, KnowsHeads-set}
 
 module _ {L : Type 0} (s : Inside L) (kept : IsKept s) (groups : Vec GroupState) (rooms : List NumbersState) where
   abbrev after : Inside L
@@ -33,6 +35,8 @@ module _ {L : Type 0} (s : Inside L) (kept : IsKept s) (groups : Vec GroupState)
     room_for_guests = rw same kept.room_for_guests;
     guests_known = rw same kept.guests_known;
     room_for_entries = kept.room_for_entries;
+    heads_known = rw same kept.heads_known;
+    room_for_heads = kept.room_for_heads;
   }
 
   -- one is replaced by a group whose spans have the same ids
@@ -53,4 +57,26 @@ module _ {L : Type 0} (s : Inside L) (kept : IsKept s) (groups : Vec GroupState)
     room_for_guests = rw same (HasGuestRoom-replaced s.groups.items s.onto s.span_room (vec_capacity s.guest_room) kept.room_for_guests index group now here ids);
     guests_known = rw same (KnowsGuests-replaced s.groups.items s.directory.entries kept.guests_known index group now here ids);
     room_for_entries = kept.room_for_entries;
+    heads_known = rw same (KnowsHeads-set s.number s.groups.items s.heads kept.heads_known index group now here (head-alike group now ids));
+    room_for_heads = kept.room_for_heads;
   }
+
+-- more indexes of heads are noted
+pub IsKept-more_heads : {L : Type 0} (s : Inside L) → IsKept s → (count : ℕ) → s.opened ≤ count → (heads : HeadWindow) → s.heads.base ≤ heads.base
+    → ((serial index : ℕ) → heads.base ≤ serial → serial < count → entry_of s.heads serial ≡ Some index → entry_of heads serial ≡ Some index)
+    → min count (end_of s.heads) ≤ end_of heads → IsKept (record s { heads = heads })
+IsKept-more_heads s kept count enough heads base same more = record {
+  number_fits = kept.number_fits;
+  pages_fit = kept.pages_fit;
+  gens_fit = kept.gens_fit;
+  sound = kept.sound;
+  rooms = kept.rooms;
+  room_for_groups = kept.room_for_groups;
+  room_for_rooms = kept.room_for_rooms;
+  no_guests = kept.no_guests;
+  room_for_guests = kept.room_for_guests;
+  guests_known = kept.guests_known;
+  room_for_entries = kept.room_for_entries;
+  heads_known = KnowsHeads-moved (state_of s) kept.sound s.heads kept.heads_known count enough heads base same;
+  room_for_heads = λ some. let room = kept.room_for_heads some in omega (arith, enough, room, more);
+}

@@ -1,5 +1,5 @@
 -- What stays where groups with no live slot give their pages back.
-use Rattle.std.proofs.Common.{◌≡◌, true, false, Bool, cond, ◌&&◌, List, None, not, nat_eq, is_some, eqb-true, ◌∙◌, subst, refl}
+use Rattle.std.proofs.Common.{◌≡◌, true, false, Bool, cond, ◌&&◌, List, None, not, nat_eq, is_some, eqb-true, ◌∙◌, ap, sym, subst, refl}
 use Rattle.std.specs.Prelude.{map as map_list}
 use Rattle.std.specs.FinSet.{empty, empty_of_len}
 use Rattle.std.proofs.lemmas.Bool.{and_parts}
@@ -62,4 +62,7 @@ HasRooms-trimmed class groups rooms has = record {
   others = λ q other there out.
       let before = before-map trimmed groups q other there in
       subst (HasNoRoom class) before.2 (HasNoRoom-trimmed class before.0 (has.others q before.0 before.1 out));
+  of_class = λ q other there member.
+      let before = before-map trimmed groups q other there in
+      ap (λ (g : GroupState). g.head.class) (sym before.2) ∙ ap (λ (g : GroupState). g.head.class) (bare-trimmed before.0) ∙ has.of_class q before.0 before.1 member;
 }

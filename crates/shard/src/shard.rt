@@ -12,6 +12,7 @@ ghost use Rattle.span.specs.declared.limits.TheConstants.{MOST_PAGES, MOST_SHARD
 use crate::class_rooms::ClassRooms;
 use crate::error::Config;
 use crate::group::Group;
+use crate::head_indexes::HeadIndexes;
 use groups::Directory;
 use span::{Entry, Kept, Log, MOST_PAGES, MOST_SHARDS, MOST_SPANS, Span, SpanId};
 use std::alloc::{AllocError, Global};
@@ -27,6 +28,7 @@ mod putting;
 mod replacing;
 mod retiring;
 mod trimming;
+mod walking;
 
 pub use replacing::Replaced;
 pub use retiring::LiveGroup;
@@ -55,7 +57,8 @@ pub enum Freed {
 
 /// The groups of spans that one thread owns, by ascending head, each with its page of 256 words, or with none where nothing is live.
 ///
-/// It keeps that it is sound, and that a group whose index is not in `rooms` has no usable slot.
+/// It keeps that it is sound, that a group whose index is not in `rooms` has no usable slot, and that one whose index is in the
+/// set of a class is of that class. `heads` says of the last heads that it opened at which index they stand.
 #[derive(Drop)]
 pub struct Shard<L: Log = Kept> {
     alloc: Global,
@@ -67,6 +70,7 @@ pub struct Shard<L: Log = Kept> {
     ended: bool,
     groups: Vec<Group<L>>,
     rooms: ClassRooms,
+    heads: HeadIndexes,
     directory: Directory,
     // For how many more groups of its own room is reserved, and for how many more spans.
     group_room: usize,
@@ -159,6 +163,7 @@ impl<L: Log> Shard<L> {
             ended: false,
             groups: Vec::new(alloc),
             rooms: ClassRooms::new(alloc),
+            heads: HeadIndexes::new(alloc),
             directory: Directory::new(alloc),
             group_room: 0,
             span_room: 0,

@@ -1,5 +1,5 @@
 // Look-ups and frees, and where the span of a key stands.
-ghost use Rattle.std.specs.Prelude.{◌≡◌, ◌<◌, ◌≤◌, IfSome, MatchOption, if◌then◌else◌, is_some, length};
+ghost use Rattle.std.specs.Prelude.{◌≡◌, ◌<◌, ◌≤◌, ℕ, false, true, IfSome, MatchOption, if◌then◌else◌, is_some, length};
 ghost use Rattle.span.specs.Order.{HasNoneFrom, IsFirstFrom};
 ghost use Rattle.span.specs.PlainMap as plain;
 ghost use Rattle.span.specs.State.{SpanState};
@@ -10,6 +10,7 @@ ghost use Rattle.shard.specs.Shown.{shown};
 ghost use Rattle.shard.specs.Sound.{IsSound};
 
 use super::{Found, Freed, Shard, head_index};
+use crate::head_indexes::is_noted;
 use groups::Place;
 use span::{Key, Log, SpanId};
 
@@ -73,8 +74,8 @@ impl<L: Log> Shard<L> {
     }
 
     // Where the span of the id stands: its group, and its place there. Tried first is the index that a head has
-    // while the shard has all groups that it opened, and no other. That much is inlined, so that the place stays
-    // in registers; a call would pass it through memory.
+    // while the shard has all groups that it opened, and no other, and then the one that is noted for it. That much is inlined,
+    // so that the place stays in registers; a call would pass it through memory.
     #[inline(always)]
     pub(super) fn find(&self, id: SpanId) -> Option<(usize, usize)>
         ensures sound { IsSound self.now }
@@ -83,20 +84,81 @@ impl<L: Log> Shard<L> {
             × IsHere self.now.groups id at.0 at.1 group span) }
     {
         let first = id.serial as usize;
-        if first < self.groups.len() && self.groups[first].head_id() == id {
+        if self.is_head(first, id) {
             return Some((first, 0));
         }
-        let (index, place) = self.find_moved(id);
+        let (noted, is_noted) = self.noted_index(id);
+        if self.is_head(noted, id) {
+            return Some((noted, 0));
+        }
+        let (index, place) = self.find_moved(id, is_noted);
         if index >= self.groups.len() {
             return None;
         }
         Some((index, place))
     }
 
-    // The same, wherever its group stands; past all groups where it stands nowhere. Two numbers come back in registers, and an option of them
-    // through memory, which a caller clears before it knows whether it asks.
+    // Whether the group at the index, if there is one, has this head.
+    #[inline(always)]
+    fn is_head(&self, index: usize, head: SpanId) -> bool
+        ensures yes { result ≡ true → (group : GroupState) × IsHeadOf self.now.groups head index group }
+        ensures no { result ≡ false → (group : GroupState) → IsHeadOf self.now.groups head index group
+            → ⊥ }
+        ensures sound { IsSound self.now }
+    {
+        index < self.groups.len() && self.groups[index].head_id() == head
+    }
+
+    // The index that is noted for the head, and whether it is one of those that the shard notes: its group stands there, if
+    // there is one.
+    #[inline(always)]
+    fn noted_index(&self, head: SpanId) -> (usize, bool)
+        ensures { result.1 ≡ true → (index : ℕ) (group : GroupState)
+            → IsHeadOf self.now.groups head index group → result.0 ≡ index }
+    {
+        let is_noted = is_noted(self.number, self.heads.base(), head);
+        match self.heads.index_of(head.serial) {
+            Some(index) => (index, is_noted),
+            None => (self.groups.len(), is_noted),
+        }
+    }
+
+    // The same of a span that is no head at the index that is noted for it; past all groups where it stands nowhere. A head that
+    // is not noted is found by halving, and all else goes by the directory. Two numbers come back in registers, and an option
+    // of them through memory, which a caller clears before it knows whether it asks.
     #[inline(never)]
-    fn find_moved(&self, id: SpanId) -> (usize, usize)
+    fn find_moved(&self, id: SpanId, is_noted: bool) -> (usize, usize)
+        requires { is_noted ≡ true → HasNoHead self.now.groups id }
+        ensures elsewhere { length self.now.groups ≤ result.0 → IsElsewhere self.now.groups id }
+        ensures here { result.0 < length self.now.groups → (group : GroupState) × (span : SpanState)
+            × IsHere self.now.groups id result.0 result.1 group span }
+    {
+        let index = self.far_index(id, is_noted);
+        if index < self.groups.len() {
+            return (index, 0);
+        }
+        self.find_guest(id)
+    }
+
+    // The index of the head, if it is none of those that the shard notes; past all groups where none has it.
+    fn far_index(&self, head: SpanId, is_noted: bool) -> usize
+        requires { is_noted ≡ true → HasNoHead self.now.groups head }
+        ensures elsewhere { length self.now.groups ≤ result → HasNoHead self.now.groups head }
+        ensures here { result < length self.now.groups
+            → (group : GroupState) × IsHeadOf self.now.groups head result group }
+    {
+        if is_noted {
+            return self.groups.len();
+        }
+        match head_index(self.groups.as_slice(), head) {
+            Some(index) => index,
+            None => self.groups.len(),
+        }
+    }
+
+    // Where the span stands, which is no head; past all groups where it stands nowhere.
+    fn find_guest(&self, id: SpanId) -> (usize, usize)
+        requires { HasNoHead self.now.groups id }
         ensures elsewhere { length self.now.groups ≤ result.0 → IsElsewhere self.now.groups id }
         ensures here { result.0 < length self.now.groups → (group : GroupState) × (span : SpanState)
             × IsHere self.now.groups id result.0 result.1 group span }
@@ -116,6 +178,10 @@ impl<L: Log> Shard<L> {
         ensures within { IfSome result (λ index. index < length self.now.groups) }
         ensures sound { IsSound self.now }
     {
+        let (noted, _) = self.noted_index(head);
+        if self.is_head(noted, head) {
+            return Some(noted);
+        }
         head_index(self.groups.as_slice(), head)
     }
 }

@@ -1,10 +1,13 @@
 // Groups that leave one after another, while their places stay until all have left.
-ghost use Rattle.std.specs.Prelude.{◌≡◌, filter, vec_capacity};
+ghost use Rattle.std.specs.Prelude.{◌≡◌, ◌≤◌, filter, length, vec_capacity};
 ghost use Rattle.shard.specs.Leaving.{has_stayed, swept};
 ghost use Rattle.shard.specs.Moves.{Lifts};
+ghost use Rattle.shard.specs.Rooms.{HasRooms, room_of, rooms_of};
 ghost use Rattle.shard.specs.Sound.{IsSound};
+ghost use Rattle.span.specs.declared.class.Class.{Class};
 
 use super::Shard;
+use crate::class_rooms::ClassRooms;
 use crate::group::Group;
 use groups::Whole;
 use span::{Log, SpanId};
@@ -37,8 +40,31 @@ impl<L: Log> Shard<L> {
         ensures swept { self.new ≡ swept self.old }
         ensures sound { IsSound self.new }
     {
+        sweep_rooms(self.groups.as_slice(), &mut self.rooms);
         drop_places(&mut self.groups);
-        self.rooms.fill(self.groups.len());
+        self.heads.note_from(self.groups.as_slice(), 0, self.number);
+    }
+}
+
+// Has the sets name the groups that have not left by the indexes that they get where the others' places go.
+fn sweep_rooms<L: Log>(groups: &[Group<L>], rooms: &mut ClassRooms)
+    requires has { (class : Class) → HasRooms class groups.now (rooms_of rooms.old class) }
+    requires room { (class : Class) → length groups.now ≤ room_of rooms.old class }
+    ensures has { (class : Class) →
+        HasRooms class (filter has_stayed groups.now) (rooms_of rooms.new class) }
+    ensures room { (class : Class) → room_of rooms.new class ≡ room_of rooms.old class }
+{
+    let mut next = 0;
+    for index in 0..groups.len() {
+        let place = &groups[index];
+        let class = place.class();
+        let had = rooms.contains(class, index);
+        rooms.remove(class, index);
+        if place.has_left() {
+            continue;
+        }
+        rooms.note(class, next, had);
+        next += 1;
     }
 }
 

@@ -94,6 +94,8 @@ impl<L: Log> Shard<L> {
         let mut page = Page::blank(self.alloc)?;
         self.groups.reserve(1)?;
         self.rooms.reserve(self.groups.len() + 1)?;
+        self.heads
+            .reserve(self.opened as usize + 1, self.groups.len() + 1)?;
         page.set_at(class, 0, words);
         let index = lower_heads(self.groups.as_slice(), id);
         insert_reserved(
@@ -101,7 +103,9 @@ impl<L: Log> Shard<L> {
             index,
             Group::of(Spans::of(self.alloc, head), Some(page)),
         );
-        self.rooms.note_opened(class, index, self.groups.len());
+        self.rooms.note_arrival(class, index, self.groups.len());
+        self.heads
+            .note_from(self.groups.as_slice(), index, self.number);
         self.group_room = self.group_room.saturating_sub(1);
         self.opened += 1;
         self.onto = None;

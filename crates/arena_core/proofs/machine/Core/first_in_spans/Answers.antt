@@ -1,10 +1,9 @@
 use Rattle.std.proofs.Common.{◌≡◌, ◌*◌, ◌+◌, arith, subst}
+use Rattle.span.specs.FirstLive.{HasNoneBetween}
 use Rattle.span.specs.Ids.{rank}
 use Rattle.span.specs.declared.limits.TheConstants.{MOST_SPANS}
-use Rattle.arena_core.specs.NextLive.{HasNoneBetween}
+use Rattle.groups.proofs.FirstLive.{HasNoneBetween-span, IsFirstLive-span}
 use Rattle.arena_core.specs.State.{shown}
-use Rattle.arena_core.proofs.NextLive.{HasNoneBetween-more, HasNoneBetween-opened, HasNoneBetween-span, IsFirstLive-span}
-use Rattle.span.specs.declared.limits.TheConstants.{MOST_SPANS}
 use Rattle.arena_core.proofs.machine.Core.first_in_spans.Goals as goal
 
 pub returns-in-Some-first_in_span : goal.returns-in-Some-first_in_span
@@ -21,9 +20,3 @@ loop-serial-preserved g c =
     let next : rank c.in-Some.id + 1 ≡ MOST_SPANS * c.args.shard + (c.loop-serial.serial + 1) = omega (arith, here) in
     subst (HasNoneBetween (shown c.args.self.now) low) next
     (HasNoneBetween-span (shown c.args.self.now) low c.in-Some.id (subst (HasNoneBetween (shown c.args.self.now) low) here c.loop-serial.invariant) c.in_default-first_in_span.ensures)
-
-pub returns : goal.returns
-returns g c =
-    HasNoneBetween-more (shown c.args.self.now) (MOST_SPANS * c.args.shard + c.args.from) (MOST_SPANS * c.args.shard + c.loop-serial.serial) (MOST_SPANS * (c.args.shard + 1)) c.loop-serial.invariant
-    (HasNoneBetween-opened c.args.self.now c.opened_by-serial-end.ensures.sound.groups c.args.shard c.loop-serial.serial
-    (omega (arith, c.loop-serial-test.false, c.opened_by-serial-end.ensures.opened)))

@@ -18,6 +18,8 @@ invariant_of-self g c = record {
   room_for_guests = c.self.invariant.room_for_guests;
   guests_known = c.self.invariant.guests_known;
   room_for_entries = c.self.invariant.room_for_entries;
+  heads_known = c.self.invariant.heads_known;
+  room_for_heads = c.self.invariant.room_for_heads;
 }
 
 pub returns-clause-begun : goal.returns-clause-begun

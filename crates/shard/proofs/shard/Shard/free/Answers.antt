@@ -11,7 +11,7 @@ use Rattle.shard.specs.State.{ShardState}
 use Rattle.shard.specs.declared.shard.Freed.TheVariants.{No, NotHere, Yes}
 use Rattle.shard.proofs.Here.{found_in, here_read, read_is}
 use Rattle.groups.proofs.Lists.{set-same}
-use Rattle.shard.proofs.Classes.{cases_class}
+use Rattle.shard.proofs.Classes.{cases_class, class-with_span}
 use Rattle.shard.proofs.ReplacedGroup.{IsSound-free}
 use Rattle.shard.proofs.RoomBits.{HasRooms-free, HasRooms-other}
 use Rattle.shard.proofs.ShownLogs.{IsSound-Frees, shown-Frees, was_freed-Frees}
@@ -95,10 +95,10 @@ invariant_of-self-2 g c =
     (λ class. rw (← freed_now g c) (elim (cases_class class c.class-class.result) [
       | inl same ↦ rw (same, c.insert.ensures.this)
           (HasRooms-free c.class-class.result c.self.inside.groups.items (rooms_of c.self.inside.rooms c.class-class.result)
-          (kept.rooms c.class-class.result) c.in-Some.index c.free.new.self (slice_get_within c.self.inside.groups.items c.in-Some.index group here.group_is))
+          (kept.rooms c.class-class.result) c.in-Some.index c.free.new.self (slice_get_within c.self.inside.groups.items c.in-Some.index group here.group_is) (sym c.class-class.ensures))
       | inr apart ↦ rw (c.insert.ensures.others class apart)
-          (HasRooms-other class c.self.inside.groups.items (rooms_of c.self.inside.rooms class) (kept.rooms class) c.in-Some.index c.free.new.self
-          (λ e. apart (sym e ∙ sym c.class-class.ensures)))
+          (HasRooms-other class c.self.inside.groups.items (rooms_of c.self.inside.rooms class) (kept.rooms class) c.in-Some.index c.free.new.self group here.group_is
+          (ap (λ (g : GroupState). g.head.class) (freed_now g c) ∙ class-with_span group place span (with_free span key) here.span_is refl) (λ e. apart (sym e ∙ sym c.class-class.ensures)))
     ]))
     (λ class. omega (arith, c.insert.ensures.room class))
 

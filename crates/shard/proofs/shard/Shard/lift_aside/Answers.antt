@@ -8,6 +8,7 @@ use Rattle.shard.specs.Kept.{state_of}
 use Rattle.shard.specs.Leaving.{has_stayed, left_place, swept}
 use Rattle.shard.specs.Rooms.{rooms_of}
 use Rattle.shard.specs.State.{ShardState}
+use Rattle.shard.proofs.KnownHeads.{KnowsHeads-set}
 use Rattle.shard.proofs.GuestRoom.{HasGuestRoom-none}
 use Rattle.shard.proofs.HeadsHere.{head_read}
 use Rattle.shard.proofs.KeptGroups.{IsKept-same}
@@ -69,7 +70,7 @@ invariant_of-self-2 g c =
       sound = rw (place_now g c) (IsSound-left (state_of c.self.inside) c.self.invariant.sound c.in-Some.index group here c.class.result);
       rooms = λ class. rw (place_now g c)
           (HasRooms-full class c.self.inside.groups.items (rooms_of c.self.inside.rooms class) (c.self.invariant.rooms class) c.in-Some.index place group here
-          (λ none. inl refl));
+          c.class.ensures (λ none. inl refl));
       room_for_groups = c.self.invariant.room_for_groups;
       room_for_rooms = c.self.invariant.room_for_rooms;
       no_guests = c.self.invariant.no_guests;
@@ -77,6 +78,9 @@ invariant_of-self-2 g c =
       guests_known = rw (place_now g c, c.strike_all.ensures, c.guests.ensures, c.into_parts-spans.ensures.spans, c.replace.ensures.value)
           (KnowsGuests-left (state_of c.self.inside) c.self.invariant.sound c.in-Some.index group here c.class.result c.self.inside.directory.entries c.self.invariant.guests_known);
       room_for_entries = omega (arith, c.self.invariant.room_for_entries, ap (λ (d : DirectoryState). d.room) c.strike_all.ensures);
+      heads_known = rw (place_now g c)
+          (KnowsHeads-set c.self.inside.number c.self.inside.groups.items c.self.inside.heads c.self.invariant.heads_known c.in-Some.index group place here refl);
+      room_for_heads = c.self.invariant.room_for_heads;
     }
 
 pub returns-clause-lifts : goal.returns-clause-lifts

@@ -1,6 +1,6 @@
-use Rattle.std.proofs.Common.{◌≡◌, ◌<◌, ◌∙◌, ◌+◌, List, [], Some, false, length, insert, ap, sym, subst, refl, inl, inr, arith}
+use Rattle.std.proofs.Common.{◌≡◌, ℕ, ◌≤◌, ◌<◌, ◌∙◌, ◌+◌, List, [], Some, false, length, insert, ap, sym, subst, refl, inl, inr, arith}
 use Rattle.std.specs.FinSet as set
-use Rattle.std.proofs.lemmas.Bool.{cases_eq}
+use Rattle.std.specs.FinSet.{contains}
 use Rattle.span.proofs.LegalLogs.{puts_of-empty}
 use Rattle.span.specs.Ids.{rank}
 use Rattle.span.specs.Log.{live_slots, puts_of, worn_slots}
@@ -10,7 +10,6 @@ use Rattle.page.specs.Words.{blank_page, set_object}
 use Rattle.groups.specs.Group.{IsPlaceFor}
 use Rattle.groups.specs.Spans.{new_span, with_put}
 use Rattle.groups.proofs.HeadPlaces.{IsLower}
-use Rattle.groups.proofs.Lists.{length_insert}
 use Rattle.groups.proofs.Logs.{contains-live_slots-empty, contains-worn_slots-empty}
 use Rattle.groups.proofs.Standing.{head_id}
 use Rattle.shard.specs.Calls.{new_group}
@@ -18,13 +17,16 @@ use Rattle.shard.specs.Group.{GroupState, group_of}
 use Rattle.shard.specs.Kept.{state_of}
 use Rattle.shard.specs.Rooms.{rooms_of}
 use Rattle.shard.specs.State.{ShardState}
+use Rattle.span.specs.declared.class.Class.{Class}
+use Rattle.shard.specs.Heads.{AreReady, KnowsHeads}
+use Rattle.shard.proofs.KnownHeads.{AreReady-arrived, KnowsHeads-moved}
 use Rattle.shard.proofs.Classes.{cases_class}
 use Rattle.shard.proofs.GuestRoom.{HasGuestRoom-none}
 use Rattle.shard.proofs.HeadPlaces.{IsPlaceFor-lower, no_head_next}
-use Rattle.shard.proofs.KeptGroups.{IsKept-same}
+use Rattle.shard.proofs.KeptGroups.{IsKept-more_heads, IsKept-same}
 use Rattle.shard.proofs.KnownGuests.{KnowsGuests-alone}
 use Rattle.shard.proofs.PutInNew.{IsSound-put_in_new}
-use Rattle.shard.proofs.RoomBits.{HasRooms-all, HasRooms-last, HasRooms-last_other}
+use Rattle.shard.proofs.RoomBits.{HasRooms-arrived, HasRooms-arrived_other}
 use Rattle.shard.proofs.shard.Shard.put_in_new.Goals as goal
 
 pub put_at-requires-clause-not_live : goal.put_at-requires-clause-not_live
@@ -71,6 +73,14 @@ place_now g c =
     IsPlaceFor-lower c.self.inside.groups.items c.in-Some.id c.lower_heads-index.result (lower_now g c)
     (no_head_next (state_of c.self.inside) c.self.invariant.sound c.in-Some.id c.in-Some.ensures.parts.0 c.in-Some.ensures.parts.1)
 
+below_now : (g : _) (c : goal.After-self-3-1 g) → (class : Class) (n : ℕ) → n < c.lower_heads-index.result
+    → contains (rooms_of c.note_arrival.new.self class) n ≡ contains (rooms_of c.self.inside.rooms class) n
+below_now g c class n less = c.note_arrival.ensures.below class n less ∙ ap (λ s. contains s n) (c.in_ok-reserve-2.ensures.same class)
+
+above_now : (g : _) (c : goal.After-self-3-1 g) → (class : Class) (n : ℕ) → c.lower_heads-index.result ≤ n
+    → contains (rooms_of c.note_arrival.new.self class) (n + 1) ≡ contains (rooms_of c.self.inside.rooms class) n
+above_now g c class n from = c.note_arrival.ensures.above class n from ∙ ap (λ s. contains s n) (c.in_ok-reserve-2.ensures.same class)
+
 pub invariant_of-self-2 : goal.invariant_of-self-2
 invariant_of-self-2 g c = record {
   number_fits = c.self.invariant.number_fits;
@@ -82,43 +92,13 @@ invariant_of-self-2 g c = record {
       (ap (λ (s : ShardState). s.ended) c.self.view_is ∙ c.requires.running)
       (subst (λ (s : ShardState). length s.groups < s.page_limit) (sym c.self.view_is) c.requires.pages)
       (subst (λ (s : ShardState). s.opened < s.span_limit) (sym c.self.view_is) c.requires.opened));
-  rooms = λ class. rw (groups_now g c) (elim (cases_eq (c.lower_heads-index.result + 1) c.len-2.result) [
-    | inl last ↦
-        let at_end : c.lower_heads-index.result
-        ≡ length c.self.inside.groups.items = omega (
-          arith,
-          last,
-          c.len-2.ensures,
-          c.insert_reserved.ensures.len,
-          c.in_ok-reserve.ensures.len,
-          c.self.inside.groups.ok.0,
-        ) in
-        elim (cases_class class c.args.class) [
-          | inl same ↦ rw (same, c.note_opened.ensures.this (sym last), c.in_ok-reserve-2.ensures.same c.args.class)
-              (HasRooms-last c.args.class c.self.inside.groups.items c.lower_heads-index.result (made g c) (rooms_of c.self.inside.rooms c.args.class) at_end
-              (c.self.invariant.rooms c.args.class))
-          | inr apart ↦ rw (c.note_opened.ensures.others (sym last) class apart, c.in_ok-reserve-2.ensures.same class)
-              (HasRooms-last_other class c.self.inside.groups.items c.lower_heads-index.result (made g c) (rooms_of c.self.inside.rooms class) at_end
-              (λ e. apart (sym e)) (c.self.invariant.rooms class))
-        ]
-    | inr more ↦ HasRooms-all class _ (rooms_of c.note_opened.new.self class) c.len-2.result
-        (omega (
-          arith,
-          c.len-2.ensures,
-          c.insert_reserved.ensures.len,
-          c.in_ok-reserve.ensures.len,
-          c.self.inside.groups.ok.0,
-          length_insert c.self.inside.groups.items c.lower_heads-index.result (made g c),
-        ))
-        (c.note_opened.ensures.moved (omega (
-          arith,
-          more,
-          c.len-2.ensures,
-          c.insert_reserved.ensures.len,
-          c.in_ok-reserve.ensures.len,
-          c.lower_heads-index.ensures.within,
-          c.as_slice.ensures.len,
-        )) class)
+  rooms = λ class. rw (groups_now g c) (elim (cases_class (made g c).head.class class) [
+    | inl same ↦ HasRooms-arrived class c.self.inside.groups.items (rooms_of c.self.inside.rooms class) (c.self.invariant.rooms class) c.lower_heads-index.result
+        (made g c) (place_now g c).within (rooms_of c.note_arrival.new.self class) (below_now g c class) (above_now g c class) same
+        (ap (λ k. contains (rooms_of c.note_arrival.new.self k) c.lower_heads-index.result) (sym same) ∙ c.note_arrival.ensures.this)
+    | inr apart ↦ HasRooms-arrived_other class c.self.inside.groups.items (rooms_of c.self.inside.rooms class) (c.self.invariant.rooms class) c.lower_heads-index.result
+        (made g c) (place_now g c).within (rooms_of c.note_arrival.new.self class) (below_now g c class) (above_now g c class) apart
+        (c.note_arrival.ensures.others class (λ e. apart (sym e)))
   ]);
   room_for_groups = omega (
     arith,
@@ -138,7 +118,7 @@ invariant_of-self-2 g c = record {
     c.in_ok-reserve-2.ensures.more class,
     c.in_ok-reserve-2.ensures.ok class,
     c.len.ensures,
-    c.note_opened.ensures.room class,
+    c.note_arrival.ensures.room class,
     c.saturating_sub-self-inside.ensures,
   );
   no_guests = c.self.invariant.no_guests;
@@ -147,6 +127,8 @@ invariant_of-self-2 g c = record {
       (KnowsGuests-alone c.self.inside.groups.items c.self.inside.directory.entries c.self.invariant.guests_known c.lower_heads-index.result (made g c)
       (place_now g c).within refl);
   room_for_entries = c.self.invariant.room_for_entries;
+  heads_known = subst (λ gs. KnowsHeads c.self.inside.number gs c.note_from.new.self) c.as_slice-2.ensures.value c.note_from.ensures.known;
+  room_for_heads = λ some. omega (arith, c.in_ok-reserve-3.ensures.ok, c.note_from.ensures.base, c.note_from.ensures.len);
 }
 
 pub returns-clause-ok : goal.returns-clause-ok
@@ -172,5 +154,37 @@ invariant_of-self-in_err-reserve-2 g c =
     (omega (arith, c.in_ok-reserve.ensures.capacity)) (λ class. rw (c.in_err-reserve-2.ensures.same class) (c.self.invariant.rooms class))
     (λ class. omega (arith, c.in_err-reserve-2.ensures.more class))
 
-pub note_opened-requires-clause-room : goal.note_opened-requires-clause-room
-note_opened-requires-clause-room g c class = omega (arith, c.in_ok-reserve-2.ensures.ok class, c.len.ensures, c.len-2.ensures, c.insert_reserved.ensures.len, c.in_ok-reserve.ensures.len)
+pub note_arrival-requires-clause-room : goal.note_arrival-requires-clause-room
+note_arrival-requires-clause-room g c class = omega (arith, c.in_ok-reserve-2.ensures.ok class, c.len.ensures, c.len-2.ensures, c.insert_reserved.ensures.len, c.in_ok-reserve.ensures.len)
+
+pub note_arrival-requires-clause-had : goal.note_arrival-requires-clause-had
+note_arrival-requires-clause-had g c class n member =
+    let low = (c.self.invariant.rooms class).within n (ap (λ s. contains s n) (sym (c.in_ok-reserve-2.ensures.same class)) ∙ member) in
+    omega (arith, low, c.len-2.ensures, c.insert_reserved.ensures.len, c.in_ok-reserve.ensures.len, c.self.inside.groups.ok.0)
+
+-- where the indexes of heads could not grow, all is as it was
+pub invariant_of-self-in_err-reserve-3 : goal.invariant_of-self-in_err-reserve-3
+invariant_of-self-in_err-reserve-3 g c =
+    IsKept-more_heads _ (IsKept-same c.self.inside c.self.invariant c.reserve.new.self c.reserve-2.new.self c.in_ok-reserve.ensures.items
+    (omega (arith, c.in_ok-reserve.ensures.capacity)) (λ class. rw (c.in_ok-reserve-2.ensures.same class) (c.self.invariant.rooms class))
+    (λ class. omega (arith, c.in_ok-reserve-2.ensures.more class)))
+    (c.self.inside.opened + 1) (omega arith) c.reserve-3.new.self c.in_err-reserve-3.ensures.base c.in_err-reserve-3.ensures.same c.in_err-reserve-3.ensures.more
+
+pub note_from-requires : goal.note_from-requires
+note_from-requires g c =
+    let group : c.of-2.result ≡ new_group c.in-Some.id c.args.class c.self.inside.gens c.args.words.now = c.of-2.ensures
+    ∙ rw (c.of.ensures, c.set_at.ensures, c.in_ok-page.ensures)
+    (ap (λ (head : SpanState). group_of (record { head = head; guests = [] }) (Some (set_object blank_page c.args.class 0 c.args.words.now)) false)
+    (c.in_ok-key.ensures.ok ∙ ap (λ (s : SpanState). with_put s 0 c.args.words.now) c.with_log-head.ensures)) in
+    let lower = subst (λ (groups : List GroupState). IsLower head_id groups (rank c.in-Some.id) c.lower_heads-index.result) (c.as_slice.ensures.value ∙ c.in_ok-reserve.ensures.items)
+    (record { within = c.lower_heads-index.ensures.within; lower = c.lower_heads-index.ensures.lower; others = c.lower_heads-index.ensures.others }) in
+    let place = IsPlaceFor-lower c.self.inside.groups.items c.in-Some.id c.lower_heads-index.result lower
+    (no_head_next (state_of c.self.inside) c.self.invariant.sound c.in-Some.id c.in-Some.ensures.parts.0 c.in-Some.ensures.parts.1) in
+    let groups = c.as_slice-2.ensures.value ∙ c.insert_reserved.ensures.items ∙ rw (c.in_ok-reserve.ensures.items, group) refl in
+    let pages = subst (λ (s : ShardState). length s.groups < s.page_limit) (sym c.self.view_is) c.requires.pages in
+    subst (λ gs. AreReady c.self.inside.number gs c.reserve-3.new.self c.lower_heads-index.result) (sym groups)
+    (AreReady-arrived (state_of c.self.inside) c.self.invariant.sound c.reserve-3.new.self
+    (KnowsHeads-moved (state_of c.self.inside) c.self.invariant.sound c.self.inside.heads c.self.invariant.heads_known (c.self.inside.opened + 1) (omega arith) c.reserve-3.new.self
+    c.in_ok-reserve-3.ensures.base c.in_ok-reserve-3.ensures.same)
+    c.self.invariant.pages_fit c.lower_heads-index.result (new_group c.in-Some.id c.args.class c.self.inside.gens c.args.words.now) place pages
+    (λ own. omega (arith, c.in-Some.ensures.parts.1, c.in_ok-reserve-3.ensures.ok)) (omega (arith, c.in_ok-reserve-3.ensures.ok)))

@@ -11,6 +11,7 @@ use Rattle.shard.specs.Kept.{state_of}
 use Rattle.shard.specs.Rooms.{rooms_of}
 use Rattle.shard.specs.State.{ShardState}
 use Rattle.shard.specs.declared.shard.replacing.Replaced.TheVariants.{No, NotHere, Yes}
+use Rattle.shard.proofs.Classes.{class-with_span}
 use Rattle.shard.proofs.Here.{found_in, here_read, index_within, place_within, read_is}
 use Rattle.groups.proofs.Lists.{set-same}
 use Rattle.shard.proofs.ReplacedGroup.{IsSound-set}
@@ -143,6 +144,7 @@ invariant_of-self-2 g c =
     (IsSound-set (state_of c.self.inside) kept.sound c.in-Some.index group here.group_is place span here.span_is key.slot key.generation words (settable_now g c))
     (λ class. HasRooms-full class c.self.inside.groups.items (rooms_of c.self.inside.rooms class) (kept.rooms class) c.in-Some.index
     (set_group group place span key.slot key.generation words) group here.group_is
+    (class-with_span group place span (with_set_at span key.slot key.generation words) here.span_is refl)
     (HasNoRoom-set group span key.slot key.generation words place here.span_is (kept.sound.groups c.in-Some.index group here.group_is).apart (settable_now g c) class))
     (λ class. omega arith)
 

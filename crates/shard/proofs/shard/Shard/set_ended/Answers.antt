@@ -3,6 +3,7 @@ use Rattle.groups.specs.Directory.{DirectoryState}
 use Rattle.groups.proofs.GuestDirectory.{IsDirectory-none}
 use Rattle.shard.specs.Kept.{state_of}
 use Rattle.shard.specs.State.{ShardState}
+use Rattle.shard.proofs.KnownHeads.{KnowsHeads-none}
 use Rattle.shard.proofs.GuestRoom.{HasGuestRoom-none}
 use Rattle.shard.proofs.RoomBits.{HasRooms-empty}
 use Rattle.shard.proofs.Start.{IsSound-none}
@@ -25,10 +26,12 @@ invariant_of-self g c =
       rooms = λ class. rw (c.new.ensures.items, c.new-2.ensures class) (HasRooms-empty class);
       room_for_groups = omega (arith, c.new.result.ok.1);
       room_for_rooms = λ class. omega (arith, c.new.ensures.len);
-      no_guests = c.new-4.ensures.items;
+      no_guests = c.new-5.ensures.items;
       room_for_guests = HasGuestRoom-none _ _ _;
-      guests_known = IsDirectory-none _ _ c.new.result.items _ c.new.ensures.items (ap (λ (d : DirectoryState). d.entries) c.new-3.ensures);
+      guests_known = IsDirectory-none _ _ c.new.result.items _ c.new.ensures.items (ap (λ (d : DirectoryState). d.entries) c.new-4.ensures);
       room_for_entries = omega arith;
+      heads_known = KnowsHeads-none _ _ _ c.new.ensures.items;
+      room_for_heads = λ some. absurd (omega (arith, some));
     }
 
 pub returns-clause-ended : goal.returns-clause-ended

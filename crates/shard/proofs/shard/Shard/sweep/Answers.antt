@@ -1,22 +1,16 @@
-use Rattle.std.proofs.Common.{ap, arith, length}
+use Rattle.std.proofs.Common.{◌∙◌, ap, arith, length, subst, sym}
 use Rattle.std.specs.Prelude.{vec_capacity}
 use Rattle.shard.specs.Kept.{state_of}
-use Rattle.shard.specs.Rooms.{rooms_of}
+use Rattle.shard.specs.Heads.{AreReady, KnowsHeads}
+use Rattle.shard.proofs.KnownHeads.{AreReady-swept}
 use Rattle.shard.proofs.Left.{HasGuestRoom-swept, IsSound-swept, KnowsGuests-swept, length-stayed}
-use Rattle.shard.proofs.RoomBits.{HasRooms-all}
 use Rattle.shard.proofs.shard.Shard.sweep.Goals as goal
 
-pub fill-requires : goal.fill-requires
-fill-requires g c class =
-    omega (
-      arith,
-      c.self.invariant.room_for_rooms class,
-      c.len.ensures,
-      ap length c.drop_places.ensures.items,
-      length-stayed c.self.inside.groups.items,
-      c.self.inside.groups.ok.0,
-      c.drop_places.new.groups.ok.0,
-    )
+pub sweep_rooms-requires-clause-has : goal.sweep_rooms-requires-clause-has
+sweep_rooms-requires-clause-has g c = rw c.as_slice.ensures.value c.self.invariant.rooms
+
+pub sweep_rooms-requires-clause-room : goal.sweep_rooms-requires-clause-room
+sweep_rooms-requires-clause-room g c class = omega (arith, c.self.invariant.room_for_rooms class, c.as_slice.ensures.len, c.self.inside.groups.ok.0)
 
 pub invariant_of-self : goal.invariant_of-self
 invariant_of-self g c = record {
@@ -24,8 +18,7 @@ invariant_of-self g c = record {
   pages_fit = c.self.invariant.pages_fit;
   gens_fit = c.self.invariant.gens_fit;
   sound = rw c.drop_places.ensures.items (IsSound-swept (state_of c.self.inside) c.self.invariant.sound);
-  rooms = λ class. HasRooms-all class c.drop_places.new.groups.items (rooms_of c.fill.new.self class) c.len.result
-      (omega (arith, c.len.ensures, c.drop_places.new.groups.ok.0)) (c.fill.ensures.below class);
+  rooms = λ class. rw (c.drop_places.ensures.items, ← c.as_slice.ensures.value) (c.sweep_rooms.ensures.has class);
   room_for_groups = omega (
     arith,
     c.self.invariant.room_for_groups,
@@ -38,7 +31,7 @@ invariant_of-self g c = record {
   room_for_rooms = λ class. omega (
     arith,
     c.self.invariant.room_for_rooms class,
-    c.fill.ensures.room class,
+    c.sweep_rooms.ensures.room class,
     ap length c.drop_places.ensures.items,
     length-stayed c.self.inside.groups.items,
     c.self.inside.groups.ok.0,
@@ -50,7 +43,14 @@ invariant_of-self g c = record {
       (vec_capacity c.self.inside.guest_room) c.self.invariant.room_for_guests);
   guests_known = rw c.drop_places.ensures.items (KnowsGuests-swept c.self.inside.groups.items c.self.inside.directory.entries c.self.invariant.guests_known);
   room_for_entries = c.self.invariant.room_for_entries;
+  heads_known = subst (λ gs. KnowsHeads c.self.inside.number gs c.note_from.new.self) c.as_slice-2.ensures.value c.note_from.ensures.known;
+  room_for_heads = λ some. let enough = c.self.invariant.room_for_heads some in omega (arith, enough, c.note_from.ensures.base, c.note_from.ensures.len);
 }
 
 pub returns-clause-sound : goal.returns-clause-sound
 returns-clause-sound g c = (invariant_of-self g c).sound
+
+pub note_from-requires : goal.note_from-requires
+note_from-requires g c =
+    subst (λ gs. AreReady c.self.inside.number gs c.self.inside.heads 0) (sym (c.as_slice-2.ensures.value ∙ c.drop_places.ensures.items))
+    (AreReady-swept (state_of c.self.inside) c.self.invariant.sound c.self.inside.heads c.self.invariant.heads_known c.self.invariant.pages_fit)

@@ -4,6 +4,7 @@ use Rattle.groups.specs.Sound.{AreSoundGroups}
 use Rattle.shard.specs.Kept.{state_of}
 use Rattle.shard.specs.Rooms.{rooms_of}
 use Rattle.shard.specs.Shown.{shown}
+use Rattle.shard.proofs.KnownHeads.{KnowsHeads-alike}
 use Rattle.shard.proofs.AlikeGroups.{HasGuestRoom-alike, IsSound-alike, alike, bare, shown-alike}
 use Rattle.shard.proofs.KnownGuests.{KnowsGuests-alike}
 use Rattle.shard.proofs.Trimmed.{AreSoundGroups-trimmed, HasRooms-trimmed, map_bare-trimmed}
@@ -43,6 +44,8 @@ invariant_of-self g c = record {
       (vec_capacity c.self.inside.guest_room) c.self.invariant.room_for_guests;
   guests_known = KnowsGuests-alike c.self.inside.groups.items c.self.inside.directory.entries c.self.invariant.guests_known c.trim_all.new.groups.items (pages g c);
   room_for_entries = c.self.invariant.room_for_entries;
+  heads_known = KnowsHeads-alike c.self.inside.number c.self.inside.groups.items c.trim_all.new.groups.items c.self.inside.heads (pages g c) c.self.invariant.heads_known;
+  room_for_heads = c.self.invariant.room_for_heads;
 }
 
 pub returns-clause-trims : goal.returns-clause-trims

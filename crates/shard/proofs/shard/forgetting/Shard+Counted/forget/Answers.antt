@@ -10,6 +10,7 @@ use Rattle.shard.specs.Kept.{state_of}
 use Rattle.shard.specs.Rooms.{rooms_of}
 use Rattle.shard.specs.Sound.{IsSound}
 use Rattle.shard.specs.State.{ShardState}
+use Rattle.shard.proofs.Forgotten.{KnowsHeads-without_dead}
 use Rattle.shard.proofs.Forgotten.{HasGuestRoom-without_dead, HasRooms-without_dead, IsSound-without_dead, guests_once}
 use Rattle.shard.proofs.shard.forgetting.Shard+Counted.forget.Goals as goal
 
@@ -41,6 +42,8 @@ invariant_of-self c = record {
       (vec_capacity c.self.inside.guest_room) c.self.invariant.room_for_guests);
   guests_known = c.forget_all.ensures.known;
   room_for_entries = rw c.forget_all.ensures.room c.self.invariant.room_for_entries;
+  heads_known = rw c.forget_all.ensures.items (KnowsHeads-without_dead c.self.inside.number c.self.inside.groups.items c.self.inside.heads c.self.invariant.heads_known);
+  room_for_heads = c.self.invariant.room_for_heads;
 }
 
 -- how many spans there are before and after

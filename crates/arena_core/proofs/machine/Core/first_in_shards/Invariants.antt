@@ -1,9 +1,0 @@
-use Rattle.std.proofs.Common.{◌*◌}
-use Rattle.span.specs.declared.limits.TheConstants.{MOST_SPANS}
-use Rattle.arena_core.specs.NextLive.{HasNoneBetween}
-use Rattle.arena_core.specs.State.{shown}
-use Rattle.span.specs.declared.limits.TheConstants.{MOST_SPANS}
-use Rattle.arena_core.proofs.machine.Core.first_in_shards.Given as goal
-
-abbrev pub invariant-loop-shard : goal.invariant-loop-shard
-invariant-loop-shard g l = HasNoneBetween (shown l.fn.self) (MOST_SPANS * l.fn.from) (MOST_SPANS * l.shard)

@@ -1,0 +1,93 @@
+-- Numbers of a first part and of further ones, which move by one from a number on.
+use Rattle.std.proofs.Common.{◌≡◌, ℕ, ◌+◌, ◌-◌, ◌*◌, ◌<◌, ◌≤◌, true, false, List, ◌∷◌, length, ap, sym, ◌∙◌, inl, inr, arith}
+use Rattle.std.specs.FinSet.{contains}
+use Rattle.std.proofs.lemmas.Bool.{cases_eq, cases_lt, false_from_ne_true}
+use Rattle.bitmap.specs.Parts.{numbers_in}
+use Rattle.bitmap.specs.Slots.{SlotSet}
+use Rattle.bitmap.specs.declared.bits.TheConstants.{SLOTS}
+use Rattle.bitmap.proofs.InParts.{contains-past}
+use Rattle.bitmap.proofs.Joined.{contains-high, contains-low}
+
+module _ (low now_low : SlotSet) (high now_high : List SlotSet) (number : ℕ) (long : length now_high ≡ length high) where
+  abbrev old : SlotSet
+  old = numbers_in (low ∷ high)
+
+  abbrev new : SlotSet
+  new = numbers_in (now_low ∷ now_high)
+
+  -- past all parts there is none
+  past : (q : ℕ) → SLOTS + SLOTS * length high ≤ q → contains new q ≡ false
+  past q large = contains-high now_low now_high q (omega (arith, large)) ∙ contains-past now_high (q - SLOTS) (omega (arith, large, long))
+
+  past_before : (q : ℕ) → SLOTS + SLOTS * length high ≤ q → contains old q ≡ false
+  past_before q large = contains-high low high q (omega (arith, large)) ∙ contains-past high (q - SLOTS) (omega (arith, large))
+
+  module _ (low_below : (slot : ℕ) → slot < 256 → slot < number → contains now_low slot ≡ contains low slot)
+      (low_above : (slot : ℕ) → slot + 1 < 256 → number ≤ slot → contains now_low (slot + 1) ≡ contains low slot)
+      (high_below : (q : ℕ) → q < number - SLOTS → q < SLOTS * length high → contains (numbers_in now_high) q ≡ contains (numbers_in high) q)
+      (high_above : (q : ℕ) → number - SLOTS ≤ q → q + 1 < SLOTS * length high → contains (numbers_in now_high) (q + 1) ≡ contains (numbers_in high) q)
+      (high_first : number - SLOTS ≡ 0 → 0 < length high → contains (numbers_in now_high) 0 ≡ contains low 255)
+      (within : number < SLOTS + SLOTS * length high) (fits : (q : ℕ) → contains old q ≡ true → q + 1 < SLOTS + SLOTS * length high) where
+    pub shifted_up-below : (q : ℕ) → q < number → contains new q ≡ contains old q
+    shifted_up-below q less = elim (cases_lt q SLOTS) [
+      | inl small ↦ contains-low now_low now_high q small ∙ low_below q small less ∙ sym (contains-low low high q small)
+      | inr large ↦ contains-high now_low now_high q large ∙ high_below (q - SLOTS) (omega (arith, less, large)) (omega (arith, less, large, within))
+          ∙ sym (contains-high low high q large)
+    ]
+
+    -- the last place is free
+    last_free : (q : ℕ) → SLOTS + SLOTS * length high ≤ q + 1 → contains old q ≡ false
+    last_free q last = false_from_ne_true (contains old q) (λ member. absurd (omega (arith, last, fits q member)))
+
+    seam : (q : ℕ) → number ≤ q → q + 1 ≡ SLOTS → contains new (q + 1) ≡ contains old q
+    seam q from is = elim (cases_lt 0 (length high)) [
+      | inl some ↦
+          let place : q + 1 - SLOTS ≡ 0 = omega (arith, is) in
+          let slot : q ≡ 255 = omega (arith, is) in
+          contains-high now_low now_high (q + 1) (omega (arith, is)) ∙ ap (contains (numbers_in now_high)) place
+          ∙ high_first (omega (arith, from, is)) some ∙ ap (contains low) (sym slot) ∙ sym (contains-low low high q (omega (arith, is)))
+      | inr none ↦ past (q + 1) (omega (arith, none, is)) ∙ sym (last_free q (omega (arith, none, is)))
+    ]
+
+    pub shifted_up-above : (q : ℕ) → number ≤ q → contains new (q + 1) ≡ contains old q
+    shifted_up-above q from = elim (cases_lt (q + 1) SLOTS) [
+      | inl small ↦ contains-low now_low now_high (q + 1) small ∙ low_above q small from ∙ sym (contains-low low high q (omega arith))
+      | inr large ↦ elim (cases_eq (q + 1) SLOTS) [
+        | inl is ↦ seam q from is
+        | inr apart ↦ elim (cases_lt (q + 1) (SLOTS + SLOTS * length high)) [
+          | inl inside ↦
+              let place : q + 1 - SLOTS ≡ q - SLOTS + 1 = omega (arith, large, apart) in
+              contains-high now_low now_high (q + 1) large ∙ ap (contains (numbers_in now_high)) place
+              ∙ high_above (q - SLOTS) (omega (arith, from)) (omega (arith, inside, large, apart))
+              ∙ sym (contains-high low high q (omega (arith, large, apart)))
+          | inr beyond ↦ past (q + 1) beyond ∙ sym (last_free q beyond)
+        ]
+      ]
+    ]
+
+  module _ (low_below : (slot : ℕ) → slot < 256 → slot < number → contains now_low slot ≡ contains low slot)
+      (low_above : (slot : ℕ) → slot + 1 < 256 → number ≤ slot → contains now_low slot ≡ contains low (slot + 1))
+      (low_last : number < 256 → contains now_low 255 ≡ contains (numbers_in high) 0)
+      (high_below : (q : ℕ) → q < number - SLOTS → contains (numbers_in now_high) q ≡ contains (numbers_in high) q)
+      (high_above : (q : ℕ) → number - SLOTS ≤ q → contains (numbers_in now_high) q ≡ contains (numbers_in high) (q + 1)) where
+    pub shifted_down-below : (q : ℕ) → q < number → contains new q ≡ contains old q
+    shifted_down-below q less = elim (cases_lt q SLOTS) [
+      | inl small ↦ contains-low now_low now_high q small ∙ low_below q small less ∙ sym (contains-low low high q small)
+      | inr large ↦ contains-high now_low now_high q large ∙ high_below (q - SLOTS) (omega (arith, less, large)) ∙ sym (contains-high low high q large)
+    ]
+
+    pub shifted_down-above : (q : ℕ) → number ≤ q → contains new q ≡ contains old (q + 1)
+    shifted_down-above q from = elim (cases_lt (q + 1) SLOTS) [
+      | inl small ↦ contains-low now_low now_high q (omega arith) ∙ low_above q small from ∙ sym (contains-low low high (q + 1) small)
+      | inr large ↦ elim (cases_lt q SLOTS) [
+        | inl seam_at ↦
+            let slot : q ≡ 255 = omega (arith, large, seam_at) in
+            let place : q + 1 - SLOTS ≡ 0 = omega (arith, large, seam_at) in
+            contains-low now_low now_high q seam_at ∙ ap (contains now_low) slot ∙ low_last (omega (arith, from, seam_at))
+            ∙ ap (contains (numbers_in high)) (sym place) ∙ sym (contains-high low high (q + 1) large)
+        | inr inner ↦
+            let place : q - SLOTS + 1 ≡ q + 1 - SLOTS = omega (arith, inner) in
+            contains-high now_low now_high q inner ∙ high_above (q - SLOTS) (omega (arith, from))
+            ∙ ap (contains (numbers_in high)) place ∙ sym (contains-high low high (q + 1) large)
+      ]
+    ]

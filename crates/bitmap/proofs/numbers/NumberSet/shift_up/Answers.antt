@@ -1,0 +1,50 @@
+use Rattle.std.proofs.Common.{◌≡◌, ◌<◌, ◌≤◌, ℕ, ◌∙◌, ◌+◌, ◌*◌, ◌∷◌, true, ap, arith, length, sym}
+use Rattle.std.specs.FinSet.{contains}
+use Rattle.bitmap.specs.Numbers.{NumbersState}
+use Rattle.bitmap.specs.Parts.{numbers_in}
+use Rattle.bitmap.specs.declared.bits.TheConstants.{SLOTS}
+use Rattle.bitmap.proofs.MovedNumbers.{shifted_up-above, shifted_up-below}
+use Rattle.bitmap.proofs.Summaries.{contains-remove_other, contains-remove_same}
+use Rattle.bitmap.proofs.numbers.NumberSet.shift_up.Goals as goal
+
+room_is : (c : goal.After-remove) → SLOTS + SLOTS * length c.self.inside.high.items ≡ c.args.self.now.room
+room_is c = omega (arith, ap (λ (s : NumbersState). s.room) c.self.view_is, c.self.inside.high.ok.0)
+
+fits : (c : goal.After-remove) → (q : ℕ) → contains (numbers_in (c.self.inside.low ∷ c.self.inside.high.items)) q ≡ true → q + 1 < SLOTS + SLOTS * length c.self.inside.high.items
+fits c q member = omega (arith, room_is c, c.requires.room q (sym (ap (λ (s : NumbersState). contains s.numbers q) c.self.view_is) ∙ member))
+
+moved_below : (c : goal.After-remove) → (q : ℕ) → q < c.args.number
+    → contains (numbers_in (c.spread-self-inside.result ∷ c.spread_all.new.parts.items)) q ≡ contains (numbers_in (c.self.inside.low ∷ c.self.inside.high.items)) q
+moved_below c =
+    shifted_up-below c.self.inside.low c.spread-self-inside.result c.self.inside.high.items c.spread_all.new.parts.items c.args.number
+    (omega (arith, c.spread_all.ensures.len, c.self.inside.high.ok.0, c.spread_all.new.parts.ok.0))
+    c.spread-self-inside.ensures.below c.spread-self-inside.ensures.above
+    (λ q small within. c.spread_all.ensures.below q (omega (arith, small, c.saturating_sub.ensures)) (omega (arith, within, c.self.inside.high.ok.0)))
+    (λ q from within. c.spread_all.ensures.above q (omega (arith, from, c.saturating_sub.ensures)) (omega (arith, within, c.self.inside.high.ok.0)))
+    (λ none some. c.spread_all.ensures.first (omega (arith, none, c.saturating_sub.ensures)) (omega (arith, some, c.self.inside.high.ok.0)))
+    (omega (arith, c.requires.within, room_is c)) (fits c)
+
+moved_above : (c : goal.After-remove) → (q : ℕ) → c.args.number ≤ q
+    → contains (numbers_in (c.spread-self-inside.result ∷ c.spread_all.new.parts.items)) (q + 1) ≡ contains (numbers_in (c.self.inside.low ∷ c.self.inside.high.items)) q
+moved_above c =
+    shifted_up-above c.self.inside.low c.spread-self-inside.result c.self.inside.high.items c.spread_all.new.parts.items c.args.number
+    (omega (arith, c.spread_all.ensures.len, c.self.inside.high.ok.0, c.spread_all.new.parts.ok.0))
+    c.spread-self-inside.ensures.below c.spread-self-inside.ensures.above
+    (λ q small within. c.spread_all.ensures.below q (omega (arith, small, c.saturating_sub.ensures)) (omega (arith, within, c.self.inside.high.ok.0)))
+    (λ q from within. c.spread_all.ensures.above q (omega (arith, from, c.saturating_sub.ensures)) (omega (arith, within, c.self.inside.high.ok.0)))
+    (λ none some. c.spread_all.ensures.first (omega (arith, none, c.saturating_sub.ensures)) (omega (arith, some, c.self.inside.high.ok.0)))
+    (omega (arith, c.requires.within, room_is c)) (fits c)
+
+pub returns-clause-below : goal.returns-clause-below
+returns-clause-below c q less =
+    ap (λ (s : NumbersState). contains s.numbers q) c.remove.ensures ∙ contains-remove_other _ c.args.number q (λ e. absurd (omega (arith, e, less)))
+    ∙ moved_below c q less ∙ ap (λ (s : NumbersState). contains s.numbers q) c.self.view_is
+
+pub returns-clause-this : goal.returns-clause-this
+returns-clause-this c = ap (λ (s : NumbersState). contains s.numbers c.args.number) c.remove.ensures ∙ contains-remove_same _ c.args.number
+
+pub returns-clause-above : goal.returns-clause-above
+returns-clause-above c q from =
+    ap (λ (s : NumbersState). contains s.numbers (q + 1)) c.remove.ensures
+    ∙ contains-remove_other _ c.args.number (q + 1) (λ e. absurd (omega (arith, e, from)))
+    ∙ moved_above c q from ∙ ap (λ (s : NumbersState). contains s.numbers q) c.self.view_is

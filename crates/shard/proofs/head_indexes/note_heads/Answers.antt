@@ -1,0 +1,23 @@
+use Rattle.std.proofs.Common.{◌≡◌, ◌+◌, ◌-◌, ◌∙◌, Some, length-set, set, slice_get, arith, refl, subst, sym}
+use Rattle.std.proofs.lemmas.Option.{slice_get_read, slice_get_within}
+use Rattle.span.specs.declared.id.SpanId.{SpanId}
+use Rattle.shard.specs.Heads.{IsNoted, KnowsBelow}
+use Rattle.shard.proofs.KnownHeads.{KnowsBelow-own}
+use Rattle.shard.proofs.head_indexes.note_heads.Goals as goal
+
+pub loop-index-preserved : goal.loop-index-preserved
+loop-index-preserved g c =
+    let here : slice_get c.args.groups.now c.loop-index.index ≡ Some c.index-groups-index.result =
+    slice_get_read c.args.groups.now _ c.loop-index.index c.index-groups-index.result refl (omega (arith, c.loop-index-test.true)) c.index-groups-index.is in
+    let own : IsNoted c.args.number c.args.base c.index-groups-index.result.head.id = subst (IsNoted c.args.number c.args.base) c.head_id-id.ensures (c.is_noted.ensures.known c.if-not-is_noted.false) in (
+      subst (λ (id : SpanId). KnowsBelow c.args.number c.args.groups.now (record { base = c.args.base; entries = set c.loop-index.indexes.items (id.serial - c.args.base) c.loop-index.index }) (c.loop-index.index + 1))
+          (sym c.head_id-id.ensures)
+          (KnowsBelow-own c.args.number c.args.groups.now c.requires.ascend (record { base = c.args.base; entries = c.loop-index.indexes.items }) c.loop-index.index c.loop-index.invariant.0
+          c.index-groups-index.result here own
+          (let low = c.requires.fit c.loop-index.index c.index-groups-index.result here own in omega (arith, low, c.loop-index.invariant.1))),
+      length-set c.loop-index.indexes.items (c.head_id-id.result.serial - c.args.base) c.loop-index.index ∙ c.loop-index.invariant.1,
+    )
+
+pub returns-clause-known : goal.returns-clause-known
+returns-clause-known g c index group there own =
+    c.loop-index.invariant.0 index group (let low = slice_get_within c.args.groups.now index group there in omega (arith, low, c.loop-index-test.false)) there own

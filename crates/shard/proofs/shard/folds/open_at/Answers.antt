@@ -1,0 +1,18 @@
+use Rattle.std.proofs.Common.{◌∙◌, ap, sym, inl, inr}
+use Rattle.std.proofs.lemmas.Option.{slice_get_within}
+use Rattle.shard.specs.Group.{GroupState}
+use Rattle.shard.specs.Rooms.{rooms_of}
+use Rattle.shard.proofs.Classes.{cases_class}
+use Rattle.shard.proofs.RoomBits.{HasRooms-free, HasRooms-other}
+use Rattle.shard.proofs.shard.folds.open_at.Goals as goal
+
+pub returns-clause-has : goal.returns-clause-has
+returns-clause-has g c groups here class has =
+    elim (cases_class class c.class.result) [
+      | inl same ↦ rw (same, c.insert.ensures.this)
+          (HasRooms-free c.class.result groups (rooms_of c.args.rooms.now c.class.result) (rw (← same) has) c.args.index c.reopen.new.self
+          (slice_get_within groups c.args.index _ here) (sym c.class.ensures))
+      | inr apart ↦ rw (c.insert.ensures.others class apart)
+          (HasRooms-other class groups (rooms_of c.args.rooms.now class) has c.args.index c.reopen.new.self c.args.group.now here
+          (ap (λ (g : GroupState). g.head.class) c.reopen.ensures) (λ e. apart (sym e ∙ sym c.class.ensures)))
+    ]

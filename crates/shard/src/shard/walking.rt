@@ -1,0 +1,37 @@
+// The walk over the live keys, from span to span.
+ghost use Rattle.std.specs.Prelude.{MatchOption};
+ghost use Rattle.span.specs.FirstLive.{HasNoneBetween, IsFirstLive};
+ghost use Rattle.span.specs.Ids.{rank};
+ghost use Rattle.span.specs.declared.limits.TheConstants.{ALL_IDS};
+ghost use Rattle.groups.specs.FirstLive.{IsFirstAmong};
+ghost use Rattle.groups.specs.Group.{spans_in};
+ghost use Rattle.shard.specs.Shown.{shown};
+ghost use Rattle.shard.specs.Sound.{IsSound};
+
+use super::Shard;
+use crate::group::Group;
+use groups::earlier;
+use span::{Key, Log, SpanId};
+
+impl<L: Log> Shard<L> {
+    /// The first live key here of the spans from this id on, by ids and then by slots. It looks at
+    /// each span once, and takes no memory.
+    pub fn first_live(&self, from: SpanId) -> Option<Key>
+        ensures first { MatchOption result (HasNoneBetween (shown self.now) (rank from) ALL_IDS)
+            (IsFirstLive (shown self.now) (rank from)) }
+        ensures sound { IsSound self.now }
+    {
+        first_live(self.groups.as_slice(), from)
+    }
+}
+
+// The first live key of these groups.
+fn first_live<L: Log>(groups: &[Group<L>], from: SpanId) -> Option<Key>
+    ensures { IsFirstAmong (spans_in groups.now) (rank from) result }
+{
+    let mut first = None;
+    for group in groups {
+        first = earlier(first, group.spans().first_live(from));
+    }
+    first
+}
