@@ -10,7 +10,7 @@ use Rattle.certificate.specs.declared.text.cause.Cause.{Cause}
 use Rattle.certificate.specs.declared.text.version.Version.{Version}
 use Rattle.certificate.specs.declared.text.cause.ReadError.{ReadError}
 use Rattle.certificate.specs.declared.text.cause.ReadError.TheVariants.{BadCertificate, OutOfMemory}
-use Rattle.certificate.specs.Grammar.{◌>>=◌, ComesAfter, Id, Listed, Outline, Reads, at_line, body_in, count_in, end_in, entry_in, entry_parts, fixed_in, id_in, id_parts, item_in, items_in, line_in, list_in, pair_in, pair_parts}
+use Rattle.certificate.specs.Grammar.{◌>>=◌, ComesAfter, Id, Listed, Outline, Reads, at_line, body_in, count_in, ending_in, entry_in, entry_parts, id_in, id_parts, item_in, items_in, line_in, list_in, pair_in, pair_parts}
 use Rattle.certificate.specs.Words.{lines_of}
 
 -- a refusal that the grammar has, too
@@ -154,25 +154,21 @@ module _ {X : Type 0} (title : List ℕ) (parse : List ℕ → Result X Cause) (
 -- the body of a certificate, where its lists are read
 pub body_in-lists : (version : Version) (parts : List (List ℕ)) (abandoned owned : List Listed) (folds : List (Id × Id)) (short : List Id) (second third fourth fifth : ℕ)
     → list_in (codes "abandoned") (entry_in version) (λ x. x.id) parts 1 ≡ Ok abandoned
-    → list_in (codes "owned") (entry_in version) (λ x. x.id) parts second ≡ Ok owned → list_in (codes "folds") pair_in (λ p. p.0) parts third ≡ Ok folds
-    → list_in (codes "short") id_in (λ id. id) parts fourth ≡ Ok short
+    → list_in (codes "owned") (entry_in version) (λ x. x.id) parts second ≡ Ok owned → list_in (codes "folds") (pair_in version) (λ p. p.0) parts third ≡ Ok folds
+    → list_in (codes "short") (id_in version) (λ id. id) parts fourth ≡ Ok short
     → second ≡ 2 + length abandoned → third ≡ 3 + length abandoned + length owned → fourth ≡ 4 + length abandoned + length owned + length folds
     → fifth ≡ 5 + length abandoned + length owned + length folds + length short
-    → body_in version parts ≡ (at_line fifth (line_in (fixed_in (codes "end")) parts fifth) >>=
-    (λ ended. at_line (fifth + 1) (end_in parts (fifth + 1)) >>= (λ done. Ok (record { abandoned = abandoned; owned = owned; folds = folds; short = short }))))
+    → body_in version parts ≡ ending_in version (record { abandoned = abandoned; owned = owned; folds = folds; short = short }) parts fifth
 body_in-lists version parts abandoned owned folds short second third fourth fifth a o f s two three four five =
     let o' : list_in (codes "owned") (entry_in version) (λ x. x.id) parts (2 + length abandoned)
     ≡ Ok owned = subst (λ p. list_in (codes "owned") (entry_in version) (λ x. x.id) parts p ≡ Ok owned) two o in
-    let f' : list_in (codes "folds") pair_in (λ p. p.0) parts (3 + length abandoned + length owned) ≡ Ok folds = subst (λ p. list_in (codes "folds") pair_in (λ p. p.0) parts p ≡ Ok folds) three f in
-    let s' : list_in (codes "short") id_in (λ id. id) parts (4 + length abandoned + length owned + length folds)
-    ≡ Ok short = subst (λ p. list_in (codes "short") id_in (λ id. id) parts p ≡ Ok short) four s in
-    let six : 6 + length abandoned + length owned + length folds + length short ≡ fifth + 1 = omega arith in
-    let rest : ℕ → ℕ → Result Outline ReadError = λ p q. at_line p (line_in (fixed_in (codes "end")) parts p) >>=
-    (λ ended. at_line q (end_in parts q) >>= (λ done. Ok (record { abandoned = abandoned; owned = owned; folds = folds; short = short }))) in
+    let f' : list_in (codes "folds") (pair_in version) (λ p. p.0) parts (3 + length abandoned + length owned) ≡ Ok folds = subst (λ p. list_in (codes "folds") (pair_in version) (λ p. p.0) parts p ≡ Ok folds) three f in
+    let s' : list_in (codes "short") (id_in version) (λ id. id) parts (4 + length abandoned + length owned + length folds)
+    ≡ Ok short = subst (λ p. list_in (codes "short") (id_in version) (λ id. id) parts p ≡ Ok short) four s in
+    let said : Outline = record { abandoned = abandoned; owned = owned; folds = folds; short = short } in
     let all : body_in version parts
-    ≡ rest (5 + length abandoned + length owned + length folds + length short) (6 + length abandoned + length owned + length folds + length short) = rw
-    (a, o', f', s') refl in
-    all ∙ (λ i. rest (sym five i) (six i))
+    ≡ ending_in version said parts (5 + length abandoned + length owned + length folds + length short) = rw (a, o', f', s') refl in
+    all ∙ ap (ending_in version said parts) (sym five)
 
 -- a list of the text was read from the place on, and then another text and place are left: the same text, and the place past the list
 pub record IsPast {X Y : Type 0} (title : List ℕ) (parse : List ℕ → Result X Cause) (id_of : X → Id) (view : Y
@@ -184,11 +180,10 @@ pub record IsPast {X Y : Type 0} (title : List ℕ) (parse : List ℕ → Result
 -- the body of a certificate, where its lists are read one after another
 pub body_in-read : (version : Version) {text text1 text2 text3 text4 : List ℕ} {at at1 at2 at3 at4 : ℕ} (abandoned owned : List Entry) (folds : List (SpanId × SpanId)) (short : List SpanId) → at ≡ 1
     → IsPast (codes "abandoned") (entry_in version) (λ x. x.id) entry_parts text at abandoned text1 at1 → IsPast (codes "owned") (entry_in version) (λ x. x.id) entry_parts text1 at1 owned text2 at2
-    → IsPast (codes "folds") pair_in (λ p. p.0) pair_parts text2 at2 folds text3 at3 → IsPast (codes "short") id_in (λ id. id) id_parts text3 at3 short text4 at4
+    → IsPast (codes "folds") (pair_in version) (λ p. p.0) pair_parts text2 at2 folds text3 at3 → IsPast (codes "short") (id_in version) (λ id. id) id_parts text3 at3 short text4 at4
     → body_in version (lines_of text)
-    ≡ (at_line at4 (line_in (fixed_in (codes "end")) (lines_of text4) at4) >>=
-    (λ ended. at_line (at4 + 1) (end_in (lines_of text4) (at4 + 1)) >>=
-    (λ done. Ok (record { abandoned = map entry_parts abandoned; owned = map entry_parts owned; folds = map pair_parts folds; short = map id_parts short }))))
+    ≡ ending_in version (record { abandoned = map entry_parts abandoned; owned = map entry_parts owned; folds = map pair_parts folds; short = map id_parts short })
+    (lines_of text4) at4
 body_in-read version {text} {text1} {text2} {text3} {text4} {at} {at1} {at2} {at3} {at4} abandoned owned folds short first a o f s =
     let a_long = length-map abandoned entry_parts in
     let o_long = length-map owned entry_parts in
@@ -204,14 +199,12 @@ body_in-read version {text} {text1} {text2} {text3} {text4} {at} {at1} {at2} {at
     body_in-lists version (lines_of text) (map entry_parts abandoned) (map entry_parts owned) (map pair_parts folds) (map id_parts short) at1 at2 at3 at4
     (ap (list_in (codes "abandoned") (entry_in version) (λ x. x.id) (lines_of text)) (sym first) ∙ a.read)
     ((λ i. list_in (codes "owned") (entry_in version) (λ x. x.id) (lines_of (sym a.text_is i)) at1) ∙ o.read)
-    ((λ i. list_in (codes "folds") pair_in (λ p. p.0) (lines_of (sym same2 i)) at2) ∙ f.read)
-    ((λ i. list_in (codes "short") id_in (λ id. id) (lines_of (sym same3 i)) at3) ∙ s.read)
+    ((λ i. list_in (codes "folds") (pair_in version) (λ p. p.0) (lines_of (sym same2 i)) at2) ∙ f.read)
+    ((λ i. list_in (codes "short") (id_in version) (λ id. id) (lines_of (sym same3 i)) at3) ∙ s.read)
     second third fourth fifth
-    ∙ (λ i. at_line at4 (line_in (fixed_in (codes "end")) (lines_of (sym same4 i)) at4) >>=
-    (λ ended. at_line (at4 + 1) (end_in (lines_of (sym same4 i)) (at4 + 1)) >>=
-    (λ done. Ok (record {
+    ∙ (λ i. ending_in version (record {
       abandoned = map entry_parts abandoned;
       owned = map entry_parts owned;
       folds = map pair_parts folds;
       short = map id_parts short;
-    }))))
+    }) (lines_of (sym same4 i)) at4)

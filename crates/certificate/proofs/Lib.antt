@@ -1,14 +1,16 @@
+pub mod Accepted
 pub mod Digits
 pub mod Duality
 pub mod Items
+pub mod Large
 pub mod LinesLeft
 pub mod Members
 pub mod PartnersFilter
 pub mod Places
 pub mod ReadAgain
 pub mod Rereading
+pub mod Serials
 pub mod Spelling
 pub mod Split
 pub mod Verdicts
 pub mod Written
-pub mod Within

@@ -20,11 +20,11 @@ use Rattle.span.specs.Classes.{slots_in}
 use Rattle.span.specs.declared.class.Class.{Class}
 use Rattle.span.specs.declared.class.Class.TheVariants.{C16, C64, C256}
 use Rattle.span.specs.declared.entry.Entry.{Entry}
-use Rattle.certificate.specs.declared.text.version.Version.TheVariants.{Two}
-use Rattle.certificate.specs.declared.text.words.TheConstants.{TEXT_SPANS}
-use Rattle.certificate.specs.Grammar.{class_in, count_in, entry_in, entry_parts, id_in, id_parts, is_on_page, pair_in, pair_parts}
+use Rattle.certificate.specs.declared.text.version.Version.{Version}
+use Rattle.certificate.specs.declared.text.version.Version.TheVariants.{One, Two, Three}
+use Rattle.certificate.specs.Grammar.{class_in, count_in, entry_in, entry_parts, id_in, id_parts, is_on_page, pair_in, pair_parts, spans_in}
 use Rattle.certificate.specs.Number.{is_numeral, number_in}
-use Rattle.certificate.specs.Text.{FitsClass, HasTextSerial, class_text}
+use Rattle.certificate.specs.Text.{FitsClass, class_text}
 use Rattle.certificate.specs.Words.{parts_of}
 use Rattle.certificate.proofs.Split.{lacks, lacks-append, lacks-digits, lacks-high, parts-last, parts-word}
 use Rattle.mesh_graph.specs.declared.build.TheConstants.{MOST_GROUPS}
@@ -66,13 +66,17 @@ shard-fits id = let low : id.shard < MOST_SHARDS = id.shard_in_range in omega ar
 serial-fits : (id : SpanId) → id.serial < 2 ^ 64
 serial-fits id = let low : id.serial < MOST_SPANS = id.serial_in_range in omega arith
 
-pub id_in-text : (id : SpanId) → HasTextSerial id → id_in (id_text id) ≡ Ok (id_parts id)
-id_in-text id within =
+-- the version names the serial of the id
+abbrev pub HasSerial : Version → SpanId → Type 0
+HasSerial version id = id.serial < spans_in version
+
+pub id_in-text : (version : Version) (id : SpanId) → HasSerial version id → id_in version (id_text id) ≡ Ok (id_parts id)
+id_in-text version id within =
     let parts : parts_of 46 (id_text id) ≡ decimal id.shard ∷ decimal id.serial ∷ [] =
     ap (parts_of 46) (append_assoc (decimal id.shard) (codes ".") (decimal id.serial))
     ∙ parts-word 46 (decimal id.shard) (decimal id.serial) (lacks-decimal 46 id.shard (omega arith) (shard-fits id))
     ∙ ap (λ ps. decimal id.shard ∷ ps) (parts-last 46 (decimal id.serial) (lacks-decimal 46 id.serial (omega arith) (serial-fits id))) in
-    rw (parts, number_in-decimal id.shard (shard-fits id), number_in-decimal id.serial (serial-fits id), lt-ltb id.shard MOST_SHARDS id.shard_in_range, lt-ltb id.serial TEXT_SPANS within) refl
+    rw (parts, number_in-decimal id.shard (shard-fits id), number_in-decimal id.serial (serial-fits id), lt-ltb id.shard MOST_SHARDS id.shard_in_range, lt-ltb id.serial (spans_in version) within) refl
 
 pub lacks-id_text : (c : ℕ) (id : SpanId) → c < 46 → lacks c (id_text id) ≡ true
 lacks-id_text c id low =
@@ -150,13 +154,25 @@ IsBelow-is_on_page class word slots is all slot inside =
 abbrev pub entry_body : Entry → List ℕ
 entry_body x = id_text x.id ++ (codes " " ++ (class_text x.class ++ (codes " " ++ set_text x.occupied)))
 
-pub entry_in-body : (x : Entry) → HasTextSerial x.id → slots_of_text (set_text x.occupied) ≡ x.occupied → FitsClass x → entry_in Two (entry_body x) ≡ Ok (entry_parts x)
-entry_in-body x within back fits =
-    let parts : parts_of 32 (entry_body x) ≡ id_text x.id ∷ class_text x.class ∷ set_text x.occupied ∷ [] =
+parts_of-entry_body : (x : Entry) → parts_of 32 (entry_body x) ≡ id_text x.id ∷ class_text x.class ∷ set_text x.occupied ∷ []
+parts_of-entry_body x =
     parts-word 32 (id_text x.id) (class_text x.class ++ (codes " " ++ set_text x.occupied)) (lacks-id_text 32 x.id (omega arith))
     ∙ ap (λ ps. id_text x.id ∷ ps) (parts-word 32 (class_text x.class) (set_text x.occupied) (lacks-class_text 32 x.class (omega arith)))
-    ∙ ap (λ ps. id_text x.id ∷ class_text x.class ∷ ps) (parts-last 32 (set_text x.occupied) (lacks-set_text 32 x.occupied (omega arith))) in
-    rw (parts, id_in-text x.id within, class_in-text x.class, is_set_text-set_text x.occupied, back, is_on_page-below x.class x.occupied fits) refl
+    ∙ ap (λ ps. id_text x.id ∷ class_text x.class ∷ ps) (parts-last 32 (set_text x.occupied) (lacks-set_text 32 x.occupied (omega arith)))
+
+-- the lines of groups in the version have a class
+abbrev pub HasClasses : Version → Type 0
+HasClasses One = ⊥
+HasClasses Two = Unit {0}
+HasClasses Three = Unit {0}
+
+pub entry_in-body : (version : Version) → HasClasses version → (x : Entry) → HasSerial version x.id → slots_of_text (set_text x.occupied) ≡ x.occupied
+    → FitsClass x → entry_in version (entry_body x) ≡ Ok (entry_parts x)
+entry_in-body One classes x within back fits = absurd classes
+entry_in-body Two classes x within back fits =
+    rw (parts_of-entry_body x, id_in-text Two x.id within, class_in-text x.class, is_set_text-set_text x.occupied, back, is_on_page-below x.class x.occupied fits) refl
+entry_in-body Three classes x within back fits =
+    rw (parts_of-entry_body x, id_in-text Three x.id within, class_in-text x.class, is_set_text-set_text x.occupied, back, is_on_page-below x.class x.occupied fits) refl
 
 pub lacks-entry_body : (x : Entry) → lacks 10 (entry_body x) ≡ true
 lacks-entry_body x =
@@ -177,12 +193,12 @@ lacks-classless_body x = lacks-append 10 (id_text x.id) (codes " " ++ set_text x
 abbrev pub pair_body : SpanId × SpanId → List ℕ
 pair_body p = id_text p.0 ++ (codes " " ++ id_text p.1)
 
-pub pair_in-body : (p : SpanId × SpanId) → HasTextSerial p.0 × HasTextSerial p.1 → pair_in (pair_body p) ≡ Ok (pair_parts p)
-pair_in-body p within =
+pub pair_in-body : (version : Version) (p : SpanId × SpanId) → HasSerial version p.0 × HasSerial version p.1 → pair_in version (pair_body p) ≡ Ok (pair_parts p)
+pair_in-body version p within =
     let parts : parts_of 32 (pair_body p) ≡ id_text p.0 ∷ id_text p.1 ∷ [] =
     parts-word 32 (id_text p.0) (id_text p.1) (lacks-id_text 32 p.0 (omega arith))
     ∙ ap (λ ps. id_text p.0 ∷ ps) (parts-last 32 (id_text p.1) (lacks-id_text 32 p.1 (omega arith))) in
-    rw (parts, id_in-text p.0 within.0, id_in-text p.1 within.1) refl
+    rw (parts, id_in-text version p.0 within.0, id_in-text version p.1 within.1) refl
 
 pub lacks-pair_body : (p : SpanId × SpanId) → lacks 10 (pair_body p) ≡ true
 lacks-pair_body p = lacks-append 10 (id_text p.0) (codes " " ++ id_text p.1) (lacks-id_text 10 p.0 (omega arith)) (lacks-append 10 (codes " ") (id_text p.1) refl (lacks-id_text 10 p.1 (omega arith)))

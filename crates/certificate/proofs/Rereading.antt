@@ -12,12 +12,13 @@ use Rattle.span.specs.declared.entry.Entry.{Entry}
 use Rattle.mesh_graph.specs.Groups.{IsAscending, ids}
 use Rattle.certificate.specs.declared.certificate.Certificate.{Certificate}
 use Rattle.certificate.specs.declared.text.cause.Cause.{Cause}
-use Rattle.certificate.specs.declared.text.version.Version.TheVariants.{Two}
-use Rattle.certificate.specs.Grammar.{◌>>=◌, ComesAfter, Id, at_line, body_in, certificate_in, count_in, end_in, entry_in, entry_parts, fixed_in, id_in, id_parts, item_in, items_in, line_in, list_in, order_of, outline_of, pair_in, pair_parts, version_in}
-use Rattle.certificate.specs.Text.{FitsClass, HasTextSerial, IsWithinText, IsReadable, IsWritable, certificate_text, class_text, classless_line, classless_text, entry_line, id_line, lines_text, list_text, pair_line, text_with}
+use Rattle.certificate.specs.declared.text.version.Version.{Version}
+use Rattle.certificate.specs.declared.text.version.Version.TheVariants.{One, Two, Three}
+use Rattle.certificate.specs.Grammar.{◌>>=◌, ComesAfter, Id, at_line, body_in, certificate_in, count_in, end_in, entry_in, entry_parts, id_in, id_parts, is_wanted, item_in, items_in, last_in, line_in, list_in, opening_of, order_of, outline_of, pair_in, pair_parts, version_in, version_of}
+use Rattle.certificate.specs.Text.{FitsClass, IsReadable, IsWritable, certificate_text, class_text, classless_line, classless_text, entry_line, id_line, lines_text, list_text, pair_line, text_with}
 use Rattle.certificate.specs.Words.{parts_of}
 use Rattle.certificate.proofs.Items.{body_in-lists}
-use Rattle.certificate.proofs.ReadAgain.{classless_body, count_in-body, entry_body, entry_in-body, id_in-text, lacks-classless_body, lacks-entry_body, lacks-id_text, lacks-pair_body, lacks-title_body, pair_body, pair_in-body, title_body}
+use Rattle.certificate.proofs.ReadAgain.{HasClasses, HasSerial, classless_body, count_in-body, entry_body, entry_in-body, id_in-text, lacks-classless_body, lacks-entry_body, lacks-id_text, lacks-pair_body, lacks-title_body, pair_body, pair_in-body, title_body}
 use Rattle.certificate.proofs.Split.{lacks, parts-word}
 use Rattle.mesh_graph.specs.declared.build.TheConstants.{MOST_GROUPS}
 
@@ -63,31 +64,32 @@ fold_lines c = title_body (codes "folds") (length c.plan) ∷ (map pair_body c.p
 abbrev owned_lines : Certificate → List (List ℕ)
 owned_lines c = title_body (codes "owned") (length c.snapshot.owned) ∷ (map entry_body c.snapshot.owned ++ fold_lines c)
 
--- the lines of a certificate below this first line, with such a line for each group
-abbrev pub lines_with : List ℕ → (Entry → List ℕ) → Certificate → List (List ℕ)
-lines_with opening body c =
-    opening ∷ (title_body (codes "abandoned") (length c.snapshot.abandoned) ∷ (map body c.snapshot.abandoned
+-- the lines of a certificate below the first line of the version, with such a line for each group
+abbrev pub lines_with : Version → (Entry → List ℕ) → Certificate → List (List ℕ)
+lines_with version body c =
+    opening_of version ∷ (title_body (codes "abandoned") (length c.snapshot.abandoned) ∷ (map body c.snapshot.abandoned
     ++ title_body (codes "owned") (length c.snapshot.owned) ∷ (map body c.snapshot.owned ++ fold_lines c)))
 
-abbrev pub all_lines : Certificate → List (List ℕ)
-all_lines c = lines_with (codes "meshcert 2") entry_body c
+-- the lines with classes
+abbrev pub all_lines : Version → Certificate → List (List ℕ)
+all_lines version c = lines_with version entry_body c
 
--- the lines in version 1
-abbrev pub classless_lines : Certificate → List (List ℕ)
-classless_lines c = lines_with (codes "meshcert 1") classless_body c
+lacks-opening_of : (version : Version) → lacks 10 (opening_of version) ≡ true
+lacks-opening_of One = refl
+lacks-opening_of Two = refl
+lacks-opening_of Three = refl
 
-parts_of-text_with : (opening : List ℕ) (line body : Entry → List ℕ) → lacks 10 opening ≡ true → ((x : Entry) → line x ≡ body x ++ 10 ∷ [])
+parts_of-text_with : (version : Version) (line body : Entry → List ℕ) → ((x : Entry) → line x ≡ body x ++ 10 ∷ [])
     → ((x : Entry) → lacks 10 (body x) ≡ true) → (c : Certificate) → IsWritable c
-    → parts_of 10 (text_with (opening ++ 10 ∷ []) line c) ≡ lines_with opening body c
-parts_of-text_with opening line body head is plain c w =
+    → parts_of 10 (text_with version line c) ≡ lines_with version body c
+parts_of-text_with version line body is plain c w =
     let last : parts_of 10 (codes "end\n") ≡ codes "end" ∷ [] ∷ [] = refl in
     let short = list_text (codes "short") id_line c.short ++ codes "end\n" in
     let folds = list_text (codes "folds") pair_line c.plan ++ short in
     let owned = list_text (codes "owned") line c.snapshot.owned ++ folds in
     let all = list_text (codes "abandoned") line c.snapshot.abandoned ++ owned in
-    ap (parts_of 10) (append_assoc opening (10 ∷ []) all)
-    ∙ parts-word 10 opening all head
-    ∙ ap (λ ps. opening ∷ ps) (
+    parts-word 10 (opening_of version) all (lacks-opening_of version)
+    ∙ ap (λ ps. opening_of version ∷ ps) (
     parts_of-list (codes "abandoned") line body refl is plain c.snapshot.abandoned owned w.abandoned
     ∙ ap (λ ps. title_body (codes "abandoned") (length c.snapshot.abandoned) ∷ (map body c.snapshot.abandoned ++ ps)) (
     parts_of-list (codes "owned") line body refl is plain c.snapshot.owned folds w.owned
@@ -98,14 +100,14 @@ parts_of-text_with opening line body head is plain c w =
     ∙ ap (λ ps. title_body (codes "short") (length c.short) ∷ (map id_text c.short ++ ps)) last))))
 
 -- the lines that are written
-pub parts_of-text : (c : Certificate) → IsWritable c → parts_of 10 (certificate_text c) ≡ all_lines c
+pub parts_of-text : (c : Certificate) → IsWritable c → parts_of 10 (certificate_text c) ≡ all_lines (version_of (outline_of c)) c
 unfolding certificate_text
-parts_of-text c w = parts_of-text_with (codes "meshcert 2") entry_line entry_body refl entry_line-body lacks-entry_body c w
+parts_of-text c w = parts_of-text_with (version_of (outline_of c)) entry_line entry_body entry_line-body lacks-entry_body c w
 
 -- those in version 1
-pub parts_of-classless_text : (c : Certificate) → IsWritable c → parts_of 10 (classless_text c) ≡ classless_lines c
+pub parts_of-classless_text : (c : Certificate) → IsWritable c → parts_of 10 (classless_text c) ≡ lines_with One classless_body c
 unfolding classless_text
-parts_of-classless_text c w = parts_of-text_with (codes "meshcert 1") classless_line classless_body refl classless_line-body lacks-classless_body c w
+parts_of-classless_text c w = parts_of-text_with One classless_line classless_body classless_line-body lacks-classless_body c w
 
 -- ---- lines at their places
 
@@ -171,20 +173,30 @@ each : {Y : Type 0} {P Q : Y → Type 0} → ((y : Y) → P y → Q y) → (ys :
 each h [] all = tt
 each h (y ∷ ys) all = (h y all.0, each h ys all.1)
 
-each_entry : (xs : List Entry) → AllByRecursion (λ x. HasTextSerial x.id) xs → AllByRecursion IsReadable xs → AllByRecursion FitsClass xs
-    → AllByRecursion (λ x. entry_in Two (entry_body x) ≡ Ok (entry_parts x)) xs
-each_entry [] within back fit = tt
-each_entry (x ∷ xs) within back fit = (entry_in-body x within.0 back.0 fit.0, each_entry xs within.1 back.1 fit.1)
+each_entry : (version : Version) → HasClasses version → (xs : List Entry) → AllByRecursion (λ x. HasSerial version x.id) xs → AllByRecursion IsReadable xs
+    → AllByRecursion FitsClass xs → AllByRecursion (λ x. entry_in version (entry_body x) ≡ Ok (entry_parts x)) xs
+each_entry version classes [] within back fit = tt
+each_entry version classes (x ∷ xs) within back fit =
+    (entry_in-body version classes x within.0 back.0 fit.0, each_entry version classes xs within.1 back.1 fit.1)
 
--- what is written is read again
-pub certificate_in-text : (c : Certificate) → IsWritable c → IsWithinText c → IsAscending (ids c.snapshot.abandoned) → IsAscending (ids c.snapshot.owned)
+-- the version names each serial of the certificate, and is wanted
+pub record IsNamed (version : Version) (c : Certificate) : Type 0 where
+  pub classes : HasClasses version
+  pub abandoned : AllByRecursion (λ x. HasSerial version x.id) c.snapshot.abandoned
+  pub owned : AllByRecursion (λ x. HasSerial version x.id) c.snapshot.owned
+  pub folds : AllByRecursion (λ p. HasSerial version p.0 × HasSerial version p.1) c.plan
+  pub short : AllByRecursion (HasSerial version) c.short
+  pub wanted : is_wanted version (outline_of c) ≡ true
+  pub opening : version_in (opening_of version) ≡ Ok version
+
+-- the lines of a certificate are read again
+body_in-all_lines : (version : Version) (c : Certificate) → IsWritable c → IsNamed version c → IsAscending (ids c.snapshot.abandoned) → IsAscending (ids c.snapshot.owned)
     → AllByRecursion IsReadable c.snapshot.abandoned → AllByRecursion IsReadable c.snapshot.owned
-    → certificate_in (certificate_text c) ≡ Ok (outline_of c)
-unfolding certificate_in
-certificate_in-text c w within up_a up_o sets_a sets_o =
+    → body_in version (all_lines version c) ≡ Ok (outline_of c)
+body_in-all_lines version c w named up_a up_o sets_a sets_o =
     let A = c.snapshot.abandoned in
     let O = c.snapshot.owned in
-    let front1 : List (List ℕ) = codes "meshcert 2" ∷ [] in
+    let front1 : List (List ℕ) = opening_of version ∷ [] in
     let head_a : List (List ℕ) = title_body (codes "abandoned") (length A) ∷ map entry_body A in
     let front2 : List (List ℕ) = front1 ++ head_a in
     let head_o : List (List ℕ) = title_body (codes "owned") (length O) ∷ map entry_body O in
@@ -193,11 +205,11 @@ certificate_in-text c w within up_a up_o sets_a sets_o =
     let front4 : List (List ℕ) = front3 ++ head_f in
     let head_s : List (List ℕ) = title_body (codes "short") (length c.short) ∷ map id_text c.short in
     let front5 : List (List ℕ) = front4 ++ head_s in
-    let whole2 : all_lines c ≡ front2 ++ owned_lines c = sym (append_assoc front1 head_a (owned_lines c)) in
-    let whole3 : all_lines c ≡ front3 ++ fold_lines c = whole2 ∙ sym (append_assoc front2 head_o (fold_lines c)) in
-    let whole4 : all_lines c ≡ front4 ++ short_lines c = whole3 ∙ sym (append_assoc front3 head_f (short_lines c)) in
-    let whole5 : all_lines c ≡ front5 ++ (codes "end" ∷ [] ∷ []) = whole4 ∙ sym (append_assoc front4 head_s (codes "end" ∷ [] ∷ [])) in
-    let whole6 : all_lines c ≡ (front5 ++ codes "end" ∷ []) ++ ([] ∷ []) = whole5 ∙ sym (append_assoc front5 (codes "end" ∷ []) ([] ∷ [])) in
+    let whole2 : all_lines version c ≡ front2 ++ owned_lines c = sym (append_assoc front1 head_a (owned_lines c)) in
+    let whole3 : all_lines version c ≡ front3 ++ fold_lines c = whole2 ∙ sym (append_assoc front2 head_o (fold_lines c)) in
+    let whole4 : all_lines version c ≡ front4 ++ short_lines c = whole3 ∙ sym (append_assoc front3 head_f (short_lines c)) in
+    let whole5 : all_lines version c ≡ front5 ++ (codes "end" ∷ [] ∷ []) = whole4 ∙ sym (append_assoc front4 head_s (codes "end" ∷ [] ∷ [])) in
+    let whole6 : all_lines version c ≡ (front5 ++ codes "end" ∷ []) ++ ([] ∷ []) = whole5 ∙ sym (append_assoc front5 (codes "end" ∷ []) ([] ∷ [])) in
     let la : length (map entry_body A) ≡ length A = length-map A entry_body in
     let lo : length (map entry_body O) ≡ length O = length-map O entry_body in
     let lf : length (map pair_body c.plan) ≡ length c.plan = length-map c.plan pair_body in
@@ -211,33 +223,44 @@ certificate_in-text c w within up_a up_o sets_a sets_o =
     let n5 : length front5 ≡ length front4 + length head_s = length-append front4 head_s in
     let n6 : length (front5 ++ codes "end" ∷ []) ≡ length front5 + 1 = length-append front5 (codes "end" ∷ []) in
     let n7 : length ((front5 ++ codes "end" ∷ []) ++ ([] ∷ [])) ≡ length (front5 ++ codes "end" ∷ []) + 1 = length-append (front5 ++ codes "end" ∷ []) ([] ∷ []) in
-    let read_a : list_in (codes "abandoned") (entry_in Two) (λ x. x.id) (all_lines c) 1
-    ≡ Ok (map entry_parts A) = list_in-at (entry_in Two) (λ x. x.id) entry_parts (λ x. x.id) (λ y. refl) entry_body (codes "abandoned") A front1
+    let read_a : list_in (codes "abandoned") (entry_in version) (λ x. x.id) (all_lines version c) 1
+    ≡ Ok (map entry_parts A) = list_in-at (entry_in version) (λ x. x.id) entry_parts (λ x. x.id) (λ y. refl) entry_body (codes "abandoned") A front1
     (owned_lines c) refl w.abandoned
-    (each_entry A (recursion_from_All (λ x. HasTextSerial x.id) A within.abandoned) sets_a (recursion_from_All FitsClass A w.abandoned_fit)) up_a
+    (each_entry version named.classes A named.abandoned sets_a (recursion_from_All FitsClass A w.abandoned_fit)) up_a
     (omega arith) in
-    let read_o : list_in (codes "owned") (entry_in Two) (λ x. x.id) (all_lines c) (length front2)
-    ≡ Ok (map entry_parts O) = ap (λ ps. list_in (codes "owned") (entry_in Two) (λ x. x.id) ps (length front2)) whole2
-    ∙ list_in-at (entry_in Two) (λ x. x.id) entry_parts (λ x. x.id) (λ y. refl) entry_body (codes "owned") O front2 (fold_lines c) refl w.owned
-    (each_entry O (recursion_from_All (λ x. HasTextSerial x.id) O within.owned) sets_o (recursion_from_All FitsClass O w.owned_fit)) up_o (omega arith) in
-    let read_f : list_in (codes "folds") pair_in (λ p. p.0) (all_lines c) (length front3)
-    ≡ Ok (map pair_parts c.plan) = ap (λ ps. list_in (codes "folds") pair_in (λ p. p.0) ps (length front3)) whole3
-    ∙ list_in-at pair_in (λ p. p.0) pair_parts (λ p. p.0) (λ y. refl) pair_body (codes "folds") c.plan front3 (short_lines c) refl w.folds
-    (each pair_in-body c.plan (recursion_from_All (λ p. HasTextSerial p.0 × HasTextSerial p.1) c.plan within.folds)) w.folds_ascending (omega arith) in
-    let read_s : list_in (codes "short") id_in (λ id. id) (all_lines c) (length front4)
-    ≡ Ok (map id_parts c.short) = ap (λ ps. list_in (codes "short") id_in (λ id. id) ps (length front4)) whole4
-    ∙ list_in-at id_in (λ id. id) id_parts (λ id. id) (λ y. refl) id_text (codes "short") c.short front4 (codes "end" ∷ [] ∷ []) refl w.short
-    (each id_in-text c.short (recursion_from_All HasTextSerial c.short within.short)) (subst IsAscending (sym (map-id c.short)) w.short_ascending)
+    let read_o : list_in (codes "owned") (entry_in version) (λ x. x.id) (all_lines version c) (length front2)
+    ≡ Ok (map entry_parts O) = ap (λ ps. list_in (codes "owned") (entry_in version) (λ x. x.id) ps (length front2)) whole2
+    ∙ list_in-at (entry_in version) (λ x. x.id) entry_parts (λ x. x.id) (λ y. refl) entry_body (codes "owned") O front2 (fold_lines c) refl w.owned
+    (each_entry version named.classes O named.owned sets_o (recursion_from_All FitsClass O w.owned_fit)) up_o (omega arith) in
+    let read_f : list_in (codes "folds") (pair_in version) (λ p. p.0) (all_lines version c) (length front3)
+    ≡ Ok (map pair_parts c.plan) = ap (λ ps. list_in (codes "folds") (pair_in version) (λ p. p.0) ps (length front3)) whole3
+    ∙ list_in-at (pair_in version) (λ p. p.0) pair_parts (λ p. p.0) (λ y. refl) pair_body (codes "folds") c.plan front3 (short_lines c) refl w.folds
+    (each (pair_in-body version) c.plan named.folds) w.folds_ascending (omega arith) in
+    let read_s : list_in (codes "short") (id_in version) (λ id. id) (all_lines version c) (length front4)
+    ≡ Ok (map id_parts c.short) = ap (λ ps. list_in (codes "short") (id_in version) (λ id. id) ps (length front4)) whole4
+    ∙ list_in-at (id_in version) (λ id. id) id_parts (λ id. id) (λ y. refl) id_text (codes "short") c.short front4 (codes "end" ∷ [] ∷ []) refl w.short
+    (each (id_in-text version) c.short named.short) (subst IsAscending (sym (map-id c.short)) w.short_ascending)
     (omega arith) in
-    let read_end : line_in (fixed_in (codes "end")) (all_lines c) (length front5)
-    ≡ Ok tt = ap (λ ps. line_in (fixed_in (codes "end")) ps (length front5)) whole5
-    ∙ line_in-at (fixed_in (codes "end")) front5 (codes "end") ([] ∷ []) (omega arith) in
-    let size : length (all_lines c) ≡ length front5 + 1 + 1 = ap length whole6 ∙ n7 ∙ ap (λ n. n + 1) n6 in
-    let empty : get_or (all_lines c) (length front5 + 1) [] ≡ [] = (λ i. get_or (whole6 i) (sym n6 i) []) ∙ at-front (front5 ++ codes "end" ∷ []) [] [] [] in
-    let nothing : end_in (all_lines c) (length front5 + 1) ≡ Ok tt = rw (eq-eqb (length (all_lines c)) (length front5 + 1 + 1) size, empty) refl in
-    let opening : line_in version_in (all_lines c) 0 ≡ Ok Two = line_in-at version_in [] (codes "meshcert 2") (head_a ++ owned_lines c) (omega arith) in
-    ap (λ ps. at_line 0 (line_in version_in ps 0) >>= (λ version. body_in version ps)) (parts_of-text c w)
-    ∙ rw opening (
-    body_in-lists Two (all_lines c) (map entry_parts A) (map entry_parts O) (map pair_parts c.plan) (map id_parts c.short) (length front2) (length front3)
+    let read_end : line_in (last_in (is_wanted version (outline_of c))) (all_lines version c) (length front5)
+    ≡ Ok tt = ap (λ ps. line_in (last_in (is_wanted version (outline_of c))) ps (length front5)) whole5
+    ∙ line_in-at (last_in (is_wanted version (outline_of c))) front5 (codes "end") ([] ∷ []) (omega arith)
+    ∙ ap (λ wanted. last_in wanted (codes "end")) named.wanted in
+    let size : length (all_lines version c) ≡ length front5 + 1 + 1 = ap length whole6 ∙ n7 ∙ ap (λ n. n + 1) n6 in
+    let empty : get_or (all_lines version c) (length front5 + 1) [] ≡ [] = (λ i. get_or (whole6 i) (sym n6 i) []) ∙ at-front (front5 ++ codes "end" ∷ []) [] [] [] in
+    let nothing : end_in (all_lines version c) (length front5 + 1) ≡ Ok tt = rw (eq-eqb (length (all_lines version c)) (length front5 + 1 + 1) size, empty) refl in
+    body_in-lists version (all_lines version c) (map entry_parts A) (map entry_parts O) (map pair_parts c.plan) (map id_parts c.short) (length front2) (length front3)
     (length front4) (length front5) read_a read_o read_f read_s (omega arith) (omega arith) (omega arith) (omega arith)
-    ∙ rw (read_end, nothing) refl)
+    ∙ rw (read_end, nothing) refl
+
+-- what is written is read again
+pub certificate_in-text : (c : Certificate) → IsWritable c → IsNamed (version_of (outline_of c)) c → IsAscending (ids c.snapshot.abandoned) → IsAscending (ids c.snapshot.owned)
+    → AllByRecursion IsReadable c.snapshot.abandoned → AllByRecursion IsReadable c.snapshot.owned
+    → certificate_in (certificate_text c) ≡ Ok (outline_of c)
+unfolding certificate_in
+certificate_in-text c w named up_a up_o sets_a sets_o =
+    let version : Version = version_of (outline_of c) in
+    let more : List (List ℕ) = title_body (codes "abandoned") (length c.snapshot.abandoned) ∷ (map entry_body c.snapshot.abandoned ++ owned_lines c) in
+    let opening : line_in version_in (all_lines version c) 0 ≡ Ok version = line_in-at version_in [] (opening_of version) more (omega arith) ∙ named.opening in
+    ap (λ ps. at_line 0 (line_in version_in ps 0) >>= (λ version. body_in version ps)) (parts_of-text c w)
+    ∙ ap (λ r. at_line 0 r >>= (λ v. body_in v (all_lines version c))) opening
+    ∙ body_in-all_lines version c w named up_a up_o sets_a sets_o

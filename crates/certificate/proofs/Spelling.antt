@@ -3,39 +3,31 @@ use Rattle.std.proofs.Common.{ℕ, ◌+◌, ◌^◌, ◌<◌, ◌≤◌, ◌≡�
 use Rattle.std.specs.Char.{is_ascii_digit}
 use Rattle.std.specs.Fmt.{decimal}
 use Rattle.std.specs.List.{AllByRecursion, join_with_byte, list_all}
-use Rattle.std.specs.Prelude.{IfOk}
 use Rattle.std.specs.Str.{bytes_eq}
 use Rattle.std.specs.Str.Parse.{AllDigits, digits_value}
 use Rattle.std.proofs.lemmas.Bool.{and_parts, cases_Bool, false≢true, leb-true, ltb-true, or_cases}
 use Rattle.std.proofs.lemmas.Fmt.{decimal-digits_value}
-use Rattle.std.proofs.lemmas.List.{append_assoc, drop_more, length-drop, length-map, nil_from_length}
-use Rattle.std.proofs.lemmas.List.Elements.{All-from_recursion}
+use Rattle.std.proofs.lemmas.List.{append_assoc, drop_more, length-drop, nil_from_length}
 use Rattle.std.proofs.lemmas.List.Splits.{join_with_byte-slice_split}
 use Rattle.std.proofs.lemmas.Slice.Eq.{bytes_eq-Decides}
 use Rattle.std.proofs.lemmas.Str.Parse.{IsNumeralModel}
 use Rattle.bitmap.specs.HexText.{is_set_text}
 use Rattle.bitmap.specs.Slots.{SlotSet, set_text, slots_of_text}
 use Rattle.bitmap.proofs.HexText.{set_text-slots_of_text}
-use Rattle.span.specs.Texts.{id_text}
 use Rattle.span.specs.declared.class.Class.{Class}
 use Rattle.span.specs.declared.class.Class.TheVariants.{C16, C64, C256}
-use Rattle.span.specs.declared.entry.Entry.{Entry}
-use Rattle.span.specs.declared.limits.TheConstants.{MOST_SHARDS}
-use Rattle.certificate.specs.declared.certificate.Certificate.{Certificate}
+use Rattle.span.specs.declared.limits.TheConstants.{MOST_SHARDS, MOST_SPANS}
 use Rattle.certificate.specs.declared.text.cause.Cause.{Cause}
+use Rattle.certificate.specs.declared.text.cause.Cause.TheVariants as cause
 use Rattle.certificate.specs.declared.text.cause.Cause.TheVariants.{Cut, Form, Limit, Set, Tail}
-use Rattle.certificate.specs.declared.text.cause.ReadError.{ReadError}
-use Rattle.certificate.specs.declared.text.cause.ReadError.TheVariants.{BadCertificate, OutOfMemory}
 use Rattle.certificate.specs.declared.text.version.Version.{Version}
-use Rattle.certificate.specs.declared.text.version.Version.TheVariants.{One, Two}
-use Rattle.certificate.specs.declared.text.words.TheConstants.{TEXT_SPANS}
-use Rattle.certificate.specs.Grammar.{◌>>=◌, Id, Listed, Outline, Reads, at_line, body_in, both, certificate_in, class_in, class_of_number, count_in, count_of_number, count_of_words, end_in, entry_in, entry_of, entry_of_words, entry_parts, fixed_in, id_in, id_of_numbers, id_of_parts, id_parts, is_on_page, item_in, items_in, line_in, list_in, order_of, outline_of, pair_in, pair_of_words, pair_parts, set_in, version_in}
+use Rattle.certificate.specs.declared.text.version.Version.TheVariants.{One, Two, Three}
+use Rattle.certificate.specs.Grammar.{◌>>=◌, Id, Listed, Outline, at_line, body_in, both, class_in, class_of_number, closing_in, count_in, count_of_number, count_of_words, end_in, ending_in, entry_in, entry_of, entry_of_words, fixed_in, id_in, id_of_numbers, id_of_parts, is_on_page, is_wanted, item_in, items_in, last_in, line_in, list_in, order_of, pair_in, pair_of_words, set_in, spans_in}
 use Rattle.certificate.specs.Number.{is_numeral, number_in}
-use Rattle.certificate.specs.Text.{IsTextOf, IsWritable, certificate_text, class_text, classless_text}
+use Rattle.certificate.specs.Text.{class_text}
 use Rattle.certificate.specs.Words.{parts_of}
 use Rattle.certificate.proofs.Digits.{AllDigits-from_test}
-use Rattle.certificate.proofs.ReadAgain.{classless_body, entry_body, pair_body, title_body}
-use Rattle.certificate.proofs.Rereading.{lines_with, parts_of-classless_text, parts_of-text}
+use Rattle.certificate.proofs.ReadAgain.{title_body}
 use Rattle.mesh_graph.specs.declared.build.TheConstants.{MOST_GROUPS}
 
 -- ---- steps that were taken
@@ -48,11 +40,11 @@ pub >>=-ok : {A B E : Type 0} (r : Result A E) (next : A → Result B E) (b : B)
 pub said-once : {A E : Type 0} (r : Result A E) (a b : A) → Ok a ≡ r → r ≡ Ok b → a ≡ b
 said-once r a b first second = cc
 
-at_line-ok : {X : Type 0} (at : ℕ) (r : Result X Cause) (x : X) → at_line at r ≡ Ok x → r ≡ Ok x
+pub at_line-ok : {X : Type 0} (at : ℕ) (r : Result X Cause) (x : X) → at_line at r ≡ Ok x → r ≡ Ok x
 at_line-ok at (Ok y) x h = cc
 at_line-ok at (Err cause) x h = cc
 
-if-ok : {X E : Type 0} (b : Bool) (x y : X) (e : E) → cond b (Ok x) (Err e) ≡ Ok y → (b ≡ true) × (x ≡ y)
+pub if-ok : {X E : Type 0} (b : Bool) (x y : X) (e : E) → cond b (Ok x) (Err e) ≡ Ok y → (b ≡ true) × (x ≡ y)
 if-ok true x y e h = (refl, cc)
 if-ok false x y e h = cc
 
@@ -81,35 +73,43 @@ word-number word n h fits =
     sym (decimal-digits_value own_digits word (AllDigits-from_test word more.1) long lead (omega (arith, p.1))) ∙ ap decimal p.1
 
 -- an id by its numbers, written
-abbrev id_word : Id → List ℕ
+abbrev pub id_word : Id → List ℕ
 id_word i = decimal i.0 ++ codes "." ++ decimal i.1
 
-pub id_of_numbers-ok : (a b : Option ℕ) (i : Id) → id_of_numbers a b ≡ Ok i → (a ≡ Some i.0) × (b ≡ Some i.1) × (i.0 < MOST_SHARDS) × (i.1 < TEXT_SPANS)
-id_of_numbers-ok (Some a) (Some b) i h =
-    let p = if-ok (nat_lt a MOST_SHARDS && nat_lt b TEXT_SPANS) (a, b) i Limit h in
-    let both = and_parts (nat_lt a MOST_SHARDS) (nat_lt b TEXT_SPANS) p.0 in
+pub id_of_numbers-ok : (version : Version) (a b : Option ℕ) (i : Id) → id_of_numbers version a b ≡ Ok i
+    → (a ≡ Some i.0) × (b ≡ Some i.1) × (i.0 < MOST_SHARDS) × (i.1 < spans_in version)
+id_of_numbers-ok version (Some a) (Some b) i h =
+    let p = if-ok (nat_lt a MOST_SHARDS && nat_lt b (spans_in version)) (a, b) i Limit h in
+    let both = and_parts (nat_lt a MOST_SHARDS) (nat_lt b (spans_in version)) p.0 in
     let shard : a ≡ i.0 = ap (λ (x : Id). x.0) p.1 in
     let serial : b ≡ i.1 = ap (λ (x : Id). x.1) p.1 in
     let low : a < MOST_SHARDS = ltb-true a MOST_SHARDS both.0 in
-    let few : b < TEXT_SPANS = ltb-true b TEXT_SPANS both.1 in
-    (ap Some shard, ap Some serial, omega arith, omega arith)
-id_of_numbers-ok (Some a) None i h = cc
-id_of_numbers-ok None b i h = cc
+    let few : b < spans_in version = ltb-true b (spans_in version) both.1 in
+    (ap Some shard, ap Some serial, omega arith, subst (λ n. n < spans_in version) serial few)
+id_of_numbers-ok version (Some a) None i h = cc
+id_of_numbers-ok version None b i h = cc
 
-id_of_parts-ok : (parts : List (List ℕ)) (i : Id) → id_of_parts parts ≡ Ok i → parts ≡ decimal i.0 ∷ decimal i.1 ∷ []
-id_of_parts-ok [] i h = cc
-id_of_parts-ok (shard ∷ []) i h = cc
-id_of_parts-ok (shard ∷ serial ∷ []) i h =
-    let p = id_of_numbers-ok (number_in shard) (number_in serial) i h in
+-- no version names a serial that no span has
+pub spans_in-all : (version : Version) → spans_in version ≤ MOST_SPANS
+spans_in-all One = omega arith
+spans_in-all Two = omega arith
+spans_in-all Three = omega arith
+
+id_of_parts-ok : (version : Version) (parts : List (List ℕ)) (i : Id) → id_of_parts version parts ≡ Ok i → parts ≡ decimal i.0 ∷ decimal i.1 ∷ []
+id_of_parts-ok version [] i h = cc
+id_of_parts-ok version (shard ∷ []) i h = cc
+id_of_parts-ok version (shard ∷ serial ∷ []) i h =
+    let p = id_of_numbers-ok version (number_in shard) (number_in serial) i h in
+    let all = spans_in-all version in
     let first : shard ≡ decimal i.0 = word-number shard i.0 p.0 (omega (arith, p.2)) in
     let second : serial ≡ decimal i.1 = word-number serial i.1 p.1 (omega (arith, p.3)) in
     (λ k. first k ∷ second k ∷ [])
-id_of_parts-ok (shard ∷ serial ∷ more ∷ rest) i h = cc
+id_of_parts-ok version (shard ∷ serial ∷ more ∷ rest) i h = cc
 
-word-id : (word : List ℕ) (i : Id) → id_in word ≡ Ok i → word ≡ id_word i
-word-id word i h =
+word-id : (version : Version) (word : List ℕ) (i : Id) → id_in version word ≡ Ok i → word ≡ id_word i
+word-id version word i h =
     sym (join_with_byte-slice_split 46 word)
-    ∙ ap (join_with_byte 46) (id_of_parts-ok (parts_of 46 word) i h)
+    ∙ ap (join_with_byte 46) (id_of_parts-ok version (parts_of 46 word) i h)
     ∙ sym (append_assoc (decimal i.0) (codes ".") (decimal i.1))
 
 class_of_number-ok : (number : Option ℕ) (class : Class) → class_of_number number ≡ Ok class → number ≡ number_in (class_text class)
@@ -146,16 +146,17 @@ word-set class word slots h =
 -- ---- lines
 
 -- what parses is spelled so
-abbrev Spells : {X : Type 0} → (List ℕ → Result X Cause) → (X → List ℕ) → Type 0
+abbrev pub Spells : {X : Type 0} → (List ℕ → Result X Cause) → (X → List ℕ) → Type 0
 Spells {X} parse spelled = (line : List ℕ) (x : X) → parse line ≡ Ok x → line ≡ spelled x
 
 two_words : (line first second : List ℕ) → parts_of 32 line ≡ first ∷ second ∷ [] → line ≡ first ++ (codes " " ++ second)
 two_words line first second h = sym (join_with_byte-slice_split 32 line) ∙ ap (join_with_byte 32) h
 
 -- a group's line in each version
-abbrev entry_words : Version → Listed → List ℕ
+abbrev pub entry_words : Version → Listed → List ℕ
 entry_words One x = id_word x.id ++ (codes " " ++ set_text x.occupied)
 entry_words Two x = id_word x.id ++ (codes " " ++ (class_text x.class ++ (codes " " ++ set_text x.occupied)))
+entry_words Three x = id_word x.id ++ (codes " " ++ (class_text x.class ++ (codes " " ++ set_text x.occupied)))
 
 three_words : (line first second third : List ℕ) → parts_of 32 line ≡ first ∷ second ∷ third ∷ [] → line ≡ first ++ (codes " " ++ (second ++ (codes " " ++ third)))
 three_words line first second third h = sym (join_with_byte-slice_split 32 line) ∙ ap (join_with_byte 32) h
@@ -187,48 +188,56 @@ entry_in-spells version line x h = spelled version (parts_of 32 line) refl h
     spelled One [] e h = cc
     spelled One (id ∷ []) e h = cc
     spelled One (id ∷ set ∷ []) e h =
-        let p = entry_of-ok (id_in id) (Ok C16) set x h in
-        two_words line (id_word x.id) (set_text x.occupied) (e ∙ (λ k. word-id id x.id p.0 k ∷ p.2 k ∷ []))
+        let p = entry_of-ok (id_in One id) (Ok C16) set x h in
+        two_words line (id_word x.id) (set_text x.occupied) (e ∙ (λ k. word-id One id x.id p.0 k ∷ p.2 k ∷ []))
     spelled One (id ∷ set ∷ more ∷ rest) e h = cc
     spelled Two [] e h = cc
     spelled Two (id ∷ []) e h = cc
     spelled Two (id ∷ class ∷ []) e h = cc
     spelled Two (id ∷ class ∷ set ∷ []) e h =
-        let p = entry_of-ok (id_in id) (class_in class) set x h in
-        three_words line (id_word x.id) (class_text x.class) (set_text x.occupied) (e ∙ (λ k. word-id id x.id p.0 k ∷ word-class class x.class p.1 k ∷ p.2 k ∷ []))
+        let p = entry_of-ok (id_in Two id) (class_in class) set x h in
+        three_words line (id_word x.id) (class_text x.class) (set_text x.occupied) (e ∙ (λ k. word-id Two id x.id p.0 k ∷ word-class class x.class p.1 k ∷ p.2 k ∷ []))
     spelled Two (id ∷ class ∷ set ∷ more ∷ rest) e h = cc
+    spelled Three [] e h = cc
+    spelled Three (id ∷ []) e h = cc
+    spelled Three (id ∷ class ∷ []) e h = cc
+    spelled Three (id ∷ class ∷ set ∷ []) e h =
+        let p = entry_of-ok (id_in Three id) (class_in class) set x h in
+        three_words line (id_word x.id) (class_text x.class) (set_text x.occupied) (e ∙ (λ k. word-id Three id x.id p.0 k ∷ word-class class x.class p.1 k ∷ p.2 k ∷ []))
+    spelled Three (id ∷ class ∷ set ∷ more ∷ rest) e h = cc
 
 -- in version 1 a group is of 16 bytes a slot
-abbrev IsOfVersion : Version → Listed → Type 0
+abbrev pub IsOfVersion : Version → Listed → Type 0
 IsOfVersion version x = version ≡ One → x.class ≡ C16
 
 entry_in-version : (version : Version) (line : List ℕ) (x : Listed) → entry_in version line ≡ Ok x → IsOfVersion version x
 entry_in-version Two line x h is = cc
+entry_in-version Three line x h is = cc
 entry_in-version One line x h is = named (parts_of 32 line) h
   where
     named : (words : List (List ℕ)) → entry_of_words One words ≡ Ok x → x.class ≡ C16
     named [] h = cc
     named (id ∷ []) h = cc
-    named (id ∷ set ∷ []) h = let p = entry_of-ok (id_in id) (Ok C16) set x h in cc p.1
+    named (id ∷ set ∷ []) h = let p = entry_of-ok (id_in One id) (Ok C16) set x h in cc p.1
     named (id ∷ set ∷ more ∷ rest) h = cc
 
-abbrev pair_words : Id × Id → List ℕ
+abbrev pub pair_words : Id × Id → List ℕ
 pair_words p = id_word p.0 ++ (codes " " ++ id_word p.1)
 
-pair_of_words-ok : (words : List (List ℕ)) (p : Id × Id) → pair_of_words words ≡ Ok p → words ≡ id_word p.0 ∷ id_word p.1 ∷ []
-pair_of_words-ok [] p h = cc
-pair_of_words-ok (a ∷ []) p h = cc
-pair_of_words-ok (a ∷ b ∷ []) p h =
-    let q = both-ok (id_in a) (id_in b) p h in
-    let first : a ≡ id_word p.0 = word-id a p.0 q.0 in
-    let second : b ≡ id_word p.1 = word-id b p.1 q.1 in
+pair_of_words-ok : (version : Version) (words : List (List ℕ)) (p : Id × Id) → pair_of_words version words ≡ Ok p → words ≡ id_word p.0 ∷ id_word p.1 ∷ []
+pair_of_words-ok version [] p h = cc
+pair_of_words-ok version (a ∷ []) p h = cc
+pair_of_words-ok version (a ∷ b ∷ []) p h =
+    let q = both-ok (id_in version a) (id_in version b) p h in
+    let first : a ≡ id_word p.0 = word-id version a p.0 q.0 in
+    let second : b ≡ id_word p.1 = word-id version b p.1 q.1 in
     (λ k. first k ∷ second k ∷ [])
-pair_of_words-ok (a ∷ b ∷ more ∷ rest) p h = cc
+pair_of_words-ok version (a ∷ b ∷ more ∷ rest) p h = cc
 
-pair_in-spells : Spells pair_in pair_words
-pair_in-spells line p h = two_words line (id_word p.0) (id_word p.1) (pair_of_words-ok (parts_of 32 line) p h)
+pair_in-spells : (version : Version) → Spells (pair_in version) pair_words
+pair_in-spells version line p h = two_words line (id_word p.0) (id_word p.1) (pair_of_words-ok version (parts_of 32 line) p h)
 
-same_bytes : (xs ys : List ℕ) → bytes_eq xs ys ≡ true → xs ≡ ys
+pub same_bytes : (xs ys : List ℕ) → bytes_eq xs ys ≡ true → xs ≡ ys
 same_bytes xs ys h = (bytes_eq-Decides xs ys).0 h
 
 count_of_number-ok : (number : Option ℕ) (n : ℕ) → count_of_number number ≡ Ok n → (number ≡ Some n) × (n ≤ MOST_GROUPS)
@@ -255,8 +264,16 @@ count_of_words-ok title (word ∷ number ∷ more ∷ rest) n h = cc
 count_in-spells : (title : List ℕ) → Spells (count_in title) (title_body title)
 count_in-spells title line n h = two_words line title (decimal n) (count_of_words-ok title (parts_of 32 line) n h)
 
-fixed_in-spells : (bytes : List ℕ) → Spells (fixed_in bytes) (λ done. bytes)
-fixed_in-spells bytes line done h = same_bytes line bytes (if-ok (bytes_eq line bytes) tt done Form h).0
+-- the last line is one word, of a text whose version is wanted
+last_in-ok : (wanted : Bool) (line : List ℕ) (done : Unit {0}) → last_in wanted line ≡ Ok done → (line ≡ codes "end") × (wanted ≡ true)
+last_in-ok wanted line done h =
+    let p = >>=-ok (fixed_in (codes "end") line) (λ fine. cond wanted (Ok tt) (Err cause.Version)) done h in (
+      same_bytes line (codes "end") (if-ok (bytes_eq line (codes "end")) tt p.0 Form p.1).0,
+      (if-ok wanted tt done cause.Version p.2).0,
+    )
+
+last_in-spells : (wanted : Bool) → Spells (last_in wanted) (λ done. codes "end")
+last_in-spells wanted line done h = (last_in-ok wanted line done h).0
 
 -- ---- lines at their places
 
@@ -268,7 +285,7 @@ line_in-ok parse parts at x h = elim (nat_lt (at + 1) (length parts)) as (λ b. 
     ] refl h
 
 -- a line that was read stands first of those that were left
-line_in-spells : {X : Type 0} (parse : List ℕ → Result X Cause) (spelled : X → List ℕ) (parts : List (List ℕ)) (at : ℕ) (x : X) → Spells parse spelled
+pub line_in-spells : {X : Type 0} (parse : List ℕ → Result X Cause) (spelled : X → List ℕ) (parts : List (List ℕ)) (at : ℕ) (x : X) → Spells parse spelled
     → at_line at (line_in parse parts at) ≡ Ok x → drop at parts ≡ spelled x ∷ drop (at + 1) parts
 line_in-spells parse spelled parts at x spells h =
     let p = line_in-ok parse parts at x (at_line-ok at (line_in parse parts at) x h) in
@@ -350,7 +367,7 @@ end_in-ok parts at done h =
 -- ---- certificates
 
 -- the lines of what a certificate says, below the first
-abbrev outline_lines : Version → Outline → List (List ℕ)
+abbrev pub outline_lines : Version → Outline → List (List ℕ)
 outline_lines version o =
     title_body (codes "abandoned") (length o.abandoned) ∷ (map (entry_words version) o.abandoned
     ++ title_body (codes "owned") (length o.owned) ∷ (map (entry_words version) o.owned
@@ -367,19 +384,39 @@ fourth_place a o f = omega arith
 fifth_place : (a o f s : ℕ) → 4 + a + o + f + 1 + s ≡ 5 + a + o + f + s
 fifth_place a o f s = omega arith
 
-sixth_place : (a o f s : ℕ) → 5 + a + o + f + s + 1 ≡ 6 + a + o + f + s
-sixth_place a o f s = omega arith
+-- the text ends at the place
+record IsEnding (version : Version) (said : Outline) (parts : List (List ℕ)) (at : ℕ) (o : Outline) : Type 0 where
+  lines : drop at parts ≡ codes "end" ∷ [] ∷ []
+  wanted : is_wanted version said ≡ true
+  same : said ≡ o
 
-body_in-spells : (version : Version) (parts : List (List ℕ)) (o : Outline) → body_in version parts ≡ Ok o
-    → (drop 1 parts ≡ outline_lines version o) × AllByRecursion (IsOfVersion version) o.abandoned × AllByRecursion (IsOfVersion version) o.owned
+ending_in-ok : (version : Version) (said : Outline) (parts : List (List ℕ)) (at : ℕ) (o : Outline) → ending_in version said parts at ≡ Ok o → IsEnding version said parts at o
+ending_in-ok version said parts at o h =
+    let wanted : Bool = is_wanted version said in
+    let c = >>=-ok (closing_in wanted parts at) (λ done. Ok said) o h in
+    let e = >>=-ok (at_line at (line_in (last_in wanted) parts at)) (λ ended. at_line (at + 1) (end_in parts (at + 1))) c.0 c.1 in
+    let last = line_in-ok (last_in wanted) parts at e.0 (at_line-ok at (line_in (last_in wanted) parts at) e.0 e.1) in
+    record {
+      lines = line_in-spells (last_in wanted) (λ done. codes "end") parts at e.0 (last_in-spells wanted) e.1
+          ∙ ap (λ ps. codes "end" ∷ ps) (end_in-ok parts (at + 1) c.0 e.2);
+      wanted = (last_in-ok wanted (get_or parts at []) e.0 last.1).1;
+      same = said-once _ _ _ refl c.2;
+    }
+
+pub ending_in-same : (version : Version) (said : Outline) (parts : List (List ℕ)) (at : ℕ) (o : Outline) → ending_in version said parts at ≡ Ok o → said ≡ o
+ending_in-same version said parts at o h = (ending_in-ok version said parts at o h).same
+
+pub body_in-spells : (version : Version) (parts : List (List ℕ)) (o : Outline) → body_in version parts ≡ Ok o
+    → (drop 1 parts ≡ outline_lines version o) × AllByRecursion (IsOfVersion version) o.abandoned × AllByRecursion (IsOfVersion version) o.owned × (is_wanted version o ≡ true)
 body_in-spells version parts o h =
     let a = >>=-ok _ _ o h in
     let w = >>=-ok _ _ o a.2 in
     let f = >>=-ok _ _ o w.2 in
     let s = >>=-ok _ _ o f.2 in
-    let e = >>=-ok _ _ o s.2 in
-    let d = >>=-ok _ _ o e.2 in
-    let same : record { abandoned = a.0; owned = w.0; folds = f.0; short = s.0 } ≡ o = said-once _ _ _ refl d.2 in
+    let said : Outline = record { abandoned = a.0; owned = w.0; folds = f.0; short = s.0 } in
+    let at : ℕ = 5 + length a.0 + length w.0 + length f.0 + length s.0 in
+    let e = ending_in-ok version said parts at o s.2 in
+    let same : said ≡ o = e.same in
     let second : ℕ = 2 + length a.0 in
     let third : ℕ = 3 + length a.0 + length w.0 in
     let fourth : ℕ = 4 + length a.0 + length w.0 + length f.0 in
@@ -387,15 +424,12 @@ body_in-spells version parts o h =
     let to_third : second + 1 + length w.0 ≡ third = third_place (length a.0) (length w.0) in
     let to_fourth : third + 1 + length f.0 ≡ fourth = fourth_place (length a.0) (length w.0) (length f.0) in
     let to_fifth : fourth + 1 + length s.0 ≡ fifth = fifth_place (length a.0) (length w.0) (length f.0) (length s.0) in
-    let to_sixth : fifth + 1 ≡ 6 + length a.0 + length w.0 + length f.0 + length s.0 = sixth_place (length a.0) (length w.0) (length f.0) (length s.0) in
-    let ends : drop fifth parts ≡ codes "end" ∷ [] ∷ [] =
-    line_in-spells (fixed_in (codes "end")) (λ done. codes "end") parts fifth e.0 (fixed_in-spells (codes "end")) e.1
-    ∙ ap (λ ps. codes "end" ∷ ps) (ap (λ at. drop at parts) to_sixth ∙ end_in-ok parts _ d.0 d.1) in
+    let ends : drop fifth parts ≡ codes "end" ∷ [] ∷ [] = e.lines in
     let shorts : drop fourth parts ≡ title_body (codes "short") (length s.0) ∷ (map id_word s.0 ++ codes "end" ∷ [] ∷ []) =
-    list_in-spells id_in id_word (λ id. id) word-id parts (codes "short") fourth s.0 s.1
+    list_in-spells (id_in version) id_word (λ id. id) (word-id version) parts (codes "short") fourth s.0 s.1
     ∙ ap (λ ps. title_body (codes "short") (length s.0) ∷ (map id_word s.0 ++ ps)) (ap (λ at. drop at parts) to_fifth ∙ ends) in
     let folds : drop third parts ≡ title_body (codes "folds") (length f.0) ∷ (map pair_words f.0 ++ title_body (codes "short") (length s.0) ∷ (map id_word s.0 ++ codes "end" ∷ [] ∷ [])) =
-    list_in-spells pair_in pair_words (λ p. p.0) pair_in-spells parts (codes "folds") third f.0 f.1
+    list_in-spells (pair_in version) pair_words (λ p. p.0) (pair_in-spells version) parts (codes "folds") third f.0 f.1
     ∙ ap (λ ps. title_body (codes "folds") (length f.0) ∷ (map pair_words f.0 ++ ps)) (ap (λ at. drop at parts) to_fourth ∙ shorts) in (
       list_in-spells (entry_in version) (entry_words version) (λ x. x.id) (entry_in-spells version) parts (codes "abandoned") 1 a.0 a.1
           ∙ ap (λ ps. title_body (codes "abandoned") (length a.0) ∷ (map (entry_words version) a.0 ++ ps)) (
@@ -406,73 +440,5 @@ body_in-spells version parts o h =
           (list_in-have (entry_in version) (λ x. x.id) (IsOfVersion version) (entry_in-version version) parts (codes "abandoned") 1 a.0 a.1),
       subst (λ (o : Outline). AllByRecursion (IsOfVersion version) o.owned) same
           (list_in-have (entry_in version) (λ x. x.id) (IsOfVersion version) (entry_in-version version) parts (codes "owned") second w.0 w.1),
+      subst (λ (o : Outline). is_wanted version o ≡ true) same e.wanted,
     )
-
--- the first line of a version
-abbrev opening_of : Version → List ℕ
-opening_of One = codes "meshcert 1"
-opening_of Two = codes "meshcert 2"
-
-version_in-spells : Spells version_in opening_of
-version_in-spells line version h = elim (bytes_eq line (codes "meshcert 1")) as (λ b. bytes_eq line (codes "meshcert 1") ≡ b
-    → cond b (Ok One) (cond (bytes_eq line (codes "meshcert 2")) (Ok Two) (Err Form)) ≡ Ok version → line ≡ opening_of version) [
-      | true ↦ λ first said.
-          let named : One ≡ version = cc said in
-          same_bytes line (codes "meshcert 1") first ∙ ap opening_of named
-      | false ↦ λ first said.
-          let p = if-ok (bytes_eq line (codes "meshcert 2")) Two version Form said in
-          same_bytes line (codes "meshcert 2") p.0 ∙ ap opening_of p.1
-    ] refl h
-
-same_map : {X Y Z : Type 0} (g : Y → Z) (f : X → Y) (xs : List X) → map g (map f xs) ≡ map (λ x. g (f x)) xs
-same_map g f [] = refl
-same_map g f (x ∷ xs) = ap (λ ys. g (f x) ∷ ys) (same_map g f xs)
-
-classes-version : (xs : List Entry) → AllByRecursion (IsOfVersion One) (map entry_parts xs) → AllByRecursion (λ (x : Entry). x.class ≡ C16) xs
-classes-version [] h = tt
-classes-version (x ∷ xs) h = (h.0 refl, classes-version xs h.1)
-
--- the lines that are said are those that are written
-outline_lines-outline_of : (version : Version) (body : Entry → List ℕ) → ((x : Entry) → entry_words version (entry_parts x) ≡ body x) → (c : Certificate)
-    → opening_of version ∷ outline_lines version (outline_of c) ≡ lines_with (opening_of version) body c
-outline_lines-outline_of version body same c =
-    let A = c.snapshot.abandoned in
-    let O = c.snapshot.owned in
-    let bodies : (xs : List Entry) → map (entry_words version) (map entry_parts xs) ≡ map body xs = λ xs. same_map (entry_words version) entry_parts xs ∙ (λ k. map (λ x. same x k) xs) in
-    let a : map (entry_words version) (map entry_parts A) ≡ map body A = bodies A in
-    let o : map (entry_words version) (map entry_parts O) ≡ map body O = bodies O in
-    let f : map pair_words (map pair_parts c.plan) ≡ map pair_body c.plan = same_map pair_words pair_parts c.plan in
-    let s : map id_word (map id_parts c.short) ≡ map id_text c.short = same_map id_word id_parts c.short in
-    (λ k. opening_of version
-    ∷ title_body (codes "abandoned") (length-map A entry_parts k) ∷ (a k
-    ++ title_body (codes "owned") (length-map O entry_parts k) ∷ (o k
-    ++ title_body (codes "folds") (length-map c.plan pair_parts k) ∷ (f k
-    ++ title_body (codes "short") (length-map c.short id_parts k) ∷ (s k
-    ++ codes "end" ∷ [] ∷ [])))))
-
--- a text of which all lines are those of another is that text
-same_text : (text other : List ℕ) → parts_of 10 text ≡ parts_of 10 other → text ≡ other
-same_text text other same = sym (join_with_byte-slice_split 10 text) ∙ ap (join_with_byte 10) same ∙ join_with_byte-slice_split 10 other
-
--- an accepted text is a text of what was read
-pub IsTextOf-certificate_in : (c : Certificate) (text : List ℕ) → IsWritable c → certificate_in text ≡ Ok (outline_of c) → IsTextOf c text
-unfolding certificate_in
-IsTextOf-certificate_in c text w h =
-    let p = >>=-ok (at_line 0 (line_in version_in (parts_of 10 text) 0)) (λ version. body_in version (parts_of 10 text)) (outline_of c) h in
-    let body = body_in-spells p.0 (parts_of 10 text) (outline_of c) p.2 in
-    named p.0 (line_in-spells version_in opening_of (parts_of 10 text) 0 p.0 version_in-spells p.1 ∙ ap (λ ps. opening_of p.0 ∷ ps) body.0) body.1 body.2
-  where
-    named : (version : Version) → parts_of 10 text ≡ opening_of version ∷ outline_lines version (outline_of c) → AllByRecursion (IsOfVersion version) (map entry_parts c.snapshot.abandoned)
-        → AllByRecursion (IsOfVersion version) (map entry_parts c.snapshot.owned) → IsTextOf c text
-    named One lines abandoned owned = inr (
-      same_text text (classless_text c) (lines ∙ outline_lines-outline_of One classless_body (λ x. refl) c ∙ sym (parts_of-classless_text c w)),
-      All-from_recursion (λ (x : Entry). x.class ≡ C16) c.snapshot.abandoned (classes-version c.snapshot.abandoned abandoned),
-      All-from_recursion (λ (x : Entry). x.class ≡ C16) c.snapshot.owned (classes-version c.snapshot.owned owned),
-    )
-    named Two lines abandoned owned = inl (same_text text (certificate_text c) (lines ∙ outline_lines-outline_of Two entry_body (λ x. refl) c ∙ sym (parts_of-text c w)))
-
--- the same, of whatever reading answered
-pub IsTextOf-Reads : (answer : Result Certificate ReadError) (text : List ℕ) → Reads outline_of answer (certificate_in text) → IfOk answer IsWritable → IfOk answer (λ c. IsTextOf c text)
-IsTextOf-Reads (Ok c) text said writable = IsTextOf-certificate_in c text writable said
-IsTextOf-Reads (Err OutOfMemory) text said writable = tt
-IsTextOf-Reads (Err (BadCertificate line cause)) text said writable = tt

@@ -1,7 +1,7 @@
 -- The causes for which a line is at fault.
 use Rattle.std.specs.Prelude.{ℕ, List, codes}
 use Rattle.certificate.specs.declared.text.cause.Cause.{Cause}
-use Rattle.certificate.specs.declared.text.cause.Cause.TheVariants.{Cut, Form, Limit, Set, Order, Tail}
+use Rattle.certificate.specs.declared.text.cause.Cause.TheVariants.{Cut, Form, Limit, Set, Order, Version, Tail}
 
 -- the word that a refusal says
 abbrev pub word_of : Cause → List ℕ
@@ -10,4 +10,5 @@ word_of Form = codes "form"
 word_of Limit = codes "limit"
 word_of Set = codes "set"
 word_of Order = codes "order"
+word_of Version = codes "version"
 word_of Tail = codes "tail"

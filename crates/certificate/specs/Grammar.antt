@@ -1,7 +1,8 @@
--- The texts that are certificates of version 1 or 2, line by line; and, of another text, the first line at fault and its first cause. A
--- text is what its line feeds (10) part, so that a line stands whole where a part follows it.
-use Rattle.std.specs.Prelude.{◌+◌, ◌*◌, ◌&&◌, ◌<◌, ◌≡◌, ℕ, Bool, nat_eq, nat_lt, nat_le, List, [], ◌∷◌, length, map, Option, Some, None, Result, Ok, Err, slice_index_or, codes, zero, suc, if◌then◌else◌}
-use Rattle.std.specs.List.{list_all}
+-- The texts that are certificates of version 1, 2 or 3, line by line; and, of another text, the
+-- first line at fault and its first cause. A text is what its line feeds (10) part, so that a line
+-- stands whole if a part follows it.
+use Rattle.std.specs.Prelude.{◌+◌, ◌*◌, ◌&&◌, ◌||◌, ◌<◌, ◌≡◌, ℕ, Bool, true, nat_eq, nat_lt, nat_le, List, [], ◌∷◌, length, map, Option, Some, None, Result, Ok, Err, slice_index_or, codes, zero, suc, if◌then◌else◌}
+use Rattle.std.specs.List.{list_all, list_any}
 use Rattle.std.specs.Str.{bytes_eq}
 use Rattle.bitmap.specs.HexText.{is_set_text}
 use Rattle.bitmap.specs.Slots.{SlotSet, ascending, slots_of_text}
@@ -14,12 +15,13 @@ use Rattle.span.specs.declared.entry.Entry.{Entry}
 use Rattle.certificate.specs.Number.{number_in}
 use Rattle.certificate.specs.Words.{parts_of}
 use Rattle.certificate.specs.declared.text.cause.Cause.{Cause}
+use Rattle.certificate.specs.declared.text.cause.Cause.TheVariants as cause
 use Rattle.certificate.specs.declared.text.cause.Cause.TheVariants.{Cut, Form, Limit, Set, Order, Tail}
 use Rattle.certificate.specs.declared.text.cause.ReadError.{ReadError}
 use Rattle.certificate.specs.declared.text.cause.ReadError.TheVariants.{BadCertificate, OutOfMemory}
 use Rattle.certificate.specs.declared.text.version.Version.{Version}
-use Rattle.certificate.specs.declared.text.version.Version.TheVariants.{One, Two}
-use Rattle.certificate.specs.declared.text.words.TheConstants.{TEXT_SPANS}
+use Rattle.certificate.specs.declared.text.version.Version.TheVariants.{One, Two, Three}
+use Rattle.certificate.specs.declared.text.version.TheConstants.{TEXT_SPANS}
 use Rattle.certificate.specs.declared.certificate.Certificate.{Certificate}
 use Rattle.mesh_graph.specs.declared.build.TheConstants.{MOST_GROUPS}
 use Rattle.span.specs.declared.limits.TheConstants.{MOST_SHARDS, MOST_SPANS}
@@ -40,19 +42,26 @@ Id = ℕ × ℕ
 abbrev pub comes_before : Id → Id → Bool
 comes_before a b = nat_lt (MOST_SPANS * a.0 + a.1) (MOST_SPANS * b.0 + b.1)
 
--- two numbers as an id; a text names few serials, whatever serials there are
-abbrev pub id_of_numbers : Option ℕ → Option ℕ → Result Id Cause
-id_of_numbers (Some shard) (Some serial) = if nat_lt shard MOST_SHARDS && nat_lt serial TEXT_SPANS then Ok (shard, serial) else Err Limit
-id_of_numbers (Some shard) None = Err Form
-id_of_numbers None serial = Err Form
+-- a serial in a text of the version is below this
+abbrev pub spans_in : Version → ℕ
+spans_in One = TEXT_SPANS
+spans_in Two = TEXT_SPANS
+spans_in Three = MOST_SPANS
 
-abbrev pub id_of_parts : List (List ℕ) → Result Id Cause
-id_of_parts (shard ∷ serial ∷ []) = id_of_numbers (number_in shard) (number_in serial)
-id_of_parts _ = Err Form
+-- two numbers as an id
+abbrev pub id_of_numbers : Version → Option ℕ → Option ℕ → Result Id Cause
+id_of_numbers version (Some shard) (Some serial) =
+    if nat_lt shard MOST_SHARDS && nat_lt serial (spans_in version) then Ok (shard, serial) else Err Limit
+id_of_numbers version (Some shard) None = Err Form
+id_of_numbers version None serial = Err Form
+
+abbrev pub id_of_parts : Version → List (List ℕ) → Result Id Cause
+id_of_parts version (shard ∷ serial ∷ []) = id_of_numbers version (number_in shard) (number_in serial)
+id_of_parts version _ = Err Form
 
 -- a word as an id: a shard, a full stop (46) and a serial
-abbrev pub id_in : List ℕ → Result Id Cause
-id_in word = id_of_parts (parts_of 46 word)
+abbrev pub id_in : Version → List ℕ → Result Id Cause
+id_in version word = id_of_parts version (parts_of 46 word)
 
 -- a number as a class, by the bytes of a slot
 abbrev pub class_of_number : Option ℕ → Result Class Cause
@@ -80,9 +89,18 @@ both _ _ = Err Limit
 
 -- ---- lines, by the words that spaces (32) part
 
+-- the first line of a version
+abbrev pub opening_of : Version → List ℕ
+opening_of One = codes "meshcert 1"
+opening_of Two = codes "meshcert 2"
+opening_of Three = codes "meshcert 3"
+
 -- the first line, which names the version
 abbrev pub version_in : List ℕ → Result Version Cause
-version_in line = if bytes_eq line (codes "meshcert 1") then Ok One else if bytes_eq line (codes "meshcert 2") then Ok Two else Err Form
+version_in line =
+    if bytes_eq line (opening_of One) then Ok One
+    else if bytes_eq line (opening_of Two) then Ok Two
+    else if bytes_eq line (opening_of Three) then Ok Three else Err Form
 
 -- a group of a side
 pub record Listed : Type 0 where
@@ -96,20 +114,21 @@ entry_of id class set = both id class >>= (λ named. set_in named.1 set >>= (λ 
 
 -- a group: its id, its class and its set; in version 1 it has no class, and is of 16 bytes a slot
 abbrev pub entry_of_words : Version → List (List ℕ) → Result Listed Cause
-entry_of_words One (id ∷ set ∷ []) = entry_of (id_in id) (Ok C16) set
-entry_of_words Two (id ∷ class ∷ set ∷ []) = entry_of (id_in id) (class_in class) set
+entry_of_words One (id ∷ set ∷ []) = entry_of (id_in One id) (Ok C16) set
+entry_of_words Two (id ∷ class ∷ set ∷ []) = entry_of (id_in Two id) (class_in class) set
+entry_of_words Three (id ∷ class ∷ set ∷ []) = entry_of (id_in Three id) (class_in class) set
 entry_of_words version _ = Err Form
 
 abbrev pub entry_in : Version → List ℕ → Result Listed Cause
 entry_in version line = entry_of_words version (parts_of 32 line)
 
 -- a fold: an abandoned id and an owned one
-abbrev pub pair_of_words : List (List ℕ) → Result (Id × Id) Cause
-pair_of_words (abandoned ∷ owned ∷ []) = both (id_in abandoned) (id_in owned)
-pair_of_words _ = Err Form
+abbrev pub pair_of_words : Version → List (List ℕ) → Result (Id × Id) Cause
+pair_of_words version (abandoned ∷ owned ∷ []) = both (id_in version abandoned) (id_in version owned)
+pair_of_words version _ = Err Form
 
-abbrev pub pair_in : List ℕ → Result (Id × Id) Cause
-pair_in line = pair_of_words (parts_of 32 line)
+abbrev pub pair_in : Version → List ℕ → Result (Id × Id) Cause
+pair_in version line = pair_of_words version (parts_of 32 line)
 
 -- how many lines follow, at most 4,096
 abbrev pub count_of_number : Option ℕ → Result ℕ Cause
@@ -175,16 +194,47 @@ pub record Outline : Type 0 where
   pub folds : List (Id × Id)
   pub short : List Id
 
+-- a serial that versions 1 and 2 do not name
+abbrev pub is_large : Id → Bool
+is_large id = nat_le TEXT_SPANS id.1
+
+-- some id has such a serial
+abbrev pub names_large : Outline → Bool
+names_large o =
+    list_any (λ x. is_large x.id) o.abandoned || (list_any (λ x. is_large x.id) o.owned
+    || (list_any (λ p. is_large p.0 || is_large p.1) o.folds || list_any is_large o.short))
+
+-- the version of the text that is written: version 3 says what version 2 cannot
+abbrev pub version_of : Outline → Version
+version_of o = if names_large o then Three else Two
+
+-- a text of version 3 says what version 2 cannot, so one of them alone has a text for it
+abbrev pub is_wanted : Version → Outline → Bool
+is_wanted One o = true
+is_wanted Two o = true
+is_wanted Three o = names_large o
+
+-- the last line, of a text whose version is wanted or not
+abbrev pub last_in : Bool → List ℕ → Result (Unit {0}) Cause
+last_in wanted line = fixed_in (codes "end") line >>= (λ fine. if wanted then Ok tt else Err cause.Version)
+
+-- the last line at the place, and nothing behind it
+abbrev pub closing_in : Bool → List (List ℕ) → ℕ → Result (Unit {0}) ReadError
+closing_in wanted parts at =
+    at_line at (line_in (last_in wanted) parts at) >>= (λ ended. at_line (at + 1) (end_in parts (at + 1)))
+
+-- what the lists say, if the text ends at the place
+abbrev pub ending_in : Version → Outline → List (List ℕ) → ℕ → Result Outline ReadError
+ending_in version o parts at = closing_in (is_wanted version o) parts at >>= (λ done. Ok o)
+
 -- the lists and the last line, below the first line
 abbrev pub body_in : Version → List (List ℕ) → Result Outline ReadError
 body_in version parts = do
   abandoned ← list_in (codes "abandoned") (entry_in version) (λ x. x.id) parts 1
   owned ← list_in (codes "owned") (entry_in version) (λ x. x.id) parts (2 + length abandoned)
-  folds ← list_in (codes "folds") pair_in (λ p. p.0) parts (3 + length abandoned + length owned)
-  short ← list_in (codes "short") id_in (λ id. id) parts (4 + length abandoned + length owned + length folds)
-  ended ← at_line (5 + length abandoned + length owned + length folds + length short) (line_in (fixed_in (codes "end")) parts (5 + length abandoned + length owned + length folds + length short))
-  done ← at_line (6 + length abandoned + length owned + length folds + length short) (end_in parts (6 + length abandoned + length owned + length folds + length short))
-  Ok (record { abandoned = abandoned; owned = owned; folds = folds; short = short })
+  folds ← list_in (codes "folds") (pair_in version) (λ p. p.0) parts (3 + length abandoned + length owned)
+  short ← list_in (codes "short") (id_in version) (λ id. id) parts (4 + length abandoned + length owned + length folds)
+  ending_in version (record { abandoned = abandoned; owned = owned; folds = folds; short = short }) parts (5 + length abandoned + length owned + length folds + length short)
 
 -- what the text says, where it is a certificate, or else its first line at fault and that line's first cause
 unfoldable pub certificate_in : List ℕ → Result Outline ReadError

@@ -1,5 +1,5 @@
--- A certificate as text: the one that is written, and the one of version 1.
-use Rattle.std.specs.Prelude.{ℕ, ◌≡◌, ◌<◌, ◌≤◌, ◌⊎◌, List, [], ◌∷◌, ◌++◌, length, map, codes, decimal}
+-- A certificate as text: the one that is written, in version 2 or 3, and the one of version 1.
+use Rattle.std.specs.Prelude.{ℕ, ◌≡◌, ◌≤◌, ◌⊎◌, false, List, [], ◌∷◌, ◌++◌, length, map, codes, decimal}
 use Rattle.std.specs.List.{All}
 use Rattle.bitmap.specs.Slots.{IsBelow, set_text, slots_of_text}
 use Rattle.span.specs.Classes.{slots_in}
@@ -11,7 +11,9 @@ use Rattle.span.specs.declared.entry.Entry.{Entry}
 use Rattle.mesh_graph.specs.Groups.{IsAscending}
 use Rattle.certificate.specs.declared.certificate.Certificate.{Certificate}
 use Rattle.mesh_graph.specs.declared.build.TheConstants.{MOST_GROUPS}
-use Rattle.certificate.specs.declared.text.words.TheConstants.{TEXT_SPANS}
+use Rattle.certificate.specs.declared.text.version.Version.{Version}
+use Rattle.certificate.specs.declared.text.version.Version.TheVariants.{One}
+use Rattle.certificate.specs.Grammar.{names_large, opening_of, outline_of, version_of}
 
 -- the bytes of a slot of the class, in digits
 abbrev pub class_text : Class → List ℕ
@@ -52,26 +54,32 @@ lines_text line (x ∷ xs) = line x ++ lines_text line xs
 abbrev pub list_text : {X : Type 0} → List ℕ → (X → List ℕ) → List X → List ℕ
 list_text title line xs = title ++ (codes " " ++ (decimal (length xs) ++ (codes "\n" ++ lines_text line xs)))
 
--- the text of a certificate below this first line, with such a line for each group
-abbrev pub text_with : List ℕ → (Entry → List ℕ) → Certificate → List ℕ
-text_with opening line c =
-    opening ++ (list_text (codes "abandoned") line c.snapshot.abandoned
+-- the text of a certificate below the first line of the version, with such a line for each group
+abbrev pub text_with : Version → (Entry → List ℕ) → Certificate → List ℕ
+text_with version line c =
+    opening_of version ++ (codes "\n" ++ (list_text (codes "abandoned") line c.snapshot.abandoned
     ++ (list_text (codes "owned") line c.snapshot.owned
     ++ (list_text (codes "folds") pair_line c.plan
     ++ (list_text (codes "short") id_line c.short
-    ++ codes "end\n"))))
+    ++ codes "end\n")))))
 
--- the text of a certificate, in version 2
+-- the text of a certificate: of version 3 if a serial is above those of version 2, else of version 2
 unfoldable pub certificate_text : Certificate → List ℕ
-certificate_text c = text_with (codes "meshcert 2\n") entry_line c
+certificate_text c = text_with (version_of (outline_of c)) entry_line c
 
 -- the text of a certificate in version 1, which names no class
 unfoldable pub classless_text : Certificate → List ℕ
-classless_text c = text_with (codes "meshcert 1\n") classless_line c
+classless_text c = text_with One classless_line c
 
--- the certificate's text, in version 2, or in version 1 where each group is of 16 bytes a slot
+-- version 1 can say the certificate: each group is of 16 bytes a slot, and no serial is large
+pub record IsClassless (c : Certificate) : Type 0 where
+  pub abandoned : All (λ x. x.class ≡ C16) c.snapshot.abandoned
+  pub owned : All (λ x. x.class ≡ C16) c.snapshot.owned
+  pub serials : names_large (outline_of c) ≡ false
+
+-- the text that is written of the certificate, or its text of version 1, if that can say it
 abbrev pub IsTextOf : Certificate → List ℕ → Type 0
-IsTextOf c text = (text ≡ certificate_text c) ⊎ ((text ≡ classless_text c) × All (λ x. x.class ≡ C16) c.snapshot.abandoned × All (λ x. x.class ≡ C16) c.snapshot.owned)
+IsTextOf c text = (text ≡ certificate_text c) ⊎ ((text ≡ classless_text c) × IsClassless c)
 
 -- at most 4,096 lines a list, the groups have slots of their class, and the ids of the folds and of the short set ascend
 pub record IsWritable (c : Certificate) : Type 0 where
@@ -83,14 +91,3 @@ pub record IsWritable (c : Certificate) : Type 0 where
   pub owned_fit : All FitsClass c.snapshot.owned
   pub folds_ascending : IsAscending (map (λ p. p.0) c.plan)
   pub short_ascending : IsAscending c.short
-
--- a text can name the serial of the id
-abbrev pub HasTextSerial : SpanId → Type 0
-HasTextSerial id = id.serial < TEXT_SPANS
-
--- a text can name the serial of each id, so that what is written is read again; spans of a trace have no others
-pub record IsWithinText (c : Certificate) : Type 0 where
-  pub abandoned : All (λ x. HasTextSerial x.id) c.snapshot.abandoned
-  pub owned : All (λ x. HasTextSerial x.id) c.snapshot.owned
-  pub folds : All (λ p. HasTextSerial p.0 × HasTextSerial p.1) c.plan
-  pub short : All HasTextSerial c.short

@@ -21,7 +21,8 @@
 //!
 //! A [`Certificate`] has snapshot, plan and short set together. [`write()`] gives it as text, and
 //! [`read`] reads that text again, and texts of version 1, which name no classes; of a text that is
-//! none it names the first line at fault.
+//! none it names the first line at fault. Ids have any serial: a text is of version 2 if each is
+//! below [`TEXT_SPANS`], and else of version 3.
 //!
 //! # Examples
 //!

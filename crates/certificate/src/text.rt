@@ -1,4 +1,4 @@
-//! Certificates as texts: both versions are read, and version 2 is written.
+//! Certificates as texts: versions 1 to 3 are read, and 2 or 3 is written.
 
 mod cause;
 mod items;
@@ -12,5 +12,5 @@ mod writing;
 
 pub use cause::{Cause, ReadError};
 pub use reading::read;
-pub use words::TEXT_SPANS;
+pub use version::TEXT_SPANS;
 pub use writing::write;

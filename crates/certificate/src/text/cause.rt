@@ -20,6 +20,9 @@ pub enum Cause {
     Set,
     /// The id is not above the one before it in its list.
     Order,
+    /// The line is the `end` of a text of version 3 in which each serial is below
+    /// [`TEXT_SPANS`](crate::TEXT_SPANS): version 2 has a text for it.
+    Version,
     /// Bytes follow the line `end`.
     Tail,
 }
@@ -37,6 +40,7 @@ impl Cause {
             Cause::Limit => "limit",
             Cause::Set => "set",
             Cause::Order => "order",
+            Cause::Version => "version",
             Cause::Tail => "tail",
         }
     }

@@ -69,28 +69,32 @@ fn entry_at(lines: &mut Lines, version: Version, last: Option<SpanId>) -> Result
     Ok(entry)
 }
 
-fn pair_at(lines: &mut Lines, last: Option<SpanId>) -> Result<(SpanId, SpanId), Cause>
+fn pair_at(
+    lines: &mut Lines,
+    version: Version,
+    last: Option<SpanId>,
+) -> Result<(SpanId, SpanId), Cause>
     ensures line { result_map pair_parts result ≡ line_in
-        (item_in pair_in (λ p. p.0) (option_map id_parts last))
+        (item_in (pair_in version) (λ p. p.0) (option_map id_parts last))
         (lines_of lines.old.text.now) lines.old.at }
     ensures after { IfOk result (λ pair. ComesAfter last pair.0) }
     ensures text { IfOk result (λ _. lines.new.text.now ≡ lines.old.text.now) }
     ensures passed { IfOk result (λ _. lines.new.at ≡ lines.old.at + 1) }
 {
-    let pair = parse_pair(lines.next_line()?)?;
+    let pair = parse_pair(version, lines.next_line()?)?;
     in_order(last, pair.0)?;
     Ok(pair)
 }
 
-fn id_at(lines: &mut Lines, last: Option<SpanId>) -> Result<SpanId, Cause>
+fn id_at(lines: &mut Lines, version: Version, last: Option<SpanId>) -> Result<SpanId, Cause>
     ensures line { result_map id_parts result ≡ line_in
-        (item_in id_in (λ id. id) (option_map id_parts last))
+        (item_in (id_in version) (λ id. id) (option_map id_parts last))
         (lines_of lines.old.text.now) lines.old.at }
     ensures after { IfOk result (λ id. ComesAfter last id) }
     ensures text { IfOk result (λ _. lines.new.text.now ≡ lines.old.text.now) }
     ensures passed { IfOk result (λ _. lines.new.at ≡ lines.old.at + 1) }
 {
-    let id = parse_id(lines.next_line()?)?;
+    let id = parse_id(version, lines.next_line()?)?;
     in_order(last, id)?;
     Ok(id)
 }
@@ -132,10 +136,12 @@ pub(super) fn read_entries(
 pub(super) fn read_folds(
     alloc: Global,
     lines: &mut Lines,
+    version: Version,
 ) -> Result<Vec<(SpanId, SpanId)>, ReadError>
     requires { lines.old.at ≤ 16384 }
     ensures read { Reads (λ pairs. map pair_parts pairs.items) result
-        (list_in (codes "folds") pair_in (λ p. p.0) (lines_of lines.old.text.now) lines.old.at) }
+        (list_in (codes "folds") (pair_in version) (λ p. p.0) (lines_of lines.old.text.now)
+        lines.old.at) }
     ensures at_most { IfOk result (λ pairs. length pairs.items ≤ MOST_GROUPS) }
     ensures ascending { IfOk result (λ pairs. IsAscending (map (λ p. p.0) pairs.items)) }
     ensures text { IfOk result (λ _. lines.new.text.now ≡ lines.old.text.now) }
@@ -146,7 +152,7 @@ pub(super) fn read_folds(
     let mut last = None;
     for _k in 0..count {
         let line = lines.next_number();
-        let pair = match pair_at(lines, last) {
+        let pair = match pair_at(lines, version, last) {
             Ok(pair) => pair,
             Err(cause) => return Err(ReadError::BadCertificate { line, cause }),
         };
@@ -157,10 +163,15 @@ pub(super) fn read_folds(
 }
 
 /// The short set.
-pub(super) fn read_short(alloc: Global, lines: &mut Lines) -> Result<Vec<SpanId>, ReadError>
+pub(super) fn read_short(
+    alloc: Global,
+    lines: &mut Lines,
+    version: Version,
+) -> Result<Vec<SpanId>, ReadError>
     requires { lines.old.at ≤ 16384 }
     ensures read { Reads (λ short. map id_parts short.items) result
-        (list_in (codes "short") id_in (λ id. id) (lines_of lines.old.text.now) lines.old.at) }
+        (list_in (codes "short") (id_in version) (λ id. id) (lines_of lines.old.text.now)
+        lines.old.at) }
     ensures at_most { IfOk result (λ short. length short.items ≤ MOST_GROUPS) }
     ensures ascending { IfOk result (λ short. IsAscending short.items) }
     ensures text { IfOk result (λ _. lines.new.text.now ≡ lines.old.text.now) }
@@ -171,7 +182,7 @@ pub(super) fn read_short(alloc: Global, lines: &mut Lines) -> Result<Vec<SpanId>
     let mut last = None;
     for _k in 0..count {
         let line = lines.next_number();
-        let id = match id_at(lines, last) {
+        let id = match id_at(lines, version, last) {
             Ok(id) => id,
             Err(cause) => return Err(ReadError::BadCertificate { line, cause }),
         };

@@ -1,22 +1,23 @@
 // Reads certificates.
 ghost use Rattle.std.specs.Prelude.{◌≡◌, ◌+◌, ◌≤◌, IfOk};
-ghost use Rattle.certificate.specs.Grammar.{Reads, at_line, body_in, certificate_in, end_in, fixed_in, line_in, outline_of, version_in};
-ghost use Rattle.certificate.specs.Text.{IsTextOf, IsWithinText, IsWritable};
+ghost use Rattle.certificate.specs.Grammar.{Reads, at_line, body_in, certificate_in, closing_in, end_in, last_in, line_in, outline_of, version_in};
+ghost use Rattle.certificate.specs.Text.{IsTextOf, IsWritable};
 ghost use Rattle.certificate.specs.Words.{lines_of};
 
 use super::cause::{Cause, ReadError};
 use super::items::{read_entries, read_folds, read_short};
 use super::lines::Lines;
 use super::version::Version;
-use super::words::{parse_fixed, parse_version};
+use super::words::{parse_last, parse_version};
 use crate::certificate::Certificate;
 use crate::plan::{Plan, Short};
 use mesh_graph::Snapshot;
 use std::alloc::Global;
 
-/// Reads a certificate of version 1 or 2. It accepts exactly the texts of the grammar: those that `write`
-/// gives, and those of version 1, where each group is of the class [`C16`](span::Class::C16). Of any other text
-/// it says which line is the first at fault, and that line's first cause.
+/// Reads a certificate of version 1, 2 or 3. It accepts exactly the texts of the grammar: those
+/// that [`write`](crate::write()) gives, in version 2 or 3, and those of version 1, in which each
+/// group is of the class [`C16`](span::Class::C16). For any other text it returns the first line at
+/// fault and that line's first cause.
 ///
 /// # Errors
 ///
@@ -24,7 +25,6 @@ use std::alloc::Global;
 pub fn read(alloc: Global, text: &[u8]) -> Result<Certificate, ReadError>
     ensures read { Reads outline_of result (certificate_in text.now) }
     ensures writable { IfOk result IsWritable }
-    ensures within { IfOk result IsWithinText }
 
     // An accepted text is the very text that is written of what was read, or its text in version 1.
     ensures text { IfOk result (λ certificate. IsTextOf certificate text.now) }
@@ -72,39 +72,47 @@ fn read_body(alloc: Global, lines: &mut Lines, version: Version) -> Result<Certi
 {
     let abandoned = read_entries(alloc, lines, version, b"abandoned")?;
     let owned = read_entries(alloc, lines, version, b"owned")?;
-    let folds = read_folds(alloc, lines)?;
-    let short = read_short(alloc, lines)?;
-    read_fixed(lines, b"end")?;
-    read_nothing(lines)?;
-    Ok(Certificate {
+    let folds = read_folds(alloc, lines, version)?;
+    let short = read_short(alloc, lines, version)?;
+    let certificate = Certificate {
         snapshot: Snapshot::from_ascending(abandoned, owned),
         plan: Plan::new(folds),
         short: Short::new(short),
-    })
+    };
+    read_ending(lines, version.is_wanted(&certificate))?;
+    Ok(certificate)
 }
 
-/// A line that is just these bytes.
-fn read_fixed(lines: &mut Lines, bytes: &[u8]) -> Result<(), ReadError>
+/// The last line, and nothing behind it.
+fn read_ending(lines: &mut Lines, is_wanted: bool) -> Result<(), ReadError>
+    requires { lines.old.at ≤ 32767 }
+    ensures { result ≡ closing_in is_wanted (lines_of lines.old.text.now) lines.old.at }
+{
+    read_last(lines, is_wanted)?;
+    read_nothing(lines)
+}
+
+fn read_last(lines: &mut Lines, is_wanted: bool) -> Result<(), ReadError>
     requires { lines.old.at ≤ 32768 }
     ensures read { result ≡ at_line lines.old.at
-        (line_in (fixed_in bytes.now) (lines_of lines.old.text.now) lines.old.at) }
+        (line_in (last_in is_wanted) (lines_of lines.old.text.now) lines.old.at) }
     ensures text { IfOk result (λ _. lines.new.text.now ≡ lines.old.text.now) }
     ensures passed { IfOk result (λ _. lines.new.at ≡ lines.old.at + 1) }
 {
     let line = lines.next_number();
-    match fixed_at(lines, bytes) {
+    match last_at(lines, is_wanted) {
         Ok(()) => Ok(()),
         Err(cause) => Err(ReadError::BadCertificate { line, cause }),
     }
 }
 
-fn fixed_at(lines: &mut Lines, bytes: &[u8]) -> Result<(), Cause>
-    ensures line { result ≡ line_in (fixed_in bytes.now)
+fn last_at(lines: &mut Lines, is_wanted: bool) -> Result<(), Cause>
+    ensures line { result ≡ line_in (last_in is_wanted)
         (lines_of lines.old.text.now) lines.old.at }
     ensures text { IfOk result (λ _. lines.new.text.now ≡ lines.old.text.now) }
     ensures passed { IfOk result (λ _. lines.new.at ≡ lines.old.at + 1) }
 {
-    parse_fixed(bytes, lines.next_line()?)
+    parse_last(is_wanted, lines.next_line()?)
 }
 
 /// Nothing but the end of the last line.

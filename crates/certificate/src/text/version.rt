@@ -1,4 +1,15 @@
 // The versions of the text.
+ghost use Rattle.std.specs.Prelude.{◌≡◌, ◌||◌};
+ghost use Rattle.std.specs.List.{list_any};
+ghost use Rattle.certificate.specs.Grammar.{id_parts, is_large, names_large, outline_of};
+
+use crate::certificate::Certificate;
+use mesh_graph::Entry;
+use span::{MOST_SPANS, SpanId};
+
+/// A serial in a certificate's text of version 1 or 2 is below this. In a text of version 3 it is
+/// below [`MOST_SPANS`](span::MOST_SPANS), and some serial is not below this.
+pub const TEXT_SPANS: u32 = 1024;
 
 /// A version of the text, which its first line names.
 #[derive(Clone, Copy, PartialEq, Eq, Debug)]
@@ -7,4 +18,95 @@ pub(super) enum Version {
     One,
     /// A group's line names its class.
     Two,
+    /// As version 2, with serials of any size.
+    Three,
+}
+
+impl Version {
+    ghost use Rattle.certificate.specs.Grammar.{is_wanted, opening_of, outline_of, spans_in, version_of};
+
+    /// The version in which a certificate is written.
+    pub(super) fn of(certificate: &Certificate) -> Version
+        ensures { result ≡ version_of (outline_of certificate.now) }
+    {
+        if names_large(certificate) {
+            Version::Three
+        } else {
+            Version::Two
+        }
+    }
+
+    /// Whether a text of the version may say this. One of version 3 says what version 2 cannot.
+    pub(super) fn is_wanted(self, certificate: &Certificate) -> bool
+        ensures { result ≡ is_wanted self (outline_of certificate.now) }
+    {
+        match self {
+            Version::One | Version::Two => true,
+            Version::Three => names_large(certificate),
+        }
+    }
+
+    /// A serial in a text of the version is below this.
+    pub(super) fn spans(self) -> u32
+        ensures { result ≡ spans_in self }
+    {
+        match self {
+            Version::One | Version::Two => TEXT_SPANS,
+            Version::Three => MOST_SPANS,
+        }
+    }
+
+    /// The first line.
+    pub(super) fn opening(self) -> &'static str
+        ensures { result.now ≡ opening_of self }
+    {
+        match self {
+            Version::One => "meshcert 1",
+            Version::Two => "meshcert 2",
+            Version::Three => "meshcert 3",
+        }
+    }
+}
+
+/// Whether some id has a serial that versions 1 and 2 do not name.
+fn names_large(certificate: &Certificate) -> bool
+    ensures { result ≡ names_large (outline_of certificate.now) }
+{
+    if has_large_group(certificate.snapshot.abandoned()) {
+        return true;
+    }
+    if has_large_group(certificate.snapshot.owned()) {
+        return true;
+    }
+    if has_large_pair(certificate.plan.pairs()) {
+        return true;
+    }
+    has_large_id(certificate.short.ids())
+}
+
+fn has_large_group(groups: &[Entry]) -> bool
+    ensures { result ≡ list_any (λ x. is_large (id_parts x.id)) groups.now }
+{
+    groups.iter().any(|group| is_large(group.id))
+}
+
+fn has_large_pair(pairs: &[(SpanId, SpanId)]) -> bool
+    ensures { result ≡ list_any (λ p. is_large (id_parts p.0) || is_large (id_parts p.1)) pairs.now }
+{
+    pairs
+        .iter()
+        .any(|pair| is_large(pair.0) || is_large(pair.1))
+}
+
+fn has_large_id(ids: &[SpanId]) -> bool
+    ensures { result ≡ list_any (λ id. is_large (id_parts id)) ids.now }
+{
+    ids.iter().any(|id| is_large(*id))
+}
+
+/// Whether versions 1 and 2 do not name the serial.
+fn is_large(id: SpanId) -> bool
+    ensures { result ≡ is_large (id_parts id) }
+{
+    id.serial >= TEXT_SPANS
 }

@@ -3,7 +3,7 @@ ghost use Rattle.std.specs.Prelude.{◌≡◌, ℕ, IfOk, Option, option_map};
 ghost use Rattle.bitmap.specs.Slots.{IsBelow};
 ghost use Rattle.span.specs.Classes.{slots_in};
 ghost use Rattle.certificate.specs.Number.{clip};
-ghost use Rattle.certificate.specs.Grammar.{both, class_in, class_of_number, count_in, count_of_number, entry_in, entry_of, entry_parts, fixed_in, id_in, id_of_numbers, id_parts, is_on_page, pair_in, pair_parts, result_map, set_in, version_in};
+ghost use Rattle.certificate.specs.Grammar.{both, class_in, class_of_number, count_in, count_of_number, entry_in, entry_of, entry_parts, id_in, id_of_numbers, id_parts, is_on_page, last_in, pair_in, pair_parts, result_map, set_in, version_in};
 ghost use Rattle.certificate.specs.Text.{FitsClass};
 
 use super::cause::Cause;
@@ -14,29 +14,26 @@ use bitmap::Bits256;
 use mesh_graph::{Entry, MOST_GROUPS};
 use span::{Class, SpanId};
 
-/// A serial in a certificate's text is below this, whatever serials there are: that of a text says the same for ever.
-pub const TEXT_SPANS: u32 = 1024;
-
 /// A shard, a full stop and a serial.
-pub(super) fn parse_id(word: &[u8]) -> Result<SpanId, Cause>
-    ensures { result_map id_parts result ≡ id_in word.now }
+pub(super) fn parse_id(version: Version, word: &[u8]) -> Result<SpanId, Cause>
+    ensures { result_map id_parts result ≡ id_in version word.now }
 {
     let Some(numbers) = parts(b'.', word) else {
         return Err(Cause::Form);
     };
     match numbers.as_slice() {
-        [shard, serial] => id_of(parse_number(shard), parse_number(serial)),
+        [shard, serial] => id_of(version, parse_number(shard), parse_number(serial)),
         _ => Err(Cause::Form),
     }
 }
 
 /// The id of these numbers.
-fn id_of(shard: Option<u32>, serial: Option<u32>) -> Result<SpanId, Cause>
+fn id_of(version: Version, shard: Option<u32>, serial: Option<u32>) -> Result<SpanId, Cause>
     ensures { (a b : Option ℕ) → shard ≡ option_map clip a → serial ≡ option_map clip b
-        → result_map id_parts result ≡ id_of_numbers a b }
+        → result_map id_parts result ≡ id_of_numbers version a b }
 {
     match (shard, serial) {
-        (Some(shard), Some(serial)) if serial < TEXT_SPANS => {
+        (Some(shard), Some(serial)) if serial < version.spans() => {
             SpanId::new(shard, serial).ok_or(Cause::Limit)
         }
         (Some(_), Some(_)) => Err(Cause::Limit),
@@ -100,8 +97,10 @@ pub(super) fn parse_entry(version: Version, line: &[u8]) -> Result<Entry, Cause>
         return Err(Cause::Form);
     };
     match (version, words.as_slice()) {
-        (Version::One, [id, set]) => entry_of(parse_id(id), Ok(Class::C16), set),
-        (Version::Two, [id, class, set]) => entry_of(parse_id(id), parse_class(class), set),
+        (Version::One, [id, set]) => entry_of(parse_id(version, id), Ok(Class::C16), set),
+        (Version::Two | Version::Three, [id, class, set]) => {
+            entry_of(parse_id(version, id), parse_class(class), set)
+        }
         _ => Err(Cause::Form),
     }
 }
@@ -125,14 +124,14 @@ fn entry_of(
 }
 
 /// A fold's line: an abandoned id and an owned one.
-pub(super) fn parse_pair(line: &[u8]) -> Result<(SpanId, SpanId), Cause>
-    ensures { result_map pair_parts result ≡ pair_in line.now }
+pub(super) fn parse_pair(version: Version, line: &[u8]) -> Result<(SpanId, SpanId), Cause>
+    ensures { result_map pair_parts result ≡ pair_in version line.now }
 {
     let Some(words) = parts(b' ', line) else {
         return Err(Cause::Form);
     };
     match words.as_slice() {
-        [abandoned, owned] => both(parse_id(abandoned), parse_id(owned)),
+        [abandoned, owned] => both(parse_id(version, abandoned), parse_id(version, owned)),
         _ => Err(Cause::Form),
     }
 }
@@ -175,14 +174,16 @@ fn count_of(number: Option<u32>) -> Result<usize, Cause>
     }
 }
 
-/// A line that is just these bytes.
-pub(super) fn parse_fixed(bytes: &[u8], line: &[u8]) -> Result<(), Cause>
-    ensures { result ≡ fixed_in bytes.now line.now }
+/// The last line, of a text whose version is wanted or not.
+pub(super) fn parse_last(is_wanted: bool, line: &[u8]) -> Result<(), Cause>
+    ensures { result ≡ last_in is_wanted line.now }
 {
-    if line == bytes {
+    if line != b"end".as_slice() {
+        Err(Cause::Form)
+    } else if is_wanted {
         Ok(())
     } else {
-        Err(Cause::Form)
+        Err(Cause::Version)
     }
 }
 
@@ -195,6 +196,9 @@ pub(super) fn parse_version(line: &[u8]) -> Result<Version, Cause>
     }
     if line == b"meshcert 2".as_slice() {
         return Ok(Version::Two);
+    }
+    if line == b"meshcert 3".as_slice() {
+        return Ok(Version::Three);
     }
     Err(Cause::Form)
 }

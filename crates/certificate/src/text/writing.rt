@@ -4,24 +4,28 @@ ghost use Rattle.span.specs.Texts.{id_text};
 ghost use Rattle.std.specs.List.{All};
 ghost use Rattle.mesh_graph.specs.Groups.{IsAscending, ids};
 ghost use Rattle.certificate.specs.Grammar.{certificate_in, outline_of};
-ghost use Rattle.certificate.specs.Text.{IsReadable, IsWithinText, IsWritable, certificate_text, class_text, entry_line, id_line, list_text, pair_line};
+ghost use Rattle.certificate.specs.Text.{IsReadable, IsWritable, certificate_text, class_text, entry_line, id_line, list_text, pair_line};
 
+use super::version::Version;
 use crate::certificate::Certificate;
 use itoa::Buffer;
 use mesh_graph::Entry;
 use span::{Class, SpanId};
 use std::alloc::{AllocError, Global};
 
-/// The text of a certificate, of version 2. The lists, sets and numbers are within the grammar, so that
-/// `read` reads it again, where the serial of each id is below [`TEXT_SPANS`](crate::TEXT_SPANS): a text names no others. The error
-/// means that memory ran out.
+/// The text of a certificate, which [`read`](crate::read) reads again. It is of version 2 if each
+/// serial is below [`TEXT_SPANS`](crate::TEXT_SPANS), and else of version 3.
+///
+/// # Errors
+///
+/// `AllocError` if memory runs out.
 pub fn write(alloc: Global, certificate: &Certificate) -> Result<Vec<u8>, AllocError>
     requires { IsWritable certificate.now }
     ensures text { IfOk result (λ text. text.items ≡ certificate_text certificate.now) }
 
-    // What is written is read again, where a text can name its serials.
-    ensures read_again { IfOk result (λ text. IsWithinText certificate.now
-        → certificate_in text.items ≡ Ok (outline_of certificate.now)) }
+    // What is written is read again.
+    ensures read_again { IfOk result (λ text. certificate_in text.items
+        ≡ Ok (outline_of certificate.now)) }
 {
     let text = text_of(alloc, certificate)?;
     Ok(text)
@@ -36,7 +40,8 @@ fn text_of(alloc: Global, certificate: &Certificate) -> Result<Vec<u8>, AllocErr
         (ids certificate.now.snapshot.abandoned)) }
     ensures owned_ascending { IfOk result (λ _. IsAscending (ids certificate.now.snapshot.owned)) }
 {
-    let mut text = Vec::from_slice(alloc, b"meshcert 2\n")?;
+    let mut text = Vec::from_slice(alloc, Version::of(certificate).opening().as_bytes())?;
+    text.extend_from_slice(b"\n")?;
     write_entries(&mut text, b"abandoned", certificate.snapshot.abandoned())?;
     write_entries(&mut text, b"owned", certificate.snapshot.owned())?;
     write_pairs(&mut text, certificate.plan.pairs())?;

@@ -6,7 +6,7 @@ use Rattle.certificate.proofs.text.items.read_folds.Given as goal
 
 abbrev pub invariant-loop-k : goal.invariant-loop-k
 invariant-loop-k l = record {
-  reading : IsReading pair_in (λ p. p.0) pair_parts (λ p. p.0) (lines_of l.fn.lines.text.now) (l.fn.lines.at + 1) l.count l.pairs.items l.last l._k;
+  reading : IsReading (pair_in l.version) (λ p. p.0) pair_parts (λ p. p.0) (lines_of l.fn.lines.text.now) (l.fn.lines.at + 1) l.count l.pairs.items l.last l._k;
   text : l.lines.text.now ≡ l.fn.lines.text.now;
   place : l.lines.at ≡ l.fn.lines.at + 1 + l._k;
 }

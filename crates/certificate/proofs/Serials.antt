@@ -1,0 +1,149 @@
+-- The serials that a version names: of what is read in it, and of what is written in it.
+use Rattle.std.proofs.Common.{ℕ, ◌<◌, ◌≡◌, ◌||◌, cond, Bool, true, false, List, [], ◌∷◌, map, Ok, refl, sym, ◌∙◌, ap, subst, inl, inr}
+use Rattle.std.specs.List.{AllByRecursion, list_any}
+use Rattle.std.proofs.lemmas.Bool.{cases_Bool, leb-false, lt-leb}
+use Rattle.span.specs.declared.class.Class.TheVariants.{C16}
+use Rattle.span.specs.declared.id.SpanId.{SpanId}
+use Rattle.certificate.specs.declared.certificate.Certificate.{Certificate}
+use Rattle.certificate.specs.declared.text.version.Version.{Version}
+use Rattle.certificate.specs.declared.text.version.Version.TheVariants.{One, Two, Three}
+use Rattle.certificate.specs.declared.text.version.TheConstants.{TEXT_SPANS}
+use Rattle.certificate.specs.Grammar.{Id, Listed, Outline, body_in, class_in, entry_in, entry_of_words, entry_parts, id_in, id_of_parts, id_parts, is_large, names_large, outline_of, pair_in, pair_of_words, pair_parts, spans_in, version_of}
+use Rattle.certificate.specs.Number.{number_in}
+use Rattle.certificate.specs.Words.{parts_of}
+use Rattle.certificate.proofs.ReadAgain.{HasSerial}
+use Rattle.certificate.proofs.Rereading.{IsNamed}
+use Rattle.certificate.proofs.Spelling.{>>=-ok, both-ok, ending_in-same, entry_of-ok, id_of_numbers-ok, list_in-have}
+
+-- ---- what is read
+
+-- the version names the serial
+abbrev HasNumber : Version → Id → Type 0
+HasNumber version i = i.1 < spans_in version
+
+abbrev HaveNumbers : Version → Id × Id → Type 0
+HaveNumbers version p = HasNumber version p.0 × HasNumber version p.1
+
+id_of_parts-serial : (version : Version) (parts : List (List ℕ)) (i : Id) → id_of_parts version parts ≡ Ok i → HasNumber version i
+id_of_parts-serial version [] i h = cc
+id_of_parts-serial version (shard ∷ []) i h = cc
+id_of_parts-serial version (shard ∷ serial ∷ []) i h = (id_of_numbers-ok version (number_in shard) (number_in serial) i h).3
+id_of_parts-serial version (shard ∷ serial ∷ more ∷ rest) i h = cc
+
+id_in-serial : (version : Version) (word : List ℕ) (i : Id) → id_in version word ≡ Ok i → HasNumber version i
+id_in-serial version word i h = id_of_parts-serial version (parts_of 46 word) i h
+
+entry_of_words-serial : (version : Version) (words : List (List ℕ)) (x : Listed) → entry_of_words version words ≡ Ok x → HasNumber version x.id
+entry_of_words-serial One [] x h = cc
+entry_of_words-serial One (id ∷ []) x h = cc
+entry_of_words-serial One (id ∷ set ∷ []) x h = id_in-serial One id x.id (entry_of-ok (id_in One id) (Ok C16) set x h).0
+entry_of_words-serial One (id ∷ set ∷ more ∷ rest) x h = cc
+entry_of_words-serial Two [] x h = cc
+entry_of_words-serial Two (id ∷ []) x h = cc
+entry_of_words-serial Two (id ∷ class ∷ []) x h = cc
+entry_of_words-serial Two (id ∷ class ∷ set ∷ []) x h = id_in-serial Two id x.id (entry_of-ok (id_in Two id) (class_in class) set x h).0
+entry_of_words-serial Two (id ∷ class ∷ set ∷ more ∷ rest) x h = cc
+entry_of_words-serial Three [] x h = cc
+entry_of_words-serial Three (id ∷ []) x h = cc
+entry_of_words-serial Three (id ∷ class ∷ []) x h = cc
+entry_of_words-serial Three (id ∷ class ∷ set ∷ []) x h = id_in-serial Three id x.id (entry_of-ok (id_in Three id) (class_in class) set x h).0
+entry_of_words-serial Three (id ∷ class ∷ set ∷ more ∷ rest) x h = cc
+
+entry_in-serial : (version : Version) (line : List ℕ) (x : Listed) → entry_in version line ≡ Ok x → HasNumber version x.id
+entry_in-serial version line x h = entry_of_words-serial version (parts_of 32 line) x h
+
+pair_of_words-serial : (version : Version) (words : List (List ℕ)) (p : Id × Id) → pair_of_words version words ≡ Ok p → HaveNumbers version p
+pair_of_words-serial version [] p h = cc
+pair_of_words-serial version (a ∷ []) p h = cc
+pair_of_words-serial version (a ∷ b ∷ []) p h =
+    let q = both-ok (id_in version a) (id_in version b) p h in
+    (id_in-serial version a p.0 q.0, id_in-serial version b p.1 q.1)
+pair_of_words-serial version (a ∷ b ∷ more ∷ rest) p h = cc
+
+pair_in-serial : (version : Version) (line : List ℕ) (p : Id × Id) → pair_in version line ≡ Ok p → HaveNumbers version p
+pair_in-serial version line p h = pair_of_words-serial version (parts_of 32 line) p h
+
+-- a test that none of a list passes
+list_any-none : {X : Type 0} (P : X → Type 0) (test : X → Bool) → ((x : X) → P x → test x ≡ false) → (xs : List X) → AllByRecursion P xs → list_any test xs ≡ false
+list_any-none P test fails [] all = refl
+list_any-none P test fails (x ∷ xs) all = ap (λ b. b || list_any test xs) (fails x all.0) ∙ list_any-none P test fails xs all.1
+
+small-number : (version : Version) (i : Id) → spans_in version ≡ TEXT_SPANS → HasNumber version i → is_large i ≡ false
+small-number version i small named = lt-leb TEXT_SPANS i.1 (subst (λ n. i.1 < n) small named)
+
+-- a version of small serials names no large one
+pub names_large-read : (version : Version) (parts : List (List ℕ)) (o : Outline) → body_in version parts ≡ Ok o → spans_in version ≡ TEXT_SPANS → names_large o ≡ false
+names_large-read version parts o h small =
+    let a = >>=-ok _ _ o h in
+    let w = >>=-ok _ _ o a.2 in
+    let f = >>=-ok _ _ o w.2 in
+    let s = >>=-ok _ _ o f.2 in
+    let said : Outline = record { abandoned = a.0; owned = w.0; folds = f.0; short = s.0 } in
+    let same : said ≡ o = ending_in-same version said parts _ o s.2 in
+    let abandoned = list_in-have (entry_in version) (λ x. x.id) (λ x. HasNumber version x.id) (entry_in-serial version) parts _ _ a.0 a.1 in
+    let owned = list_in-have (entry_in version) (λ x. x.id) (λ x. HasNumber version x.id) (entry_in-serial version) parts _ _ w.0 w.1 in
+    let folds = list_in-have (pair_in version) (λ p. p.0) (HaveNumbers version) (pair_in-serial version) parts _ _ f.0 f.1 in
+    let short = list_in-have (id_in version) (λ id. id) (HasNumber version) (id_in-serial version) parts _ _ s.0 s.1 in
+    let no_abandoned : list_any (λ (x : Listed). is_large x.id) a.0 ≡ false = list_any-none (λ x. HasNumber version x.id) (λ x. is_large x.id) (λ x n. small-number version x.id small n) a.0 abandoned in
+    let no_owned : list_any (λ (x : Listed). is_large x.id) w.0 ≡ false = list_any-none (λ x. HasNumber version x.id) (λ x. is_large x.id) (λ x n. small-number version x.id small n) w.0 owned in
+    let no_folds : list_any (λ (p : Id × Id). is_large p.0 || is_large p.1) f.0
+    ≡ false = list_any-none (HaveNumbers version) (λ p. is_large p.0 || is_large p.1)
+    (λ p n. ap (λ b. b || is_large p.1) (small-number version p.0 small n.0) ∙ small-number version p.1 small n.1) f.0 folds in
+    let no_short : list_any is_large s.0 ≡ false = list_any-none (HasNumber version) is_large (λ i n. small-number version i small n) s.0 short in
+    ap names_large (sym same) ∙ rw (no_abandoned, no_owned, no_folds, no_short) refl
+
+-- ---- what is written
+
+or-none : (a b : Bool) → (a || b) ≡ false → (a ≡ false) × (b ≡ false)
+or-none true b h = cc
+or-none false b h = (refl, h)
+
+-- what holds of all that fail the test, of a list of which none passes
+none-passes : {X Y : Type 0} (f : Y → X) (test : X → Bool) (P : Y → Type 0) → ((y : Y) → test (f y) ≡ false → P y) → (ys : List Y) → list_any test (map f ys) ≡ false → AllByRecursion P ys
+none-passes f test P has [] none = tt
+none-passes f test P has (y ∷ ys) none =
+    let both = or-none (test (f y)) (list_any test (map f ys)) none in
+    (has y both.0, none-passes f test P has ys both.1)
+
+-- what holds of each holds of all
+each-one : {Y : Type 0} (P : Y → Type 0) → ((y : Y) → P y) → (ys : List Y) → AllByRecursion P ys
+each-one P has [] = tt
+each-one P has (y ∷ ys) = (has y, each-one P has ys)
+
+small-serial : (id : SpanId) → is_large (id_parts id) ≡ false → HasSerial Two id
+small-serial id none = leb-false TEXT_SPANS id.serial none
+
+IsNamed-small : (c : Certificate) → names_large (outline_of c) ≡ false → IsNamed Two c
+IsNamed-small c none =
+    let o = outline_of c in
+    let a = or-none (list_any (λ x. is_large x.id) o.abandoned) (list_any (λ x. is_large x.id) o.owned || (list_any (λ p. is_large p.0 || is_large p.1) o.folds || list_any is_large o.short)) none in
+    let w = or-none (list_any (λ x. is_large x.id) o.owned) (list_any (λ p. is_large p.0 || is_large p.1) o.folds || list_any is_large o.short) a.1 in
+    let f = or-none (list_any (λ p. is_large p.0 || is_large p.1) o.folds) (list_any is_large o.short) w.1 in
+    record {
+      classes = tt;
+      abandoned = none-passes entry_parts (λ x. is_large x.id) (λ x. HasSerial Two x.id) (λ x low. small-serial x.id low) c.snapshot.abandoned a.0;
+      owned = none-passes entry_parts (λ x. is_large x.id) (λ x. HasSerial Two x.id) (λ x low. small-serial x.id low) c.snapshot.owned w.0;
+      folds = none-passes pair_parts (λ p. is_large p.0 || is_large p.1) (λ p. HasSerial Two p.0 × HasSerial Two p.1)
+          (λ p low. let both = or-none (is_large (id_parts p.0)) (is_large (id_parts p.1)) low in (small-serial p.0 both.0, small-serial p.1 both.1)) c.plan f.0;
+      short = none-passes id_parts is_large (HasSerial Two) small-serial c.short f.1;
+      wanted = refl;
+      opening = refl;
+    }
+
+IsNamed-large : (c : Certificate) → names_large (outline_of c) ≡ true → IsNamed Three c
+IsNamed-large c some = record {
+  classes = tt;
+  abandoned = each-one (λ x. HasSerial Three x.id) (λ x. x.id.serial_in_range) c.snapshot.abandoned;
+  owned = each-one (λ x. HasSerial Three x.id) (λ x. x.id.serial_in_range) c.snapshot.owned;
+  folds = each-one (λ p. HasSerial Three p.0 × HasSerial Three p.1) (λ p. (p.0.serial_in_range, p.1.serial_in_range)) c.plan;
+  short = each-one (HasSerial Three) (λ id. id.serial_in_range) c.short;
+  wanted = some;
+  opening = refl;
+}
+
+-- the version that is written names each serial
+pub IsNamed-version_of : (c : Certificate) → IsNamed (version_of (outline_of c)) c
+IsNamed-version_of c = elim (cases_Bool (names_large (outline_of c))) [
+  | inl some ↦ subst (λ v. IsNamed v c) (sym (ap (λ b. cond b Three Two) some)) (IsNamed-large c some)
+  | inr none ↦ subst (λ v. IsNamed v c) (sym (ap (λ b. cond b Three Two) none)) (IsNamed-small c none)
+]
