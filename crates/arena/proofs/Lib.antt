@@ -1,8 +1,10 @@
 pub mod Crossing
 mod CountedRings
+mod Elsewhere
 pub mod Ended
 mod Frees
 mod KeptSpans
+mod LeftObject
 pub mod Linking
 mod Made
 mod OneWord

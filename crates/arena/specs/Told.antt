@@ -1,5 +1,6 @@
 -- What calls answer of which no receipt is made.
-use Rattle.std.specs.Prelude.{◌≡◌, ◌≤◌, ◌<◌, ◌⊎◌, ◌++◌, ℕ, Bool, true, false, List, Option, Some, None, drop, length, map}
+use Rattle.std.specs.Prelude.{◌≡◌, ◌≤◌, ◌<◌, ◌⊎◌, ◌++◌, ℕ, Bool, true, false, List, Option, Some, None, IfSome, drop, length, map}
+use Rattle.span.specs.Classes.{IsObject}
 use Rattle.span.specs.Log.{Value}
 use Rattle.shard.specs.declared.shard.Found.{Found}
 use Rattle.shard.specs.declared.shard.Found.TheVariants as found
@@ -16,6 +17,10 @@ Writes word words room after = ((length words ≤ length room) × (map word afte
 abbrev pub WritesFound : {W : Type 0} → (W → ℕ) → Option Value → List W → Option ℕ → List W → Type 0
 WritesFound word None room told after = (told ≡ None) × (after ≡ room)
 WritesFound word (Some words) room told after = (told ≡ Some (length words)) × Writes word words room after
+
+-- a look-up finds an object or nothing, tells which, and leaves its words in the room
+abbrev pub LooksUp : {W : Type 0} → (W → ℕ) → List W → Option ℕ → List W → Type 0
+LooksUp word room told after = (found : Option Value) × IfSome found IsObject × WritesFound word found room told after
 
 -- how many changes the log of the span has in which a look-up was; none where the span is not there
 abbrev pub changes_at : Found → Option ℕ

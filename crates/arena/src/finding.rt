@@ -1,144 +1,147 @@
-// Finding a span, and what is done under the lock of whoever has it.
-ghost use Rattle.std.specs.Prelude.{◌<◌, IfOk, IfSome};
+// Where a span is: by its hint, or under the locks of all.
+ghost use Rattle.std.specs.Prelude.{◌≡◌, ◌<◌, ◌≤◌, All, IfOk, IfSome, Some, length, map};
+ghost use Rattle.groups.specs.Group.{IsElsewhere};
+ghost use Rattle.arena.specs.Hints.{HintsAt};
+ghost use Rattle.arena.specs.Locked.{HasGroup, latches_of, lent_by};
+ghost use Rattle.span.specs.declared.limits.TheConstants.{MOST_SHARDS};
 
 use crate::arena::Arena;
+use crate::folding::number_with;
 use crate::gate::Gate;
 use crate::hints::Place;
-use crate::patience::Patience;
+use crate::locks::LockedShard;
+use crate::patience::Tries;
 use abandoned::Pool;
-use shard::Shard;
+use latch::{Busy, LatchGuard};
 use span::{Log, SpanId};
 
-/// What is done where a span is, under the lock of whoever has it.
-pub(crate) trait Visit {
-    /// What it comes to.
-    type Answer: Drop;
+/// That a span is nowhere: it was not opened yet, or it was forgotten, so its keys find nothing.
+/// Only this module makes one: if the span's hint says so, or if nobody has the span under the
+/// locks of all.
+#[derive(Drop)]
+pub(crate) struct Nowhere {
+    id: SpanId,
+}
 
-    /// What is known of that.
-    ghost tells: { Self → Self.Answer → Type 0 };
-
-    /// Does so in the pool; nothing, and `None`, where the pool does not have the span.
-    fn in_pool<L: Log>(&self, pool: &mut Pool<L>) -> Option<Self::Answer>
-        ensures { IfSome result (tells self.now) };
-
-    /// Does so in the shard; nothing, and `None`, where the shard does not have the span.
-    fn in_shard<L: Log>(&self, shard: &mut Shard<L>) -> Option<Self::Answer>
-        ensures { IfSome result (tells self.now) };
+/// Where a span may be, as its hint says. It may have moved since.
+#[derive(Drop)]
+pub(crate) enum Hinted {
+    /// Nowhere, for now or for good.
+    Nowhere(Nowhere),
+    /// In the pool.
+    Pool,
+    /// In the shard of this number.
+    Shard(u32),
 }
 
 impl<G: Gate, L: Log> Arena<G, L> {
-    /// Does so where the span is; or `None` where the span is nowhere, since it was not opened yet or was forgotten, so that its
-    /// keys find nothing. The hint of the span is followed first, and takes one lock; where that says 'nowhere' it takes none. Where
-    /// the span is not there, all are asked.
+    /// Where the span may be: two loads.
+    #[inline(always)]
+    pub(crate) fn hinted(&self, id: SpanId) -> Hinted
+        ensures { HintsAt id result }
+    {
+        match self.hints.place_of(id) {
+            Place::Nowhere => Hinted::Nowhere(Nowhere { id }),
+            Place::Pool => Hinted::Pool,
+            Place::Shard(number) => Hinted::Shard(number),
+        }
+    }
+
+    /// Looks for the span in the pool, and then in one shard after the other, and notes where it
+    /// is; or says that it is nowhere. Every call that moves a span holds the pool's lock, and so
+    /// does this one: a span that nobody has under the locks of all never comes back.
     ///
     /// # Errors
     ///
-    /// Busy, where another thread has the lock of the place that the hint names, or the pool's; where all are asked, that of a shard
-    /// only if none of the others has the span.
-    #[inline]
-    pub(crate) fn visit<P: Patience, V: Visit>(
-        &self,
-        patience: &P,
-        id: SpanId,
-        call: &V,
-    ) -> Result<Option<V::Answer>, P::Busy>
-        ensures { IfOk result (λ told. IfSome told (V.tells call.now)) }
+    /// Busy, if another thread has the pool's lock, or that of a shard and nobody else has the span.
+    pub(crate) fn locate(&self, id: SpanId) -> Result<Option<Nowhere>, Busy>
+        ensures { IfOk result (λ found. IfSome found (λ nowhere. nowhere.id ≡ id)) }
     {
-        let hint = self.hints.place_of(id);
-        if hint == Place::Nowhere {
-            return Ok(None);
-        }
-        if let Place::Shard(number) = hint {
-            let told = self.visit_shard(patience, number, call)?;
-            if told.is_some() {
-                return Ok(told);
-            }
-        }
-        self.visit_all(patience, id, call)
-    }
-
-    // Does so in the shard of this number, past the gate, if that has the span.
-    #[inline]
-    fn visit_shard<P: Patience, V: Visit>(
-        &self,
-        patience: &P,
-        number: u32,
-        call: &V,
-    ) -> Result<Option<V::Answer>, P::Busy>
-        ensures { IfOk result (λ told. IfSome told (V.tells call.now)) }
-    {
-        let Some(lock) = self.shards.get(number as usize) else {
-            return Ok(None);
-        };
-        let mut shard = patience.lock(lock)?;
-        self.gate.inside(number);
-        Ok(call.in_shard(&mut *shard))
-    }
-
-    // Does so in the pool or else in the first of the shards that has the span, and notes where that was. Every call that moves a span
-    // holds the pool's lock, and so does this one while it asks one after the other: a span that none of them has is nowhere, and no
-    // span comes back from there.
-    pub(crate) fn visit_all<P: Patience, V: Visit>(
-        &self,
-        patience: &P,
-        id: SpanId,
-        call: &V,
-    ) -> Result<Option<V::Answer>, P::Busy>
-        ensures { IfOk result (λ told. IfSome told (V.tells call.now)) }
-    {
-        let mut pool = patience.lock(&self.pool)?;
-        let told = call.in_pool(&mut *pool);
-        if told.is_some() {
+        let pool = self.pool.try_lock()?;
+        if pool.has(id) {
             self.hints.note(id, Place::Pool);
-            return Ok(told);
+            return Ok(None);
         }
-        self.visit_shards(patience, id, call)
+        if self.is_in_a_shard(id) {
+            return Ok(None);
+        }
+        let shards = self.lock_all(&Tries)?;
+        Ok(self.locate_lent(id, &pool, shards.as_slice()))
     }
 
-    // The same in the shards, where the pool does not have the span, whose lock is held.
-    fn visit_shards<P: Patience, V: Visit>(
-        &self,
-        patience: &P,
-        id: SpanId,
-        call: &V,
-    ) -> Result<Option<V::Answer>, P::Busy>
-        ensures { IfOk result (λ told. IfSome told (V.tells call.now)) }
-    {
-        let mut refused = None;
+    // Looks for the span in one shard after the other whose lock is to be had, and notes where it is.
+    fn is_in_a_shard(&self, id: SpanId) -> bool {
         for number in 0..self.limits.shards() {
-            match self.ask_shard(patience, number, id, call) {
-                Ok(None) => {}
-                Ok(Some(answer)) => return Ok(Some(answer)),
-                Err(busy) => refused = Some(busy),
+            if self.is_in_shard(id, number) {
+                return true;
             }
         }
-        match refused {
-            Some(busy) => Err(busy),
-            None => {
-                self.hints.note(id, Place::Nowhere);
-                Ok(None)
-            }
-        }
+        false
     }
 
-    // The same in the shard of this number.
-    fn ask_shard<P: Patience, V: Visit>(
-        &self,
-        patience: &P,
-        number: u32,
-        id: SpanId,
-        call: &V,
-    ) -> Result<Option<V::Answer>, P::Busy>
+    // Whether the shard of this number has the span, and its lock is to be had. Then that is noted.
+    fn is_in_shard(&self, id: SpanId, number: u32) -> bool
         requires { number < self.now.limits.shards }
-        ensures { IfOk result (λ told. IfSome told (V.tells call.now)) }
     {
         // There are 64 shards at most.
         let _ = self.limits.shards();
-        let mut shard = patience.lock(&self.shards[number as usize])?;
-        let told = call.in_shard(&mut *shard);
-        if told.is_some() {
-            self.hints.note(id, Place::Shard(number));
+        let Ok(shard) = self.shards[number as usize].try_lock() else {
+            return false;
+        };
+        if !shard.has(id) {
+            return false;
         }
-        Ok(told)
+        self.hints.note(id, Place::Shard(number));
+        true
+    }
+
+    // Notes which of the shards has the span, if one has it, of the pool, which does not have it,
+    // and of all shards, which their locks lend.
+    fn locate_lent(
+        &self,
+        id: SpanId,
+        pool: &LatchGuard<'_, Pool<L>>,
+        shards: &[Option<LockedShard<'_, L>>],
+    ) -> Option<Nowhere>
+        requires pool { pool.now.latch.now ≡ self.now.pool }
+        requires unpooled { IsElsewhere pool.now.value.value.groups id }
+        requires few { length shards.now ≤ MOST_SHARDS }
+        requires lent { latches_of shards.now ≡ map Some self.now.shards.items }
+        ensures { IfSome result (λ nowhere. nowhere.id ≡ id) }
+    {
+        match number_with(shards, id) {
+            Some(number) => {
+                self.hints.note(id, Place::Shard(number as u32));
+                None
+            }
+            None => Some(self.nowhere(id, pool, shards)),
+        }
+    }
+
+    /// That the span is nowhere: under the locks of all nobody has it. This is noted.
+    pub(crate) fn nowhere(
+        &self,
+        id: SpanId,
+        pool: &LatchGuard<'_, Pool<L>>,
+        shards: &[Option<LockedShard<'_, L>>],
+    ) -> Nowhere
+        requires pool { pool.now.latch.now ≡ self.now.pool }
+        requires unpooled { IsElsewhere pool.now.value.value.groups id }
+        requires lent { latches_of shards.now ≡ map Some self.now.shards.items }
+        requires unsharded { All (λ shard. HasGroup id shard → ⊥) (lent_by shards.now) }
+        ensures { result.id ≡ id }
+    {
+        let nowhere = Nowhere { id };
+        self.hints.note_nowhere(&nowhere);
+        nowhere
+    }
+}
+
+impl Nowhere {
+    /// The span.
+    pub(crate) fn id(&self) -> SpanId
+        ensures { result ≡ self.now.id }
+    {
+        self.id
     }
 }

@@ -1,7 +1,7 @@
 // Folds of pairs of a plan, each under the pool's lock and that of the shard which has the owned group.
-ghost use Rattle.std.specs.Prelude.{◌≡◌, ◌<◌, ◌≤◌, All, IfOk, IfSome, None, Some, false, length, map, option_map};
+ghost use Rattle.std.specs.Prelude.{◌≡◌, ◌↔◌, ◌<◌, ◌≤◌, All, IfOk, IfSome, IsTrue, None, Some, length, map, option_map, slice_index_or};
 ghost use Rattle.fold.specs.Folds.{Steps};
-ghost use Rattle.groups.specs.Group.{IsElsewhere};
+ghost use Rattle.arena.specs.Locked.{HasGroup, latches_of, lent_by};
 ghost use Rattle.span.specs.declared.limits.TheConstants.{MOST_SHARDS};
 
 use crate::arena::Arena;
@@ -17,7 +17,7 @@ use span::{Log, SpanId};
 use std::alloc::AllocError;
 
 /// What came of a pair, or that memory was refused. Only this module makes one: in the shard that has
-/// the owned group, or where all shards are lent and none has it.
+/// the owned group, or if all shards are lent and none has it.
 #[derive(Drop)]
 pub(crate) struct Folding {
     step: Result<Step, AllocError>,
@@ -54,8 +54,8 @@ impl<G: Gate, L: Log> Arena<G, L> {
         Ok(Some(self.fold_onto(pool, &mut *shard, number, abandoned, owned)))
     }
 
-    // Folds the pair in the shard that has the owned group, where all shards are lent. If none has it,
-    // the pair is absent.
+    // Folds the pair in the shard that has the owned group, of all shards, which are lent. If none has
+    // it, the pair is absent.
     pub(crate) fn fold_lent(
         &self,
         pool: &mut Pool<L>,
@@ -64,8 +64,7 @@ impl<G: Gate, L: Log> Arena<G, L> {
         owned: SpanId,
     ) -> Folding
         requires few { length shards.old ≤ MOST_SHARDS }
-        requires lent { map (option_map (λ shard. shard.guard.latch.now)) shards.old
-            ≡ map Some self.now.shards.items }
+        requires lent { latches_of shards.old ≡ map Some self.now.shards.items }
     {
         if let Some(number) = number_with(shards, owned) {
             if let Some(shard) = &mut shards[number] {
@@ -100,11 +99,14 @@ impl<G: Gate, L: Log> Arena<G, L> {
     }
 }
 
-// The number of the first of these shards that has the group; none of them has it if there is none.
-fn number_with<L: Log>(shards: &[Option<LockedShard<'_, L>>], owned: SpanId) -> Option<usize>
-    ensures within { IfSome result (λ number. number < length shards.now) }
-    ensures nowhere { result ≡ None → All (λ locked. IfSome locked
-        (λ shard. (IsElsewhere shard.guard.value.value.groups owned → ⊥) → ⊥)) shards.now }
+/// The number of the first of these shards that has the span; none of them has it if there is none.
+pub(crate) fn number_with<L: Log>(
+    shards: &[Option<LockedShard<'_, L>>],
+    owned: SpanId,
+) -> Option<usize>
+    ensures here { IfSome result (λ number. (number < length shards.now)
+        × HasGroup owned (slice_index_or (lent_by shards.now) number None)) }
+    ensures nowhere { result ≡ None → All (λ shard. HasGroup owned shard → ⊥) (lent_by shards.now) }
 {
     for number in 0..shards.len() {
         if has(&shards[number], owned) {
@@ -114,10 +116,9 @@ fn number_with<L: Log>(shards: &[Option<LockedShard<'_, L>>], owned: SpanId) -> 
     None
 }
 
-// Whether there is a shard that has the group.
+// Whether there is a shard that has the span.
 fn has<L: Log>(shard: &Option<LockedShard<'_, L>>, owned: SpanId) -> bool
-    ensures { result ≡ false → IfSome shard.now
-        (λ shard. (IsElsewhere shard.guard.value.value.groups owned → ⊥) → ⊥) }
+    ensures { IsTrue result ↔ HasGroup owned (option_map (λ locked. locked.guard.value.value) shard.now) }
 {
     match shard {
         Some(shard) => shard.shard().has(owned),

@@ -1,96 +1,22 @@
-// A free of a key wherever its span is.
+// Frees of keys in a row.
 ghost use Rattle.std.specs.Prelude.{◌≡◌, ◌+◌, ◌<◌, ◌≤◌, [], IfOk, IfSome, OnErr, length, take};
-ghost use Rattle.arena.specs.Receipts.{AddsFrees, IsFreeBy};
+ghost use Rattle.arena.specs.Receipts.{AddsFrees};
 
 use crate::arena::Arena;
-use crate::finding::Visit;
+use crate::calling::CallsKeys;
 use crate::gate::Gate;
 use crate::hints::Place;
-use crate::patience::{Patience, Tries, Waits};
+use crate::key_calls::Free;
+use crate::patience::Patience;
 use crate::receipts::Receipts;
-use crate::sections::{free_in, free_pool, unopened_free};
-use abandoned::Pool;
-use latch::Busy;
+use crate::sections::free_in;
 use shard::Shard;
-use span::{Key, Log, Receipt};
-use std::sync::Wait;
-
-// A free of the key by the worker.
-#[derive(Drop)]
-struct Free {
-    worker: u32,
-    section: u64,
-    key: Key,
-}
-
-impl Visit for Free {
-    type Answer = Receipt;
-
-    ghost tells = { λ call. IsFreeBy call.worker call.section call.key };
-
-    #[inline]
-    fn in_pool<L: Log>(&self, pool: &mut Pool<L>) -> Option<Receipt> {
-        free_pool(pool, self.worker, self.section, &self.key)
-    }
-
-    #[inline]
-    fn in_shard<L: Log>(&self, shard: &mut Shard<L>) -> Option<Receipt> {
-        free_in(shard, self.worker, self.section, &self.key)
-    }
-}
+use span::{Key, Log};
 
 impl<G: Gate, L: Log> Arena<G, L> {
-    // Frees the key for the worker, under the lock of whoever has its span. Of a span that is nowhere it makes the receipt of one that
-    // was never opened.
-    pub(crate) fn free_wherever<R: Wait>(
-        &self,
-        rt: &R,
-        worker: u32,
-        section: u64,
-        key: &Key,
-    ) -> Receipt
-        ensures { IsFreeBy worker section key.now result }
-    {
-        let Ok(receipt) = self.free_by(&Waits { rt }, worker, section, key);
-        receipt
-    }
-
-    // The same, where no other thread has a lock that it asks for.
-    pub(crate) fn try_free_wherever(
-        &self,
-        worker: u32,
-        section: u64,
-        key: &Key,
-    ) -> Result<Receipt, Busy>
-        ensures { IfOk result (IsFreeBy worker section key.now) }
-    {
-        self.free_by(&Tries, worker, section, key)
-    }
-
-    #[inline]
-    fn free_by<P: Patience>(
-        &self,
-        patience: &P,
-        worker: u32,
-        section: u64,
-        key: &Key,
-    ) -> Result<Receipt, P::Busy>
-        ensures { IfOk result (IsFreeBy worker section key.now) }
-    {
-        let call = Free {
-            worker,
-            section,
-            key: *key,
-        };
-        match self.visit(patience, key.span, &call)? {
-            Some(receipt) => Ok(receipt),
-            None => Ok(unopened_free(worker, section, key)),
-        }
-    }
-
     // Frees the first of the keys for the worker, and gives how many: under one lock those in a row that its own shard has, or the one
     // whose span is elsewhere.
-    pub(crate) fn free_first<P: Patience, K: Receipts>(
+    pub(crate) fn free_first<P: CallsKeys, K: Receipts>(
         &self,
         patience: &P,
         worker: u32,
@@ -111,7 +37,9 @@ impl<G: Gate, L: Log> Arena<G, L> {
         if at_home > 0 {
             return Ok(at_home);
         }
-        receipts.tell(self.free_by(patience, worker, section, &keys[0])?);
+        let key = &keys[0];
+        let freed = patience.call(self, &Free { key }, &mut [])?;
+        receipts.tell(freed.free_receipt(worker, section, key));
         Ok(1)
     }
 
@@ -167,18 +95,11 @@ fn free_front<L: Log, K: Receipts>(
         (K.told receipts.new) }
 {
     for done in 0..keys.len() {
-        let Some(receipt) = free_one(shard, worker, section, &keys[done]) else {
+        let key = &keys[done];
+        let Some(outcome) = free_in(shard, key) else {
             return done;
         };
-        receipts.tell(receipt);
+        receipts.tell(outcome.free_receipt(worker, section, key));
     }
     keys.len()
-}
-
-// Frees the key in the shard, if that has its span.
-#[inline(always)]
-fn free_one<L: Log>(shard: &mut Shard<L>, worker: u32, section: u64, key: &Key) -> Option<Receipt>
-    ensures { IfSome result (IsFreeBy worker section key.now) }
-{
-    free_in(shard, worker, section, key)
 }

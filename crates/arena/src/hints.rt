@@ -1,9 +1,10 @@
 // Where each span may be, in memory that does not grow with the spans that are opened.
 ghost use Rattle.std.proofs.Props.{props};
 ghost use Rattle.std.specs.Prelude.{◌≡◌, ◌*◌, ◌+◌, ◌<◌, ◌≤◌, ◌^◌, ◌↔◌, IfOk, IfSome, None, vec_len};
-ghost use Rattle.arena.specs.Hints.{IsPlace, hint_word, place_code};
+ghost use Rattle.arena.specs.Hints.{IsPlace, IsSomewhere, hint_word, place_code};
 ghost use Rattle.span.specs.declared.limits.TheConstants.{MOST_SHARDS};
 
+use crate::finding::Nowhere;
 use shard::Shard;
 use span::{Log, MOST_SPANS, SpanId};
 use std::alloc::{AllocError, Global};
@@ -57,11 +58,29 @@ impl Rule for HintWord {
     ghost invariant = { λ word. word < 67 * 2 ^ 32 };
 }
 
+/// That a span was counted by its first put, so that others find its keys. Only this module makes one.
+#[derive(Drop)]
+pub(crate) struct Announced {
+    id: SpanId,
+}
+
+impl Announced {
+    /// A span whose log has so many changes was counted by its first put.
+    #[inline(always)]
+    pub(crate) fn before(id: SpanId, at: usize) -> Announced
+        requires { 0 < at }
+        ensures { result.id ≡ id }
+    {
+        let _ = at;
+        Announced { id }
+    }
+}
+
 /// How many spans each shard has opened, and where some of them may be. The first is exact, since the first put of a span counts it
 /// before its key is handed out: a serial that was not counted is of no span. The second is a hint, in a table of fixed size for
 /// each shard, in which a serial shares its word with others. Another thread may move the span before the hint is followed, so who
 /// follows it looks whether the span is there; and where no word speaks of a serial, its span may be in the shard that opened it.
-/// A word says 'nowhere' only of a span that was forgotten, which never comes back.
+/// A word says 'nowhere' only of a span that was forgotten, which never comes back ([`Nowhere`]).
 #[derive(Drop)]
 pub(crate) struct Hints {
     // By shard.
@@ -122,16 +141,31 @@ impl Hints {
 
     /// Says from now on that the span is opened, with all that its shard opened before it.
     #[inline]
-    pub(crate) fn count_opened(&self, id: SpanId) {
+    pub(crate) fn count_opened(&self, id: SpanId) -> Announced
+        ensures { result.id ≡ id }
+    {
         let SpanId { shard, serial } = id;
         if let Some(opened) = self.opened.get(shard as usize) {
             opened.store(u64::from(serial) + 1, SeqCst);
         }
+        Announced { id }
     }
 
     /// Says from now on that the span may be in this place, if that is not what is said. Of a span in the shard that opened it no word
     /// speaks.
     pub(crate) fn note(&self, id: SpanId, place: Place)
+        requires { IsSomewhere place }
+    {
+        self.write(id, place);
+    }
+
+    /// Says from now on that the span is nowhere, as it is.
+    pub(crate) fn note_nowhere(&self, nowhere: &Nowhere) {
+        self.write(nowhere.id(), Place::Nowhere);
+    }
+
+    // Says from now on that the span may be in this place, or nowhere, if that is not what is said.
+    fn write(&self, id: SpanId, place: Place)
         requires { IsPlace place }
     {
         if self.place_of(id) == place {
@@ -151,7 +185,7 @@ impl Hints {
 
     /// Says so of all spans of the head's group, where the shard has it.
     pub(crate) fn note_group<L: Log>(&self, shard: &Shard<L>, head: SpanId, place: Place)
-        requires { IsPlace place }
+        requires { IsSomewhere place }
     {
         if let Some(group) = shard.brief(head) {
             for at in 0..group.spans {

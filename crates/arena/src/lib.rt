@@ -65,7 +65,7 @@
 #![tactic(auto)]
 
 mod arena;
-mod asking;
+mod calling;
 mod counting;
 mod ending;
 mod error;
@@ -75,14 +75,13 @@ mod forgetting;
 mod freeing;
 mod gate;
 mod hints;
-mod lending;
+mod key_calls;
 mod locks;
-mod looking_up;
 mod opening;
 mod outboxes;
 mod patience;
+mod putting;
 mod receipts;
-mod replacing;
 mod ring_table;
 mod seat;
 pub mod sections;
@@ -92,7 +91,6 @@ mod steward;
 mod tending;
 mod unkept;
 mod unlocked;
-mod untold;
 mod walk;
 mod word;
 
@@ -106,6 +104,7 @@ pub use outboxes::MOST_DELAY;
 pub use receipts::{Dropped, Receipts};
 pub use ring_table::RingTable;
 pub use seat::{Seat, Tended};
+pub use sections::{Issued, Looked, Outcome};
 pub use session::Session;
 pub use steward::Steward;
 pub use walk::Walk;

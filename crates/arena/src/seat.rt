@@ -2,38 +2,45 @@
 ghost use Rattle.std.proofs.Props.{props};
 ghost use Rattle.std.specs.Prelude.{All, ◌≡◌, ℕ, ◌+◌, ◌-◌, ◌<◌, ◌≤◌, ◌^◌, ◌↔◌, ◌∷◌, ◌++◌, [], IfOk, IfSome, IsOk, IsTrue, MatchResult, None, OnErr, OnOk, Some, length, map, slice_get, slice_index_or, slice_set, sum, vec_len};
 ghost use Rattle.arena.specs.Delays.{CountsCall, HandsOver, HasNoneWaiting, NoneWaits, delay_begun};
-ghost use Rattle.arena.specs.Receipts.{AddsFrees, done_by, found_by, free_receipt, get_receipt, joined, put_receipt, set_receipt};
+ghost use Rattle.arena.specs.Receipts.{AddsFrees, free_receipt, get_receipt, joined, put_receipt, set_receipt};
 ghost use Rattle.arena.specs.Seats.{AreNoFewer, HasItsRings, KeepsEnds, free_places, in_rings, known_lists, sending_side, sent_lists, taken_lists};
 ghost use Rattle.arena.specs.Settled.{taken_with_known};
 ghost use Rattle.arena.specs.Tended.{AreLookedAt, IsTended};
+ghost use Rattle.arena.specs.Told.{LooksUp};
+ghost use Rattle.span.specs.Classes.{width_of};
 ghost use Rattle.arena.specs.declared.outboxes.TheConstants.{MOST_DELAY};
 ghost use Rattle.remote_queue.specs.declared.ends.TheConstants.{MOST_KNOWN_KEYS};
 ghost use Rattle.span.specs.declared.limits.TheConstants.{MOST_SHARDS};
 
 use crate::arena::Arena;
+use crate::calling::CallsKeys;
 use crate::gate::Gate;
 use crate::hints::Place;
+use crate::key_calls::{Free, Get, Set};
 use crate::outboxes::{MOST_DELAY, count_call_on, finish_on, hand_over_waiting, leave_on};
 use crate::patience::{Patience, Waits};
 use crate::receipts::Receipts;
 use crate::ring_table::{RingLists, RingTable};
-use crate::sections::put_in;
+use crate::sections::{Issued, Looked, Outcome};
 use crate::settling::{Frees, settle_rings};
 use crate::tending::{look_at_rings, tend_rings};
+use crate::word::Word;
 use abandoned::{AdoptError, ReceiveError};
 use marks::Limits;
 use remote_queue::{Inbox, Outbox};
 use shard::PutError;
-use span::{Call, Key, Log, Object, Receipt, SpanId};
+use span::{Class, Key, Log, Object, Receipt, SpanId};
 use std::alloc::AllocError;
 use std::marker::Model;
 use std::mem::swap;
 use std::sync::Wait;
 
 mod trying;
-mod untold;
 
 pub use trying::Tended;
+
+// How many words an object has at most.
+const MOST_WORDS: usize = 16;
 
 /// A worker's place: it puts into the shard of its number, and its receipts carry that number and the section of the run that
 /// it is in. It has an end of the worker's ring to each shard, and of each worker's ring to its own shard.
@@ -164,11 +171,12 @@ impl Seat {
         self.section += 1;
     }
 
-    /// Puts the object into the worker's shard, under that shard's lock, and gives the key and the receipt.
+    /// Puts the object into the worker's shard, as [`Seat::try_put`] does, once no other thread has that
+    /// shard's lock, and gives the key and the receipt.
     ///
     /// # Errors
     ///
-    /// As those of [`put_in`] on the shard as it then is: `Ended`, `PagesSpent` and `OutOfMemory`.
+    /// As those of [`Shard::put_words`](shard::Shard::put_words) on the shard as it then is: `Ended`, `PagesSpent` and `OutOfMemory`.
     pub fn put<G: Gate, L: Log, R: Wait>(
         &mut self,
         rt: &R,
@@ -180,13 +188,13 @@ impl Seat {
             value put.0 put.1.at) }
         ensures seat { CountsCall self.old self.new }
     {
-        let Ok(put) = self.put_within(&Waits { rt }, arena, value);
-        put
+        let Ok(put) = self.put_by(&Waits { rt }, arena, value.class(), value.words());
+        let put = put?;
+        Ok((put.key(), put.receipt(self.worker, self.section, value)))
     }
 
-    /// Looks the key up, under the lock of whoever has its span, and gives what was found and the receipt. A span that was
-    /// never opened takes no lock: nothing is found, before its log's first change. The same is told of a span that was forgotten
-    /// ([`Arena::forget`]).
+    /// Looks the key up, as [`Seat::try_get`] does, once no other thread has a lock that it needs, and
+    /// gives what was found and the receipt.
     pub fn get<G: Gate, L: Log, R: Wait>(
         &mut self,
         rt: &R,
@@ -198,14 +206,15 @@ impl Seat {
             result.1.at }
         ensures seat { CountsCall self.old self.new }
     {
-        self.count_call();
-        let receipt = arena.get_wherever(rt, self.worker, self.section, key);
-        (value_in(&receipt), receipt)
+        let mut room = [0; MOST_WORDS];
+        let Ok(looked) = self.get_by(&Waits { rt }, arena, key, &mut room);
+        let found = looked.object(&room);
+        let receipt = looked.receipt(self.worker, self.section, key, &found);
+        (found, receipt)
     }
 
-    /// Sets the key's object to this one in place, under the lock of whoever has its span, where the key is live and its object
-    /// has the same class, and gives whether it did so and the receipt. A span that was never opened takes no lock: nothing is
-    /// set, before its log's first change.
+    /// Sets the key's object to this one in place, as [`Seat::try_set`] does, once no other thread has a
+    /// lock that it needs, and gives whether it did so and the receipt.
     ///
     /// # Errors
     ///
@@ -223,13 +232,16 @@ impl Seat {
             key.now value set.0 set.1.at) }
         ensures seat { CountsCall self.old self.new }
     {
-        self.count_call();
-        let receipt = arena.set_wherever(rt, self.worker, self.section, key, &value)?;
-        Ok((done_in(&receipt), receipt))
+        let Ok(set) = self.set_by(&Waits { rt }, arena, key, value.words());
+        let set = set?;
+        Ok((
+            set.done(),
+            set.set_receipt(self.worker, self.section, key, value),
+        ))
     }
 
-    /// Frees the key, under the lock of whoever has its span, and gives whether it was live and the receipt. A span that
-    /// was never opened takes no lock: nothing is freed, before its log's first change.
+    /// Frees the key, as [`Seat::try_free`] does, once no other thread has a lock that it needs, and gives
+    /// whether it was live and the receipt.
     pub fn free<G: Gate, L: Log, R: Wait>(
         &mut self,
         rt: &R,
@@ -241,9 +253,11 @@ impl Seat {
             result.1.at }
         ensures seat { CountsCall self.old self.new }
     {
-        self.count_call();
-        let receipt = arena.free_wherever(rt, self.worker, self.section, key);
-        (done_in(&receipt), receipt)
+        let Ok(freed) = self.free_by(&Waits { rt }, arena, key);
+        (
+            freed.done(),
+            freed.free_receipt(self.worker, self.section, key),
+        )
     }
 
     /// Whether the shard that opened the key's span is one of the arena's, as [`Seat::free_later`] asks. The seat has then an end of
@@ -435,31 +449,74 @@ impl Seat {
     }
 
     // A put into the worker's shard.
-    fn put_within<G: Gate, L: Log, P: Patience>(
+    #[inline(always)]
+    fn put_by<G: Gate, L: Log, P: Patience>(
         &mut self,
         patience: &P,
         arena: &Arena<G, L>,
-        value: Object,
-    ) -> Result<Result<(Key, Receipt), PutError>, P::Busy>
-        requires { self.old.limits ≡ arena.now.limits }
-        ensures receipt { IfOk result (λ made. IfOk made (λ put. put.1
-            ≡ put_receipt self.old.worker self.old.section value put.0 put.1.at)) }
+        class: Class,
+        words: &[u128],
+    ) -> Result<Result<Issued, PutError>, P::Busy>
+        requires fits { self.old.limits ≡ arena.now.limits }
+        requires width { length words.now ≡ width_of class }
         ensures seat { OnOk result (CountsCall self.old self.new) }
         ensures busy { OnErr result (self.new ≡ self.old) }
     {
         let mut shard = patience.lock(&arena.shards[self.worker as usize])?;
         arena.gate.inside(self.worker);
         self.count_call();
-        match put_in(&mut *shard, self.worker, self.section, value) {
-            Ok(receipt) => {
-                if receipt.at == 0 {
-                    // The span is new: whoever is handed its key finds it from now on.
-                    arena.hints.count_opened(receipt.key.span);
-                }
-                Ok(Ok((receipt.key, receipt)))
-            }
-            Err(refused) => Ok(Err(refused)),
-        }
+        Ok(arena.put_in(&mut *shard, class, words))
+    }
+
+    // A look-up of the key, whose words go into the room.
+    #[inline(always)]
+    fn get_by<G: Gate, L: Log, P: CallsKeys, W: Word>(
+        &mut self,
+        patience: &P,
+        arena: &Arena<G, L>,
+        key: &Key,
+        room: &mut [W],
+    ) -> Result<Looked, P::Busy>
+        ensures words { IfOk result (λ got. LooksUp W.word room.old got.0 room.new) }
+        ensures seat { OnOk result (CountsCall self.old self.new) }
+        ensures busy { OnErr result ((self.new ≡ self.old) × (room.new ≡ room.old)) }
+    {
+        let looked = patience.call(arena, &Get { key }, room)?;
+        self.count_call();
+        Ok(looked)
+    }
+
+    // A set of the key to the object of these words.
+    #[inline(always)]
+    fn set_by<G: Gate, L: Log, P: CallsKeys>(
+        &mut self,
+        patience: &P,
+        arena: &Arena<G, L>,
+        key: &Key,
+        words: &[u128],
+    ) -> Result<Result<Outcome, AllocError>, P::Busy>
+        ensures seat { OnOk result (CountsCall self.old self.new) }
+        ensures busy { OnErr result (self.new ≡ self.old) }
+    {
+        let set = patience.call(arena, &Set { key, words }, &mut [])?;
+        self.count_call();
+        Ok(set)
+    }
+
+    // A free of the key.
+    #[inline(always)]
+    fn free_by<G: Gate, L: Log, P: CallsKeys>(
+        &mut self,
+        patience: &P,
+        arena: &Arena<G, L>,
+        key: &Key,
+    ) -> Result<Outcome, P::Busy>
+        ensures seat { OnOk result (CountsCall self.old self.new) }
+        ensures busy { OnErr result (self.new ≡ self.old) }
+    {
+        let freed = patience.call(arena, &Free { key }, &mut [])?;
+        self.count_call();
+        Ok(freed)
     }
 
     // The end of the worker's shard.
@@ -623,21 +680,4 @@ impl Seat {
         swap(&mut self.inboxes, inboxes);
         self.table.swap_columns(columns);
     }
-}
-
-// What the look-up of a receipt found.
-fn value_in(receipt: &Receipt) -> Option<Object>
-    ensures { result ≡ found_by receipt.now.call }
-{
-    match receipt.call {
-        Call::Found { value } => Some(value),
-        _ => None,
-    }
-}
-
-// Whether the free or the set of a receipt was done.
-fn done_in(receipt: &Receipt) -> bool
-    ensures { result ≡ done_by receipt.now.call }
-{
-    matches!(receipt.call, Call::Freed | Call::Set { .. })
 }

@@ -1,293 +1,403 @@
-//! What is done inside a critical section: one call on a lent shard or pool, and its receipt.
+//! What is done inside a critical section: one call on a lent shard or pool.
 //!
-//! Each call here is one call of a shard or of the pool, and makes the receipt of just that call: how
-//! many changes stood in the span's log before it, and what it answered. An audit holds these
-//! receipts against the logs. Who asks, and in which section of the run, is told by the caller, and
-//! stands in the receipt as it was told.
-ghost use Rattle.std.specs.Prelude.{◌≡◌, ◌↔◌, false, true, Err, IfOk, IfSome, OnErr, if◌then◌else◌, is_some, None};
-ghost use Rattle.span.specs.Classes.{class_of};
+//! Each call here is one call of a shard or of the pool. Its answer says what that call answered, and how
+//! many changes stood in the span's log before it: with the caller's worker and section, that is
+//! what a receipt has, which an audit holds against the logs. Nobody else makes an answer, so whoever
+//! has one has asked a shard or the pool, or knows that the span is nowhere.
+ghost use Rattle.std.specs.Prelude.{◌≡◌, ◌≤◌, ℕ, IfOk, IfSome, List, None, OnErr, false, if◌then◌else◌, is_some, length, option_map, take, true};
+ghost use Rattle.span.specs.Classes.{IsObject};
 ghost use Rattle.span.specs.PlainMap as plain;
-ghost use Rattle.shard.specs.Calls.{FindsObject, IsSpent, Puts};
+ghost use Rattle.shard.specs.Calls.{FindsObject, Frees, Gets, Sets, value_found};
 ghost use Rattle.shard.specs.Shown.{shown};
 ghost use Rattle.shard.specs.Sound.{IsSound};
+ghost use Rattle.abandoned.specs.Calls.{Frees as FreesPooled, Gets as GetsPooled, Sets as SetsPooled};
 ghost use Rattle.abandoned.specs.Shown.{shown as shown_by_pool};
 ghost use Rattle.abandoned.specs.Sound.{IsSound as IsSoundPool};
-ghost use Rattle.arena.specs.Receipts.{TellsFree, TellsFreePooled, TellsGet, TellsGetPooled, TellsSet, TellsSetPooled, free_receipt, get_receipt, put_receipt, set_receipt, told_of_free, told_of_get, told_of_set, was_done};
+ghost use Rattle.arena.specs.Receipts.{IsFreeBy, free_receipt, get_receipt, put_receipt, set_receipt};
+ghost use Rattle.arena.specs.Told.{LooksUp, WritesFound, changes_at, free_told, is_done, set_told};
 
+use crate::finding::Nowhere;
+use crate::hints::Announced;
+use crate::word::{Word, write_words};
 use abandoned::Pool;
-use shard::{Found, Freed, PutError, Replaced, Shard};
+use shard::{Found, Freed, Replaced, Shard};
 use span::{Call, Key, Log, Object, Receipt};
 use std::alloc::AllocError;
+use std::marker::Model;
 
-mod untold;
-
-pub use untold::{
-    free_untold_in, free_untold_pool, get_words_in, get_words_pool, set_words_in, set_words_pool,
-};
-
-/// Puts the object into the shard, as [`Shard::put`] does, and makes the receipt of that put. Its key is the receipt's.
-///
-/// # Errors
-///
-/// As those of [`Shard::put`]: `Ended` exactly after the shard's end, `PagesSpent` exactly where it has not ended, needs a new
-/// span, and has as many groups as it may have pages or has opened as many spans as it may, and `OutOfMemory` where an allocation
-/// was refused. The shard is then as it was, and there is no receipt.
-pub fn put_in<L: Log>(
-    shard: &mut Shard<L>,
-    worker: u32,
-    section: u64,
-    value: Object,
-) -> Result<Receipt, PutError>
-    // The put, and its receipt.
-    ensures ok { IfOk result (λ receipt. Puts shard.old (class_of value) value receipt.key receipt.at
-        shard.new) }
-    ensures receipt { IfOk result (λ receipt. receipt
-        ≡ put_receipt worker section value receipt.key receipt.at) }
-    ensures fresh { IfOk result (λ receipt. (shown shard.old).is_issued receipt.key ≡ false) }
-
-    // What callers see of it.
-    ensures plain { IfOk result (λ receipt. shown shard.new
-        ≡ plain.with_put (shown shard.old) receipt.key value) }
-    ensures sound { IsSound shard.new }
-
-    // The refusals.
-    ensures spent { (result ≡ Err PutError.PagesSpent)
-        ↔ ((shard.old.ended ≡ false) × IsSpent (class_of value) shard.old) }
-    ensures ended { (result ≡ Err PutError.Ended) ↔ (shard.old.ended ≡ true) }
-    ensures err { OnErr result (shard.new ≡ shard.old) }
-{
-    let (key, at) = shard.put(value)?;
-    Ok(Receipt {
-        worker,
-        section,
-        key,
-        at,
-        call: Call::Put { value },
-    })
+/// What a put answers that is not refused. In a clause it is the key, and how many changes stood in
+/// its span's log before.
+#[derive(Drop)]
+pub struct Issued {
+    key: Key,
+    at: usize,
 }
 
-/// Looks the key up in the shard, as [`Shard::get`] does, and makes the receipt of that look-up. There is none exactly where the
-/// shard has no such span. It takes no memory.
-pub fn get_in<L: Log>(shard: &Shard<L>, worker: u32, section: u64, key: &Key) -> Option<Receipt>
-    ensures receipt { TellsGet shard.now worker section key.now result }
-    ensures plain { IfSome result (λ receipt. receipt
-        ≡ get_receipt worker section key.now ((shown shard.now).value_of key.now) receipt.at) }
+impl Model for Issued {
+    ghost use Rattle.std.specs.Prelude.{ℕ};
+    ghost use Rattle.span.specs.declared.key.Key.{Key};
+
+    ghost Value = { Key × ℕ };
+
+    ghost view = { λ issued. (issued.key, issued.at) };
+}
+
+impl Issued {
+    // The key of a span that is counted, so that whoever is handed the key finds it.
+    #[inline(always)]
+    pub(crate) fn new(key: Key, at: usize, announced: &Announced) -> Issued
+        requires { announced.now.id ≡ key.span }
+        ensures { result ≡ (key, at) }
+    {
+        let _ = announced;
+        Issued { key, at }
+    }
+
+    /// The key that the put gave out.
+    #[inline(always)]
+    pub fn key(&self) -> Key
+        ensures { result ≡ self.now.0 }
+    {
+        self.key
+    }
+
+    /// How many changes stood in the log of the key's span before.
+    #[inline(always)]
+    pub fn at(&self) -> usize
+        ensures { result ≡ self.now.1 }
+    {
+        self.at
+    }
+
+    /// The receipt of the put, which was of this object, by the worker in the section.
+    pub fn receipt(&self, worker: u32, section: u64, value: Object) -> Receipt
+        ensures { result ≡ put_receipt worker section value self.now.0 self.now.1 }
+    {
+        Receipt {
+            worker,
+            section,
+            key: self.key,
+            at: self.at,
+            call: Call::Put { value },
+        }
+    }
+}
+
+/// What a look-up answers. In a clause it is how many words the key's object has, if the key is live, and
+/// how many changes stand in its span's log.
+#[derive(Drop)]
+pub struct Looked {
+    word_count: Option<usize>,
+    at: usize,
+}
+
+impl Model for Looked {
+    ghost use Rattle.std.specs.Prelude.{ℕ, Option};
+
+    ghost Value = { Option ℕ × ℕ };
+
+    ghost view = { λ looked. (looked.word_count, looked.at) };
+}
+
+impl Looked {
+    // Nothing is found of a span that is nowhere, before its log's first change.
+    #[inline(always)]
+    pub(crate) fn nowhere(key: &Key, nowhere: Nowhere) -> Looked
+        requires { nowhere.id ≡ key.now.span }
+        ensures { result ≡ (None, 0) }
+    {
+        let _ = key;
+        let _ = nowhere;
+        Looked {
+            word_count: None,
+            at: 0,
+        }
+    }
+
+    /// How many words the key's object has, or `None` if the key is not live.
+    #[inline(always)]
+    pub fn word_count(&self) -> Option<usize>
+        ensures { result ≡ self.now.0 }
+    {
+        self.word_count
+    }
+
+    /// How many changes stand in the log of the key's span.
+    #[inline(always)]
+    pub fn at(&self) -> usize
+        ensures { result ≡ self.now.1 }
+    {
+        self.at
+    }
+
+    /// The object whose words the look-up left in this room, which has place for any, if the key is live.
+    pub fn object(&self, room: &[u128]) -> Option<Object>
+        requires left { (before : List ℕ) × LooksUp (λ word. word) before self.now.0 room.now }
+        requires long { 16 ≤ length room.now }
+        ensures { result ≡ option_map (λ count. take count room.now) self.now.0 }
+    {
+        let count = self.word_count?;
+        Some(first_words(count, room))
+    }
+
+    /// The receipt of the look-up of the key, which found this object, by the worker in the section.
+    pub fn receipt(&self, worker: u32, section: u64, key: &Key, found: &Option<Object>) -> Receipt
+        ensures { result ≡ get_receipt worker section key.now found.now self.now.1 }
+    {
+        Receipt {
+            worker,
+            section,
+            key: *key,
+            at: self.at,
+            call: Call::look_up(*found),
+        }
+    }
+}
+
+// The object of the first words of the room, which are so many.
+fn first_words(count: usize, room: &[u128]) -> Object
+    requires { (count ≤ length room.now) × IsObject (take count room.now) }
+    ensures { result ≡ take count room.now }
+{
+    Object::from_words(&room[..count])
+}
+
+/// What a set or a free answers. In a clause it is whether it was done, and how many changes stood in its
+/// span's log before.
+#[derive(Drop)]
+pub struct Outcome {
+    done: bool,
+    at: usize,
+}
+
+impl Model for Outcome {
+    ghost use Rattle.std.specs.Prelude.{Bool, ℕ};
+
+    ghost Value = { Bool × ℕ };
+
+    ghost view = { λ outcome. (outcome.done, outcome.at) };
+}
+
+impl Outcome {
+    // Nothing is done to a span that is nowhere, before its log's first change.
+    #[inline(always)]
+    pub(crate) fn nowhere(key: &Key, nowhere: Nowhere) -> Outcome
+        requires { nowhere.id ≡ key.now.span }
+        ensures { result ≡ (false, 0) }
+    {
+        let _ = key;
+        let _ = nowhere;
+        Outcome { done: false, at: 0 }
+    }
+
+    /// Whether it was done.
+    #[inline(always)]
+    pub fn done(&self) -> bool
+        ensures { result ≡ self.now.0 }
+    {
+        self.done
+    }
+
+    /// How many changes stood in the log of the key's span before.
+    #[inline(always)]
+    pub fn at(&self) -> usize
+        ensures { result ≡ self.now.1 }
+    {
+        self.at
+    }
+
+    /// The receipt of the set of the key, which was to this object, by the worker in the section.
+    pub fn set_receipt(&self, worker: u32, section: u64, key: &Key, value: Object) -> Receipt
+        ensures { result ≡ set_receipt worker section key.now value self.now.0 self.now.1 }
+    {
+        Receipt {
+            worker,
+            section,
+            key: *key,
+            at: self.at,
+            call: Call::set(value, self.done),
+        }
+    }
+
+    /// The receipt of the free of the key by the worker in the section.
+    // Inlined, its fields go where they are read, and the room for an object is neither made nor copied.
+    #[inline(always)]
+    pub fn free_receipt(&self, worker: u32, section: u64, key: &Key) -> Receipt
+        ensures receipt { result ≡ free_receipt worker section key.now self.now.0 self.now.1 }
+        ensures free { IsFreeBy worker section key.now result }
+    {
+        Receipt {
+            worker,
+            section,
+            key: *key,
+            at: self.at,
+            call: Call::free(self.done),
+        }
+    }
+}
+
+/// Looks the key up in the shard, as [`Shard::get`] does, and writes the words of what it finds into the
+/// room, from its first place on, if there is room for all of them. The answer is `None` exactly if the
+/// shard does not have the span. It takes no memory.
+#[inline(always)]
+pub fn get_in<L: Log, W: Word>(shard: &Shard<L>, key: &Key, room: &mut [W]) -> Option<Looked>
+    ensures got { (what : Found) × Gets shard.now key.now what
+        × (option_map (λ got. got.1) result ≡ changes_at what) }
+    ensures words { IfSome result (λ got. WritesFound W.word ((shown shard.now).value_of key.now)
+        room.old got.0 room.new) }
+    ensures width { IfSome ((shown shard.now).value_of key.now) IsObject }
+    ensures none { result ≡ None → room.new ≡ room.old }
     ensures sound { IsSound shard.now }
 {
-    receipt_of_get(shard.get(key), worker, section, key)
+    written(shard.get(key), room)
 }
 
-/// Sets the key's object to this one in the shard, in place, as [`Shard::set`] does, and makes the receipt of that set. There is
-/// none exactly where the shard has no such span.
-///
-/// # Errors
-///
-/// As that of [`Shard::set`]: `AllocError` in place of a set that would be done, where the span's log could not grow. The shard is
-/// then as it was, and there is no receipt.
-pub fn set_in<L: Log>(
-    shard: &mut Shard<L>,
-    worker: u32,
-    section: u64,
-    key: &Key,
-    value: Object,
-) -> Result<Option<Receipt>, AllocError>
-    ensures receipt { IfOk result (λ told. TellsSet shard.old worker section key.now value told
-        shard.new) }
-    ensures found { IfOk result (λ told. IfSome told (λ receipt. receipt
-        ≡ set_receipt worker section key.now value
-        (plain.may_set (shown shard.old) key.now value) receipt.at)) }
-    ensures plain { IfOk result (λ told. shown shard.new ≡ (if was_done told
-        then plain.with_value (shown shard.old) key.now value else shown shard.old)) }
-    ensures sound { IsSound shard.new }
-    ensures refused { OnErr result (plain.may_set (shown shard.old) key.now value ≡ true) }
-    ensures err { OnErr result (shard.new ≡ shard.old) }
-{
-    let replaced = shard.set(key, value.words())?;
-    Ok(receipt_of_set(replaced, worker, section, key, value))
-}
-
-/// Frees the key in the shard, as [`Shard::free`] does, and makes the receipt of that free. There is none exactly where the shard
-/// has no such span. It takes no memory.
-#[inline(always)]
-pub fn free_in<L: Log>(
-    shard: &mut Shard<L>,
-    worker: u32,
-    section: u64,
-    key: &Key,
-) -> Option<Receipt>
-    ensures receipt { TellsFree shard.old worker section key.now result shard.new }
-    ensures found { IfSome result (λ receipt. receipt
-        ≡ free_receipt worker section key.now
-        (is_some ((shown shard.old).value_of key.now)) receipt.at) }
-    ensures plain { shown shard.new ≡ (if was_done result then plain.without
-        (shown shard.old) key.now else shown shard.old) }
-    ensures sound { IsSound shard.new }
-{
-    receipt_of_free(shard.free(key), worker, section, key)
-}
-
-/// Looks the key up in the pool, as [`Pool::get`] does, and makes the receipt of that look-up. There is none exactly where the
-/// pool has no such span. It takes no memory.
-pub fn get_pool<L: Log>(pool: &Pool<L>, worker: u32, section: u64, key: &Key) -> Option<Receipt>
-    ensures receipt { TellsGetPooled pool.now worker section key.now result }
-    ensures plain { IfSome result (λ receipt. receipt
-        ≡ get_receipt worker section key.now
-        ((shown_by_pool pool.now).value_of key.now) receipt.at) }
+/// Looks the key up in the pool, as [`get_in`] does in a shard.
+#[inline(never)]
+pub fn get_pool<L: Log, W: Word>(pool: &Pool<L>, key: &Key, room: &mut [W]) -> Option<Looked>
+    ensures got { (what : Found) × GetsPooled pool.now key.now what
+        × (option_map (λ got. got.1) result ≡ changes_at what) }
+    ensures words { IfSome result (λ got. WritesFound W.word
+        ((shown_by_pool pool.now).value_of key.now) room.old got.0 room.new) }
+    ensures width { IfSome ((shown_by_pool pool.now).value_of key.now) IsObject }
+    ensures none { result ≡ None → room.new ≡ room.old }
     ensures sound { IsSoundPool pool.now }
 {
-    receipt_of_get(pool.get(key), worker, section, key)
+    written(pool.get(key), room)
 }
 
-/// Sets the key's object to this one in the pool, in place, as [`Pool::set`] does, and makes the receipt of that set. There is
-/// none exactly where the pool has no such span.
-///
-/// # Errors
-///
-/// As that of [`Pool::set`]: `AllocError` in place of a set that would be done, where the span's log could not grow. The pool is
-/// then as it was, and there is no receipt.
-pub fn set_pool<L: Log>(
-    pool: &mut Pool<L>,
-    worker: u32,
-    section: u64,
-    key: &Key,
-    value: Object,
-) -> Result<Option<Receipt>, AllocError>
-    ensures receipt { IfOk result (λ told. TellsSetPooled pool.old worker section key.now value told
-        pool.new) }
-    ensures found { IfOk result (λ told. IfSome told (λ receipt. receipt
-        ≡ set_receipt worker section key.now value
-        (plain.may_set (shown_by_pool pool.old) key.now value) receipt.at)) }
-    ensures plain { IfOk result (λ told. shown_by_pool pool.new ≡ (if was_done told
-        then plain.with_value (shown_by_pool pool.old) key.now value else shown_by_pool pool.old)) }
-    ensures sound { IsSoundPool pool.new }
-    ensures refused { OnErr result (plain.may_set (shown_by_pool pool.old) key.now value ≡ true) }
-    ensures err { OnErr result (pool.new ≡ pool.old) }
-{
-    let replaced = pool.set(key, value.words())?;
-    Ok(receipt_of_set(replaced, worker, section, key, value))
-}
-
-/// Frees the key in the pool, as [`Pool::free`] does, and makes the receipt of that free. There is none exactly where the pool
-/// has no such span. It takes no memory.
-pub fn free_pool<L: Log>(
-    pool: &mut Pool<L>,
-    worker: u32,
-    section: u64,
-    key: &Key,
-) -> Option<Receipt>
-    ensures receipt { TellsFreePooled pool.old worker section key.now result pool.new }
-    ensures found { IfSome result (λ receipt. receipt
-        ≡ free_receipt worker section key.now
-        (is_some ((shown_by_pool pool.old).value_of key.now)) receipt.at) }
-    ensures plain { shown_by_pool pool.new ≡ (if was_done result then plain.without
-        (shown_by_pool pool.old) key.now else shown_by_pool pool.old) }
-    ensures sound { IsSoundPool pool.new }
-{
-    receipt_of_free(pool.free(key), worker, section, key)
-}
-
-/// The receipt of a look-up of a span that was never opened: nothing is found, before the span's first change.
-pub(crate) fn unopened_get(worker: u32, section: u64, key: &Key) -> Receipt
-    ensures { result ≡ get_receipt worker section key.now None 0 }
-{
-    get_at(0, None, worker, section, key)
-}
-
-/// The receipt of a set of a span that was never opened: nothing is done, before the span's first change.
-pub(crate) fn unopened_set(worker: u32, section: u64, key: &Key, value: Object) -> Receipt
-    ensures { result ≡ set_receipt worker section key.now value false 0 }
-{
-    set_at(0, false, worker, section, key, value)
-}
-
-/// The receipt of a free of a span that was never opened: nothing is done, before the span's first change.
-pub(crate) fn unopened_free(worker: u32, section: u64, key: &Key) -> Receipt
-    ensures { result ≡ free_receipt worker section key.now false 0 }
-{
-    free_at(0, false, worker, section, key)
-}
-
-// The receipt of a look-up that came to this, where the span is there. It has an object of its own, which outlives the lock.
-fn receipt_of_get(found: Found<'_>, worker: u32, section: u64, key: &Key) -> Option<Receipt>
+// What was found, with its words in the room if there is enough.
+#[inline(always)]
+fn written<W: Word>(found: Found<'_>, room: &mut [W]) -> Option<Looked>
     requires { FindsObject found }
-    ensures { result ≡ told_of_get worker section key.now found.entry }
+    ensures got { option_map (λ got. got.1) result ≡ changes_at found.entry }
+    ensures words { IfSome result (λ got. WritesFound W.word (value_found found.entry)
+        room.old got.0 room.new) }
+    ensures width { IfSome (value_found found.entry) IsObject }
+    ensures none { result ≡ None → room.new ≡ room.old }
 {
     match found {
         Found::Value(words, at) => {
-            let value = Object::from_words(words);
-            Some(get_at(at, Some(value), worker, section, key))
+            if words.len() <= room.len() {
+                write_words(room, words);
+            }
+            Some(Looked {
+                word_count: Some(words.len()),
+                at,
+            })
         }
-        Found::Gone(at) => Some(get_at(at, None, worker, section, key)),
+        Found::Gone(at) => Some(Looked {
+            word_count: None,
+            at,
+        }),
         Found::NotHere => None,
     }
 }
 
-// The receipt of a set that came to this, where the span is there.
-fn receipt_of_set(
-    replaced: Replaced,
-    worker: u32,
-    section: u64,
+/// Sets the key's object to these words in the shard, in place, as [`Shard::set`] does. The answer is
+/// `None` exactly if the shard does not have the span.
+///
+/// # Errors
+///
+/// As that of [`Shard::set`]: `AllocError` in place of a set that would be done, if the span's log could
+/// not grow. The shard is then as it was.
+#[inline(always)]
+pub fn set_in<L: Log>(
+    shard: &mut Shard<L>,
     key: &Key,
-    value: Object,
-) -> Option<Receipt>
-    ensures { result ≡ told_of_set worker section key.now value replaced }
+    words: &[u128],
+) -> Result<Option<Outcome>, AllocError>
+    ensures set { IfOk result (λ set. (what : Replaced)
+        × Sets shard.old key.now words.now what shard.new × (set ≡ set_told what)) }
+    ensures done { IfOk result (λ set. IfSome set (λ outcome. outcome.0
+        ≡ plain.may_set (shown shard.old) key.now words.now)) }
+    ensures plain { IfOk result (λ set. shown shard.new ≡ (if is_done set
+        then plain.with_value (shown shard.old) key.now words.now else shown shard.old)) }
+    ensures sound { IsSound shard.new }
+    ensures refused { OnErr result (plain.may_set (shown shard.old) key.now words.now ≡ true) }
+    ensures err { OnErr result (shard.new ≡ shard.old) }
+{
+    let replaced = shard.set(key, words)?;
+    Ok(outcome_of_set(replaced))
+}
+
+/// Sets the key's object to these words in the pool, as [`set_in`] does in a shard.
+///
+/// # Errors
+///
+/// As that of [`Pool::set`]: `AllocError` in place of a set that would be done, if the span's log could
+/// not grow. The pool is then as it was.
+#[inline(never)]
+pub fn set_pool<L: Log>(
+    pool: &mut Pool<L>,
+    key: &Key,
+    words: &[u128],
+) -> Result<Option<Outcome>, AllocError>
+    ensures set { IfOk result (λ set. (what : Replaced)
+        × SetsPooled pool.old key.now words.now what pool.new × (set ≡ set_told what)) }
+    ensures done { IfOk result (λ set. IfSome set (λ outcome. outcome.0
+        ≡ plain.may_set (shown_by_pool pool.old) key.now words.now)) }
+    ensures plain { IfOk result (λ set. shown_by_pool pool.new ≡ (if is_done set
+        then plain.with_value (shown_by_pool pool.old) key.now words.now
+        else shown_by_pool pool.old)) }
+    ensures sound { IsSoundPool pool.new }
+    ensures refused { OnErr result (plain.may_set (shown_by_pool pool.old) key.now words.now
+        ≡ true) }
+    ensures err { OnErr result (pool.new ≡ pool.old) }
+{
+    let replaced = pool.set(key, words)?;
+    Ok(outcome_of_set(replaced))
+}
+
+/// Frees the key in the shard, as [`Shard::free`] does. The answer is `None` exactly if the shard does not
+/// have the span. It takes no memory.
+#[inline(always)]
+pub fn free_in<L: Log>(shard: &mut Shard<L>, key: &Key) -> Option<Outcome>
+    ensures freed { (what : Freed) × Frees shard.old key.now what shard.new
+        × (result ≡ free_told what) }
+    ensures done { IfSome result (λ outcome. outcome.0
+        ≡ is_some ((shown shard.old).value_of key.now)) }
+    ensures plain { shown shard.new ≡ (if is_done result then plain.without
+        (shown shard.old) key.now else shown shard.old) }
+    ensures sound { IsSound shard.new }
+{
+    outcome_of_free(shard.free(key))
+}
+
+/// Frees the key in the pool, as [`free_in`] does in a shard.
+#[inline(never)]
+pub fn free_pool<L: Log>(pool: &mut Pool<L>, key: &Key) -> Option<Outcome>
+    ensures freed { (what : Freed) × FreesPooled pool.old key.now what pool.new
+        × (result ≡ free_told what) }
+    ensures done { IfSome result (λ outcome. outcome.0
+        ≡ is_some ((shown_by_pool pool.old).value_of key.now)) }
+    ensures plain { shown_by_pool pool.new ≡ (if is_done result then plain.without
+        (shown_by_pool pool.old) key.now else shown_by_pool pool.old) }
+    ensures sound { IsSoundPool pool.new }
+{
+    outcome_of_free(pool.free(key))
+}
+
+// What a set came to, if the span is there.
+#[inline(always)]
+fn outcome_of_set(replaced: Replaced) -> Option<Outcome>
+    ensures { result ≡ set_told replaced }
 {
     match replaced {
-        Replaced::Yes(at) => Some(set_at(at, true, worker, section, key, value)),
-        Replaced::No(at) => Some(set_at(at, false, worker, section, key, value)),
+        Replaced::Yes(at) => Some(Outcome { done: true, at }),
+        Replaced::No(at) => Some(Outcome { done: false, at }),
         Replaced::NotHere => None,
     }
 }
 
-// The receipt of a free that came to this, where the span is there. Inlined, its fields go where they are read, and the room for an object
-// is neither made nor copied.
+// What a free came to, if the span is there.
 #[inline(always)]
-fn receipt_of_free(freed: Freed, worker: u32, section: u64, key: &Key) -> Option<Receipt>
-    ensures { result ≡ told_of_free worker section key.now freed }
+fn outcome_of_free(freed: Freed) -> Option<Outcome>
+    ensures { result ≡ free_told freed }
 {
     match freed {
-        Freed::Yes(at) => Some(free_at(at, true, worker, section, key)),
-        Freed::No(at) => Some(free_at(at, false, worker, section, key)),
+        Freed::Yes(at) => Some(Outcome { done: true, at }),
+        Freed::No(at) => Some(Outcome { done: false, at }),
         Freed::NotHere => None,
-    }
-}
-
-// The receipt of a look-up of the key that found this after that many changes.
-fn get_at(at: usize, found: Option<Object>, worker: u32, section: u64, key: &Key) -> Receipt
-    ensures { result ≡ get_receipt worker section key.now found at }
-{
-    Receipt {
-        worker,
-        section,
-        key: *key,
-        at,
-        call: Call::look_up(found),
-    }
-}
-
-// The receipt of a set of the key to the object after that many changes, which was done or was not.
-fn set_at(at: usize, done: bool, worker: u32, section: u64, key: &Key, value: Object) -> Receipt
-    ensures { result ≡ set_receipt worker section key.now value done at }
-{
-    Receipt {
-        worker,
-        section,
-        key: *key,
-        at,
-        call: Call::set(value, done),
-    }
-}
-
-// The receipt of a free of the key after that many changes, which was done or was not.
-#[inline(always)]
-fn free_at(at: usize, done: bool, worker: u32, section: u64, key: &Key) -> Receipt
-    ensures { result ≡ free_receipt worker section key.now done at }
-{
-    Receipt {
-        worker,
-        section,
-        key: *key,
-        at,
-        call: Call::free(done),
     }
 }

@@ -12,13 +12,14 @@ ghost use Rattle.span.specs.Classes.{width_of};
 ghost use Rattle.span.specs.PlainMap as plain;
 ghost use Rattle.arena.specs.Delays.{CountsCall, HandsOver, HasNoneWaiting, delay_begun};
 ghost use Rattle.arena.specs.Seats.{KeepsEnds, free_places, sent_lists};
-ghost use Rattle.arena.specs.Sessions.{LooksUp, TellsOwn};
+ghost use Rattle.arena.specs.Sessions.{LooksUpOwn, TellsOwn};
 ghost use Rattle.arena.specs.Told.{changes_at, free_told, set_told};
 
 use crate::arena::Arena;
 use crate::gate::Gate;
+use crate::key_calls::{Free, Get, Set};
 use crate::seat::Seat;
-use crate::sections::{free_untold_in, get_words_in, set_words_in};
+use crate::sections::{Issued, Looked, Outcome, free_in, get_in, set_in};
 use crate::word::Word;
 use latch::{Busy, Hold};
 use shard::{PutError, Shard};
@@ -80,8 +81,7 @@ impl<G: Gate, L: Log> Session<G, L> {
         (arena, seat)
     }
 
-    /// Puts the object of these words, which are as many as the class has, into the shard, as [`Shard::put_words`] does. It gives the key,
-    /// and how many changes stood in its span's log before.
+    /// Puts the object of these words, which are as many as the class has, into the shard, as [`Shard::put_words`] does.
     ///
     /// # Errors
     ///
@@ -89,7 +89,7 @@ impl<G: Gate, L: Log> Session<G, L> {
     /// has as many groups as it may have pages, or has opened as many spans as it may; with `OutOfMemory` an allocation was refused.
     /// The shard is then as it was.
     #[inline(always)]
-    pub fn put_words(&mut self, class: Class, words: &[u128]) -> Result<(Key, usize), PutError>
+    pub fn put(&mut self, class: Class, words: &[u128]) -> Result<Issued, PutError>
         requires { length words.now ≡ width_of class }
         ensures ok { IfOk result (λ made. Puts self.old.shard.value.value class words.now made.0
             made.1 self.new.shard.value.value) }
@@ -105,30 +105,20 @@ impl<G: Gate, L: Log> Session<G, L> {
         ensures arena { self.new.arena ≡ self.old.arena }
     {
         self.seat.count_call();
-        let put = self.shard.value.put_words(class, words);
-        if let Ok((key, 0)) = &put {
-            // The span is new: whoever is handed its key finds it from now on.
-            self.arena.hints.count_opened(key.span);
-        }
-        put
+        self.arena.put_in(&mut *self.shard.value, class, words)
     }
 
     /// Looks the key up in the shard, as [`Shard::get`] does, and where that does not have the key's span, in the place that may, if its lock
     /// is to be had. The words of what is found are written into `room`, from its first place on, where there is room for all of them.
-    /// It tells how many words there are, where the key is live, and how many changes its span's log has.
     ///
     /// # Errors
     ///
     /// [`Busy`] only where the shard does not have the key's span, and another thread has the lock of the place that may, or the span is not
     /// there either. Nothing is written then.
     #[inline(always)]
-    pub fn try_get_words<W: Word>(
-        &mut self,
-        key: &Key,
-        room: &mut [W],
-    ) -> Result<(Option<usize>, usize), Busy>
+    pub fn try_get<W: Word>(&mut self, key: &Key, room: &mut [W]) -> Result<Looked, Busy>
         ensures told { (what : Found) × Gets self.old.shard.value.value key.now what
-            × LooksUp W.word (changes_at what) ((shown self.old.shard.value.value).value_of key.now)
+            × LooksUpOwn W.word (changes_at what) ((shown self.old.shard.value.value).value_of key.now)
             room.old result room.new }
         ensures shard { self.new.shard ≡ self.old.shard }
         ensures seat { OnOk result (CountsCall self.old.seat self.new.seat) }
@@ -142,18 +132,17 @@ impl<G: Gate, L: Log> Session<G, L> {
     }
 
     /// Sets the key's object to these words in place, in the shard, as [`Shard::set`] does, and where that does not have the key's span, in
-    /// the place that may, if its lock is to be had. It tells whether it did so, and how many changes stood in the span's log before.
-    /// Words that are not as many as the key's object has are not set.
+    /// the place that may, if its lock is to be had. Words that are not as many as the key's object has are not set.
     ///
     /// # Errors
     ///
-    /// [`Busy`] as that of [`Session::try_get_words`]. Else `AllocError` in place of a set that would be done, where the span's log could not
+    /// [`Busy`] as that of [`Session::try_get`]. Else `AllocError` in place of a set that would be done, where the span's log could not
     /// grow. Nothing is set then.
-    pub fn try_set_words(
+    pub fn try_set(
         &mut self,
         key: &Key,
         words: &[u128],
-    ) -> Result<Result<(bool, usize), AllocError>, Busy>
+    ) -> Result<Result<Outcome, AllocError>, Busy>
         ensures told { IfOk result (λ set. IfOk set (λ told. (what : Replaced)
             × Sets self.old.shard.value.value key.now words.now what self.new.shard.value.value
             × TellsOwn (set_told what) told)) }
@@ -170,19 +159,19 @@ impl<G: Gate, L: Log> Session<G, L> {
         ensures arena { self.new.arena ≡ self.old.arena }
     {
         let worker = self.seat.worker();
-        let set = set_words(&*self.arena, worker, &mut *self.shard.value, key, words)?;
+        let set = set(&*self.arena, worker, &mut *self.shard.value, key, words)?;
         self.seat.count_call();
         Ok(set)
     }
 
     /// Frees the key in the shard, as [`Shard::free`] does, and where that does not have the key's span, in the place that may, if its lock
-    /// is to be had. It tells whether the key was live, and how many changes stood in its span's log before. It takes no memory.
+    /// is to be had. It takes no memory.
     ///
     /// # Errors
     ///
-    /// [`Busy`] as that of [`Session::try_get_words`].
+    /// [`Busy`] as that of [`Session::try_get`].
     #[inline(always)]
-    pub fn try_free(&mut self, key: &Key) -> Result<(bool, usize), Busy>
+    pub fn try_free(&mut self, key: &Key) -> Result<Outcome, Busy>
         ensures told { IfOk result (λ told. (what : Freed)
             × Frees self.old.shard.value.value key.now what self.new.shard.value.value
             × TellsOwn (free_told what) told) }
@@ -251,25 +240,25 @@ fn look_up<G: Gate, L: Log, W: Word>(
     shard: &Shard<L>,
     key: &Key,
     room: &mut [W],
-) -> Result<(Option<usize>, usize), Busy>
-    ensures { (what : Found) × Gets shard.now key.now what × LooksUp W.word (changes_at what)
+) -> Result<Looked, Busy>
+    ensures { (what : Found) × Gets shard.now key.now what × LooksUpOwn W.word (changes_at what)
         ((shown shard.now).value_of key.now) room.old result room.new }
 {
-    match get_words_in(shard, key, room) {
+    match get_in(shard, key, room) {
         Some(got) => Ok(got),
-        None => arena.try_get_words_beside(worker, key, room),
+        None => arena.try_call_beside(worker, &Get { key }, room),
     }
 }
 
 // The same of a set.
 #[inline(always)]
-fn set_words<G: Gate, L: Log>(
+fn set<G: Gate, L: Log>(
     arena: &Arena<G, L>,
     worker: u32,
     shard: &mut Shard<L>,
     key: &Key,
     words: &[u128],
-) -> Result<Result<(bool, usize), AllocError>, Busy>
+) -> Result<Result<Outcome, AllocError>, Busy>
     ensures told { IfOk result (λ set. IfOk set (λ told. (what : Replaced)
         × Sets shard.old key.now words.now what shard.new × TellsOwn (set_told what) told)) }
     ensures refused { IfOk result (λ set. OnErr set ((IsElsewhere shard.old.groups key.now.span → ⊥)
@@ -278,9 +267,9 @@ fn set_words<G: Gate, L: Log>(
     ensures elsewhere { OnErr result (IsElsewhere shard.old.groups key.now.span) }
     ensures busy { OnErr result (shard.new ≡ shard.old) }
 {
-    match set_words_in(shard, key, words) {
+    match set_in(shard, key, words) {
         Ok(Some(set)) => Ok(Ok(set)),
-        Ok(None) => arena.try_set_words_beside(worker, key, words),
+        Ok(None) => arena.try_call_beside(worker, &Set { key, words }, &mut []),
         Err(refused) => Ok(Err(refused)),
     }
 }
@@ -292,14 +281,14 @@ fn free<G: Gate, L: Log>(
     worker: u32,
     shard: &mut Shard<L>,
     key: &Key,
-) -> Result<(bool, usize), Busy>
+) -> Result<Outcome, Busy>
     ensures told { IfOk result (λ told. (what : Freed) × Frees shard.old key.now what shard.new
         × TellsOwn (free_told what) told) }
     ensures elsewhere { OnErr result (IsElsewhere shard.old.groups key.now.span) }
     ensures busy { OnErr result (shard.new ≡ shard.old) }
 {
-    match free_untold_in(shard, key) {
+    match free_in(shard, key) {
         Some(freed) => Ok(freed),
-        None => arena.try_free_untold_beside(worker, key),
+        None => arena.try_call_beside(worker, &Free { key }, &mut []),
     }
 }

@@ -7,8 +7,11 @@ ghost use Rattle.remote_queue.specs.declared.ends.TheConstants.{MOST_KNOWN_KEYS}
 ghost use Rattle.span.specs.declared.limits.TheConstants.{MOST_SHARDS};
 
 use crate::arena::Arena;
+use crate::calling::CallsKeys;
 use crate::counting::count_all;
 use crate::gate::Gate;
+use crate::key_calls::Free;
+use crate::patience::Waits;
 use crate::receipts::Receipts;
 use crate::seat::Seat;
 use remote_queue::Inbox;
@@ -32,7 +35,8 @@ struct UnderLocks<'a, G: Gate, L: Log, R: Wait> {
 
 impl<'a, G: Gate, L: Log, R: Wait> Frees for UnderLocks<'a, G, L, R> {
     fn free_key(&mut self, worker: u32, section: u64, key: &Key) -> Receipt {
-        self.arena.free_wherever(self.rt, worker, section, key)
+        let Ok(freed) = Waits { rt: self.rt }.call(self.arena, &Free { key }, &mut []);
+        freed.free_receipt(worker, section, key)
     }
 }
 

@@ -4,8 +4,8 @@ ghost use Rattle.arena.specs.Tended.{AreLookedAt, AreRingsTended, IsRingTended, 
 ghost use Rattle.span.specs.declared.limits.TheConstants.{MOST_RING_KEYS, MOST_SHARDS};
 
 use crate::arena::Arena;
+use crate::calling::CallsKeys;
 use crate::gate::Gate;
-use crate::patience::Patience;
 use crate::receipts::Receipts;
 use crate::seat::Tended;
 use remote_queue::Inbox;
@@ -28,7 +28,7 @@ pub(crate) fn look_at_rings(inboxes: &mut Vec<Inbox>, most: usize) -> usize
 // Takes the keys that are known from each of the rings, at most that many, one ring after the other, and frees each. A key is taken
 // only once it is freed, so that a call which does not wait leaves off at the first one that needs a lock which another thread has,
 // and says so.
-pub(crate) fn tend_rings<G: Gate, L: Log, P: Patience, K: Receipts>(
+pub(crate) fn tend_rings<G: Gate, L: Log, P: CallsKeys, K: Receipts>(
     patience: &P,
     arena: &Arena<G, L>,
     inboxes: &mut Vec<Inbox>,
@@ -77,7 +77,7 @@ fn keys_to_take(inbox: &Inbox, most: usize, is_busy: bool) -> usize
 }
 
 // Frees at most that many of the known keys of a ring, each of which it takes once that is done.
-fn tend_ring<G: Gate, L: Log, P: Patience, K: Receipts>(
+fn tend_ring<G: Gate, L: Log, P: CallsKeys, K: Receipts>(
     patience: &P,
     arena: &Arena<G, L>,
     inbox: &mut Inbox,
@@ -115,7 +115,7 @@ fn tend_ring<G: Gate, L: Log, P: Patience, K: Receipts>(
 
 // Frees the next of the known keys, at most that many, and takes each: those in a row that are at home, or the one whose span is elsewhere.
 // They are drawn from the ring in blocks, so that it does not pay for each of them, and the next ones have their places meanwhile.
-fn tend_some<G: Gate, L: Log, P: Patience, K: Receipts>(
+fn tend_some<G: Gate, L: Log, P: CallsKeys, K: Receipts>(
     patience: &P,
     arena: &Arena<G, L>,
     inbox: &mut Inbox,

@@ -8,12 +8,12 @@ ghost use Rattle.span.specs.declared.limits.TheConstants.{ALL_IDS, MOST_SHARDS};
 
 use crate::arena::Arena;
 use crate::gate::Gate;
-use crate::sections::{free_in, free_pool, unopened_free};
+use crate::sections::{free_in, free_pool};
 use crate::settling::Frees;
 use abandoned::Pool;
 use latch::Latch;
 use shard::{Config, Found, Shard};
-use span::{Kept, Key, Receipt, SpanLog};
+use span::{Call, Kept, Key, Receipt, SpanLog};
 use std::alloc::{AllocError, Global};
 use std::mem::replace;
 
@@ -35,7 +35,14 @@ impl Frees for Unlocked {
         }
         match free_among(self.shards.as_mut_slice(), worker, section, key) {
             Some(receipt) => receipt,
-            None => unopened_free(worker, section, key),
+            // Nobody has its span, which was never opened.
+            None => Receipt {
+                worker,
+                section,
+                key: *key,
+                at: 0,
+                call: Call::free(false),
+            },
         }
     }
 }
@@ -113,7 +120,7 @@ fn free_pooled(pool: &mut Pool<Kept>, worker: u32, section: u64, key: &Key) -> O
     if pool.get(key) == Found::NotHere {
         return None;
     }
-    free_pool(pool, worker, section, key)
+    Some(free_pool(pool, key)?.free_receipt(worker, section, key))
 }
 
 // Frees the key in the first of the shards that has its span, if one has it.
@@ -123,8 +130,8 @@ fn free_among(shards: &mut [Shard<Kept>], worker: u32, section: u64, key: &Key) 
     ensures spans { spans_of_all shards.new ≡ spans_of_all shards.old }
 {
     for number in 0..shards.len() {
-        if let Some(receipt) = free_in(&mut shards[number], worker, section, key) {
-            return Some(receipt);
+        if let Some(freed) = free_in(&mut shards[number], key) {
+            return Some(freed.free_receipt(worker, section, key));
         }
     }
     None

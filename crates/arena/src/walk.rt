@@ -4,9 +4,10 @@ ghost use Rattle.arena.specs.Walks.{HasGoneOn, IsAhead, walk_after};
 ghost use Rattle.span.specs.declared.limits.TheConstants.{MOST_SHARDS};
 
 use crate::arena::Arena;
-use crate::finding::Visit;
+use crate::calling::{CallsKeys, KeyCall};
+use crate::finding::Nowhere;
 use crate::gate::Gate;
-use crate::patience::{Patience, Tries, Waits};
+use crate::patience::{Tries, Waits};
 use abandoned::Pool;
 use latch::Busy;
 use shard::Shard;
@@ -55,7 +56,7 @@ impl Walk {
     }
 
     // The same by this way to the locks, shard after shard.
-    fn next_within<P: Patience, G: Gate, L: Log>(
+    fn next_within<P: CallsKeys, G: Gate, L: Log>(
         &mut self,
         patience: &P,
         arena: &Arena<G, L>,
@@ -81,7 +82,7 @@ impl Walk {
     }
 
     // The next live key of the spans that the shard opened which the walk has come to.
-    fn next_of_shard<P: Patience, G: Gate, L: Log>(
+    fn next_of_shard<P: CallsKeys, G: Gate, L: Log>(
         &mut self,
         patience: &P,
         arena: &Arena<G, L>,
@@ -108,7 +109,7 @@ impl Walk {
     }
 
     // The first live key of the span that the walk stands at, from its slot on.
-    fn first_here<P: Patience, G: Gate, L: Log>(
+    fn first_here<P: CallsKeys, G: Gate, L: Log>(
         &self,
         patience: &P,
         arena: &Arena<G, L>,
@@ -124,10 +125,7 @@ impl Walk {
         let Some(id) = SpanId::new(shard, serial) else {
             return Ok(None);
         };
-        match arena.visit(patience, id, &First { id, slot })? {
-            Some(first) => Ok(first),
-            None => Ok(None),
-        }
+        patience.call(arena, &First { id, slot }, &mut [])
     }
 }
 
@@ -138,22 +136,33 @@ struct First {
     slot: u32,
 }
 
-impl Visit for First {
+impl KeyCall<u128> for First {
     type Answer = Option<Key>;
 
-    ghost tells = { λ call first. IfSome first (λ key. (key.span ≡ call.id) × (call.slot ≤ key.slot)) };
+    ghost id = { λ call. call.id };
 
-    fn in_pool<L: Log>(&self, pool: &mut Pool<L>) -> Option<Option<Key>> {
+    ghost does = { λ call _ first _. IfSome first
+        (λ key. (key.span ≡ call.id) × (call.slot ≤ key.slot)) };
+
+    fn span(&self) -> SpanId {
+        self.id
+    }
+
+    fn in_shard<L: Log>(&self, shard: &mut Shard<L>, _room: &mut [u128]) -> Option<Option<Key>> {
+        if !shard.has(self.id) {
+            return None;
+        }
+        Some(shard.first_from(self.id, self.slot))
+    }
+
+    fn in_pool<L: Log>(&self, pool: &mut Pool<L>, _room: &mut [u128]) -> Option<Option<Key>> {
         if !pool.has(self.id) {
             return None;
         }
         Some(pool.first_from(self.id, self.slot))
     }
 
-    fn in_shard<L: Log>(&self, shard: &mut Shard<L>) -> Option<Option<Key>> {
-        if !shard.has(self.id) {
-            return None;
-        }
-        Some(shard.first_from(self.id, self.slot))
+    fn nowhere(&self, _nowhere: Nowhere, _room: &mut [u128]) -> Option<Key> {
+        None
     }
 }

@@ -7,7 +7,8 @@
 //! agree, and 5 where a read or a write failed.
 //!
 //! What its words mean, and what is said of a fault, stands in `command_line`, and all that it does is done by `trace_runner` and
-//! `thread_runner`; here files and words are read, which have no model, and the tests stand that go through all crates.
+//! `thread_runner`; here files and words are read, which have no model. The tests stand in
+//! `runner_tests`.
 #![tactic(auto)]
 
 ghost use Rattle.std.specs.Prelude.{◌≡◌, ◌<◌, ◌≤◌, ◌+◌, ◌-◌, ◌^◌, ℕ, List, IfErr, IfOk, OnOk};
@@ -241,8 +242,3 @@ fn main(rt: HostRuntime) -> ExitCode {
     };
     ExitCode::from(status)
 }
-
-#[cfg(test)]
-mod tests;
-#[cfg(test)]
-mod tour;

@@ -58,6 +58,20 @@ short 3
 end
 ";
 
+// Groups of spans that were opened late, beside one that was opened early.
+const LATE: &str = "meshcert 3
+abandoned 2
+0.1023 16 0100000000000000000000000000000000000000000000000000000000000000
+0.70000 64 0100000000000000000000000000000000000000000000000000000000000000
+owned 1
+1.4294967294 64 0200000000000000000000000000000000000000000000000000000000000000
+folds 1
+0.70000 1.4294967294
+short 1
+0.1023
+end
+";
+
 const NONE: &str = "meshcert 2
 abandoned 0
 owned 0
@@ -150,6 +164,11 @@ fn a_certificate_of_two_classes_is_accepted(rt: HostRuntime) {
 #[test]
 fn version_1_is_read_and_version_2_is_written(rt: HostRuntime) {
     assert_eq!(rt; accepted(rt.alloc(), CLASSLESS, COMPETING), Some((1, 3, 1)));
+}
+
+#[test]
+fn serials_above_those_of_version_2_are_read_and_written_in_version_3(rt: HostRuntime) {
+    assert_eq!(rt; accepted(rt.alloc(), LATE, LATE), Some((1, 1, 0)));
 }
 
 fn fault(alloc: Global, text: &str) -> Option<ReadError> {

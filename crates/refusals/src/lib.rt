@@ -6,7 +6,7 @@
 //! refused, and so does every call after it. So a refused step names the same pair next, a refused mark has opened no plan, and a live
 //! key is freed.
 //!
-//! What refuses is a library in C that is loaded before the tests (`.ci/refuse.c`), which `check` does once they are built. Without it
+//! What refuses is a library in C that is loaded before the tests (`tools/refuse.c`), which `check` does once they are built. Without it
 //! nothing is refused, and the tests pass, having seen one round of each call.
 //!
 //! The library also counts the bytes of all blocks that stand, by which a forgetting is seen to keep

@@ -7,7 +7,7 @@
 //! # Examples
 //!
 //! ```text
-//! rt test store_tests     proves the tests of `span`, `page`, `shard`, `abandoned`, `fold` and `arena_core`, and runs them
+//! rt test store_tests     proves the tests of `span`, `key_bits`, `page`, `shard`, `abandoned`, `fold` and `arena_core`, and runs them
 //! ```
 #![tactic(auto)]
 
@@ -15,6 +15,8 @@
 mod cores;
 #[cfg(test)]
 mod folds;
+#[cfg(test)]
+mod key_numbers;
 #[cfg(test)]
 mod large;
 #[cfg(test)]

@@ -456,7 +456,7 @@ fn stays_busy(
     looks: usize,
 ) -> bool {
     for _ in 0..looks {
-        if !seat.fits(arena) || seat.try_get(arena, key).is_ok() {
+        if !seat.fits(arena) || seat.try_get(arena, key, &mut [0u128]).is_ok() {
             return false;
         }
         thread::yield_now();

@@ -1,8 +1,8 @@
 // That while a seat keeps its shard whoever needs it is told so, whatever it asks, and that nothing
 // has changed then.
 use crate::shared::{
-    Shards, Shared, adopt, close, free, free_untold, get, get_word, keep, make_shared, mark, pause,
-    put, retire, set, set_word, step, totals,
+    Shards, Shared, adopt, close, free, get, get_word, keep, make_shared, mark, pause, put, retire,
+    set, step, totals,
 };
 use arena::{Busy, PlanOpen, Seat, Stepped, Steward, Walk};
 use fold::Step;
@@ -13,14 +13,12 @@ use std::test::Fail;
 
 // Whether each call of the seat on the key, whose span is in a shard that another seat keeps, is
 // told that.
-fn are_keys_busy(arena: &Shards, seat: &mut Seat, key: &Key) -> [bool; 6] {
+fn are_keys_busy(arena: &Shards, seat: &mut Seat, key: &Key) -> [bool; 4] {
     [
         get(arena, seat, key) == Some(Err(Busy)),
         get_word(arena, seat, key) == Some(Err(Busy)),
         set(arena, seat, key, 8) == Some(Err(Busy)),
-        set_word(arena, seat, key, 8) == Some(Err(Busy)),
         free(arena, seat, key) == Some(Err(Busy)),
-        free_untold(arena, seat, key) == Some(Err(Busy)),
     ]
 }
 
@@ -43,7 +41,7 @@ fn are_all_busy(arena: &Shards, steward: &mut Steward) -> [bool; 4] {
 // the second has adopted, of which no hint is left; and what look-ups of both find afterwards, and
 // what the arena has.
 type Answers = (
-    [[bool; 6]; 2],
+    [[bool; 4]; 2],
     [bool; 4],
     [Option<Result<Option<Object>, Busy>>; 2],
     Totals,
@@ -110,7 +108,7 @@ fn tells_who_needs_it_that_it_is_busy(rt: HostRuntime) -> Result<(), Fail> {
         pages: 10,
         live: 10,
     };
-    let wanted = ([[true; 6]; 2], [true; 4], found, totals);
+    let wanted = ([[true; 4]; 2], [true; 4], found, totals);
     assert_eq!(rt; answered(rt.alloc()), Some(wanted));
     Ok(())
 }

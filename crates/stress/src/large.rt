@@ -32,23 +32,10 @@ fn put_by<R: Wait>(
         Class::C64 => Object::of(class, &[word; 4]),
         Class::C256 => Object::of(class, &[word; 16]),
     };
-    match number % 3 {
+    match number % 2 {
         0 => Some(seat.put(rt, arena, object).ok()?.0),
-        1 => Some(seat.try_put(arena, object).ok()?.ok()?.0),
-        _ => put_words(arena, seat, class, word),
+        _ => Some(seat.try_put(arena, class, object.words()).ok()?.ok()?.key()),
     }
-}
-
-fn put_words(arena: &Shards, seat: &mut Seat, class: Class, word: u128) -> Option<Key> {
-    if !seat.fits(arena) {
-        return None;
-    }
-    let put = match class {
-        Class::C16 => seat.try_put_words(arena, class, &[word]),
-        Class::C64 => seat.try_put_words(arena, class, &[word; 4]),
-        Class::C256 => seat.try_put_words(arena, class, &[word; 16]),
-    };
-    Some(put.ok()?.ok()?.0)
 }
 
 // Fills that many new pages with objects of the class.
@@ -377,11 +364,7 @@ fn is_set<R: Wait>(
         return false;
     }
     match call {
-        0 => matches!(seat.try_set_words(arena, key, &[word]), Ok(Ok((true, _)))),
-        1 => matches!(
-            seat.try_set(arena, key, Object::c16(word)),
-            Ok(Ok((true, _)))
-        ),
+        0 => matches!(seat.try_set(arena, key, &[word]), Ok(Ok(set)) if set.done()),
         _ => matches!(seat.set(rt, arena, key, Object::c16(word)), Ok((true, _))),
     }
 }
@@ -401,7 +384,7 @@ fn set_often<R: Wait>(rt: &R, alloc: Global) -> Option<([bool; 2], Option<Object
             return None;
         }
     }
-    for call in 0..3u32 {
+    for call in 0..2u32 {
         if !is_set(rt, &*arena, &mut first, &key, 8, call) {
             return None;
         }
@@ -415,7 +398,7 @@ fn set_often<R: Wait>(rt: &R, alloc: Global) -> Option<([bool; 2], Option<Object
 
 fn set_in_session(arena: &Arc<Shards, Global>, seat: Seat, key: &Key) -> Option<(Seat, bool)> {
     let mut session = keep(arena, seat)?;
-    let is_set = matches!(session.try_set_words(key, &[6]), Ok(Ok((true, _))));
+    let is_set = matches!(session.try_set(key, &[6]), Ok(Ok(set)) if set.done());
     Some((pause(session), is_set))
 }
 

@@ -11,23 +11,23 @@ use std::test::Fail;
 // The word that a look-up of the session finds.
 fn word(session: &mut Kept, key: &Key) -> Option<Result<Option<u128>, Busy>> {
     let mut room = [0u128];
-    Some(match session.try_get_words(key, &mut room) {
-        Ok((Some(1), _)) => Ok(Some(room[0])),
+    Some(match session.try_get(key, &mut room) {
+        Ok(looked) if looked.word_count() == Some(1) => Ok(Some(room[0])),
         Ok(_) => Ok(None),
         Err(busy) => Err(busy),
     })
 }
 
 fn set(session: &mut Kept, key: &Key, word: u128) -> Option<bool> {
-    match session.try_set_words(key, &[word]) {
-        Ok(Ok((done, _))) => Some(done),
+    match session.try_set(key, &[word]) {
+        Ok(Ok(set)) => Some(set.done()),
         _ => None,
     }
 }
 
 fn free(session: &mut Kept, key: &Key) -> Option<bool> {
     match session.try_free(key) {
-        Ok((done, _)) => Some(done),
+        Ok(freed) => Some(freed.done()),
         Err(_) => None,
     }
 }

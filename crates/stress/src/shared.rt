@@ -70,8 +70,8 @@ pub(crate) fn put_object(arena: &Shards, seat: &mut Seat, object: Object) -> Opt
     if !seat.fits(arena) {
         return None;
     }
-    match seat.try_put(arena, object) {
-        Ok(Ok((key, _))) => Some(key),
+    match seat.try_put(arena, object.class(), object.words()) {
+        Ok(Ok(put)) => Some(put.key()),
         _ => None,
     }
 }
@@ -83,13 +83,14 @@ pub(crate) fn get(arena: &Shards, seat: &mut Seat, key: &Key) -> Found {
     if !seat.fits(arena) {
         return None;
     }
-    Some(match seat.try_get(arena, key) {
-        Ok((found, _)) => Ok(found),
+    let mut room = [0u128; 16];
+    Some(match seat.try_get(arena, key, &mut room) {
+        Ok(looked) => Ok(looked.object(&room)),
         Err(busy) => Err(busy),
     })
 }
 
-// The word that a look-up by words finds.
+// The word that a look-up finds in a room for one.
 pub(crate) fn get_word(
     arena: &Shards,
     seat: &mut Seat,
@@ -99,8 +100,8 @@ pub(crate) fn get_word(
         return None;
     }
     let mut room = [0u128];
-    Some(match seat.try_get_words(arena, key, &mut room) {
-        Ok((Some(1), _)) => Ok(Some(room[0])),
+    Some(match seat.try_get(arena, key, &mut room) {
+        Ok(looked) if looked.word_count() == Some(1) => Ok(Some(room[0])),
         Ok(_) => Ok(None),
         Err(busy) => Err(busy),
     })
@@ -113,19 +114,8 @@ pub(crate) fn set(arena: &Shards, seat: &mut Seat, key: &Key, word: u128) -> Don
     if !seat.fits(arena) {
         return None;
     }
-    Some(match seat.try_set(arena, key, Object::c16(word)) {
-        Ok(Ok((done, _))) => Ok(done),
-        Ok(Err(_)) => return None,
-        Err(busy) => Err(busy),
-    })
-}
-
-pub(crate) fn set_word(arena: &Shards, seat: &mut Seat, key: &Key, word: u128) -> Done {
-    if !seat.fits(arena) {
-        return None;
-    }
-    Some(match seat.try_set_words(arena, key, &[word]) {
-        Ok(Ok((done, _))) => Ok(done),
+    Some(match seat.try_set(arena, key, &[word]) {
+        Ok(Ok(set)) => Ok(set.done()),
         Ok(Err(_)) => return None,
         Err(busy) => Err(busy),
     })
@@ -136,17 +126,7 @@ pub(crate) fn free(arena: &Shards, seat: &mut Seat, key: &Key) -> Done {
         return None;
     }
     Some(match seat.try_free(arena, key) {
-        Ok((done, _)) => Ok(done),
-        Err(busy) => Err(busy),
-    })
-}
-
-pub(crate) fn free_untold(arena: &Shards, seat: &mut Seat, key: &Key) -> Done {
-    if !seat.fits(arena) {
-        return None;
-    }
-    Some(match seat.try_free_untold(arena, key) {
-        Ok((done, _)) => Ok(done),
+        Ok(freed) => Ok(freed.done()),
         Err(busy) => Err(busy),
     })
 }
@@ -203,8 +183,8 @@ pub(crate) fn totals(arena: &Shards) -> Result<Totals, Busy> {
 
 // A put of the session, of an object of one word.
 pub(crate) fn put_kept(session: &mut Kept, word: u128) -> Option<Key> {
-    match session.put_words(Class::C16, &[word]) {
-        Ok((key, _)) => Some(key),
+    match session.put(Class::C16, &[word]) {
+        Ok(put) => Some(put.key()),
         Err(_) => None,
     }
 }

@@ -17,8 +17,8 @@ fn try_put<G: Gate>(arena: &Arena<G, Counted>, seat: &mut Seat) -> Option<Key>
     requires { seat.old.limits ≡ arena.now.limits }
     ensures { seat.new.limits ≡ seat.old.limits }
 {
-    match seat.try_put(arena, Object::c16(7)) {
-        Ok(Ok((key, _))) => Some(key),
+    match seat.try_put(arena, Class::C16, &[7]) {
+        Ok(Ok(put)) => Some(put.key()),
         _ => None,
     }
 }
@@ -31,8 +31,9 @@ fn try_get<G: Gate>(
     requires { seat.old.limits ≡ arena.now.limits }
     ensures { seat.new.limits ≡ seat.old.limits }
 {
-    match seat.try_get(arena, key) {
-        Ok((found, _)) => Ok(found),
+    let mut room = [0u128; 16];
+    match seat.try_get(arena, key, &mut room) {
+        Ok(looked) => Ok(looked.object(&room)),
         Err(busy) => Err(busy),
     }
 }
@@ -70,17 +71,14 @@ fn answers(
     let key = try_put(arena, first)?;
     let other = try_put(arena, first)?;
     let before = try_get(arena, second, &key).ok()?;
-    let set = matches!(
-        second.try_set(arena, &key, Object::c16(8)),
-        Ok(Ok((true, _)))
-    );
+    let set = matches!(second.try_set(arena, &key, &[8]), Ok(Ok(set)) if set.done());
     let after = try_get(arena, first, &key).ok()?;
     if !leave(second, key) {
         return None;
     }
     let tended = try_tend(arena, first)?;
     let gone = try_get(arena, second, &key).ok()?;
-    let freed = matches!(second.try_free(arena, &other), Ok((true, _)));
+    let freed = matches!(second.try_free(arena, &other), Ok(freed) if freed.done());
     Some(([before, after, gone], tended, [set, freed]))
 }
 
@@ -102,7 +100,7 @@ fn folds(
     // At another slot than the key that the second shard has.
     let low = try_put(arena, first)?;
     try_put(arena, first)?;
-    if !matches!(first.try_free(arena, &low), Ok((true, _))) {
+    if !matches!(first.try_free(arena, &low), Ok(freed) if freed.done()) {
         return None;
     }
     try_put(arena, second)?;
@@ -160,7 +158,7 @@ fn answer_as_calls_that_wait(rt: HostRuntime) -> Result<(), Fail> {
     Ok(())
 }
 
-// Whether the calls by words are busy while another thread is inside of the first shard: a put there, and a look-up, a set and a free of a key there.
+// Whether the calls are busy while another thread is inside of the first shard: a put there, and a look-up, a set and a free of a key there.
 fn by_words(
     arena: &Arena<Holding<'_>, Counted>,
     first: &mut Seat,
@@ -173,10 +171,10 @@ fn by_words(
     ensures third { third.new.limits ≡ third.old.limits }
 {
     [
-        matches!(first.try_put_words(arena, Class::C16, &[7]), Err(Busy)),
-        third.try_get_words(arena, key, &mut [0u128]) == Err(Busy),
-        matches!(third.try_set_words(arena, key, &[8]), Err(Busy)),
-        third.try_free_untold(arena, key) == Err(Busy),
+        matches!(first.try_put(arena, Class::C16, &[7]), Err(Busy)),
+        matches!(third.try_get(arena, key, &mut [0u128]), Err(Busy)),
+        matches!(third.try_set(arena, key, &[8]), Err(Busy)),
+        matches!(third.try_free(arena, key), Err(Busy)),
     ]
 }
 

@@ -1,4 +1,4 @@
-//! That calls by words, of which no receipt is made, answer what the calls with receipts do, wherever the key's span is.
+//! That calls which do not wait answer as the log of the key's span says, wherever that is.
 ghost use Rattle.std.specs.Prelude.{◌≡◌};
 
 use crate::held::{Holding, Signals, TURNS, Three, make_three};
@@ -12,8 +12,8 @@ fn put(arena: &Arena<Holding<'_>, Counted>, seat: &mut Seat, word: u128) -> Opti
     requires { seat.old.limits ≡ arena.now.limits }
     ensures { seat.new.limits ≡ seat.old.limits }
 {
-    match seat.try_put_words(arena, Class::C16, &[word]) {
-        Ok(Ok(put)) => Some(put),
+    match seat.try_put(arena, Class::C16, &[word]) {
+        Ok(Ok(put)) => Some((put.key(), put.at())),
         _ => None,
     }
 }
@@ -27,8 +27,8 @@ fn set(
     requires { seat.old.limits ≡ arena.now.limits }
     ensures { seat.new.limits ≡ seat.old.limits }
 {
-    match seat.try_set_words(arena, key, &[word]) {
-        Ok(Ok(set)) => Some(set),
+    match seat.try_set(arena, key, &[word]) {
+        Ok(Ok(set)) => Some((set.done(), set.at())),
         _ => None,
     }
 }
@@ -37,7 +37,8 @@ fn free(arena: &Arena<Holding<'_>, Counted>, seat: &mut Seat, key: &Key) -> Opti
     requires { seat.old.limits ≡ arena.now.limits }
     ensures { seat.new.limits ≡ seat.old.limits }
 {
-    seat.try_free_untold(arena, key).ok()
+    let freed = seat.try_free(arena, key).ok()?;
+    Some((freed.done(), freed.at()))
 }
 
 // How many words a look-up finds, the first of them, and how many changes the log of the key's span has.
@@ -50,27 +51,13 @@ fn found(
     ensures { seat.new.limits ≡ seat.old.limits }
 {
     let mut room = [0u128];
-    match seat.try_get_words(arena, key, &mut room) {
-        Ok((words, at)) => Some((words, room[0], at)),
+    match seat.try_get(arena, key, &mut room) {
+        Ok(looked) => Some((looked.word_count(), room[0], looked.at())),
         Err(_) => None,
     }
 }
 
-// Whether a look-up with a receipt finds the word, and one by words does so after as many changes.
-fn finds(arena: &Arena<Holding<'_>, Counted>, seat: &mut Seat, key: &Key, word: u128) -> bool
-    requires { seat.old.limits ≡ arena.now.limits }
-    ensures { seat.new.limits ≡ seat.old.limits }
-{
-    match seat.try_get(arena, key) {
-        Ok((object, receipt)) => {
-            object == Some(Object::c16(word))
-                && found(arena, seat, key) == Some((Some(1), word, receipt.at))
-        }
-        Err(_) => false,
-    }
-}
-
-// Finds the word, and sets the key to the next one: whether it did, and after how many changes.
+// Finds the word, and sets the key to the next one after as many changes: whether it did, and after how many.
 fn visit(
     arena: &Arena<Holding<'_>, Counted>,
     seat: &mut Seat,
@@ -81,10 +68,12 @@ fn visit(
     ensures { seat.new.limits ≡ seat.old.limits }
 {
     let word = u128::from(word);
-    if !finds(arena, seat, key, word) {
+    let before = found(arena, seat, key)?;
+    let (is_set, at) = set(arena, seat, key, word + 1)?;
+    if before != (Some(1), word, at) {
         return None;
     }
-    set(arena, seat, key, word + 1)
+    Some((is_set, at))
 }
 
 // Whether the seat's one group went to the pool.
@@ -198,7 +187,7 @@ fn answered(alloc: Global) -> Option<Answers> {
 }
 
 #[test]
-fn answer_as_calls_with_receipts(rt: HostRuntime) -> Result<(), Fail> {
+fn answer_as_the_log_says(rt: HostRuntime) -> Result<(), Fail> {
     let visits = [(true, 2), (true, 3), (true, 4), (true, 5), (true, 6)];
     let gone = [(true, 7), (false, 8), (false, 8)];
     let wanted = ([0, 1], visits, gone, (None, 0, 8));
@@ -217,8 +206,8 @@ fn words_of(
     ensures { seat.new.limits ≡ seat.old.limits }
 {
     let mut room = [0u128; 16];
-    match seat.try_get_words(arena, key, &mut room) {
-        Ok((Some(words), _)) if words == count => Some(room),
+    match seat.try_get(arena, key, &mut room) {
+        Ok(looked) if looked.word_count() == Some(count) => Some(room),
         _ => None,
     }
 }
@@ -234,8 +223,12 @@ fn is_found_and_set(
     requires { seat.old.limits ≡ arena.now.limits }
     ensures { seat.new.limits ≡ seat.old.limits }
 {
-    let found = matches!(seat.try_get(arena, key), Ok((Some(found), _)) if found == object);
-    found && matches!(seat.try_set_words(arena, key, words), Ok(Ok((true, _))))
+    let mut room = [0u128; 16];
+    let found = match seat.try_get(arena, key, &mut room) {
+        Ok(looked) => looked.object(&room),
+        Err(_) => None,
+    };
+    found == Some(object) && matches!(seat.try_set(arena, key, words), Ok(Ok(set)) if set.done())
 }
 
 // What look-ups by words find of an object of four words and one of sixteen, which are then set to
@@ -248,12 +241,12 @@ fn wide(arena: &Arena<Holding<'_>, Counted>, first: &mut Seat, second: &mut Seat
 {
     let words = [1, 2, 3, 4];
     let wide_words = [1, 2, 3, 4, 5, 6, 7, 8, 9, 10, 11, 12, 13, 14, 15, 16];
-    let Ok(Ok((four, _))) = first.try_put_words(arena, Class::C64, &words) else {
-        return None;
-    };
-    let Ok(Ok((sixteen, _))) = first.try_put_words(arena, Class::C256, &wide_words) else {
-        return None;
-    };
+    let four = first.try_put(arena, Class::C64, &words).ok()?.ok()?.key();
+    let sixteen = first
+        .try_put(arena, Class::C256, &wide_words)
+        .ok()?
+        .ok()?
+        .key();
     let before = words_of(arena, second, &four, 4);
     let wide_before = words_of(arena, second, &sixteen, 16);
     let others = [21, 22, 23, 24];

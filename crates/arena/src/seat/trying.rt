@@ -1,20 +1,23 @@
 // The calls of a seat that do not wait: where another thread has a lock that they need, they answer so, and change nothing.
-ghost use Rattle.std.specs.Prelude.{◌≡◌, ◌≤◌, IfOk, OnErr, OnOk};
+ghost use Rattle.std.specs.Prelude.{◌≡◌, ◌≤◌, IfOk, OnErr, OnOk, length};
 ghost use Rattle.arena.specs.Delays.{CountsCall, HandsOver, HasNoneWaiting};
-ghost use Rattle.arena.specs.Receipts.{free_receipt, get_receipt, put_receipt, set_receipt};
 ghost use Rattle.arena.specs.Seats.{AreNoFewer, KeepsEnds, free_places, sending_side};
 ghost use Rattle.arena.specs.Tended.{AreLookedAt, IsTended};
+ghost use Rattle.arena.specs.Told.{LooksUp};
+ghost use Rattle.span.specs.Classes.{width_of};
 
-use super::{Seat, done_in, value_in};
+use super::Seat;
 use crate::arena::Arena;
 use crate::gate::Gate;
 use crate::patience::Tries;
 use crate::receipts::Receipts;
+use crate::sections::{Issued, Looked, Outcome};
 use crate::tending::{look_at_rings, tend_rings};
+use crate::word::Word;
 use abandoned::{AdoptError, ReceiveError};
 use latch::Busy;
 use shard::PutError;
-use span::{Key, Log, Object, Receipt, SpanId};
+use span::{Class, Key, Log, SpanId};
 use std::alloc::AllocError;
 
 /// What a [`Seat::try_tend`] came to.
@@ -27,91 +30,90 @@ pub struct Tended {
 }
 
 impl Seat {
-    /// What [`Seat::put`] does, where no other thread has the shard's lock.
+    /// Puts the object of these words, which are as many as the class has, into the worker's shard, under that
+    /// shard's lock. The words are copied to the page from where they stand.
     ///
     /// # Errors
     ///
-    /// [`Busy`] where another thread has it. Else the put, whose errors are those of [`Seat::put`].
+    /// [`Busy`] if another thread has the lock. Else those of [`Shard::put_words`](shard::Shard::put_words) on the shard as it
+    /// then is: `Ended`, `PagesSpent` and `OutOfMemory`.
+    #[inline(always)]
     pub fn try_put<G: Gate, L: Log>(
         &mut self,
         arena: &Arena<G, L>,
-        value: Object,
-    ) -> Result<Result<(Key, Receipt), PutError>, Busy>
-        requires { self.old.limits ≡ arena.now.limits }
-        ensures receipt { IfOk result (λ made. IfOk made (λ put. put.1
-            ≡ put_receipt self.old.worker self.old.section value put.0 put.1.at)) }
+        class: Class,
+        words: &[u128],
+    ) -> Result<Result<Issued, PutError>, Busy>
+        requires fits { self.old.limits ≡ arena.now.limits }
+        requires width { length words.now ≡ width_of class }
         ensures seat { OnOk result (CountsCall self.old self.new) }
         ensures busy { OnErr result (self.new ≡ self.old) }
     {
-        self.put_within(&Tries, arena, value)
+        self.put_by(&Tries, arena, class, words)
     }
 
-    /// What [`Seat::get`] does, where no other thread has a lock that it asks for: that of whoever may have the key's span; and where the
-    /// span has moved on, the pool's, and then, one after another, those of the shards.
+    /// Looks the key up, under the lock of whoever has its span, and writes the words of what is found into
+    /// `room`, from its first place on, if there is room for all of them. A span that was never opened takes no
+    /// lock: nothing is found, before its log's first change. The same is answered of a span that was forgotten
+    /// ([`Arena::forget`]).
     ///
     /// # Errors
     ///
-    /// [`Busy`] where another thread has the lock; of those of the shards only where none of the others has the span.
-    pub fn try_get<G: Gate, L: Log>(
+    /// [`Busy`] if another thread has a lock that it needs: that of whoever may have the span; and if the span has moved on, the
+    /// pool's, or one of the shards' and nobody else has the span. The same if the span moves each time that the
+    /// call looks for it, eight times in all. Nothing is written then.
+    #[inline(always)]
+    pub fn try_get<G: Gate, L: Log, W: Word>(
         &mut self,
         arena: &Arena<G, L>,
         key: &Key,
-    ) -> Result<(Option<Object>, Receipt), Busy>
+        room: &mut [W],
+    ) -> Result<Looked, Busy>
         requires { self.old.limits ≡ arena.now.limits }
-        ensures receipt { IfOk result (λ got. got.1 ≡ get_receipt self.old.worker self.old.section
-            key.now got.0 got.1.at) }
+        ensures words { IfOk result (λ got. LooksUp W.word room.old got.0 room.new) }
         ensures seat { OnOk result (CountsCall self.old self.new) }
-        ensures busy { OnErr result (self.new ≡ self.old) }
+        ensures busy { OnErr result ((self.new ≡ self.old) × (room.new ≡ room.old)) }
     {
-        let receipt = arena.try_get_wherever(self.worker, self.section, key)?;
-        self.count_call();
-        Ok((value_in(&receipt), receipt))
+        self.get_by(&Tries, arena, key, room)
     }
 
-    /// What [`Seat::set`] does, where no other thread has a lock that it asks for, which are those of [`Seat::try_get`].
+    /// Sets the key's object to these words in place, under the lock of whoever has its span, if the key is
+    /// live and its object has as many words. A span that is nowhere takes no lock, as for [`Seat::try_get`].
     ///
     /// # Errors
     ///
-    /// [`Busy`] as that of [`Seat::try_get`]. Else the set, whose error is that of [`Seat::set`].
+    /// [`Busy`] as that of [`Seat::try_get`]. Else `AllocError` in place of a set that would be done, if the
+    /// span's log could not grow. Nothing is set then.
     pub fn try_set<G: Gate, L: Log>(
         &mut self,
         arena: &Arena<G, L>,
         key: &Key,
-        value: Object,
-    ) -> Result<Result<(bool, Receipt), AllocError>, Busy>
+        words: &[u128],
+    ) -> Result<Result<Outcome, AllocError>, Busy>
         requires { self.old.limits ≡ arena.now.limits }
-        ensures receipt { IfOk result (λ made. IfOk made (λ set. set.1
-            ≡ set_receipt self.old.worker self.old.section key.now value set.0 set.1.at)) }
         ensures seat { OnOk result (CountsCall self.old self.new) }
         ensures busy { OnErr result (self.new ≡ self.old) }
     {
-        let set = arena.try_set_wherever(self.worker, self.section, key, &value)?;
-        self.count_call();
-        match set {
-            Ok(receipt) => Ok(Ok((done_in(&receipt), receipt))),
-            Err(refused) => Ok(Err(refused)),
-        }
+        self.set_by(&Tries, arena, key, words)
     }
 
-    /// What [`Seat::free`] does, where no other thread has a lock that it asks for, which are those of [`Seat::try_get`].
+    /// Frees the key, if it is live, under the lock of whoever has its span. A span that is nowhere takes no
+    /// lock, as for [`Seat::try_get`].
     ///
     /// # Errors
     ///
     /// [`Busy`] as that of [`Seat::try_get`].
+    #[inline(always)]
     pub fn try_free<G: Gate, L: Log>(
         &mut self,
         arena: &Arena<G, L>,
         key: &Key,
-    ) -> Result<(bool, Receipt), Busy>
+    ) -> Result<Outcome, Busy>
         requires { self.old.limits ≡ arena.now.limits }
-        ensures receipt { IfOk result (λ freed. freed.1 ≡ free_receipt self.old.worker
-            self.old.section key.now freed.0 freed.1.at) }
         ensures seat { OnOk result (CountsCall self.old self.new) }
         ensures busy { OnErr result (self.new ≡ self.old) }
     {
-        let receipt = arena.try_free_wherever(self.worker, self.section, key)?;
-        self.count_call();
-        Ok((done_in(&receipt), receipt))
+        self.free_by(&Tries, arena, key)
     }
 
     /// What [`Seat::tend`] does, as long as no other thread has a lock that the next key needs: it takes a key only

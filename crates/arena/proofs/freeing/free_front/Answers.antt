@@ -11,5 +11,5 @@ loop-done-preserved g c =
     record {
       room = omega (arith, was.room, c.tell.ensures.room);
       freed = freed_next c.args.keys.now c.loop-done.done _ c.index-keys-done.result _ _ _ _
-          (omega (arith, c.loop-done-test.true)) c.index-keys-done.is was.freed c.tell.ensures.told c.in-Some.ensures;
+          (omega (arith, c.loop-done-test.true)) c.index-keys-done.is was.freed c.tell.ensures.told c.free_receipt.ensures.free;
     }
