@@ -8,7 +8,9 @@
  *
  * What a caller owes, since nothing can check it:
  * - A handle begins as zeros. Only the library reads or writes it and what it points to, and of two copies of a handle one is never used again.
- * - One call at a time on one handle, teurlaks_get among them. A handle may go to another thread, ordered by a lock, a start or a join.
+ * - One call at a time on one handle. Calls that take a `const` handle only read: many threads may
+ *   make them at once while no other call on it runs. A handle may go to another thread, ordered by
+ *   a lock, a start or a join, and so may the right to read it.
  * - A pointer that is not NULL points to as many words or bytes as the call is told.
  * - malloc, realloc and free are of one allocator, which aligns a block to each power of two up to 16 that divides its size.
  * - No call from a signal handler, or from the forked child of a process with threads.
@@ -82,6 +84,40 @@ struct teurlaks_key {
     uint8_t shard;
     uint8_t slot;
     uint16_t reserved; /* 0 */
+};
+
+/* How many bits of a number of 64 the shard, the serial and the generation of a key take. The slot
+ * takes 8. */
+struct teurlaks_key_bits {
+    uint8_t shard;
+    uint8_t serial;
+    uint8_t generation;
+    uint8_t reserved; /* 0 */
+};
+
+/* Layouts, as `struct teurlaks_key_bits bits = TEURLAKS_BALANCED_BITS;`: how many shards have
+ * numbers, spans of each, and generations of each slot. */
+#define TEURLAKS_BALANCED_BITS {4, 28, 24, 0}         /* 16; 268,435,456; 16,777,215 */
+#define TEURLAKS_MANY_SHARDS_BITS {6, 26, 24, 0}      /* 64; 67,108,864; 16,777,215 */
+#define TEURLAKS_MANY_GENERATIONS_BITS {4, 20, 32, 0} /* 16; 1,048,576; 4,294,967,295 */
+#define TEURLAKS_DOUBLE_BITS {3, 18, 24, 0}           /* 8; 262,144; 16,777,215; 53 bits */
+
+/* The layout, if the status is TEURLAKS_OK; else zeros. */
+struct teurlaks_key_bits_reply {
+    uint32_t status;
+    struct teurlaks_key_bits bits;
+};
+
+/* The number, if the status is TEURLAKS_OK; else 0. */
+struct teurlaks_number_reply {
+    uint64_t number;
+    uint32_t status;
+};
+
+/* The key, if the status is TEURLAKS_OK; else zeros. */
+struct teurlaks_key_reply {
+    uint32_t status;
+    struct teurlaks_key key;
 };
 
 /* The name of a span, and of the group that it heads. */
@@ -191,7 +227,8 @@ void teurlaks_drop(struct teurlaks_handle *handle);
 struct teurlaks_put_reply teurlaks_put(struct teurlaks_handle *handle, uint32_t shard, struct teurlaks_word value);
 
 /* The word of the key, or TEURLAKS_NONE; TEURLAKS_TOO_SMALL where its object has more words than one. */
-struct teurlaks_get_reply teurlaks_get(struct teurlaks_handle *handle, struct teurlaks_key key);
+struct teurlaks_get_reply teurlaks_get(const struct teurlaks_handle *handle,
+                                       struct teurlaks_key key);
 
 /* Keeps an object of 1, 4 or 16 words in the shard, as teurlaks_put does with one; another number is TEURLAKS_CONFIG. Objects of different
  * sizes stand on different pages: 256, 64 or 16 of them on a page. No words stand at NULL. */
@@ -199,7 +236,9 @@ struct teurlaks_put_reply teurlaks_put_words(struct teurlaks_handle *handle, uin
 
 /* Writes the words of the key's object into the first of `words`, where words_len are room enough (16 always are); or TEURLAKS_NONE.
  * There is no room at NULL, by which one asks how many they are. */
-struct teurlaks_words_reply teurlaks_get_words(struct teurlaks_handle *handle, struct teurlaks_key key, struct teurlaks_word *words, size_t words_len);
+struct teurlaks_words_reply teurlaks_get_words(const struct teurlaks_handle *handle,
+                                               struct teurlaks_key key, struct teurlaks_word *words,
+                                               size_t words_len);
 
 /* Sets the key to an object of one word, where it is live and has an object of one word, else TEURLAKS_NONE. The key stays, and so does
  * where its object stands. Takes no memory, and refuses with TEURLAKS_OUT_OF_MEMORY after 2^63 changes of a span alone. */
@@ -215,10 +254,11 @@ uint32_t teurlaks_free(struct teurlaks_handle *handle, struct teurlaks_key key);
 /* The live key that comes next after this one, which need not be live, by spans and then by slots; the first one where no key has
  * these numbers, as where all are 0; TEURLAKS_NONE where no live key is left. So a walk from zeros to TEURLAKS_NONE meets each live key
  * once, and may free keys on its way. Takes no memory. */
-struct teurlaks_next_reply teurlaks_next(struct teurlaks_handle *handle, struct teurlaks_key after);
+struct teurlaks_next_reply teurlaks_next(const struct teurlaks_handle *handle,
+                                         struct teurlaks_key after);
 
 /* How much is kept. */
-struct teurlaks_totals_reply teurlaks_totals(struct teurlaks_handle *handle);
+struct teurlaks_totals_reply teurlaks_totals(const struct teurlaks_handle *handle);
 
 /* Ends the shard: its groups go to the pool, with their pages, and it takes no object until it begins again. */
 uint32_t teurlaks_end(struct teurlaks_handle *handle, uint32_t shard);
@@ -261,8 +301,27 @@ struct teurlaks_step_reply teurlaks_step(struct teurlaks_handle *handle);
 uint32_t teurlaks_close(struct teurlaks_handle *handle);
 
 /* Writes the text of the last mark's certificate into the first bytes of text, where text_len bytes are room enough. There is no room at
- * NULL, by which one asks how many they are. */
-struct teurlaks_certificate_reply teurlaks_certificate(struct teurlaks_handle *handle, uint8_t *text, size_t text_len);
+ * NULL, by which one asks how many they are. The text is of version 2, or of version 3 if a serial
+ * in it is above 1,023, and `meshrun check` reads both (docs/FORMATS.md). */
+struct teurlaks_certificate_reply teurlaks_certificate(const struct teurlaks_handle *handle,
+                                                       uint8_t *text, size_t text_len);
+
+/* Keys as numbers of 64 bits, as for the token of an event loop. These calls ask no core. */
+
+/* The layout with the fewest bits in which each key has a number whose shard is below `shards`,
+ * whose serial is below `spans`, and whose generation is at most `generations`. TEURLAKS_CONFIG if
+ * they come to more than 64 bits. */
+struct teurlaks_key_bits_reply teurlaks_key_bits(uint32_t shards, uint32_t spans,
+                                                 uint32_t generations);
+
+/* The number of the key in the layout. It is never 0, and no other key has it. TEURLAKS_NONE if no
+ * key has these numbers, or a part of the key does not fit its bits; TEURLAKS_CONFIG if the layout
+ * takes more than 64 bits, a part of it more than 32, or its last byte is not 0. */
+struct teurlaks_number_reply teurlaks_key_to_u64(struct teurlaks_key_bits bits,
+                                                 struct teurlaks_key key);
+
+/* The key of the number in the layout. TEURLAKS_NONE if no key has it; TEURLAKS_CONFIG as above. */
+struct teurlaks_key_reply teurlaks_key_from_u64(struct teurlaks_key_bits bits, uint64_t number);
 
 /* Threads. An arena has a shard for each of its seats. A thread that has a seat puts into that seat's shard, and looks up, sets and frees keys
  * of all shards, beside all others; the steward plans folds and carries them out meanwhile. A handle to a seat or to the steward is of one

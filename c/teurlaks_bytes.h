@@ -38,7 +38,8 @@ TEURLAKS_INLINE uint32_t teurlaks_set_bytes(struct teurlaks_handle *handle, stru
 
 /* Writes the first `len` bytes of the key's object to `bytes`; or TEURLAKS_NONE, or TEURLAKS_TOO_SMALL where the object has fewer bytes, or
  * TEURLAKS_CONFIG where `bytes` is NULL and `len` is not 0. */
-TEURLAKS_INLINE uint32_t teurlaks_get_bytes(struct teurlaks_handle *handle, struct teurlaks_key key, void *bytes, size_t len) {
+TEURLAKS_INLINE uint32_t teurlaks_get_bytes(const struct teurlaks_handle *handle,
+                                            struct teurlaks_key key, void *bytes, size_t len) {
     struct teurlaks_word words[16];
     struct teurlaks_words_reply reply = teurlaks_get_words(handle, key, words, 16);
     if (reply.status != TEURLAKS_OK) return reply.status;

@@ -57,7 +57,8 @@ TEURLAKS_INLINE struct teurlaks_put_reply teurlaks_tested_put(struct teurlaks_ha
     return handle ? teurlaks_put(handle, shard, value) : none;
 }
 
-TEURLAKS_INLINE struct teurlaks_get_reply teurlaks_tested_get(struct teurlaks_handle *handle, struct teurlaks_key key) {
+TEURLAKS_INLINE struct teurlaks_get_reply teurlaks_tested_get(const struct teurlaks_handle *handle,
+                                                              struct teurlaks_key key) {
     struct teurlaks_get_reply none = {{0, 0}, TEURLAKS_NO_CORE};
     return handle ? teurlaks_get(handle, key) : none;
 }
@@ -68,7 +69,9 @@ TEURLAKS_INLINE struct teurlaks_put_reply teurlaks_tested_put_words(struct teurl
     return handle ? teurlaks_put_words(handle, shard, words ? words : &no_word, words ? words_len : 0) : none;
 }
 
-TEURLAKS_INLINE struct teurlaks_words_reply teurlaks_tested_get_words(struct teurlaks_handle *handle, struct teurlaks_key key, struct teurlaks_word *words, size_t words_len) {
+TEURLAKS_INLINE struct teurlaks_words_reply
+teurlaks_tested_get_words(const struct teurlaks_handle *handle, struct teurlaks_key key,
+                          struct teurlaks_word *words, size_t words_len) {
     struct teurlaks_words_reply none = {TEURLAKS_NO_CORE, 0};
     struct teurlaks_word no_word = {0, 0};
     return handle ? teurlaks_get_words(handle, key, words ? words : &no_word, words ? words_len : 0) : none;
@@ -87,12 +90,14 @@ TEURLAKS_INLINE uint32_t teurlaks_tested_free(struct teurlaks_handle *handle, st
     return handle ? teurlaks_free(handle, key) : (uint32_t)TEURLAKS_NO_CORE;
 }
 
-TEURLAKS_INLINE struct teurlaks_next_reply teurlaks_tested_next(struct teurlaks_handle *handle, struct teurlaks_key after) {
+TEURLAKS_INLINE struct teurlaks_next_reply
+teurlaks_tested_next(const struct teurlaks_handle *handle, struct teurlaks_key after) {
     struct teurlaks_next_reply none = {TEURLAKS_NO_CORE, {0, 0, 0, 0, 0}};
     return handle ? teurlaks_next(handle, after) : none;
 }
 
-TEURLAKS_INLINE struct teurlaks_totals_reply teurlaks_tested_totals(struct teurlaks_handle *handle) {
+TEURLAKS_INLINE struct teurlaks_totals_reply
+teurlaks_tested_totals(const struct teurlaks_handle *handle) {
     struct teurlaks_totals_reply none = {0, 0};
     return handle ? teurlaks_totals(handle) : none;
 }
@@ -144,7 +149,8 @@ TEURLAKS_INLINE uint32_t teurlaks_tested_close(struct teurlaks_handle *handle) {
     return handle ? teurlaks_close(handle) : (uint32_t)TEURLAKS_NO_CORE;
 }
 
-TEURLAKS_INLINE struct teurlaks_certificate_reply teurlaks_tested_certificate(struct teurlaks_handle *handle, uint8_t *text, size_t text_len) {
+TEURLAKS_INLINE struct teurlaks_certificate_reply
+teurlaks_tested_certificate(const struct teurlaks_handle *handle, uint8_t *text, size_t text_len) {
     struct teurlaks_certificate_reply none = {TEURLAKS_NO_CORE, 0};
     uint8_t no_text = 0;
     return handle ? teurlaks_certificate(handle, text ? text : &no_text, text ? text_len : 0) : none;

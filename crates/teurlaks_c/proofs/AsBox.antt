@@ -1,19 +1,20 @@
 -- What a handle and an unboxed value own is what a box of the same owns. Assumes `Logic`.
-use Rattle.std.proofs.Common.{◌≡◌, List, [], ◌∷◌, refl}
-use Rattle.std.specs.Prelude.{Option, Some, None}
+use Rattle.std.proofs.Common.{◌≡◌, T, List, [], ◌∷◌, refl, sym, subst}
+use Rattle.std.specs.Prelude.{IsSome, MatchBool, Option, Some, None}
 use seplogic.Ra.Ura.{Ura}
-use mir.Raw.{raw}
+use mir.Raw.{raw as raw_type}
 use mir.Syntax.{impl, tnil, dnil}
-use mir.Val.{Val, vstruct, vcons, vnil}
-use base.Logic.{SProp, ent, via, snd∗, guard, guard_i}
+use mir.Val.{Val, vstruct, vcons, vnil, vnull, ptr_eq_ok, ptr_same}
+use base.Fml.{feq}
+use base.Logic.{SProp, ent, emp, via, never, fst∗, snd∗, guard, guard_i}
 use base.Fraction.{full_share}
-use contract.Monad.{fact_use}
+use contract.Monad.{fact, fact_i, fact_use}
 use types.Logic.{Logic, sem}
-use types.Kit.{Item, Goal, Seq, Step, step, ‵, ◌$◌, fjoin, fpack, feq_i, feq_l}
+use types.Kit.{Item, Goal, Seq, Step, step, ‵, raw, given, ◌$◌, ◌∵◌, !, qed, done, drop, learn, use0, use1, fjoin, fpack, feq_i, feq_l}
 use denote.Builtin.{RawPtr}
 use denote.RattleType.{RattleType, Valss}
 use denote.Memory.{lone}
-use denote.RawPtr.{Ptr, null_ptr, ptr_val, lies_at, Testable}
+use denote.RawPtr.{Ptr, block_ptr, in_a_block, null_ptr, ptr_val, lies_at, tests_null, Testable}
 use denote.Signature.{Slot, plain}
 use denote.Steps.{nothing}
 use denote.Struct.Owning.{shape}
@@ -55,9 +56,27 @@ module _ {M : Type 1} {𝓤 : Ura M} (𝓛 : Logic 𝓤) where
   tested at held =
       let memory = lone Content.the_row.mir in
       let owned : SProp 𝓤 = sem 𝓛 (box_owns right Content.the_row at held) in
-      fact_use 𝓤 (Testable at) (via 𝓤 (sem 𝓛 (right (raw memory) at))
-      (snd∗ 𝓤 (sem 𝓛 (lies_at Content.the_row full_share at held)) (sem 𝓛 (right (raw memory) at))) (dealloc_token-Testable 𝓛 system (raw memory) at))
+      fact_use 𝓤 (Testable at) (via 𝓤 (sem 𝓛 (right (raw_type memory) at))
+      (snd∗ 𝓤 (sem 𝓛 (lies_at Content.the_row full_share at held)) (sem 𝓛 (right (raw_type memory) at))) (dealloc_token-Testable 𝓛 system (raw_type memory) at))
       (guard_i 𝓤 (Testable at) owned)
+
+-- the test of the pointer that a handle has tells whether it holds something
+abbrev pub Tells : Ptr → Option Held → Type 0
+Tells at found = T (ptr_eq_ok (ptr_val at) vnull) × MatchBool (ptr_same (ptr_val at) vnull) (found ≡ None) (IsSome found)
+
+module _ {M : Type 1} {𝓤 : Ura M} (𝓛 : Logic 𝓤) where
+  telling : (at : Ptr) (found : Option Held) → ent 𝓤 (sem 𝓛 (owns_held at found)) (fact 𝓤 (Tells at found))
+  telling at None =
+      qed 𝓛 (‵ (feq Ptr at null_ptr) ∷ []) ∵ feq_l ! (λ null.
+      use0 𝓛 (raw (fact 𝓤 (Tells at None))) (fact_i 𝓤 (Tells at None) (emp 𝓤) (subst (λ p. Tells p None) (sym null) (tt, refl))) $ done !)
+  telling at (Some held) =
+      qed 𝓛 (‵ (box_owns right Content.the_row at held) ∷ []) ∵
+      in_a_block ! at (λ p. box_owns right Content.the_row p held) (fst∗ 𝓤 (never 𝓤) (sem 𝓛 (right (raw_type (lone Content.the_row.mir)) null_ptr))) (λ b o e.
+      use1 𝓛 (given (Testable (block_ptr b o)) (‵ (box_owns right Content.the_row (block_ptr b o) held))) (tested 𝓛 (block_ptr b o) held) $ learn ! (λ may. drop ! $
+      use0 𝓛 (raw (fact 𝓤 (Tells at (Some held)))) (fact_i 𝓤 (Tells at (Some held)) (emp 𝓤) (subst (λ p. Tells p (Some held)) (sym e) (tests_null (block_ptr b o) may, refl))) $ done !))
+
+  pub tells : (at : Ptr) (found : Option Held) → ent 𝓤 (sem 𝓛 (owns_held at found)) (guard 𝓤 (Tells at found) (sem 𝓛 (owns_held at found)))
+  tells at found = fact_use 𝓤 (Tells at found) (telling at found) (guard_i 𝓤 (Tells at found) (sem 𝓛 (owns_held at found)))
 
 module _ {M : Type 1} {𝓤 : Ura M} {𝓛 : Logic 𝓤} {K : Type 0} {Γ : List (Item 𝓤)} {G : Goal 𝓤 𝓛.H} where
   -- what a handle owns makes the handle

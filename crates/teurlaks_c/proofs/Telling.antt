@@ -11,8 +11,8 @@ use Rattle.latch.specs.declared.latch.Busy.{Busy}
 use Rattle.arena.specs.Delays.{CountsCall}
 use Rattle.arena.specs.Receipts.{get_receipt}
 use Rattle.arena.specs.Seats.{SeatState}
-use Rattle.arena.specs.Sessions.{LooksUp}
-use Rattle.arena.specs.Told.{WritesFound}
+use Rattle.arena.specs.Sessions.{LooksUpOwn}
+use Rattle.arena.specs.Told.{LooksUp, WritesFound}
 use Rattle.teurlaks_c.specs.declared.replies.PutReply.{PutReply}
 use Rattle.teurlaks_c.specs.declared.replies.RawWord.{RawWord}
 use Rattle.teurlaks_c.specs.declared.replies.WordsReply.{WordsReply}
@@ -91,21 +91,21 @@ SaysWords-looked room room_new says (Some words) (Some count) at (told, inr (nar
 
 -- what a look-up by words tells is what C reads of the look-up that found this, with its receipt
 pub SaysGot-looked : (key : Key) (before after : SeatState) (room room_new : List RawWord) (says : WordsReply) (answer : Result (Option ℕ × ℕ) Busy)
-    → IfOk answer (λ got. (found : Option Value) × WritesFound word_of found room got.0 room_new)
+    → IfOk answer (λ got. LooksUp word_of room got.0 room_new)
     → OnOk answer (CountsCall before after) → OnErr answer ((after ≡ before) × (room_new ≡ room)) → SaysLooked (length room) says answer
     → (told : Result (Option Value × Receipt) Busy) × Gets key before told after × SaysGot room says room_new (Some told)
 SaysGot-looked key before after room room_new says (Err b) wrote ok (same, room_same) (status, len) = (Err b, (tt, (tt, same)), (status, len, room_same))
-SaysGot-looked key before after room room_new says (Ok (told, at)) (found, wrote) ok err looked =
+SaysGot-looked key before after room room_new says (Ok (told, at)) (found, object, wrote) ok err looked =
     (Ok (found, get_receipt before.worker before.section key found at), (refl, (ok, tt)), SaysWords-looked room room_new says found told at wrote looked)
 
 -- the same in a session, whose own shard shows this value of the key
 pub SaysGot-held : (own : Option ℕ) (value : Option Value) (Counts Stays : Type 0)
     (room room_new : List RawWord) (says : WordsReply) (answer : Result (Option ℕ × ℕ) Busy)
-    → LooksUp word_of own value room answer room_new → OnOk answer Counts → OnErr answer Stays → SaysLooked (length room) says answer
+    → LooksUpOwn word_of own value room answer room_new → OnOk answer Counts → OnErr answer Stays → SaysLooked (length room) says answer
     → (told : Result (Option Value × ℕ) Busy) × (AnswersOwn own value told × OnOk told Counts × OnErr told Stays) × SaysGot room says room_new (Some told)
 SaysGot-held (Some at) value Counts Stays room room_new says (Err b) looks counts stays looked = absurd looks
 SaysGot-held None value Counts Stays room room_new says (Err b) same counts stays (status, len) = (Err b, (tt, tt, stays), (status, len, same))
 SaysGot-held (Some own) value Counts Stays room room_new says (Ok (told, at)) (is, wrote) counts stays looked =
     (Ok (value, at), (ap (λ at. Ok (value, at)) is, counts, tt), SaysWords-looked room room_new says value told at wrote looked)
-SaysGot-held None value Counts Stays room room_new says (Ok (told, at)) (found, wrote) counts stays looked =
+SaysGot-held None value Counts Stays room room_new says (Ok (told, at)) (found, object, wrote) counts stays looked =
     (Ok (found, at), (tt, counts, tt), SaysWords-looked room room_new says found told at wrote looked)

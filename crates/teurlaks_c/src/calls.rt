@@ -1,5 +1,5 @@
 // A core from its beginning to its end, and the calls on keys.
-ghost use Rattle.std.specs.Prelude.{◌≡◌, ◌↔◌, ◌∷◌, [], IfSome, IsSome, MatchBool, None, Option, Some, length, option_map};
+ghost use Rattle.std.specs.Prelude.{◌≡◌, ◌↔◌, ◌∷◌, [], IfSome, IsSome, None, Some, length, option_map};
 ghost use Rattle.span.specs.Classes.{IsObject, width_of};
 ghost use Rattle.marks.specs.Numbers.{AreWithin, limits_of};
 ghost use Rattle.arena_core.specs.State.{new_core};
@@ -38,7 +38,7 @@ pub extern "C" fn teurlaks_new(
         → ⊥) }
     ensures taken { (result ≡ has_core) ↔ IsSome out.old.held }
 {
-    if is_live(alloc, out) {
+    if !out.is_null() {
         return HAS_CORE;
     }
     match Core::with_log(
@@ -71,63 +71,52 @@ pub extern "C" fn teurlaks_drop(alloc: Global, handle: &mut Handle)
 /// Keeps an object of one word in the shard, and answers its key, which was never given out before. Refused with `PAGES_SPENT`,
 /// `ENDED`, `CONFIG` or `OUT_OF_MEMORY` as [`Core::put`] is; nothing has changed then.
 #[unsafe(no_mangle)]
-pub extern "C" fn teurlaks_put(
-    alloc: Global,
-    handle: &mut Handle,
-    shard: u32,
-    value: RawWord,
-) -> PutReply
+pub extern "C" fn teurlaks_put(handle: &mut Handle, shard: u32, value: RawWord) -> PutReply
     ensures live { IsSome handle.old.held → Puts handle.old.held shard (word_of value ∷ []) result handle.new.held }
     ensures none { handle.old.held ≡ None → (result.status ≡ no_core) × (handle.new.held ≡ None) }
 {
-    put(alloc, handle, shard, Class::C16, &[value_of(value)])
+    put(handle, shard, Class::C16, &[value_of(value)])
 }
 
 /// Keeps an object of 1, 4 or 16 words in the shard, as [`teurlaks_put`] does with one word. Where the words are of another number,
 /// it answers `CONFIG`, and nothing has changed.
 #[unsafe(no_mangle)]
-pub extern "C" fn teurlaks_put_words(
-    alloc: Global,
-    handle: &mut Handle,
-    shard: u32,
-    words: &[RawWord],
-) -> PutReply
+pub extern "C" fn teurlaks_put_words(handle: &mut Handle, shard: u32, words: &[RawWord]) -> PutReply
     ensures live { IsSome handle.old.held → PutsWords handle.old.held shard (words_of words.now) result handle.new.held }
     ensures none { handle.old.held ≡ None → (result.status ≡ no_core) × (handle.new.held ≡ None) }
 {
     let Some(class) = class_for(words) else {
         return PutReply {
-            status: or_no_core(CONFIG, alloc, handle),
+            status: or_no_core(CONFIG, handle),
             key: no_key(),
         };
     };
     let mut room = [0; 16];
     let values = &mut room[..words.len()];
     join_all(values, words);
-    put(alloc, handle, shard, class, values)
+    put(handle, shard, class, values)
 }
 
 /// The word of the key, where it is live and has an object of one word. `NONE` where it is not live, and `TOO_SMALL` where its object
 /// has more words. Nothing changes.
 #[unsafe(no_mangle)]
-pub extern "C" fn teurlaks_get(alloc: Global, handle: &mut Handle, key: RawKey) -> GetReply
+pub extern "C" fn teurlaks_get(handle: &mut Handle, key: RawKey) -> GetReply
     ensures live { IsSome handle.old.held → Gets handle.old.held key result handle.new.held }
     ensures none { handle.old.held ≡ None → (result.status ≡ no_core) × (word_of result.value ≡ 0) × (handle.new.held ≡ None) }
 {
     let Some(key) = key_of(key) else {
         return GetReply {
             value: raw_word(0),
-            status: or_no_core(NONE, alloc, handle),
+            status: or_no_core(NONE, handle),
         };
     };
-    get(alloc, handle, &key)
+    get(handle, &key)
 }
 
 /// Writes the words of the key's object, where it is live, into `words`, from its first on, and answers how many they are. `NONE` where
 /// it is not live, and `TOO_SMALL` where there is no room for that many: nothing was written then. The core stays as it is.
 #[unsafe(no_mangle)]
 pub extern "C" fn teurlaks_get_words(
-    alloc: Global,
     handle: &mut Handle,
     key: RawKey,
     words: &mut [RawWord],
@@ -137,96 +126,83 @@ pub extern "C" fn teurlaks_get_words(
 {
     let Some(key) = key_of(key) else {
         return WordsReply {
-            status: or_no_core(NONE, alloc, handle),
+            status: or_no_core(NONE, handle),
             len: 0,
         };
     };
-    get_words(alloc, handle, &key, words)
+    get_words(handle, &key, words)
 }
 
 /// Sets the key to the object of this word, where it is live and has an object of one word, which `OK` says; else it answers `NONE`.
 /// Refused with `OUT_OF_MEMORY` as [`Core::set`] is; nothing has changed then.
 #[unsafe(no_mangle)]
-pub extern "C" fn teurlaks_set(
-    alloc: Global,
-    handle: &mut Handle,
-    key: RawKey,
-    value: RawWord,
-) -> u32
+pub extern "C" fn teurlaks_set(handle: &mut Handle, key: RawKey, value: RawWord) -> u32
     ensures live { IsSome handle.old.held → Sets handle.old.held key (word_of value ∷ []) result handle.new.held }
     ensures none { handle.old.held ≡ None → (result ≡ no_core) × (handle.new.held ≡ None) }
 {
     let Some(key) = key_of(key) else {
-        return or_no_core(NONE, alloc, handle);
+        return or_no_core(NONE, handle);
     };
-    set(alloc, handle, &key, &[value_of(value)])
+    set(handle, &key, &[value_of(value)])
 }
 
 /// Sets the key to the object of 1, 4 or 16 words, as [`teurlaks_set`] does with one word, where it is live and its object has as many.
 /// Where the words are of another number than these, it answers `CONFIG`, and nothing has changed.
 #[unsafe(no_mangle)]
-pub extern "C" fn teurlaks_set_words(
-    alloc: Global,
-    handle: &mut Handle,
-    key: RawKey,
-    words: &[RawWord],
-) -> u32
+pub extern "C" fn teurlaks_set_words(handle: &mut Handle, key: RawKey, words: &[RawWord]) -> u32
     ensures live { IsSome handle.old.held → SetsWords handle.old.held key (words_of words.now) result handle.new.held }
     ensures none { handle.old.held ≡ None → (result ≡ no_core) × (handle.new.held ≡ None) }
 {
     let Some(_) = class_for(words) else {
-        return or_no_core(CONFIG, alloc, handle);
+        return or_no_core(CONFIG, handle);
     };
     let Some(key) = key_of(key) else {
-        return or_no_core(NONE, alloc, handle);
+        return or_no_core(NONE, handle);
     };
     let mut room = [0; 16];
     let values = &mut room[..words.len()];
     join_all(values, words);
-    set(alloc, handle, &key, values)
+    set(handle, &key, values)
 }
 
 /// Frees the key, where it is live, which `OK` says; else it answers `NONE`, and nothing changes. It takes no memory.
 #[unsafe(no_mangle)]
-pub extern "C" fn teurlaks_free(alloc: Global, handle: &mut Handle, key: RawKey) -> u32
+pub extern "C" fn teurlaks_free(handle: &mut Handle, key: RawKey) -> u32
     ensures live { IsSome handle.old.held → Frees handle.old.held key result handle.new.held }
     ensures none { handle.old.held ≡ None → (result ≡ no_core) × (handle.new.held ≡ None) }
 {
     let Some(key) = key_of(key) else {
-        return or_no_core(NONE, alloc, handle);
+        return or_no_core(NONE, handle);
     };
-    free(alloc, handle, &key)
+    free(handle, &key)
 }
 
 /// The live key that comes next after this one, by the ids of spans and then by slots, as [`Core::next_live`] answers it; the first one
 /// where no key has these numbers, as where all are 0. `NONE` says that no live key is left. Nothing changes.
 #[unsafe(no_mangle)]
-pub extern "C" fn teurlaks_next(alloc: Global, handle: &mut Handle, after: RawKey) -> NextReply
+pub extern "C" fn teurlaks_next(handle: &mut Handle, after: RawKey) -> NextReply
     ensures live { IsSome handle.old.held → Nexts handle.old.held after result handle.new.held }
     ensures none { handle.old.held ≡ None → (result.status ≡ no_core) × (handle.new.held ≡ None) }
 {
-    let Some(held) = replace(handle, Handle::none()).into_box(alloc) else {
+    let Some(held) = handle.held() else {
         return NextReply {
             status: NO_CORE,
             key: no_key(),
         };
     };
-    let found = held.core.next_live(key_of(after));
-    *handle = Handle::of(held);
-    next_reply(found)
+    next_reply(held.core.next_live(key_of(after)))
 }
 
 /// How many pages there are, and how many keys are live. Nothing changes.
 #[unsafe(no_mangle)]
-pub extern "C" fn teurlaks_totals(alloc: Global, handle: &mut Handle) -> TotalsReply
+pub extern "C" fn teurlaks_totals(handle: &mut Handle) -> TotalsReply
     ensures live { IsSome handle.old.held → Counts handle.old.held result handle.new.held }
     ensures none { handle.old.held ≡ None → (result.pages ≡ 0) × (result.live ≡ 0) × (handle.new.held ≡ None) }
 {
-    let Some(held) = replace(handle, Handle::none()).into_box(alloc) else {
+    let Some(held) = handle.held() else {
         return TotalsReply { pages: 0, live: 0 };
     };
     let totals = held.core.totals();
-    *handle = Handle::of(held);
     TotalsReply {
         pages: totals.pages,
         live: totals.live,
@@ -235,20 +211,18 @@ pub extern "C" fn teurlaks_totals(alloc: Global, handle: &mut Handle) -> TotalsR
 
 // The core keeps the object of these words.
 #[inline(always)]
-fn put(alloc: Global, handle: &mut Handle, shard: u32, class: Class, words: &[u128]) -> PutReply
+fn put(handle: &mut Handle, shard: u32, class: Class, words: &[u128]) -> PutReply
     requires width { length words.now ≡ width_of class }
     ensures live { IsSome handle.old.held → Puts handle.old.held shard words.now result handle.new.held }
     ensures none { handle.old.held ≡ None → (result.status ≡ no_core) × (handle.new.held ≡ None) }
 {
-    let Some(mut held) = replace(handle, Handle::none()).into_box(alloc) else {
+    let Some(held) = handle.held() else {
         return PutReply {
             status: NO_CORE,
             key: no_key(),
         };
     };
-    let put = held.core.put_words(shard, class, words);
-    *handle = Handle::of(held);
-    match put {
+    match held.core.put_words(shard, class, words) {
         Ok(key) => PutReply {
             status: OK,
             key: raw_of(key),
@@ -262,48 +236,42 @@ fn put(alloc: Global, handle: &mut Handle, shard: u32, class: Class, words: &[u1
 
 // The core looks the key up, for its word.
 #[inline(always)]
-fn get(alloc: Global, handle: &mut Handle, key: &Key) -> GetReply
+fn get(handle: &mut Handle, key: &Key) -> GetReply
     ensures live { IsSome handle.old.held → GetsKey handle.old.held key.now (SaysGot result) handle.new.held }
     ensures none { handle.old.held ≡ None → (result.status ≡ no_core) × (word_of result.value ≡ 0) × (handle.new.held ≡ None) }
 {
-    let Some(held) = replace(handle, Handle::none()).into_box(alloc) else {
+    let Some(held) = handle.held() else {
         return GetReply {
             value: raw_word(0),
             status: NO_CORE,
         };
     };
-    let says = got(held.core.get(key));
-    *handle = Handle::of(held);
-    says
+    got(held.core.get(key))
 }
 
 // The core looks the key up, and its words are written into the room.
-fn get_words(alloc: Global, handle: &mut Handle, key: &Key, room: &mut [RawWord]) -> WordsReply
+fn get_words(handle: &mut Handle, key: &Key, room: &mut [RawWord]) -> WordsReply
     ensures live { IsSome handle.old.held → GetsKey handle.old.held key.now (SaysWords room.old result room.new) handle.new.held }
     ensures none { handle.old.held ≡ None → (result.status ≡ no_core) × (result.len ≡ 0) × (room.new ≡ room.old) × (handle.new.held ≡ None) }
 {
-    let Some(held) = replace(handle, Handle::none()).into_box(alloc) else {
+    let Some(held) = handle.held() else {
         return WordsReply {
             status: NO_CORE,
             len: 0,
         };
     };
-    let says = tell(held.core.get(key), room);
-    *handle = Handle::of(held);
-    says
+    tell(held.core.get(key), room)
 }
 
 // The core sets the key to the object of these words.
-fn set(alloc: Global, handle: &mut Handle, key: &Key, words: &[u128]) -> u32
+fn set(handle: &mut Handle, key: &Key, words: &[u128]) -> u32
     ensures live { IsSome handle.old.held → SetsKey handle.old.held key.now words.now result handle.new.held }
     ensures none { handle.old.held ≡ None → (result ≡ no_core) × (handle.new.held ≡ None) }
 {
-    let Some(mut held) = replace(handle, Handle::none()).into_box(alloc) else {
+    let Some(held) = handle.held() else {
         return NO_CORE;
     };
-    let set = held.core.set(key, words);
-    *handle = Handle::of(held);
-    match set {
+    match held.core.set(key, words) {
         Ok(done) => { if done { OK } else { NONE } }
         Err(refusal) => status_of(refusal),
     }
@@ -311,41 +279,23 @@ fn set(alloc: Global, handle: &mut Handle, key: &Key, words: &[u128]) -> u32
 
 // The core frees the key.
 #[inline(always)]
-fn free(alloc: Global, handle: &mut Handle, key: &Key) -> u32
+fn free(handle: &mut Handle, key: &Key) -> u32
     ensures live { IsSome handle.old.held → FreesKey handle.old.held key.now result handle.new.held }
     ensures none { handle.old.held ≡ None → (result ≡ no_core) × (handle.new.held ≡ None) }
 {
-    let Some(mut held) = replace(handle, Handle::none()).into_box(alloc) else {
+    let Some(held) = handle.held() else {
         return NO_CORE;
     };
-    let freed = held.core.free(key);
-    *handle = Handle::of(held);
-    if freed { OK } else { NONE }
+    if held.core.free(key) { OK } else { NONE }
 }
 
 // The status of a call that needs no core for its answer, or `NO_CORE`.
-fn or_no_core(status: u32, alloc: Global, handle: &mut Handle) -> u32
+fn or_no_core(status: u32, handle: &mut Handle) -> u32
     ensures same { handle.new.held ≡ handle.old.held }
     ensures live { IsSome handle.old.held → result ≡ status }
     ensures none { handle.old.held ≡ None → result ≡ no_core }
 {
-    if is_live(alloc, handle) {
-        status
-    } else {
-        NO_CORE
-    }
-}
-
-// Whether the handle has a core.
-fn is_live(alloc: Global, handle: &mut Handle) -> bool
-    ensures same { handle.new.held ≡ handle.old.held }
-    ensures told { MatchBool result (IsSome handle.old.held) (handle.old.held ≡ None) }
-{
-    let Some(held) = replace(handle, Handle::none()).into_box(alloc) else {
-        return false;
-    };
-    *handle = Handle::of(held);
-    true
+    if handle.is_null() { NO_CORE } else { status }
 }
 
 // The key that comes next, as C has it.

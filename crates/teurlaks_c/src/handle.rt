@@ -1,5 +1,5 @@
 // What a caller keeps of a core: where it is.
-ghost use Rattle.std.specs.Prelude.{◌≡◌, MatchOption, None, Option, Some};
+ghost use Rattle.std.specs.Prelude.{◌≡◌, IsSome, MatchBool, MatchOption, None, Option, Some};
 ghost use Rattle.teurlaks_c.specs.declared.held.Held.{Held};
 ghost use Rattle.teurlaks_c.specs.Owned.{held_code, owns_held};
 
@@ -23,6 +23,9 @@ impl Model for Handle {
 }
 
 impl Handle {
+    ghost use Rattle.std.specs.Borrow.{sem};
+    ghost use Rattle.teurlaks_c.specs.Lending.{LendsHeld, LendsHeldIf};
+
     /// A handle of nothing, which is what all zero bytes are.
     pub fn none() -> Handle
         ensures { result.held ≡ None }
@@ -47,6 +50,39 @@ impl Handle {
             Some(unboxed) => Some(unboxed.into_box()),
             None => None,
         }
+    }
+
+    /// What the handle holds, lent where it lies, or `None` if it holds nothing.
+    // Nothing is written but by who writes through it.
+    #[inline(always)]
+    pub fn held(&mut self) -> Option<&mut Held>
+        ensures* writes_back { sem 𝓛 (LendsHeldIf self.entry result) }
+        ensures value { MatchOption result (self.old.held ≡ None)
+            (λ held. self.old.held ≡ Some held.now) }
+    {
+        if self.is_null() {
+            None
+        } else {
+            Some(self.lent())
+        }
+    }
+
+    /// Whether the handle holds nothing.
+    #[inline(always)]
+    pub fn is_null(&mut self) -> bool
+        ensures { (self.new ≡ self.old)
+            × MatchBool result (self.old.held ≡ None) (IsSome self.old.held) }
+    {
+        self.at.is_null()
+    }
+
+    #[inline(always)]
+    fn lent(&mut self) -> &mut Held
+        requires { IsSome self.old.held }
+        ensures* writes_back { sem 𝓛 (LendsHeld self.entry result) }
+        ensures value { self.old.held ≡ Some result.now }
+    {
+        unsafe { &mut *(self.at as *mut Held) }
     }
 
     fn of_unboxed(unboxed: Unboxed<Held, Global>) -> Handle

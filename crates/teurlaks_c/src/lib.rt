@@ -47,6 +47,7 @@
 mod calls;
 mod handle;
 mod held;
+mod key_numbers;
 mod keys;
 mod leaving;
 mod meshing;
@@ -71,6 +72,7 @@ pub use calls::{
     teurlaks_drop, teurlaks_free, teurlaks_get, teurlaks_get_words, teurlaks_new, teurlaks_next,
     teurlaks_put, teurlaks_put_words, teurlaks_set, teurlaks_set_words, teurlaks_totals,
 };
+pub use key_numbers::{teurlaks_key_bits, teurlaks_key_from_u64, teurlaks_key_to_u64};
 pub use leaving::teurlaks_seat_leave;
 pub use meshing::{
     teurlaks_adopt, teurlaks_begin, teurlaks_certificate, teurlaks_close, teurlaks_end,

@@ -25,11 +25,11 @@ use std::mem::replace;
 /// Ends the shard: its groups go to the pool, with their pages, and it takes no put until it begins again. Refused with `ENDED`, `PLAN_OPEN`,
 /// `CONFIG` or `OUT_OF_MEMORY` as an end of [`Core::step`](arena_core::Core::step) is; nothing has changed then.
 #[unsafe(no_mangle)]
-pub extern "C" fn teurlaks_end(alloc: Global, handle: &mut Handle, shard: u32) -> u32
+pub extern "C" fn teurlaks_end(handle: &mut Handle, shard: u32) -> u32
     ensures live { IsSome handle.old.held → Ends handle.old.held shard result handle.new.held }
     ensures none { handle.old.held ≡ None → (result ≡ no_core) × (handle.new.held ≡ None) }
 {
-    match step(alloc, handle, Event::End { shard }) {
+    match step(handle, Event::End { shard }) {
         Some(Reply::ShardEnded) => OK,
         Some(Reply::Refused(refusal)) => status_of(refusal),
         Some(_) => NONE,
@@ -41,11 +41,11 @@ pub extern "C" fn teurlaks_end(alloc: Global, handle: &mut Handle, shard: u32) -
 /// what they were. Refused with `RUNNING` where the shard has not ended, and with `CONFIG` where there is no such shard; nothing has
 /// changed then. It takes no memory.
 #[unsafe(no_mangle)]
-pub extern "C" fn teurlaks_begin(alloc: Global, handle: &mut Handle, shard: u32) -> u32
+pub extern "C" fn teurlaks_begin(handle: &mut Handle, shard: u32) -> u32
     ensures live { IsSome handle.old.held → Begins handle.old.held shard result handle.new.held }
     ensures none { handle.old.held ≡ None → (result ≡ no_core) × (handle.new.held ≡ None) }
 {
-    match step(alloc, handle, Event::Begin { shard }) {
+    match step(handle, Event::Begin { shard }) {
         Some(Reply::ShardBegun) => OK,
         Some(Reply::Refused(refusal)) => status_of(refusal),
         Some(_) => NONE,
@@ -57,16 +57,11 @@ pub extern "C" fn teurlaks_begin(alloc: Global, handle: &mut Handle, shard: u32)
 /// those that have one. The count is `most`, or less where that is all that have a live key. Refused with `ENDED`, `PLAN_OPEN`, `CONFIG` or
 /// `OUT_OF_MEMORY` as [`Core::retire`](arena_core::Core::retire) is; nothing has changed then.
 #[unsafe(no_mangle)]
-pub extern "C" fn teurlaks_retire(
-    alloc: Global,
-    handle: &mut Handle,
-    shard: u32,
-    most: usize,
-) -> RetireReply
+pub extern "C" fn teurlaks_retire(handle: &mut Handle, shard: u32, most: usize) -> RetireReply
     ensures live { IsSome handle.old.held → Retires handle.old.held shard most result handle.new.held }
     ensures none { handle.old.held ≡ None → (result.status ≡ no_core) × (result.count ≡ 0) × (handle.new.held ≡ None) }
 {
-    match step(alloc, handle, Event::Retire { shard, most }) {
+    match step(handle, Event::Retire { shard, most }) {
         Some(Reply::Retired(count)) => RetireReply { status: OK, count },
         Some(Reply::Refused(refusal)) => RetireReply {
             status: status_of(refusal),
@@ -87,11 +82,11 @@ pub extern "C" fn teurlaks_retire(
 /// Gives back the page of each open group of the shard in which no slot is live; the count is how many went. The groups stay, and a
 /// later put into one of them opens a page for it. Refused with `CONFIG` alone, where there is no such shard. It takes no memory.
 #[unsafe(no_mangle)]
-pub extern "C" fn teurlaks_trim(alloc: Global, handle: &mut Handle, shard: u32) -> TrimReply
+pub extern "C" fn teurlaks_trim(handle: &mut Handle, shard: u32) -> TrimReply
     ensures live { IsSome handle.old.held → Trims handle.old.held shard result handle.new.held }
     ensures none { handle.old.held ≡ None → (result.status ≡ no_core) × (result.count ≡ 0) × (handle.new.held ≡ None) }
 {
-    match step(alloc, handle, Event::Trim { shard }) {
+    match step(handle, Event::Trim { shard }) {
         Some(Reply::Trimmed(count)) => TrimReply { status: OK, count },
         Some(Reply::Refused(refusal)) => TrimReply {
             status: status_of(refusal),
@@ -112,29 +107,27 @@ pub extern "C" fn teurlaks_trim(alloc: Global, handle: &mut Handle, shard: u32) 
 /// changes that a caller sees. Refused with `PLAN_OPEN` alone, while a plan is open. It asks for memory only for smaller tables in the
 /// place of larger ones, which stay if there is none.
 #[unsafe(no_mangle)]
-pub extern "C" fn teurlaks_forget(alloc: Global, handle: &mut Handle) -> ForgetReply
+pub extern "C" fn teurlaks_forget(handle: &mut Handle) -> ForgetReply
     ensures live { IsSome handle.old.held → Forgets handle.old.held result handle.new.held }
     ensures none { handle.old.held ≡ None → (result.status ≡ no_core) × (result.count ≡ 0) × (handle.new.held ≡ None) }
 {
-    let Some(mut held) = replace(handle, Handle::none()).into_box(alloc) else {
+    let Some(held) = handle.held() else {
         return ForgetReply {
             status: NO_CORE,
             count: 0,
         };
     };
-    let answer = held.core.forget();
-    *handle = Handle::of(held);
-    forgotten_reply(answer)
+    forgotten_reply(held.core.forget())
 }
 
 /// Moves the pool's group of lowest head that has a page to the shard, and answers its head. Refused with `PAGES_SPENT`, `ENDED`,
 /// `PLAN_OPEN`, `NOTHING_TO_ADOPT`, `CONFIG` or `OUT_OF_MEMORY`; nothing has changed then.
 #[unsafe(no_mangle)]
-pub extern "C" fn teurlaks_adopt(alloc: Global, handle: &mut Handle, shard: u32) -> AdoptReply
+pub extern "C" fn teurlaks_adopt(handle: &mut Handle, shard: u32) -> AdoptReply
     ensures live { IsSome handle.old.held → Adopts handle.old.held shard result handle.new.held }
     ensures none { handle.old.held ≡ None → (result.status ≡ no_core) × (handle.new.held ≡ None) }
 {
-    match step(alloc, handle, Event::Adopt { shard }) {
+    match step(handle, Event::Adopt { shard }) {
         Some(Reply::Adopted(head)) => AdoptReply {
             status: OK,
             head: raw_span(head),
@@ -157,43 +150,39 @@ pub extern "C" fn teurlaks_adopt(alloc: Global, handle: &mut Handle, shard: u32)
 /// Plans as many folds of the pool's groups onto those of the shards as can be, opens the plan, and keeps its certificate. Refused with
 /// `PLAN_OPEN`, `TOO_MANY` or `OUT_OF_MEMORY`; nothing has changed then, and the certificate of the mark before is kept.
 #[unsafe(no_mangle)]
-pub extern "C" fn teurlaks_mark(alloc: Global, handle: &mut Handle) -> MarkReply
+pub extern "C" fn teurlaks_mark(handle: &mut Handle) -> MarkReply
     ensures live { IsSome handle.old.held → Marks event.Mark handle.old.held result handle.new.held }
     ensures none { handle.old.held ≡ None → (result.status ≡ no_core) × (handle.new.held ≡ None) }
 {
-    let Some(mut held) = replace(handle, Handle::none()).into_box(alloc) else {
+    let Some(held) = handle.held() else {
         return unmarked(NO_CORE);
     };
     let reply = held.core.step(Event::Mark);
-    let says = keep(&mut held, reply);
-    *handle = Handle::of(held);
-    says
+    keep(held, reply)
 }
 
 /// Does as [`teurlaks_mark`] does with the 4,096 groups of each side that have the fewest live keys, or with all where there are no more.
 /// Refused with `PLAN_OPEN` or `OUT_OF_MEMORY`; nothing has changed then, and the certificate of the mark before is kept.
 #[unsafe(no_mangle)]
-pub extern "C" fn teurlaks_mark_some(alloc: Global, handle: &mut Handle) -> MarkReply
+pub extern "C" fn teurlaks_mark_some(handle: &mut Handle) -> MarkReply
     ensures live { IsSome handle.old.held → Marks event.MarkSome handle.old.held result handle.new.held }
     ensures none { handle.old.held ≡ None → (result.status ≡ no_core) × (handle.new.held ≡ None) }
 {
-    let Some(mut held) = replace(handle, Handle::none()).into_box(alloc) else {
+    let Some(held) = handle.held() else {
         return unmarked(NO_CORE);
     };
     let reply = held.core.step(Event::MarkSome);
-    let says = keep(&mut held, reply);
-    *handle = Handle::of(held);
-    says
+    keep(held, reply)
 }
 
 /// Carries out the next pair of the open plan: `OK`, or `EMPTIED` where the pair's abandoned group had no live key left. `NO_PAIR_LEFT`
 /// and `NO_PLAN` change nothing. Refused with `OUT_OF_MEMORY` alone; the pair is then still the next.
 #[unsafe(no_mangle)]
-pub extern "C" fn teurlaks_step(alloc: Global, handle: &mut Handle) -> StepReply
+pub extern "C" fn teurlaks_step(handle: &mut Handle) -> StepReply
     ensures live { IsSome handle.old.held → TakesStep handle.old.held result handle.new.held }
     ensures none { handle.old.held ≡ None → (result.status ≡ no_core) × (handle.new.held ≡ None) }
 {
-    match step(alloc, handle, Event::Step) {
+    match step(handle, Event::Step) {
         Some(Reply::Stepped(abandoned, owned, Step::Folded)) => stepped(OK, abandoned, owned),
         Some(Reply::Stepped(abandoned, owned, Step::Emptied)) => stepped(EMPTIED, abandoned, owned),
         Some(Reply::NoPairLeft) => unstepped(NO_PAIR_LEFT),
@@ -207,11 +196,11 @@ pub extern "C" fn teurlaks_step(alloc: Global, handle: &mut Handle) -> StepReply
 /// Closes the open plan, whose pairs that are left are dropped: all groups take puts again. `NO_PLAN` changes nothing. It takes no
 /// memory.
 #[unsafe(no_mangle)]
-pub extern "C" fn teurlaks_close(alloc: Global, handle: &mut Handle) -> u32
+pub extern "C" fn teurlaks_close(handle: &mut Handle) -> u32
     ensures live { IsSome handle.old.held → Closes handle.old.held result handle.new.held }
     ensures none { handle.old.held ≡ None → (result ≡ no_core) × (handle.new.held ≡ None) }
 {
-    match step(alloc, handle, Event::Close) {
+    match step(handle, Event::Close) {
         Some(Reply::Closed) => OK,
         Some(Reply::NoPlan) => NO_PLAN,
         Some(_) => NONE,
@@ -232,15 +221,13 @@ pub extern "C" fn teurlaks_certificate(
     ensures writes { IsSome handle.old.held → Writes handle.old.held text.old result text.new }
     ensures none { handle.old.held ≡ None → (result.status ≡ no_core) × (text.new ≡ text.old) }
 {
-    let Some(held) = replace(handle, Handle::none()).into_box(alloc) else {
+    let Some(held) = handle.held() else {
         return CertificateReply {
             status: NO_CORE,
             len: 0,
         };
     };
-    let says = write_last(alloc, &held.last, text);
-    *handle = Handle::of(held);
-    says
+    write_last(alloc, &held.last, text)
 }
 
 // What C reads of what was forgotten.
@@ -258,15 +245,13 @@ fn forgotten_reply(answer: Result<usize, Refusal>) -> ForgetReply
 
 // The core, if there is one, takes the event, which is no mark.
 #[inline(always)]
-fn step(alloc: Global, handle: &mut Handle, event: Event) -> Option<Reply>
+fn step(handle: &mut Handle, event: Event) -> Option<Reply>
     ensures { MatchOption result ((handle.old.held ≡ None) × (handle.new.held ≡ None)) (λ reply. Steps handle.old.held event reply handle.new.held) }
 {
-    let Some(mut held) = replace(handle, Handle::none()).into_box(alloc) else {
+    let Some(held) = handle.held() else {
         return None;
     };
-    let reply = held.core.step(event);
-    *handle = Handle::of(held);
-    Some(reply)
+    Some(held.core.step(event))
 }
 
 /// The text of the certificate, if there is one, written into the room.

@@ -19,7 +19,7 @@ use crate::share::{Share, SharedSeat};
 use crate::share_handle::ShareHandle;
 use crate::status::{BUSY, OUT_OF_MEMORY};
 use arena::{Busy, Dropped, Tended};
-use span::{Call, Key, Object, Receipt, ReceiptList};
+use span::{Key, Object, Receipt, ReceiptList};
 use std::alloc::{AllocError, Global};
 use std::mem::replace;
 
@@ -139,17 +139,10 @@ impl ToldCall for Put<'_> {
     ghost status = { λ reply. reply.status };
 
     fn receipt(&self, worker: u32, section: u64, answer: &Self::Answer) -> Option<Receipt> {
-        let Ok(Ok((key, at))) = answer else {
+        let Ok(Ok(put)) = answer else {
             return None;
         };
-        let value = Object::of(self.class, self.words);
-        Some(Receipt {
-            key: *key,
-            worker,
-            section,
-            at: *at,
-            call: Call::Put { value },
-        })
+        Some(put.receipt(worker, section, Object::of(self.class, self.words)))
     }
 
     fn no_room(&self) -> PutReply {
@@ -163,17 +156,11 @@ impl ToldCall for Set<'_> {
     ghost status = { λ reply. reply };
 
     fn receipt(&self, worker: u32, section: u64, answer: &Self::Answer) -> Option<Receipt> {
-        let Ok(Ok((done, at))) = answer else {
+        let Ok(Ok(set)) = answer else {
             return None;
         };
         let value = Object::from_words(self.words);
-        Some(Receipt {
-            key: self.key,
-            worker,
-            section,
-            at: *at,
-            call: Call::set(value, *done),
-        })
+        Some(set.set_receipt(worker, section, &self.key, value))
     }
 
     fn no_room(&self) -> u32 {
@@ -187,16 +174,10 @@ impl ToldCall for Free {
     ghost status = { λ reply. reply };
 
     fn receipt(&self, worker: u32, section: u64, answer: &Self::Answer) -> Option<Receipt> {
-        let Ok((done, at)) = answer else {
+        let Ok(freed) = answer else {
             return None;
         };
-        Some(Receipt {
-            key: self.key,
-            worker,
-            section,
-            at: *at,
-            call: Call::free(*done),
-        })
+        Some(freed.free_receipt(worker, section, &self.key))
     }
 
     fn no_room(&self) -> u32 {
@@ -242,14 +223,16 @@ fn got_recorded(
     ensures does { DoesKept (Gets key.now) got_kept shared.old.kept result shared.new.kept }
 {
     shared.kept.receipts.reserve(1, MOST_WORDS)?;
-    match shared.kept.seat.try_get(&*shared.arena, key) {
-        Ok((found, receipt)) => {
-            have_few_words(&found);
-            shared.kept.receipts.push_reserved(&receipt);
-            Ok(Ok((found, receipt)))
-        }
-        Err(Busy) => Ok(Err(Busy)),
-    }
+    let (worker, section) = (shared.kept.seat.worker(), shared.kept.seat.section());
+    let mut room = [0; MOST_WORDS];
+    let Ok(looked) = shared.kept.seat.try_get(&*shared.arena, key, &mut room) else {
+        return Ok(Err(Busy));
+    };
+    let found = looked.object(&room);
+    let receipt = looked.receipt(worker, section, key, &found);
+    have_few_words(&found);
+    shared.kept.receipts.push_reserved(&receipt);
+    Ok(Ok((found, receipt)))
 }
 
 // What the type of an object keeps: it has 16 words at most.

@@ -12,7 +12,7 @@ use crate::share::{Share, SharedSeat};
 use crate::share_handle::ShareHandle;
 use crate::status::{BUSY, NONE, OK, TOO_SMALL};
 use abandoned::{AdoptError, ReceiveError};
-use arena::{Arena, Busy, NoGate, Seat};
+use arena::{Arena, Busy, Issued, Looked, NoGate, Outcome, Seat};
 use shard::PutError;
 use span::{Class, Key, Log, SpanId};
 use std::alloc::{AllocError, Global};
@@ -114,28 +114,24 @@ pub(crate) fn look_up(shared: &mut SharedSeat, key: &Key, room: &mut [RawWord]) 
         × SaysGot room.old result room.new (Some answer) }
 {
     let most = room.len();
-    let answer = shared.seat.try_get_words(&*shared.arena, key, room);
+    let answer = shared.seat.try_get(&*shared.arena, key, room);
     looked_reply(most, answer)
 }
 
 /// What C reads of a look-up, where there is room for so many words.
 #[inline(always)]
-pub(crate) fn looked_reply(most: usize, answer: Result<(Option<usize>, usize), Busy>) -> WordsReply
+pub(crate) fn looked_reply(most: usize, answer: Result<Looked, Busy>) -> WordsReply
     ensures { SaysLooked most result answer }
 {
-    match answer {
-        Ok((Some(len), _)) => WordsReply {
+    let Ok(looked) = answer else {
+        return not_looked(BUSY);
+    };
+    match looked.word_count() {
+        Some(len) => WordsReply {
             status: if len <= most { OK } else { TOO_SMALL },
             len,
         },
-        Ok((None, _)) => WordsReply {
-            status: NONE,
-            len: 0,
-        },
-        Err(Busy) => WordsReply {
-            status: BUSY,
-            len: 0,
-        },
+        None => not_looked(NONE),
     }
 }
 
@@ -162,7 +158,7 @@ pub(crate) struct Put<'a> {
 }
 
 impl SeatCall for Put<'_> {
-    type Answer = Result<Result<(Key, usize), PutError>, Busy>;
+    type Answer = Result<Result<Issued, PutError>, Busy>;
 
     ghost does = { λ call. PutsUntold call.words.now };
 
@@ -171,8 +167,8 @@ impl SeatCall for Put<'_> {
         &self,
         seat: &mut Seat,
         arena: &Arena<NoGate, L>,
-    ) -> Result<Result<(Key, usize), PutError>, Busy> {
-        seat.try_put_words(arena, self.class, self.words)
+    ) -> Result<Result<Issued, PutError>, Busy> {
+        seat.try_put(arena, self.class, self.words)
     }
 }
 
@@ -185,7 +181,7 @@ pub(crate) struct Set<'a> {
 }
 
 impl SeatCall for Set<'_> {
-    type Answer = Result<Result<(bool, usize), AllocError>, Busy>;
+    type Answer = Result<Result<Outcome, AllocError>, Busy>;
 
     ghost does = { λ call before answer after. Sets call.key call.words.now before
         (set_told call.key call.words.now before answer) after };
@@ -194,8 +190,8 @@ impl SeatCall for Set<'_> {
         &self,
         seat: &mut Seat,
         arena: &Arena<NoGate, L>,
-    ) -> Result<Result<(bool, usize), AllocError>, Busy> {
-        seat.try_set_words(arena, &self.key, self.words)
+    ) -> Result<Result<Outcome, AllocError>, Busy> {
+        seat.try_set(arena, &self.key, self.words)
     }
 }
 
@@ -206,18 +202,14 @@ pub(crate) struct Free {
 }
 
 impl SeatCall for Free {
-    type Answer = Result<(bool, usize), Busy>;
+    type Answer = Result<Outcome, Busy>;
 
     ghost does = { λ call before answer after. Frees call.key before
         (free_told call.key before answer) after };
 
     #[inline(always)]
-    fn ask<L: Log>(
-        &self,
-        seat: &mut Seat,
-        arena: &Arena<NoGate, L>,
-    ) -> Result<(bool, usize), Busy> {
-        seat.try_free_untold(arena, &self.key)
+    fn ask<L: Log>(&self, seat: &mut Seat, arena: &Arena<NoGate, L>) -> Result<Outcome, Busy> {
+        seat.try_free(arena, &self.key)
     }
 }
 

@@ -1,9 +1,9 @@
 // What is asked of the seat of a handle that may keep its shard, and what it answers.
-ghost use Rattle.std.specs.Prelude.{◌≡◌, None, Option, Some, length};
+ghost use Rattle.std.specs.Prelude.{◌≡◌, None, Option, Some, if◌then◌else◌, length};
 ghost use Rattle.arena.specs.Delays.{HandsOver};
 ghost use Rattle.teurlaks_c.specs.SeatCalls.{AsksEither, FreesLater, GetsKey, SaysFreed, SaysGot, SaysHandedOver, SaysInstead, SaysLeft, SaysPut, SaysSet, Stays};
 ghost use Rattle.teurlaks_c.specs.SessionCalls.{AtHeldSeat, FreesHeld, GetsHeld, Held, InSession, PutsHeld, SetsHeld, held};
-ghost use Rattle.teurlaks_c.specs.Status.{put_status};
+ghost use Rattle.teurlaks_c.specs.Status.{done, none, put_status};
 
 use crate::calls::no_key;
 use crate::keys::raw_of;
@@ -16,7 +16,7 @@ use crate::seat_calls::{
 use crate::share::{Share, SharedSession};
 use crate::share_handle::ShareHandle;
 use crate::status::{BUSY, ENDED, NO_CORE, NONE, OK, OUT_OF_MEMORY, PAGES_SPENT, RING_FULL};
-use arena::Busy;
+use arena::{Busy, Issued, Outcome};
 use shard::PutError;
 use span::Key;
 use std::alloc::{AllocError, Global};
@@ -129,7 +129,7 @@ fn look_up_in_session(shared: &mut SharedSession, key: &Key, room: &mut [RawWord
         × SaysGot room.old result room.new (Some answer) }
 {
     let most = room.len();
-    let answer = shared.session.try_get_words(key, room);
+    let answer = shared.session.try_get(key, room);
     looked_reply(most, answer)
 }
 
@@ -159,19 +159,16 @@ impl SessionCall for Put<'_> {
     ghost says = { λ call. SaysPut };
 
     #[inline(always)]
-    fn ask_in_session(
-        &self,
-        shared: &mut SharedSession,
-    ) -> Result<Result<(Key, usize), PutError>, Busy> {
-        Ok(shared.session.put_words(self.class, self.words))
+    fn ask_in_session(&self, shared: &mut SharedSession) -> Result<Result<Issued, PutError>, Busy> {
+        Ok(shared.session.put(self.class, self.words))
     }
 
     #[inline(always)]
-    fn reply(&self, answer: Result<Result<(Key, usize), PutError>, Busy>) -> PutReply {
+    fn reply(&self, answer: Result<Result<Issued, PutError>, Busy>) -> PutReply {
         match answer {
-            Ok(Ok((key, _))) => PutReply {
+            Ok(Ok(put)) => PutReply {
                 status: OK,
-                key: raw_of(key),
+                key: raw_of(put.key()),
             },
             Ok(Err(error)) => not_put(put_status_of(error)),
             Err(Busy) => not_put(BUSY),
@@ -193,15 +190,14 @@ impl SessionCall for Set<'_> {
     fn ask_in_session(
         &self,
         shared: &mut SharedSession,
-    ) -> Result<Result<(bool, usize), AllocError>, Busy> {
-        shared.session.try_set_words(&self.key, self.words)
+    ) -> Result<Result<Outcome, AllocError>, Busy> {
+        shared.session.try_set(&self.key, self.words)
     }
 
     #[inline(always)]
-    fn reply(&self, answer: Result<Result<(bool, usize), AllocError>, Busy>) -> u32 {
+    fn reply(&self, answer: Result<Result<Outcome, AllocError>, Busy>) -> u32 {
         match answer {
-            Ok(Ok((true, _))) => OK,
-            Ok(Ok((false, _))) => NONE,
+            Ok(Ok(set)) => done_status(&set),
             Ok(Err(AllocError)) => OUT_OF_MEMORY,
             Err(Busy) => BUSY,
         }
@@ -220,15 +216,14 @@ impl SessionCall for Free {
     ghost says = { λ call. SaysFreed };
 
     #[inline(always)]
-    fn ask_in_session(&self, shared: &mut SharedSession) -> Result<(bool, usize), Busy> {
+    fn ask_in_session(&self, shared: &mut SharedSession) -> Result<Outcome, Busy> {
         shared.session.try_free(&self.key)
     }
 
     #[inline(always)]
-    fn reply(&self, answer: Result<(bool, usize), Busy>) -> u32 {
+    fn reply(&self, answer: Result<Outcome, Busy>) -> u32 {
         match answer {
-            Ok((true, _)) => OK,
-            Ok((false, _)) => NONE,
+            Ok(freed) => done_status(&freed),
             Err(Busy) => BUSY,
         }
     }
@@ -296,6 +291,14 @@ pub(crate) fn not_put(status: u32) -> PutReply
         status,
         key: no_key(),
     }
+}
+
+// The status that stands for a set or a free, which was done or was not.
+#[inline(always)]
+fn done_status(outcome: &Outcome) -> u32
+    ensures { result ≡ (if outcome.now.0 then done else none) }
+{
+    if outcome.done() { OK } else { NONE }
 }
 
 // The status that stands for a refused put.

@@ -1,4 +1,4 @@
-use Rattle.std.proofs.Common.{ap, sym, refl, subst, ◌∙◌, true, false}
+use Rattle.std.proofs.Common.{refl, subst, true, false}
 use Rattle.std.specs.Prelude.{Some}
 use Rattle.arena_core.specs.declared.event.Event.TheVariants.{Set}
 use Rattle.arena_core.specs.declared.reply.Reply.TheVariants.{Replaced, Refused}
@@ -8,12 +8,12 @@ use Rattle.teurlaks_c.proofs.calls.set.Goals as goal
 pub returns-then-done-clause-live : goal.returns-then-done-clause-live
 returns-then-done-clause-live c live = (
   Replaced true,
-  subst (λ d. Steps c.args.handle.now.held (Set c.args.key.now c.args.words.now) (Replaced d) c.of.result.held) c.if-done.true (record {
-    before = c.deref_mut.result.now;
-    after = record c.deref_mut.result.now { core = c.set-set.new.self };
-    before_is = ap (λ h. h.held) (sym c.replace.ensures.value) ∙ (c.in-Some.ensures ∙ ap Some (sym c.deref_mut.ensures.value));
-    after_is = c.of.ensures;
-    replies = record { exact = c.in-Ok.ensures.exact; plain = c.in-Ok.ensures.plain; sound = c.set-set.ensures.sound };
+  subst (λ d. Steps c.args.handle.now.held (Set c.args.key.now c.args.words.now) (Replaced d) (Some (record c.in-Some.held.now { core = c.set.new.self }))) c.if-done.true (record {
+    before = c.in-Some.held.now;
+    after = record c.in-Some.held.now { core = c.set.new.self };
+    before_is = c.in-Some.ensures.value;
+    after_is = refl;
+    replies = record { exact = c.in-Ok.ensures.exact; plain = c.in-Ok.ensures.plain; sound = c.set.ensures.sound };
     same = refl;
   }),
   refl,
@@ -22,12 +22,12 @@ returns-then-done-clause-live c live = (
 pub returns-else-done-clause-live : goal.returns-else-done-clause-live
 returns-else-done-clause-live c live = (
   Replaced false,
-  subst (λ d. Steps c.args.handle.now.held (Set c.args.key.now c.args.words.now) (Replaced d) c.of.result.held) c.if-done.false (record {
-    before = c.deref_mut.result.now;
-    after = record c.deref_mut.result.now { core = c.set-set.new.self };
-    before_is = ap (λ h. h.held) (sym c.replace.ensures.value) ∙ (c.in-Some.ensures ∙ ap Some (sym c.deref_mut.ensures.value));
-    after_is = c.of.ensures;
-    replies = record { exact = c.in-Ok.ensures.exact; plain = c.in-Ok.ensures.plain; sound = c.set-set.ensures.sound };
+  subst (λ d. Steps c.args.handle.now.held (Set c.args.key.now c.args.words.now) (Replaced d) (Some (record c.in-Some.held.now { core = c.set.new.self }))) c.if-done.false (record {
+    before = c.in-Some.held.now;
+    after = record c.in-Some.held.now { core = c.set.new.self };
+    before_is = c.in-Some.ensures.value;
+    after_is = refl;
+    replies = record { exact = c.in-Ok.ensures.exact; plain = c.in-Ok.ensures.plain; sound = c.set.ensures.sound };
     same = refl;
   }),
   refl,
@@ -37,11 +37,11 @@ pub returns-in-Err-clause-live : goal.returns-in-Err-clause-live
 returns-in-Err-clause-live c live = (
   Refused c.in-Err.refusal,
   (record {
-    before = c.deref_mut.result.now;
-    after = record c.deref_mut.result.now { core = c.set-set.new.self };
-    before_is = ap (λ h. h.held) (sym c.replace.ensures.value) ∙ (c.in-Some.ensures ∙ ap Some (sym c.deref_mut.ensures.value));
-    after_is = c.of.ensures;
-    replies = record { exact = c.in-Err.ensures.exact; plain = c.in-Err.ensures.plain; sound = c.set-set.ensures.sound };
+    before = c.in-Some.held.now;
+    after = record c.in-Some.held.now { core = c.set.new.self };
+    before_is = c.in-Some.ensures.value;
+    after_is = refl;
+    replies = record { exact = c.in-Err.ensures.exact; plain = c.in-Err.ensures.plain; sound = c.set.ensures.sound };
     same = refl;
   }),
   c.status_of.ensures,

@@ -1,0 +1,54 @@
+/* Keys as numbers of 64 bits, and back. */
+#include "teurlaks.h"
+#include "wanted.h"
+
+static struct teurlaks_key key_of(uint8_t shard, uint32_t serial, uint8_t slot,
+                                  uint32_t generation) {
+    struct teurlaks_key key = {serial, generation, shard, slot, 0};
+    return key;
+}
+
+/* The key has the number, and the number the key. */
+static void both_ways(struct teurlaks_key_bits bits, struct teurlaks_key key, uint64_t number) {
+    struct teurlaks_number_reply to = teurlaks_key_to_u64(bits, key);
+    WANT(to.status == TEURLAKS_OK && to.number == number);
+    struct teurlaks_key_reply from = teurlaks_key_from_u64(bits, number);
+    WANT(from.status == TEURLAKS_OK && !memcmp(&from.key, &key, sizeof key));
+}
+
+static void no_number(struct teurlaks_key_bits bits, struct teurlaks_key key, uint32_t status) {
+    struct teurlaks_number_reply to = teurlaks_key_to_u64(bits, key);
+    WANT(to.status == status && to.number == 0);
+}
+
+static void no_key(struct teurlaks_key_bits bits, uint64_t number, uint32_t status) {
+    static const struct teurlaks_key zeros = {0, 0, 0, 0, 0};
+    struct teurlaks_key_reply from = teurlaks_key_from_u64(bits, number);
+    WANT(from.status == status && !memcmp(&from.key, &zeros, sizeof zeros));
+}
+
+int main(void) {
+    struct teurlaks_key_bits balanced = TEURLAKS_BALANCED_BITS, doubles = TEURLAKS_DOUBLE_BITS;
+    both_ways(balanced, key_of(0, 0, 0, 1), UINT64_C(1) << 40);
+    both_ways(balanced, key_of(3, 17, 255, 1), UINT64_C(0x130000011ff));
+    both_ways(balanced, key_of(15, 268435455, 255, 16777215), UINT64_MAX);
+    both_ways(doubles, key_of(7, 262143, 255, 16777215), (UINT64_C(1) << 53) - 1);
+
+    no_number(balanced, key_of(16, 0, 0, 1), TEURLAKS_NONE);
+    no_number(balanced, key_of(0, 268435456, 0, 1), TEURLAKS_NONE);
+    no_number(balanced, key_of(0, 0, 0, 16777216), TEURLAKS_NONE);
+    no_number(balanced, key_of(0, 0, 0, 0), TEURLAKS_NONE);
+    no_key(balanced, 0, TEURLAKS_NONE);
+    no_key(balanced, (UINT64_C(1) << 40) - 1, TEURLAKS_NONE);
+    no_key(doubles, UINT64_C(1) << 53, TEURLAKS_NONE);
+
+    struct teurlaks_key_bits wide = {6, 32, 32, 0}, wider = {0, 33, 0, 0}, other = {4, 28, 24, 1};
+    no_number(wide, key_of(0, 0, 0, 1), TEURLAKS_CONFIG);
+    no_number(wider, key_of(0, 0, 0, 1), TEURLAKS_CONFIG);
+    no_key(other, UINT64_C(1) << 40, TEURLAKS_CONFIG);
+
+    struct teurlaks_key_bits_reply made = teurlaks_key_bits(16, 268435456, 16777215);
+    WANT(made.status == TEURLAKS_OK && !memcmp(&made.bits, &balanced, sizeof balanced));
+    WANT(teurlaks_key_bits(64, UINT32_MAX, UINT32_MAX).status == TEURLAKS_CONFIG);
+    return 0;
+}
