@@ -1,5 +1,6 @@
 //! Plain values that threads share, each from a seat of its own, under the locks of the proved library.
 
+mod compaction;
 mod fence;
 mod inside;
 mod keys;
@@ -19,6 +20,7 @@ use crate::bytes::MOST_BYTES;
 use crate::core::{certificate_text, done, marked, stepped, Limits, Marked, Stepped};
 use crate::raw;
 use crate::refused::Refused;
+use compaction::Part;
 use lane::Owner;
 use lanes::Lanes;
 use share::{no_wait_in_a_session, Share, Turn};
@@ -92,6 +94,9 @@ pub struct Arena<T> {
     // How many shards a seat has, and those of the next seat that are there so far, where memory was refused for the others.
     lanes: u32,
     next: Vec<Owner>,
+    // Where a compaction in parts is, and the pages that went in refused calls of it.
+    part: Part,
+    gone: usize,
     // As of a seat.
     values: PhantomData<Cell<T>>,
 }
@@ -177,6 +182,8 @@ impl<T> Arena<T> {
             vacant,
             lanes,
             next: Vec::new(),
+            part: Part::default(),
+            gone: 0,
             values: PhantomData,
         }
     }
@@ -280,7 +287,9 @@ impl<T> Arena<T> {
     /// - [`Refused::NoPlan`]: no plan is open;
     /// - [`Refused::Busy`]: as of [`Arena::mark`]; the plan is then still open.
     pub fn close(&mut self) -> Result<(), Refused> {
-        done(self.close_if_open())
+        done(self.close_if_open())?;
+        self.note_closed();
+        Ok(())
     }
 
     fn close_if_open(&mut self) -> u32 {

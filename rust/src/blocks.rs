@@ -145,6 +145,16 @@ impl Blocks {
         }
     }
 
+    /// The number of the block with this address, and how many bytes behind its beginning that is.
+    /// It looks at each segment.
+    pub fn find(&self, at: *const u8) -> Option<(usize, usize)> {
+        let bytes = self.per * self.size;
+        self.segments.iter().enumerate().find_map(|(segment, first)| {
+            let offset = (at as usize).checked_sub(first.as_ptr() as usize)?;
+            (offset < bytes).then(|| (segment * self.per + offset / self.size, offset % self.size))
+        })
+    }
+
     fn place(&self, number: u32) -> (NonNull<u8>, usize) {
         let number = number as usize;
         (self.segments[number / self.per], number % self.per * self.size)

@@ -2,15 +2,15 @@
 
 mod meshing;
 
-pub(crate) use meshing::{certificate_text, done, letting_go, marked, meshing, stepped};
+pub(crate) use meshing::{certificate_text, done, letting_go, marked, meshing, stepped, MOST_GROUPS};
 pub use meshing::{Marked, Stepped};
 
 use crate::bytes::{words_for, Bytes, BytesKey, Words, MOST_BYTES, MOST_WORDS};
+use crate::compact::Progress;
 use crate::names::Key;
 use crate::raw;
 use crate::refused::Refused;
 use crate::walk::{Drain, Iter, Keys};
-use std::cell::UnsafeCell;
 use std::fmt;
 use std::mem::MaybeUninit;
 use std::ptr;
@@ -20,19 +20,20 @@ use std::ptr;
 pub struct Limits {
     /// How many shards there are, 1 to 64.
     pub shards: u32,
-    /// How many pages of 4,096 bytes a shard may have, 1 to 1,048,576. Each adoption by a shard costs a step for each page that it has, so many
-    /// shards of few pages are compacted sooner than one of many, where much of what is retired comes back.
+    /// How many pages of 4,096 bytes a shard may have, 1 to 1,048,576. It costs nothing until they
+    /// are used. Each adoption by a shard costs a step for each page that it has, so many shards of
+    /// few pages are compacted sooner than one of many, where much of what is retired comes back.
     pub pages: u32,
     /// How often a slot may be used, at least once. A slot that was used so often is never used again.
     pub generations: u32,
 }
 
 impl Default for Limits {
-    /// One shard of 1,024 pages, with as many generations as there can be.
+    /// One shard, with as many pages and generations as there can be.
     fn default() -> Limits {
         Limits {
             shards: 1,
-            pages: 1024,
+            pages: MOST_PAGES,
             generations: u32::MAX,
         }
     }
@@ -41,8 +42,22 @@ impl Default for Limits {
 /// How many shards there are at most.
 pub(crate) const MOST_SHARDS: usize = 64;
 
-/// How many shards a slab or a store has where nobody says so: enough that a compaction has pages to fold onto, again and again.
+/// How many pages a shard may have at most.
+const MOST_PAGES: u32 = 1 << 20;
+
+/// How many shards a slab or a store has where nobody says so: enough that each has few pages,
+/// whose number an adoption goes by. Between each two of them the library has a ring, so that more
+/// of them take much more memory.
 pub(crate) const SHARDS: u32 = 16;
+
+/// How many pages a shard opens until it is the turn of the next one, where nobody has set limits.
+const TURN: u32 = 1024;
+
+/// Whether a key is the first of a page with which the turn of its shard is over.
+#[inline]
+pub(crate) fn ends_turn(key: Key) -> bool {
+    key.serial() % TURN == 0 && key.slot() == 0 && key.generation() == 1 && key.serial() > 0
+}
 
 /// Objects of 16, 64 or 256 bytes under keys, in shards: the proved library as it is.
 ///
@@ -67,17 +82,44 @@ pub(crate) const SHARDS: u32 = 16;
 /// assert_eq!(core.get(first), None);
 /// # Ok::<(), teurlaks::Refused>(())
 /// ```
+///
+/// It is `Send` and `Sync`: calls through `&self` only read, so many threads may make them at once.
+/// No call that writes can run beside them:
+///
+/// ```compile_fail,E0502
+/// # let mut core = teurlaks::Core::new(teurlaks::Limits::default()).unwrap();
+/// # let key = core.insert(0, 7).unwrap();
+/// std::thread::scope(|scope| {
+///     scope.spawn(|| core.get(key));
+///     core.insert(0, 8) // the other thread may still look up
+/// });
+/// ```
 // The handle first, where a reference to the core is one to it: no call has to add.
 #[repr(C)]
 pub struct Core {
-    // SAFETY: only this module has it, so it is what `teurlaks_new` left there until `drop`. A call through `&self` writes to it, and none
-    // runs beside another, since the type is not `Sync` (a `Slab`, which is, sees to it) and no call calls back.
-    handle: UnsafeCell<raw::Handle>,
+    // SAFETY: only this module has it, so it is what `teurlaks_new` left there until `drop`.
+    handle: raw::Handle,
     limits: Limits,
     // How many keys are live: a put makes one live, and a free takes one away, as each tells.
     live: usize,
     // Of each shard whether it has ended.
     ended: [bool; MOST_SHARDS],
+    // How many words the least object has that was put.
+    least_words: u8,
+    // Whose plan is open.
+    plan: Plan,
+    // Whether groups may be in the pool: ends and retirements leave some there.
+    pool: bool,
+    /// Where a compaction in parts is.
+    pub(crate) progress: Progress,
+}
+
+/// Whose plan is open.
+#[derive(Clone, Copy, PartialEq)]
+pub(crate) enum Plan {
+    None,
+    Caller,
+    Compaction,
 }
 
 impl Core {
@@ -92,14 +134,18 @@ impl Core {
             pages,
             generations,
         } = limits;
-        let core = Core {
-            handle: UnsafeCell::new(raw::Handle { at: ptr::null_mut() }),
+        let mut core = Core {
+            handle: raw::Handle { at: ptr::null_mut() },
             limits,
             live: 0,
             ended: [false; MOST_SHARDS],
+            least_words: MOST_WORDS as u8,
+            plan: Plan::None,
+            pool: false,
+            progress: Progress::default(),
         };
         // SAFETY: the handle has no core yet. A core that has none is not dropped below.
-        match unsafe { raw::teurlaks_new(core.handle.get(), shards, pages, 1, generations) } {
+        match unsafe { raw::teurlaks_new(&mut core.handle, shards, pages, 1, generations) } {
             raw::OK => Ok(core),
             other => {
                 std::mem::forget(core);
@@ -140,8 +186,8 @@ impl Core {
     #[inline]
     pub fn insert(&mut self, shard: u32, word: u128) -> Result<Key, Refused> {
         // SAFETY: the handle has a core, and no other call runs.
-        let put = unsafe { raw::teurlaks_put(self.handle.get(), shard, halves(word)) };
-        self.was_put(put)
+        let put = unsafe { raw::teurlaks_put(&mut self.handle, shard, halves(word)) };
+        self.was_put(put, 1)
     }
 
     /// Keeps an object of 1, 4 or 16 words in the shard, and gives its key.
@@ -200,15 +246,16 @@ impl Core {
     #[inline]
     pub(crate) unsafe fn put_words(&mut self, shard: u32, first: *const u128, len: usize) -> Result<Key, Refused> {
         // SAFETY: as in `insert`, and a word is its two halves, the lower one first.
-        let put = unsafe { raw::teurlaks_put_words(self.handle.get(), shard, first.cast(), len) };
-        self.was_put(put)
+        let put = unsafe { raw::teurlaks_put_words(&mut self.handle, shard, first.cast(), len) };
+        self.was_put(put, len)
     }
 
-    // What a put answers, which makes a key live where it is done.
+    // What a put of so many words answers, which makes a key live where it is done.
     #[inline]
-    fn was_put(&mut self, put: raw::PutReply) -> Result<Key, Refused> {
+    fn was_put(&mut self, put: raw::PutReply, len: usize) -> Result<Key, Refused> {
         let key = was_put(put)?;
         self.live += 1;
+        self.least_words = self.least_words.min(len as u8);
         Ok(key)
     }
 
@@ -216,8 +263,8 @@ impl Core {
     #[inline]
     #[must_use]
     pub fn get(&self, key: Key) -> Option<u128> {
-        // SAFETY: as in `insert`.
-        let got = unsafe { raw::teurlaks_get(self.handle.get(), key.raw()) };
+        // SAFETY: the handle has a core, and no call that writes runs beside this one.
+        let got = unsafe { raw::teurlaks_get(&self.handle, key.raw()) };
         (got.status == raw::OK).then(|| u128::from(got.value.high) << 64 | u128::from(got.value.low))
     }
 
@@ -226,8 +273,8 @@ impl Core {
     #[must_use]
     pub fn get_words(&self, key: Key) -> Option<Words> {
         Words::written(|first| {
-            // SAFETY: as in `insert`, and there is room for 16 words, of which it writes as many as it says.
-            let got = unsafe { raw::teurlaks_get_words(self.handle.get(), key.raw(), first.cast(), MOST_WORDS) };
+            // SAFETY: as in `get`, and there is room for 16 words, of which it writes as many as it says.
+            let got = unsafe { raw::teurlaks_get_words(&self.handle, key.raw(), first.cast(), MOST_WORDS) };
             (got.status == raw::OK).then_some(got.len)
         })
     }
@@ -238,7 +285,7 @@ impl Core {
         let mut words = [MaybeUninit::<u128>::uninit(); MOST_WORDS];
         let first = words.as_mut_ptr().cast();
         // SAFETY: as in `get_words`.
-        let got = unsafe { raw::teurlaks_get_words(self.handle.get(), key.raw(), first, MOST_WORDS) };
+        let got = unsafe { raw::teurlaks_get_words(&self.handle, key.raw(), first, MOST_WORDS) };
         if got.status != raw::OK {
             return None;
         }
@@ -257,8 +304,8 @@ impl Core {
     #[inline]
     #[must_use]
     pub fn contains(&self, key: Key) -> bool {
-        // SAFETY: as in `insert`.
-        unsafe { raw::teurlaks_get(self.handle.get(), key.raw()).status != raw::NONE }
+        // SAFETY: as in `get`.
+        unsafe { raw::teurlaks_get(&self.handle, key.raw()).status != raw::NONE }
     }
 
     /// Sets the key to an object of this word in place, and says whether it did: where the key is live and has an object of one word. The
@@ -281,7 +328,7 @@ impl Core {
     #[inline]
     pub fn set(&mut self, key: Key, word: u128) -> Result<bool, Refused> {
         // SAFETY: as in `insert`.
-        was_set(unsafe { raw::teurlaks_set(self.handle.get(), key.raw(), halves(word)) })
+        was_set(unsafe { raw::teurlaks_set(&mut self.handle, key.raw(), halves(word)) })
     }
 
     /// Sets the key to an object of these words, as [`Core::set`] does with one, where its object has as many.
@@ -303,7 +350,7 @@ impl Core {
     #[inline]
     pub(crate) unsafe fn set_all_words(&mut self, key: Key, first: *const u128, len: usize) -> Result<bool, Refused> {
         // SAFETY: as in `put_words`.
-        was_set(unsafe { raw::teurlaks_set_words(self.handle.get(), key.raw(), first.cast(), len) })
+        was_set(unsafe { raw::teurlaks_set_words(&mut self.handle, key.raw(), first.cast(), len) })
     }
 
     /// Sets the key to an object of this word, and gives the one that it had, where it is live and has an object of one word; else nothing
@@ -322,7 +369,7 @@ impl Core {
     #[inline]
     pub fn free(&mut self, key: Key) -> bool {
         // SAFETY: as in `insert`.
-        let was_live = unsafe { raw::teurlaks_free(self.handle.get(), key.raw()) == raw::OK };
+        let was_live = unsafe { raw::teurlaks_free(&mut self.handle, key.raw()) == raw::OK };
         if was_live {
             self.live -= 1;
         }
@@ -333,7 +380,7 @@ impl Core {
     #[inline]
     pub(crate) fn free_live(&mut self, key: Key) {
         // SAFETY: as in `insert`.
-        let status = unsafe { raw::teurlaks_free(self.handle.get(), key.raw()) };
+        let status = unsafe { raw::teurlaks_free(&mut self.handle, key.raw()) };
         debug_assert_eq!(status, raw::OK, "{key} was found live");
         self.live -= 1;
     }
@@ -374,8 +421,8 @@ impl Core {
     /// The numbers of the live key that comes next after these.
     #[inline]
     pub(crate) fn next_after(&self, after: raw::RawKey) -> Option<raw::RawKey> {
-        // SAFETY: as in `insert`.
-        let next = unsafe { raw::teurlaks_next(self.handle.get(), after) };
+        // SAFETY: as in `get`.
+        let next = unsafe { raw::teurlaks_next(&self.handle, after) };
         (next.status == raw::OK).then_some(next.key)
     }
 
@@ -410,10 +457,18 @@ impl Core {
     /// How many pages of 4,096 bytes there are. The library counts them, shard by shard.
     #[must_use]
     pub fn pages(&self) -> usize {
-        // SAFETY: as in `insert`.
-        let raw::TotalsReply { pages, live } = unsafe { raw::teurlaks_totals(self.handle.get()) };
+        // SAFETY: as in `get`.
+        let raw::TotalsReply { pages, live } = unsafe { raw::teurlaks_totals(&self.handle) };
         debug_assert_eq!(live, self.live, "puts and frees were counted");
         pages
+    }
+
+    /// How many pages there are, and how many of them can go at most: what is live needs the
+    /// others, be each of these as full as it can be.
+    pub(crate) fn pages_and_most_folds(&self) -> (usize, usize) {
+        let (pages, slots) = (self.pages(), 256 / usize::from(self.least_words));
+        let needed = self.live / slots + usize::from(self.live % slots != 0);
+        (pages, pages.saturating_sub(needed))
     }
 }
 
@@ -421,10 +476,16 @@ impl Core {
 // and `Drop` order the calls.
 unsafe impl Send for Core {}
 
+// SAFETY: through `&self` a core asks the library by a `*const Handle` alone, and that call reads
+// the core where it lies. It is proved that such a call leaves handle and core as they were. That
+// it writes to neither meanwhile is tested: `c/reading.c` protects both from writes. Every other
+// call takes `&mut self`, so no thread has `&self` beside it.
+unsafe impl Sync for Core {}
+
 impl Drop for Core {
     fn drop(&mut self) {
         // SAFETY: the handle has a core, and nothing uses it after.
-        unsafe { raw::teurlaks_drop(self.handle.get()) }
+        unsafe { raw::teurlaks_drop(&mut self.handle) }
     }
 }
 

@@ -2,10 +2,12 @@
 #![warn(missing_docs, missing_debug_implementations)]
 
 pub mod arena;
+mod background;
 mod blocks;
 mod bytes;
 mod compact;
 mod core;
+mod key_bits;
 mod names;
 mod raw;
 mod refused;
@@ -13,13 +15,17 @@ pub mod shared;
 pub mod slab;
 mod spans;
 pub mod store;
+mod typed;
 mod values;
 pub mod walk;
 
+pub use crate::compact::Compacted;
 pub use crate::core::{Core, Limits, Marked, Stepped};
 #[doc(inline)]
 pub use arena::Arena;
+pub use background::{Background, Policy};
 pub use bytes::{Bytes, BytesKey, Words};
+pub use key_bits::KeyBits;
 pub use names::{Group, Key, ParseKeyError};
 pub use refused::{InsertError, Refused};
 #[doc(inline)]
@@ -28,6 +34,7 @@ pub use shared::SharedStore;
 pub use slab::Slab;
 #[doc(inline)]
 pub use store::Store;
+pub use typed::{TypedKey, TypedSlab};
 pub use walk::Drain;
 
 /// The front page's lines of Rust, so that they are tests.

@@ -25,6 +25,36 @@ pub struct RawSpan {
 
 #[repr(C)]
 #[derive(Clone, Copy)]
+pub struct RawKeyBits {
+    pub shard: u8,
+    pub serial: u8,
+    pub generation: u8,
+    pub reserved: u8,
+}
+
+#[repr(C)]
+#[derive(Clone, Copy)]
+pub struct KeyBitsReply {
+    pub status: u32,
+    pub bits: RawKeyBits,
+}
+
+#[repr(C)]
+#[derive(Clone, Copy)]
+pub struct NumberReply {
+    pub number: u64,
+    pub status: u32,
+}
+
+#[repr(C)]
+#[derive(Clone, Copy)]
+pub struct KeyReply {
+    pub status: u32,
+    pub key: RawKey,
+}
+
+#[repr(C)]
+#[derive(Clone, Copy)]
 pub struct RawWord {
     pub low: u64,
     pub high: u64,
@@ -159,14 +189,17 @@ extern "C" {
     pub fn teurlaks_new(out: *mut Handle, shards: u32, page_limit: u32, ring_capacity: u32, gens: u32) -> u32;
     pub fn teurlaks_drop(handle: *mut Handle);
     pub fn teurlaks_put(handle: *mut Handle, shard: u32, value: RawWord) -> PutReply;
-    pub fn teurlaks_get(handle: *mut Handle, key: RawKey) -> GetReply;
+    pub fn teurlaks_get(handle: *const Handle, key: RawKey) -> GetReply;
     pub fn teurlaks_put_words(handle: *mut Handle, shard: u32, words: *const RawWord, words_len: usize) -> PutReply;
-    pub fn teurlaks_get_words(handle: *mut Handle, key: RawKey, words: *mut RawWord, words_len: usize) -> WordsReply;
+    pub fn teurlaks_get_words(handle: *const Handle, key: RawKey, words: *mut RawWord, words_len: usize) -> WordsReply;
     pub fn teurlaks_set(handle: *mut Handle, key: RawKey, value: RawWord) -> u32;
     pub fn teurlaks_set_words(handle: *mut Handle, key: RawKey, words: *const RawWord, words_len: usize) -> u32;
     pub fn teurlaks_free(handle: *mut Handle, key: RawKey) -> u32;
-    pub fn teurlaks_next(handle: *mut Handle, after: RawKey) -> NextReply;
-    pub fn teurlaks_totals(handle: *mut Handle) -> TotalsReply;
+    pub fn teurlaks_next(handle: *const Handle, after: RawKey) -> NextReply;
+    pub fn teurlaks_totals(handle: *const Handle) -> TotalsReply;
+    pub fn teurlaks_key_bits(shards: u32, spans: u32, generations: u32) -> KeyBitsReply;
+    pub fn teurlaks_key_to_u64(bits: RawKeyBits, key: RawKey) -> NumberReply;
+    pub fn teurlaks_key_from_u64(bits: RawKeyBits, number: u64) -> KeyReply;
     pub fn teurlaks_end(handle: *mut Handle, shard: u32) -> u32;
     pub fn teurlaks_begin(handle: *mut Handle, shard: u32) -> u32;
     pub fn teurlaks_retire(handle: *mut Handle, shard: u32, most: usize) -> RetireReply;
@@ -177,7 +210,7 @@ extern "C" {
     pub fn teurlaks_mark_some(handle: *mut Handle) -> MarkReply;
     pub fn teurlaks_step(handle: *mut Handle) -> StepReply;
     pub fn teurlaks_close(handle: *mut Handle) -> u32;
-    pub fn teurlaks_certificate(handle: *mut Handle, text: *mut u8, text_len: usize) -> CertificateReply;
+    pub fn teurlaks_certificate(handle: *const Handle, text: *mut u8, text_len: usize) -> CertificateReply;
     pub fn teurlaks_arena_open(
         out: *mut ShareHandle,
         shards: u32,

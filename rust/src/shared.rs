@@ -6,7 +6,9 @@ mod shard;
 
 pub use iter::Iter;
 
-use crate::core::{Limits, MOST_SHARDS};
+use crate::background::{Background, Compacts, Policy};
+use crate::compact::Compacted;
+use crate::core::{ends_turn, Limits, MOST_SHARDS};
 use crate::names::Key;
 use crate::refused::Refused;
 use crate::store::Store;
@@ -14,6 +16,8 @@ use homes::{Home, Homes};
 use iter::PIECE;
 use shard::Shard;
 use std::fmt;
+use std::io;
+use std::sync::{Arc, Mutex, PoisonError};
 
 /// Plain values of one type, 1 to 256 bytes each, that any thread keeps, reads, sets and takes out, all through `&self`; and whose pages are
 /// given back while others go on.
@@ -69,11 +73,22 @@ pub struct SharedStore<T> {
     homes: Homes,
     // Of each core by itself.
     limits: Limits,
+    // Whoever compacts by a budget has it.
+    at: Mutex<At>,
+}
+
+/// Where a compaction by a budget is: in the shard of this number.
+#[derive(Default)]
+struct At {
+    shard: usize,
+    // The pages that went in calls that were refused.
+    pages: usize,
 }
 
 impl<T: Copy> SharedStore<T> {
-    /// A store of 64 shards with no value. It holds up to 16,777,216 values, 4,194,304 of more than 16 bytes, or 1,048,576 of more than 64, on
-    /// 256 MB of pages.
+    /// A store of 64 shards with no value, whose limits are those of memory: each shard has as many
+    /// pages as one may have. So it may hold 17,179,869,184 values, 4,294,967,296 of more than 16
+    /// bytes, or 1,073,741,824 of more than 64.
     ///
     /// # Errors
     ///
@@ -100,6 +115,7 @@ impl<T: Copy> SharedStore<T> {
             shards: (0..limits.shards).map(|_| Shard::new()).collect(),
             homes: Homes::new(limits.shards as usize),
             limits: Limits { shards: 1, ..limits },
+            at: Mutex::default(),
         })
     }
 
@@ -113,8 +129,14 @@ impl<T: Copy> SharedStore<T> {
     pub fn insert(&self, value: T) -> Result<Key, Refused> {
         let home = self.homes.next();
         match self.insert_in(home.shard(), value) {
+            Ok(key) => {
+                if ends_turn(key) {
+                    home.move_on();
+                }
+                Ok(key)
+            }
             Err(Refused::PagesSpent) => self.insert_beyond(home, value),
-            done => done,
+            refused => refused,
         }
     }
 
@@ -340,14 +362,80 @@ impl<T> SharedStore<T> {
         self.shards.iter().map(Shard::compact).sum()
     }
 
+    /// Takes at most so many steps of a compaction of one shard after the other, at least one, and
+    /// says how many pages went and whether there is more to do. The next call, of whichever
+    /// thread, goes on where this one stopped; once there is no more to do, the next one begins
+    /// anew.
+    ///
+    /// What a step is, and what a plan looks at, is as of
+    /// [`Core::compact_within`](crate::Core::compact_within), of a budget of 16. The lock of a
+    /// shard is held for up to 16 steps at a time. Between two calls every key stays valid, and no
+    /// call of this type is refused because of it: but [`SharedStore::forget_shard`] forgets
+    /// nothing of the shard in which the compaction has a plan open, and
+    /// [`SharedStore::compact_shard`] goes on with it.
+    ///
+    /// # Errors
+    ///
+    /// [`Refused::OutOfMemory`] where memory was refused. Every key has its value, and the next
+    /// call goes on from there. It also counts the pages that went in this one.
+    ///
+    /// ```
+    /// # use teurlaks::SharedStore;
+    /// let store = SharedStore::new()?;
+    /// for n in 0..100_000_u64 {
+    ///     store.insert(n)?;
+    /// }
+    /// store.retain(|_, n| n % 11 == 0);
+    /// let (before, mut gone) = (store.pages(), 0);
+    /// loop {
+    ///     let done = store.compact_within(32)?; // between other work
+    ///     gone += done.pages;
+    ///     if !done.more {
+    ///         break;
+    ///     }
+    /// }
+    /// assert!(gone > 300 && store.pages() == before - gone);
+    /// # Ok::<(), teurlaks::Refused>(())
+    /// ```
+    pub fn compact_within(&self, budget: usize) -> Result<Compacted, Refused> {
+        let mut at = self.at.lock().unwrap_or_else(PoisonError::into_inner);
+        let (mut left, mut more) = (budget.max(1), true);
+        while left > 0 && more {
+            let done = self.shards[at.shard].compact_within(&mut left)?;
+            at.pages += done.pages;
+            if !done.more {
+                at.shard = (at.shard + 1) % self.shards.len();
+                more = at.shard > 0;
+            }
+        }
+        let pages = std::mem::take(&mut at.pages);
+        Ok(Compacted { pages, more })
+    }
+
+    /// Ends a compaction by a budget where it is.
+    fn give_up(&self) {
+        let mut at = self.at.lock().unwrap_or_else(PoisonError::into_inner);
+        self.shards[at.shard].give_up();
+        *at = At::default();
+    }
+
+    /// How many pages there are, and how many of them can go at most.
+    fn pages_and_most_folds(&self) -> (usize, usize) {
+        self.shards
+            .iter()
+            .map(Shard::pages_and_most_folds)
+            .fold((0, 0), |(pages, folds), (more, most)| (pages + more, folds + most))
+    }
+
     /// Gives back the pages of one shard on which no key is live, folds its sparse pages onto
     /// others until that hardly gives any back, and says how many pages went. Every key stays
     /// valid. Pages are folded from 68 of them on, or once they have been. At its end it forgets,
     /// as [`SharedStore::forget_shard`] does.
     ///
-    /// Others go on meanwhile, in this shard too: its lock is held for 16 pages at a time, for one
-    /// plan, or for the forgetting, and then let go of for those who wait. A value that is kept
-    /// there meanwhile may take a new page. Another compaction of the shard waits for this one.
+    /// Others go on meanwhile, in this shard too: its lock is held for up to 16 steps at a time, of
+    /// which a plan of 64 groups beside the others may be one, and then let go of for those who
+    /// wait. A value that is kept there meanwhile may take a new page. Another compaction of the
+    /// shard waits for this one.
     ///
     /// As of [`Core::compact`](crate::Core::compact), each fold uses up one of the 4,294,967,295 pages that a shard may open in its life.
     ///
@@ -392,6 +480,56 @@ impl<T> SharedStore<T> {
     /// [`Refused::Config`] alone, when there is no such shard.
     pub fn forget_shard(&self, shard: u32) -> Result<usize, Refused> {
         Ok(self.shards.get(shard as usize).ok_or(Refused::Config)?.forget())
+    }
+}
+
+impl<T: Copy + Send + 'static> SharedStore<T> {
+    /// Compacts the store on a thread of its own for as long as the guard lives that is returned:
+    /// it looks now and then how many pages could go, sleeps as long as that does not pay, and else
+    /// compacts in parts, as [`SharedStore::compact_within`]. A drop of the guard ends the thread,
+    /// and waits for that: for a part at most.
+    ///
+    /// It holds no lock but as that call does. If memory is refused, it tries again later.
+    ///
+    /// # Errors
+    ///
+    /// The system's, if it refuses a thread.
+    ///
+    /// ```
+    /// use std::sync::Arc;
+    /// use std::time::Duration;
+    /// use teurlaks::{Policy, SharedStore};
+    ///
+    /// let store = Arc::new(SharedStore::new()?);
+    /// let policy = Policy { interval: Duration::from_millis(1), ..Policy::default() };
+    /// let compacts = store.compact_in_background(policy)?;
+    /// for n in 0..100_000_u64 {
+    ///     store.insert(n)?;
+    /// }
+    /// store.retain(|_, n| n % 11 == 0); // one in eleven stays, on each of some 391 pages
+    /// while store.pages() > 100 {
+    ///     std::thread::yield_now(); // other work
+    /// }
+    /// drop(compacts);
+    /// assert_eq!(store.len(), 9091);
+    /// # Ok::<(), Box<dyn std::error::Error>>(())
+    /// ```
+    pub fn compact_in_background(self: &Arc<Self>, policy: Policy) -> io::Result<Background> {
+        Background::begin(policy, Arc::clone(self))
+    }
+}
+
+impl<T: Copy + Send + 'static> Compacts for Arc<SharedStore<T>> {
+    fn pages_and_most_folds(&self) -> (usize, usize) {
+        SharedStore::pages_and_most_folds(self)
+    }
+
+    fn compact_part(&self, budget: usize) -> Result<Compacted, Refused> {
+        self.compact_within(budget)
+    }
+
+    fn give_up(&self) {
+        SharedStore::give_up(self);
     }
 }
 

@@ -6,14 +6,13 @@ mod vacant;
 pub use iterators::{Drain, IntoIter, Iter, IterMut, Keys, Values, ValuesMut};
 pub use vacant::VacantEntry;
 
-use crate::compact::Compact;
-use crate::core::{Core, Limits, Stepped, MOST_SHARDS, SHARDS};
+use crate::compact::{Compact, Compacted};
+use crate::core::{ends_turn, Core, Limits, Stepped, SHARDS};
 use crate::names::{Group, Key};
 use crate::refused::{InsertError, Refused};
 use crate::values::{self, Walk, WalkMut};
 use std::fmt;
 use std::ops::{Index, IndexMut};
-use std::sync::Mutex;
 
 /// The words of the core's object beside a value, which tell nothing: where the value is follows from its key.
 const NO_WORDS: [u128; 4] = [0; 4];
@@ -31,8 +30,10 @@ const NO_WORDS: [u128; 4] = [0; 4];
 /// It is `Send` and `Sync` where its values are: many threads may look values up at once, as by an [`RwLock`](std::sync::RwLock), and one at a
 /// time changes it.
 ///
-/// It is no `Clone`, since the copies would have other keys; and as an insert may be refused, it is no `Extend` and no `FromIterator`:
-/// [`Slab::try_extend`] and [`Slab::try_from_iter`] stand in their place.
+/// It is no `Clone`, since the copies would have other keys: a core gives out its keys by itself,
+/// each once. An insert may be refused: `extend` and `collect` panic then, and [`Slab::try_extend`]
+/// and [`Slab::try_from_iter`] do not. Either way the keys are those of [`Slab::iter`]; to have
+/// them in the order of the values, map [`Slab::insert`] over these.
 ///
 /// ```
 /// use teurlaks::Slab;
@@ -54,31 +55,31 @@ pub struct Slab<T> {
     values: values::Values<T>,
     // The shard that an insert without a shard asks first.
     first: u32,
+    // Whether a shard with many pages leaves the next ones to the next shard.
+    takes_turns: bool,
     // The key of a vacant entry, which has no value yet. It stays where such an entry is forgotten.
     vacant: Option<Key>,
-    // Who asks the core through `&self` has it.
-    asking: Mutex<()>,
 }
 
-// SAFETY: through `&Slab` values are lent as `&T`, numbers are read that no such call changes, and the core, whose calls write to it, is asked
-// by `pages` and `certificate` alone, one at a time.
-unsafe impl<T: Sync> Sync for Slab<T> {}
-
 impl<T> Slab<T> {
-    /// A slab of 16 shards with no value. It may hold 4,194,304 values at once, or 1,048,576 of 129 to 4,096 bytes; takes 75 KB at first and
-    /// pages as they come; and asks for nothing but a [`Slab::compact`] now and then, where most of what it held is gone and the memory is
-    /// wanted back.
+    /// A slab with no value, whose limits are those of memory: of 16 shards, each of as many pages
+    /// as a shard may have. So it may hold 4,294,967,296 values at once, or 1,073,741,824 of 129 to
+    /// 4,096 bytes. Pages come as they are filled. It asks for nothing but a [`Slab::compact`] now
+    /// and then, where most of what it held is gone and the memory is wanted back.
     ///
-    /// The shards are for the pages that a compaction uses up: see there for a slab that is filled and compacted again and again.
+    /// A shard that has opened 1,024 pages leaves the next ones to the next shard, since a
+    /// compaction goes by how many pages a shard has.
     ///
     /// # Errors
     ///
     /// [`Refused::OutOfMemory`] where memory was refused.
     pub fn new() -> Result<Slab<T>, Refused> {
-        Slab::with_limits(Limits {
+        let mut slab = Slab::with_limits(Limits {
             shards: SHARDS,
             ..Limits::default()
-        })
+        })?;
+        slab.takes_turns = true;
+        Ok(slab)
     }
 
     /// A slab of these limits.
@@ -91,18 +92,21 @@ impl<T> Slab<T> {
             core: Core::new(limits)?,
             values: values::Values::new(),
             first: 0,
+            takes_turns: false,
             vacant: None,
-            asking: Mutex::new(()),
         })
     }
 
-    /// A slab that may hold so many values at once: of 16 shards, or as many more as it takes. Room is made for their pages as by
-    /// [`Slab::reserve`].
+    /// A slab as of [`Slab::new`] that may hold so many values at once, of more shards if it takes
+    /// them. Room is made for their pages as by [`Slab::reserve`].
+    ///
+    /// In `slab` a capacity is how many values there is memory for, and is exceeded by the next
+    /// insert. Here it is how many values the limits allow, and no insert exceeds it.
     ///
     /// # Errors
     ///
-    /// [`Refused::Config`] where 64 shards are too few: for more than 16,777,216 values, or 4,194,304 of 129 to 4,096 bytes;
-    /// [`Refused::OutOfMemory`] where memory was refused.
+    /// [`Refused::Config`] where 64 shards are too few: for more than 17,179,869,184 values, or
+    /// 4,294,967,296 of 129 to 4,096 bytes; [`Refused::OutOfMemory`] where memory was refused.
     ///
     /// ```
     /// # use teurlaks::Slab;
@@ -119,6 +123,7 @@ impl<T> Slab<T> {
             shards: u32::try_from(shards).map_err(|_| Refused::Config)?.max(SHARDS),
             ..limits
         })?;
+        slab.takes_turns = true;
         slab.reserve(capacity)?;
         Ok(slab)
     }
@@ -346,7 +351,13 @@ impl<T> Slab<T> {
     #[inline]
     fn insert_key(&mut self) -> Result<(u32, Key), Refused> {
         match self.insert_key_in(self.first) {
-            Ok(key) => Ok((self.first, key)),
+            Ok(key) => {
+                let shard = self.first;
+                if self.takes_turns && ends_turn(key) {
+                    self.first = (shard + 1) % self.core.shards();
+                }
+                Ok((shard, key))
+            }
             Err(Refused::PagesSpent | Refused::Ended) => self.insert_key_elsewhere(),
             Err(refused) => Err(refused),
         }
@@ -425,6 +436,32 @@ impl<T> Slab<T> {
         self.contains(key)
     }
 
+    /// The key of a value of this slab that is lent, or `None` if it is none of them. Values of no
+    /// bytes all stand at one place, so of these it finds none.
+    ///
+    /// It looks at each 4 MB of the slab's memory, and at each value if these stand in blocks of
+    /// their own (of more than 4,096 bytes, or aligned to more than 64).
+    ///
+    /// ```
+    /// # use teurlaks::Slab;
+    /// let mut slab = Slab::new()?;
+    /// let key = slab.insert("a")?;
+    /// assert_eq!(slab.key_of(&slab[key]), Some(key));
+    /// assert_eq!(slab.key_of(&"a"), None); // another "a"
+    /// # Ok::<(), teurlaks::Refused>(())
+    /// ```
+    #[must_use]
+    pub fn key_of(&self, value: &T) -> Option<Key> {
+        self.key_at(value)
+    }
+
+    /// As [`Slab::key_of`], of the value that stands at an address. Any address may be given: it is
+    /// compared, and nothing is read there.
+    #[must_use]
+    pub fn key_at(&self, at: *const T) -> Option<Key> {
+        self.values.key_at(at)
+    }
+
     /// Takes the value of the key out, where it is live. The key finds nothing from then on.
     #[doc(alias = "try_remove")]
     #[inline]
@@ -491,7 +528,7 @@ impl<T> Slab<T> {
 
     /// The beginning of a walk over the values.
     fn walk(&self) -> Walk {
-        values::Values::<T>::walk(self.len())
+        self.values.walk(self.len())
     }
 
     /// Each key with its value, in no particular order.
@@ -539,7 +576,6 @@ impl<T> Slab<T> {
     /// How many pages of 4,096 bytes there are.
     #[must_use]
     pub fn pages(&self) -> usize {
-        let _alone = self.asking.lock();
         self.core.pages()
     }
 
@@ -549,7 +585,6 @@ impl<T> Slab<T> {
     ///
     /// [`Refused::OutOfMemory`] where memory was refused for the text.
     pub fn certificate(&self) -> Result<Option<String>, Refused> {
-        let _alone = self.asking.lock();
         self.core.certificate()
     }
 
@@ -596,19 +631,28 @@ impl<T> Slab<T> {
         meshed
     }
 
-    /// Gives back the pages on which no value is, folds sparse pages onto others until that hardly gives any back, and says how many pages
-    /// went; each that is folded takes its page of values with it.
-    /// Every key stays valid, and all groups are in shards afterwards, also those that an end or a retirement had left to the pool.
+    /// Gives back the pages on which no value is, folds sparse pages onto others until that hardly
+    /// gives any back, and says how many pages went; each that is folded takes its page of values
+    /// with it. Every key stays valid, and all groups are in shards afterwards, also those that an
+    /// end or a retirement had left to the pool.
     ///
-    /// Half of the pages, those with the fewest values, go to the pool, as many as can be are folded onto the other half, and the shards
-    /// adopt the rest in turn; where that gave at least a sixteenth of the pages back, once more. Each fold copies the values of a page, and a plan
-    /// looks at each pair of up to 4,096 pages on each side, those with the fewest values, so that there are as many plans as it takes; measured
-    /// were 15 ms for 1,600 pages and 80 to 190 ms for 7,800. A page that is folded takes no value of its own any more, so each fold uses up one
-    /// of the 4,294,967,295 pages that a shard may open in its life; what can never have a value again is forgotten.
+    /// It goes by rounds, as [`Core::compact`] does: in each the pages with the fewest values go to
+    /// the pool, up to half of all and up to 4,096; as many as can be are folded onto others, and
+    /// the shards adopt the rest in turn; if that gave an eighth of them back, there is another
+    /// round. Only pages are retired whose values fit on some other page by their number, so
+    /// nothing is retired or planned if no two pages have as few values together as one has slots.
+    /// At which slots values are is seen by the plan alone.
+    ///
+    /// Each fold copies the values of a page, and a plan looks at each pair of up to 4,096 pages on
+    /// each side, those with the fewest values. A page that is folded takes no value of its own any
+    /// more, so each fold uses up one of the 4,294,967,295 pages that a shard may open in its life;
+    /// what can never have a value again is forgotten. [`Slab::compact_within`] does the same in
+    /// parts.
     ///
     /// # Errors
     ///
-    /// - [`Refused::PlanOpen`]: a plan is open; then only pages without a value have gone;
+    /// - [`Refused::PlanOpen`]: a mark has opened a plan; then only pages without a value have
+    ///   gone;
     /// - [`Refused::OutOfMemory`]: memory was refused; it stops where it is, every key has its value, and it may be tried again.
     ///
     /// ```
@@ -626,6 +670,40 @@ impl<T> Slab<T> {
         self.values.cool();
         went
     }
+
+    /// Takes at most so many steps of a [compaction](Slab::compact), at least one, and says how
+    /// many pages went and whether there is more to do. The next call goes on where this one
+    /// stopped.
+    ///
+    /// What a step is, what a plan looks at, and which calls may be refused with
+    /// [`Refused::PlanOpen`] between two calls, is as of [`Core::compact_within`]. Beside that,
+    /// each retirement looks once at each page's number of values.
+    ///
+    /// # Errors
+    ///
+    /// As of [`Core::compact_within`].
+    ///
+    /// ```
+    /// # use teurlaks::Slab;
+    /// let mut slab = Slab::try_from_iter(0..25_600)?;
+    /// slab.retain(|_, i| *i % 19 == 0);
+    /// let mut gone = 0;
+    /// while slab.len() > 0 {
+    ///     let done = slab.compact_within(16)?; // between other work
+    ///     gone += done.pages;
+    ///     if !done.more {
+    ///         break;
+    ///     }
+    /// }
+    /// assert!(slab.pages() + gone == 100 && gone > 80);
+    /// # Ok::<(), teurlaks::Refused>(())
+    /// ```
+    pub fn compact_within(&mut self, budget: usize) -> Result<Compacted, Refused> {
+        self.give_up_vacant();
+        let done = self.compact_some(budget);
+        self.values.cool();
+        done
+    }
 }
 
 impl<T> Compact for Slab<T> {
@@ -633,18 +711,24 @@ impl<T> Compact for Slab<T> {
         &mut self.core
     }
 
-    fn sparse_pages(&self) -> Result<[usize; MOST_SHARDS], Refused> {
-        let mut pages = self.values.pages()?;
-        pages.sort_unstable();
-        let mut counts = [0; MOST_SHARDS];
-        for (_, shard) in &pages[..pages.len() / 2] {
-            counts[usize::from(*shard)] += 1;
+    /// Of the pages whose values fit on another one by their number.
+    fn retire_sparse(&mut self, most: usize) -> Result<(), Refused> {
+        for (shard, count) in (0..self.core.shards()).zip(self.values.sparse_pages(most)?) {
+            if count == 0 || self.core.is_ended(shard) {
+                continue;
+            }
+            let count = self.core.retire(shard, count)?;
+            self.core.progress.note_retired(count);
         }
-        Ok(counts)
+        Ok(())
     }
 
-    fn mesh_all(&mut self) -> Result<usize, Refused> {
-        self.mesh()
+    fn step_one(&mut self) -> Result<Stepped, Refused> {
+        self.step()
+    }
+
+    fn close_plan(&mut self) -> Result<(), Refused> {
+        self.close()
     }
 
     fn adopt_one(&mut self, shard: u32) -> Result<Group, Refused> {

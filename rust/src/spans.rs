@@ -69,6 +69,10 @@ impl Spans {
         }
         let spans = self.places.len() / 2 - self.room;
         let len = (2 * (spans + additional)).next_power_of_two().max(LEAST_PLACES);
+        // A number has 32 bits.
+        if len / 2 > u32::MAX as usize {
+            return Err(Refused::OutOfMemory);
+        }
         // As many numbers as spans, so that a span that goes leaves its number without memory.
         make_room(&mut self.names, len / 2)?;
         make_room(&mut self.free, len / 2)?;
@@ -164,7 +168,7 @@ impl Spans {
     }
 
     /// A number that no span has, which is the span's from now on. There is room for it.
-    // There are fewer spans with homes than slots on the pages of 64 shards.
+    // Room is made for no more spans than there are numbers.
     #[allow(clippy::cast_possible_truncation)]
     fn number_for(&mut self, span: Span) -> u32 {
         if let Some(number) = self.free.pop() {

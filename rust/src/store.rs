@@ -5,7 +5,8 @@ mod iterators;
 pub use iterators::{Drain, IntoIter, Iter, Keys, Values};
 
 use crate::bytes::{words_for, MOST_BYTES, MOST_WORDS};
-use crate::core::{Core, Limits, SHARDS};
+use crate::compact::Compact;
+use crate::core::{ends_turn, Core, Limits, SHARDS};
 use crate::names::Key;
 use crate::refused::Refused;
 use crate::walk::Place;
@@ -15,9 +16,18 @@ use std::mem::{size_of, MaybeUninit};
 
 /// Plain values of one type, 1 to 256 bytes each, whose bytes stand in the pages: what folds give back is theirs.
 ///
-/// A value takes the least of 16, 64 and 256 bytes that holds it, and 256, 64 or 16 of them share a page. It is handed out by copy. For values
-/// that are to be borrowed, or dropped, there is [`Slab`](crate::Slab). As there, an insert may be refused, so [`Store::try_extend`] and
-/// [`Store::try_from_iter`] stand in the place of `Extend` and `FromIterator`.
+/// A value takes the least of 16, 64 and 256 bytes that holds it, and 256, 64 or 16 of them share a
+/// page. It is handed out by copy. For values that are to be borrowed, or dropped, there is
+/// [`Slab`](crate::Slab). As there, an insert may be refused: `extend` and `collect` panic then,
+/// and [`Store::try_extend`] and [`Store::try_from_iter`] do not.
+///
+/// It is `Send` and `Sync` if its values are: many threads may look values up at once, for example
+/// as readers of an [`RwLock`](std::sync::RwLock), and one at a time changes it.
+///
+/// ```compile_fail,E0277
+/// fn share<T: Sync>() {}
+/// share::<teurlaks::Store<*const u8>>(); // a pointer is not `Sync`
+/// ```
 ///
 /// ```
 /// use teurlaks::Store;
@@ -41,6 +51,8 @@ pub struct Store<T> {
     core: Core,
     // The shard that an insert without a shard asks before the others: the last that had room.
     first: u32,
+    // Whether a shard with many pages leaves the next ones to the next shard.
+    takes_turns: bool,
     values: PhantomData<T>,
 }
 
@@ -53,17 +65,24 @@ impl<T: Copy> Store<T> {
     /// How many values share a page.
     const SLOTS: usize = 256 / words_for(size_of::<T>());
 
-    /// A store of 16 shards with no value. It holds up to 4,194,304 values at once, 1,048,576 of more than 16 bytes, or 262,144 of more than 64; and
-    /// asks for nothing but a [`Store::compact`] now and then, where most of what it held is gone and the memory is wanted back.
+    /// A store with no value, whose limits are those of memory: of 16 shards, each of as many pages
+    /// as a shard may have. So it may hold 4,294,967,296 values at once, 1,073,741,824 of more than
+    /// 16 bytes, or 268,435,456 of more than 64. It asks for nothing but a [`Store::compact`] now
+    /// and then, where most of what it held is gone and the memory is wanted back.
+    ///
+    /// A shard that has opened 1,024 pages leaves the next ones to the next shard, since a
+    /// compaction goes by how many pages a shard has.
     ///
     /// # Errors
     ///
     /// [`Refused::OutOfMemory`] where memory was refused.
     pub fn new() -> Result<Store<T>, Refused> {
-        Store::with_limits(Limits {
+        let mut store = Store::with_limits(Limits {
             shards: SHARDS,
             ..Limits::default()
-        })
+        })?;
+        store.takes_turns = true;
+        Ok(store)
     }
 
     /// A store of these limits.
@@ -76,24 +95,29 @@ impl<T: Copy> Store<T> {
         Ok(Store {
             core: Core::new(limits)?,
             first: 0,
+            takes_turns: false,
             values: PhantomData,
         })
     }
 
-    /// A store that may hold so many values at once: of 16 shards, or as many more as it takes. Its pages come as they are filled.
+    /// A store as of [`Store::new`] that may hold so many values at once, of more shards if it
+    /// takes them. Its pages come as they are filled.
     ///
     /// # Errors
     ///
-    /// [`Refused::Config`] where 64 shards are too few: for more than 16,777,216 values, 4,194,304 of more than 16 bytes, or 1,048,576 of more
-    /// than 64; [`Refused::OutOfMemory`] where memory was refused.
+    /// [`Refused::Config`] where 64 shards are too few: for more than 17,179,869,184 values,
+    /// 4,294,967,296 of more than 16 bytes, or 1,073,741,824 of more than 64;
+    /// [`Refused::OutOfMemory`] where memory was refused.
     pub fn with_capacity(capacity: usize) -> Result<Store<T>, Refused> {
         let limits = Limits::default();
         let of_a_shard = limits.pages as usize * Self::SLOTS;
         let shards = capacity / of_a_shard + usize::from(capacity % of_a_shard != 0);
-        Store::with_limits(Limits {
+        let mut store = Store::with_limits(Limits {
             shards: u32::try_from(shards).map_err(|_| Refused::Config)?.max(SHARDS),
             ..limits
-        })
+        })?;
+        store.takes_turns = true;
+        Ok(store)
     }
 
     /// How many values it may hold at once at most: as many as there are slots on the pages that the shards which have not ended may have.
@@ -121,8 +145,14 @@ impl<T: Copy> Store<T> {
     #[inline]
     fn keep<V: Copy>(&mut self, value: V) -> Result<Key, Refused> {
         match self.keep_in(self.first, value) {
+            Ok(key) => {
+                if self.takes_turns && ends_turn(key) {
+                    self.first = (self.first + 1) % self.core.shards();
+                }
+                Ok(key)
+            }
             Err(Refused::PagesSpent | Refused::Ended) => self.keep_elsewhere(value),
-            done => done,
+            refused => refused,
         }
     }
 
@@ -356,6 +386,17 @@ impl<T> Store<T> {
         self.core.free(key)
     }
 
+    /// How many pages it has, and how many of them can go at most.
+    pub(crate) fn pages_and_most_folds(&self) -> (usize, usize) {
+        self.core.pages_and_most_folds()
+    }
+
+    /// Ends a compaction in parts where it is.
+    pub(crate) fn give_up_compaction(&mut self) {
+        self.first = 0;
+        self.core.give_up();
+    }
+
     /// The live key that comes next after this one, as [`Core::next_live`].
     pub(crate) fn next_live(&self, after: Option<Key>) -> Option<Key> {
         self.core.next_live(after)
@@ -384,6 +425,28 @@ pub(crate) fn write_words<T: Copy>(words: &mut [MaybeUninit<u128>; MOST_WORDS], 
         first.cast::<T>().write_unaligned(value);
     }
     len
+}
+
+impl<T: Copy> Extend<T> for Store<T> {
+    /// As [`Store::try_extend`].
+    ///
+    /// # Panics
+    ///
+    /// If a value is refused.
+    fn extend<I: IntoIterator<Item = T>>(&mut self, values: I) {
+        self.try_extend(values).expect("there is room for each value");
+    }
+}
+
+impl<T: Copy> FromIterator<T> for Store<T> {
+    /// As [`Store::try_from_iter`].
+    ///
+    /// # Panics
+    ///
+    /// If a value is refused.
+    fn from_iter<I: IntoIterator<Item = T>>(values: I) -> Store<T> {
+        Store::try_from_iter(values).expect("there is room for each value")
+    }
 }
 
 impl<T: Copy> Default for Store<T> {

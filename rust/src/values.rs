@@ -6,14 +6,16 @@
 #![allow(clippy::cast_ptr_alignment)]
 
 use crate::blocks::Blocks;
-use crate::core::{Core, Stepped};
+use crate::core::{Core, Stepped, MOST_SHARDS};
 use crate::names::{Group, Key, Span};
 use crate::refused::Refused;
 use crate::spans::{number_of, Home, Spans};
 use std::alloc::{alloc, dealloc, Layout};
+use std::iter;
 use std::marker::PhantomData;
-use std::mem::{align_of, needs_drop, size_of};
-use std::ptr::NonNull;
+use std::mem::{self, align_of, needs_drop, size_of};
+use std::ops::Range;
+use std::ptr::{self, NonNull};
 
 /// How many bytes a value has at most, and to how many it is aligned, if it is to stand in a page.
 const MOST_BYTES: usize = 4096;
@@ -66,16 +68,23 @@ struct Page {
     shard: u8,
 }
 
-/// Where a walk over values is: of the values with which it began.
+/// Where a walk over values is, from both ends: of the values with which it began.
 #[derive(Clone)]
 pub(crate) struct Walk {
-    // The page whose slots come next, from this one on.
-    page: Page,
-    slot: usize,
-    // The number of the page after it.
-    next: usize,
+    // The slots that come next, and those that come next from the end.
+    front: Piece,
+    back: Piece,
+    // The pages between the two, by their numbers.
+    pages: Range<usize>,
     // How many values are still to come.
     left: usize,
+}
+
+/// Slots of a page that are still to come.
+#[derive(Clone)]
+struct Piece {
+    block: Block,
+    slots: Range<usize>,
 }
 
 impl Walk {
@@ -370,12 +379,31 @@ impl<T> Values<T> {
         self.blocks.cool();
     }
 
-    /// For each page with a value, how many it has, and its shard as far as that is known.
+    /// For each shard, how many of the pages with the fewest values it has, as far as that is
+    /// known: of so many in all, and of those alone whose values fit on another page by their
+    /// number.
     ///
     /// # Errors
     ///
     /// [`Refused::OutOfMemory`] where memory was refused.
-    pub fn pages(&self) -> Result<Vec<(u32, u8)>, Refused> {
+    pub fn sparse_pages(&self, most: usize) -> Result<[usize; MOST_SHARDS], Refused> {
+        let mut counts = [0; MOST_SHARDS];
+        let mut pages = self.pages()?;
+        pages.sort_unstable();
+        let [(least, _), (second, _), ..] = pages[..] else {
+            return Ok(counts);
+        };
+        let fits = |place: usize, live: u32| live + if place == 0 { second } else { least } <= Self::SLOTS as u32;
+        for (place, (live, shard)) in pages.into_iter().enumerate().take(most) {
+            if fits(place, live) {
+                counts[usize::from(shard)] += 1;
+            }
+        }
+        Ok(counts)
+    }
+
+    /// For each page with a value, how many it has, and its shard as far as that is known.
+    fn pages(&self) -> Result<Vec<(u32, u8)>, Refused> {
         let mut pages = Vec::new();
         pages
             .try_reserve_exact(self.pages.len())
@@ -394,11 +422,15 @@ impl<T> Values<T> {
     }
 
     /// The beginning of a walk over the values, of which there are so many, by pages and slots.
-    pub fn walk(left: usize) -> Walk {
+    pub fn walk(&self, left: usize) -> Walk {
+        let none = Piece {
+            block: Block::NOWHERE,
+            slots: 0..0,
+        };
         Walk {
-            page: Page::NONE,
-            slot: Self::SLOTS,
-            next: 0,
+            front: none.clone(),
+            back: none,
+            pages: 0..self.pages.len(),
             left,
         }
     }
@@ -408,25 +440,75 @@ impl<T> Values<T> {
     #[inline]
     fn next(&self, walk: &mut Walk) -> Option<(Key, NonNull<T>)> {
         loop {
-            while walk.slot < Self::SLOTS {
-                let slot = walk.slot;
-                walk.slot += 1;
-                if let Some(key) = self.key_of(walk.page.block.mark(slot), slot) {
+            let block = walk.front.block;
+            for slot in walk.front.slots.by_ref() {
+                if let Some(key) = self.key_of_mark(block.mark(slot), slot) {
                     walk.left = walk.left.saturating_sub(1);
-                    return Some((key, walk.page.block.value(slot)));
+                    return Some((key, block.value(slot)));
                 }
             }
-            let page = *self.pages.get(walk.next)?;
-            walk.next += 1;
-            if page.spans > 0 {
-                (walk.page, walk.slot) = (page, 0);
+            match walk.pages.next() {
+                Some(number) => walk.front = self.piece(number),
+                // What is left from the end.
+                None if walk.back.slots.is_empty() => return None,
+                None => mem::swap(&mut walk.front, &mut walk.back),
             }
         }
     }
 
+    /// The key that comes next from the end of a walk, and where its value is, as `next`. No slot
+    /// comes from both ends.
+    #[inline]
+    fn next_back(&self, walk: &mut Walk) -> Option<(Key, NonNull<T>)> {
+        loop {
+            let block = walk.back.block;
+            while let Some(slot) = walk.back.slots.next_back() {
+                if let Some(key) = self.key_of_mark(block.mark(slot), slot) {
+                    walk.left = walk.left.saturating_sub(1);
+                    return Some((key, block.value(slot)));
+                }
+            }
+            match walk.pages.next_back() {
+                Some(number) => walk.back = self.piece(number),
+                None if walk.front.slots.is_empty() => return None,
+                None => mem::swap(&mut walk.front, &mut walk.back),
+            }
+        }
+    }
+
+    /// The slots of the page of this number, or none if it has no value.
+    fn piece(&self, number: usize) -> Piece {
+        let page = &self.pages[number];
+        let count = if page.spans > 0 { Self::SLOTS } else { 0 };
+        Piece {
+            block: page.block,
+            slots: 0..count,
+        }
+    }
+
+    /// The key of the value that stands there, if it is one of these. It looks at each segment of
+    /// blocks; at each value, if they stand in blocks of their own; and values of no bytes all
+    /// stand at one place, where it finds none.
+    pub fn key_at(&self, at: *const T) -> Option<Key> {
+        if size_of::<T>() == 0 {
+            return None;
+        }
+        if Self::APART {
+            let mut walk = self.walk(0);
+            return iter::from_fn(|| self.next(&mut walk))
+                .find(|(_, value)| ptr::eq(value.as_ptr(), at))
+                .map(|(key, _)| key);
+        }
+        let (number, offset) = self.blocks.find(at.cast())?;
+        let page = self.pages.get(number).filter(|page| page.spans > 0)?;
+        let slot = offset.checked_sub(Self::VALUES_AT)? / size_of::<T>();
+        let is_there = slot < Self::SLOTS && ptr::eq(page.block.value::<T>(slot).as_ptr(), at);
+        is_there.then(|| self.key_of_mark(page.block.mark(slot), slot))?
+    }
+
     /// The key of the value with this mark, at this slot, or `None` where there is none.
     #[inline]
-    fn key_of(&self, mark: u64, slot: usize) -> Option<Key> {
+    fn key_of_mark(&self, mark: u64, slot: usize) -> Option<Key> {
         if mark == VACANT {
             return None;
         }
@@ -449,6 +531,22 @@ impl<T> Values<T> {
         Some((key, unsafe { value.as_mut() }))
     }
 
+    /// The key that comes next from the end of a walk, with its value.
+    #[inline]
+    pub fn next_back_ref(&self, walk: &mut Walk) -> Option<(Key, &T)> {
+        let (key, value) = self.next_back(walk)?;
+        // SAFETY: as in `get`.
+        Some((key, unsafe { value.as_ref() }))
+    }
+
+    /// The key that comes next from the end of a walk, with its value, which is taken out.
+    #[inline]
+    pub fn next_back_taken(&mut self, walk: &mut Walk) -> Option<(Key, T)> {
+        let (key, _) = self.next_back(walk)?;
+        let (value, _) = self.take(key)?;
+        Some((key, value))
+    }
+
     /// The key that comes next in a walk, with its value, which is taken out.
     #[inline]
     pub fn next_taken(&mut self, walk: &mut Walk) -> Option<(Key, T)> {
@@ -462,7 +560,7 @@ impl<T> Values<T> {
         if !needs_drop::<T>() && !Self::APART {
             return;
         }
-        let mut walk = Self::walk(self.count());
+        let mut walk = self.walk(self.count());
         while let Some((key, _)) = self.next(&mut walk) {
             drop(self.take(key));
         }
@@ -478,7 +576,7 @@ pub(crate) struct WalkMut<'v, T> {
 impl<'v, T> WalkMut<'v, T> {
     /// The walk over these values, of which there are so many.
     pub fn new(values: &'v mut Values<T>, left: usize) -> WalkMut<'v, T> {
-        let walk = Values::<T>::walk(left);
+        let walk = values.walk(left);
         WalkMut { values, walk }
     }
 
@@ -487,6 +585,14 @@ impl<'v, T> WalkMut<'v, T> {
     pub fn next(&mut self) -> Option<(Key, &'v mut T)> {
         let (key, mut value) = self.values.next(&mut self.walk)?;
         // SAFETY: as in `get_mut`. Nobody else has the values as long as they are lent, and a walk comes to each slot once.
+        Some((key, unsafe { value.as_mut() }))
+    }
+
+    /// The key that comes next from the end, with its value.
+    #[inline]
+    pub fn next_back(&mut self) -> Option<(Key, &'v mut T)> {
+        let (key, mut value) = self.values.next_back(&mut self.walk)?;
+        // SAFETY: as in `next`: no slot comes from both ends.
         Some((key, unsafe { value.as_mut() }))
     }
 

@@ -187,13 +187,14 @@ fn entries_that_are_dropped_use_up_their_slots() -> Result<(), Refused> {
 #[test]
 fn room_for_many() -> Result<(), Refused> {
     let small = Slab::<u64>::with_capacity(10)?;
-    assert_eq!((small.limits().shards, small.capacity()), (16, 16 * 1024 * 256));
+    assert_eq!((small.limits().shards, small.capacity()), (16, 16 * 1_048_576 * 256));
     let large = Slab::<[u64; 17]>::with_capacity(1_048_577)?;
-    assert_eq!((large.limits().shards, large.capacity()), (17, 17 * 1024 * 64));
-    assert_eq!(Slab::<u64>::with_capacity(16_777_216)?.limits().shards, 64);
-    for capacity in [16_777_217, usize::MAX] {
+    assert_eq!((large.limits().shards, large.capacity()), (16, 16 * 1_048_576 * 64));
+    for capacity in [64 * 1_048_576 * 256 + 1, usize::MAX] {
         assert_eq!(Slab::<u64>::with_capacity(capacity).err(), Some(Refused::Config));
+        assert_eq!(Store::<u64>::with_capacity(capacity).err(), Some(Refused::Config));
     }
+    assert_eq!(Store::<u64>::with_capacity(17 * 1_048_576 * 256)?.limits().shards, 17);
     let mut slab = Slab::with_limits(Limits { shards: 2, ..ONE_PAGE })?;
     slab.try_extend(0..256)?;
     assert_eq!(slab.capacity(), 512);
@@ -371,9 +372,12 @@ fn values_of_a_store_that_know_their_keys() -> Result<(), Refused> {
 #[test]
 fn room_in_a_store() -> Result<(), Refused> {
     assert_eq!(Store::<u64>::with_capacity(1)?.limits().shards, 16);
-    assert_eq!(Store::<[u8; 64]>::with_capacity(1_048_577)?.limits().shards, 17);
-    assert_eq!(Store::<[u8; 65]>::with_capacity(1_048_576)?.limits().shards, 64);
-    assert_eq!(Store::<[u8; 65]>::with_capacity(1_048_577).err(), Some(Refused::Config));
+    assert_eq!(Store::<[u8; 64]>::with_capacity(1_073_741_825)?.limits().shards, 17);
+    assert_eq!(Store::<[u8; 65]>::with_capacity(1_073_741_824)?.limits().shards, 64);
+    assert_eq!(
+        Store::<[u8; 65]>::with_capacity(1_073_741_825).err(),
+        Some(Refused::Config)
+    );
     Ok(())
 }
 

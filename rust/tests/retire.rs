@@ -95,9 +95,11 @@ fn more_pages_than_a_plan_has() -> Result<(), Refused> {
     for (place, key) in keys.iter().enumerate().filter(|(place, _)| !stays(*place)) {
         assert_eq!(slab.remove(*key).map(|value| value.0), Some(place));
     }
-    assert_eq!(slab.pages(), PAGES);
+    // A shard that leaves the next pages to another one has a page that is not full.
+    let pages = slab.pages();
+    assert!((PAGES..PAGES + 16).contains(&pages));
     let went = slab.compact()?;
-    assert!(slab.pages() <= PAGES / 8 && slab.pages() + went == PAGES);
+    assert!(slab.pages() <= PAGES / 8 && slab.pages() + went == pages);
     for (place, key) in keys.iter().enumerate() {
         assert_eq!(slab.get(*key).map(|value| value.0), stays(place).then_some(place));
     }

@@ -357,7 +357,7 @@ fn as_a_map<T: Made>(calls: usize) -> Result<(), Refused> {
         .unwrap_or(4);
     for seed in 0..runs {
         let folds = Pair::<T>::new(seed)?.run(calls)?;
-        assert!(folds >= 5, "only {folds} folds");
+        assert!(folds >= 3, "only {folds} folds");
     }
     Ok(())
 }

@@ -41,6 +41,9 @@ pub struct Seat<T> {
     turn: Turn,
     // Whether the lane whose turn it is has a session. No lane keeps its shard meanwhile.
     inside: Inside,
+    // The round of the last help with a compaction, and how many groups it left to the pool.
+    pub(super) helped: u32,
+    pub(super) retired: usize,
     // A value of any other type is none of this arena, whatever its lifetime: it is read at all seats.
     values: PhantomData<Cell<T>>,
 }
@@ -52,6 +55,8 @@ impl<T> Seat<T> {
             lanes,
             turn,
             inside: Inside::nothing(),
+            helped: 0,
+            retired: 0,
             values: PhantomData,
         }
     }

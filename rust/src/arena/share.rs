@@ -4,7 +4,7 @@ use super::inside;
 use super::lane::{AllLanes, Owner, Taker, SLEEP};
 use crate::raw;
 use std::cell::UnsafeCell;
-use std::sync::atomic::{AtomicBool, Ordering};
+use std::sync::atomic::{AtomicBool, AtomicU32, AtomicU64, Ordering};
 use std::sync::{Arc, Mutex, PoisonError};
 use std::{hint, mem, ptr, thread};
 
@@ -130,6 +130,20 @@ struct Shared {
     // still open.
     left: Mutex<Option<Share>>,
     has_left: AtomicBool,
+    // How often the steward has asked the seats to retire groups, and how many each of them: the
+    // halves of a number.
+    asked: AtomicU64,
+    // How many seats have done what was asked last.
+    helpers: AtomicU32,
+}
+
+/// What the steward has asked its seats for.
+#[derive(Clone, Copy)]
+pub(super) struct Asked {
+    /// How often it has asked, of which no two times that follow each other have the same number.
+    pub round: u32,
+    /// How many groups each seat is to retire.
+    pub most: u32,
 }
 
 impl Turn {
@@ -141,6 +155,8 @@ impl Turn {
             lanes,
             left: Mutex::new(None),
             has_left: AtomicBool::new(false),
+            asked: AtomicU64::new(0),
+            helpers: AtomicU32::new(0),
         };
         let shared = Arc::new(shared);
         (Turn { shared }, owners)
@@ -188,6 +204,35 @@ impl Turn {
     #[inline]
     pub fn steward_waits(&self) -> bool {
         self.shared.steward_waits.load(Ordering::Relaxed)
+    }
+
+    /// Asks the seats to retire so many groups each.
+    pub fn ask(&self, most: u32) {
+        let round = self.asked().round.wrapping_add(1);
+        let asked = u64::from(round) << 32 | u64::from(most);
+        self.shared.helpers.store(0, Ordering::Relaxed);
+        self.shared.asked.store(asked, Ordering::Relaxed);
+    }
+
+    /// Notes that one more seat has done what was asked.
+    pub fn note_helped(&self) {
+        self.shared.helpers.fetch_add(1, Ordering::Relaxed);
+    }
+
+    /// How many seats have done what was asked last.
+    pub fn helpers(&self) -> u32 {
+        self.shared.helpers.load(Ordering::Relaxed)
+    }
+
+    /// What the steward has asked for last.
+    // Each half is cut out of the number.
+    #[allow(clippy::cast_possible_truncation)]
+    pub fn asked(&self) -> Asked {
+        let asked = self.shared.asked.load(Ordering::Relaxed);
+        Asked {
+            round: (asked >> 32) as u32,
+            most: asked as u32,
+        }
     }
 
     /// Leaves the steward with its open plan to whoever next leaves a session.

@@ -1,13 +1,13 @@
 //! What a core does with whole groups: ends, begins, retirements, trims and adoptions, marks and their steps.
 
-use super::Core;
-use crate::compact::Compact;
+use super::{Core, Plan};
+use crate::compact::{Compact, Compacted};
 use crate::names::Group;
 use crate::raw;
 use crate::refused::Refused;
 
 /// How many groups a plan may have on a side.
-const MOST_GROUPS: usize = 4096;
+pub(crate) const MOST_GROUPS: usize = 4096;
 
 /// What a mark saw and planned.
 #[derive(Clone, Copy, Debug, PartialEq, Eq, Hash)]
@@ -54,8 +54,9 @@ impl Core {
     /// - [`Refused::OutOfMemory`]: none of these holds, and memory was refused.
     pub fn end(&mut self, shard: u32) -> Result<(), Refused> {
         // SAFETY: as in `insert`.
-        done(unsafe { raw::teurlaks_end(self.handle.get(), shard) })?;
+        done(unsafe { raw::teurlaks_end(&mut self.handle, shard) })?;
         self.ended[shard as usize] = true;
+        self.pool = true;
         Ok(())
     }
 
@@ -81,7 +82,7 @@ impl Core {
     /// ```
     pub fn begin(&mut self, shard: u32) -> Result<(), Refused> {
         // SAFETY: as in `insert`.
-        done(unsafe { raw::teurlaks_begin(self.handle.get(), shard) })?;
+        done(unsafe { raw::teurlaks_begin(&mut self.handle, shard) })?;
         self.ended[shard as usize] = false;
         Ok(())
     }
@@ -113,7 +114,8 @@ impl Core {
     /// ```
     pub fn retire(&mut self, shard: u32, most: usize) -> Result<usize, Refused> {
         // SAFETY: as in `insert`.
-        let raw::RetireReply { status, count } = unsafe { raw::teurlaks_retire(self.handle.get(), shard, most) };
+        let raw::RetireReply { status, count } = unsafe { raw::teurlaks_retire(&mut self.handle, shard, most) };
+        self.pool |= count > 0;
         done(status).map(|()| count)
     }
 
@@ -138,7 +140,7 @@ impl Core {
     /// ```
     pub fn trim(&mut self, shard: u32) -> Result<usize, Refused> {
         // SAFETY: as in `insert`.
-        let raw::TrimReply { status, count } = unsafe { raw::teurlaks_trim(self.handle.get(), shard) };
+        let raw::TrimReply { status, count } = unsafe { raw::teurlaks_trim(&mut self.handle, shard) };
         done(status).map(|()| count)
     }
 
@@ -169,7 +171,7 @@ impl Core {
     /// ```
     pub fn forget(&mut self) -> Result<usize, Refused> {
         // SAFETY: as in `insert`.
-        let raw::ForgetReply { status, count } = unsafe { raw::teurlaks_forget(self.handle.get()) };
+        let raw::ForgetReply { status, count } = unsafe { raw::teurlaks_forget(&mut self.handle) };
         done(status).map(|()| count)
     }
 
@@ -185,7 +187,8 @@ impl Core {
     /// - [`Refused::OutOfMemory`]: none of these holds, and memory was refused.
     pub fn adopt(&mut self, shard: u32) -> Result<Group, Refused> {
         // SAFETY: as in `insert`.
-        let adopted = unsafe { raw::teurlaks_adopt(self.handle.get(), shard) };
+        let adopted = unsafe { raw::teurlaks_adopt(&mut self.handle, shard) };
+        self.pool &= adopted.status != raw::NOTHING_TO_ADOPT;
         done(adopted.status).map(|()| Group(adopted.head))
     }
 
@@ -198,7 +201,9 @@ impl Core {
     /// - [`Refused::OutOfMemory`]: none of these holds, and memory was refused.
     pub fn mark(&mut self) -> Result<Marked, Refused> {
         // SAFETY: as in `insert`.
-        marked(unsafe { raw::teurlaks_mark(self.handle.get()) })
+        let marked = marked(unsafe { raw::teurlaks_mark(&mut self.handle) })?;
+        self.plan = Plan::Caller;
+        Ok(marked)
     }
 
     /// Marks as [`Core::mark`] does, but sees of each side the 4,096 groups with the fewest live keys, or all where there are no more. So
@@ -210,7 +215,34 @@ impl Core {
     /// - [`Refused::OutOfMemory`]: none is, and memory was refused.
     pub fn mark_some(&mut self) -> Result<Marked, Refused> {
         // SAFETY: as in `insert`.
-        marked(unsafe { raw::teurlaks_mark_some(self.handle.get()) })
+        let marked = marked(unsafe { raw::teurlaks_mark_some(&mut self.handle) })?;
+        self.plan = Plan::Caller;
+        Ok(marked)
+    }
+
+    /// Marks as [`Core::mark_some`] does, for a compaction that may leave the plan open.
+    pub(crate) fn mark_for_compaction(&mut self) -> Result<Marked, Refused> {
+        let marked = self.mark_some()?;
+        self.plan = Plan::Compaction;
+        Ok(marked)
+    }
+
+    /// Whether a compaction has left its plan open.
+    pub(crate) fn plan_is_of_compaction(&self) -> bool {
+        self.plan == Plan::Compaction
+    }
+
+    /// That a caller has no plan open.
+    pub(crate) fn no_plan_of_caller(&self) -> Result<(), Refused> {
+        match self.plan {
+            Plan::Caller => Err(Refused::PlanOpen),
+            _ => Ok(()),
+        }
+    }
+
+    /// Whether no group is in the pool, or none that has a page.
+    pub(crate) fn pool_is_empty(&self) -> bool {
+        !self.pool
     }
 
     /// Carries out the next pair of the open plan.
@@ -221,7 +253,7 @@ impl Core {
     /// - [`Refused::OutOfMemory`]: memory was refused; the pair is then still the next.
     pub fn step(&mut self) -> Result<Stepped, Refused> {
         // SAFETY: as in `insert`.
-        stepped(unsafe { raw::teurlaks_step(self.handle.get()) })
+        stepped(unsafe { raw::teurlaks_step(&mut self.handle) })
     }
 
     /// Closes the open plan; pairs that are left are dropped. It takes no memory.
@@ -231,7 +263,9 @@ impl Core {
     /// [`Refused::NoPlan`] alone, where no plan is open.
     pub fn close(&mut self) -> Result<(), Refused> {
         // SAFETY: as in `insert`.
-        done(unsafe { raw::teurlaks_close(self.handle.get()) })
+        done(unsafe { raw::teurlaks_close(&mut self.handle) })?;
+        self.plan = Plan::None;
+        Ok(())
     }
 
     /// Marks, takes all steps and closes, and says how many pages came back. The mark is that of [`Core::mark_some`]; where it may not have
@@ -245,18 +279,30 @@ impl Core {
         self.mesh_with(Core::step)
     }
 
-    /// Gives back the pages on which no key is live, folds sparse pages onto others until that hardly gives any back, and says how many
-    /// pages went. Every key stays valid, and all groups are in shards afterwards, also those that an end or a retirement had left to the
-    /// pool.
+    /// Gives back the pages on which no key is live, folds sparse pages onto others until that
+    /// hardly gives any back, and says how many pages went. Every key stays valid, and all groups
+    /// are in shards afterwards, also those that an end or a retirement had left to the pool.
     ///
-    /// Half of the pages, of each shard those with the fewest live keys, go to the pool, as many as can be are folded onto the other half, and
-    /// the shards adopt the rest in turn; where that gave at least a sixteenth of the pages back, once more. A page that is folded takes no
-    /// object of its own any more, so each fold uses up one of the 4,294,967,295 pages that a shard may open in its life.
+    /// It goes by rounds. In each some pages, of each shard those with the fewest live keys, go to
+    /// the pool; as many as can be are folded onto the others, and the shards adopt the rest in
+    /// turn. There is another round if that gave at least an eighth of them back. How many they are
+    /// is estimated before: half of all, up to 4,096, and at most half of those that can go at all,
+    /// since what is live needs the other pages even if these were full. So nothing is retired or
+    /// planned if all pages are full, and little if they nearly are. The estimate sees the numbers
+    /// of pages and of live keys. It does not see how keys are spread over pages and slots, and
+    /// takes all objects to be as small as the smallest that was ever put.
+    ///
+    /// A page that is folded takes no object of its own any more, so each fold uses up one of the
+    /// 4,294,967,295 pages that a shard may open in its life.
+    ///
+    /// [`Core::compact_within`] does the same in parts, and where it has stopped this goes on.
     ///
     /// # Errors
     ///
-    /// - [`Refused::PlanOpen`]: a plan is open; then only pages without a live key have gone;
-    /// - [`Refused::OutOfMemory`]: memory was refused; it stops where it is, every key has its object, and it may be tried again.
+    /// - [`Refused::PlanOpen`]: a mark has opened a plan; then only pages without a live key have
+    ///   gone;
+    /// - [`Refused::OutOfMemory`]: memory was refused; it stops where it is, every key has its
+    ///   object, no plan is open, and it may be tried again.
     ///
     /// ```
     /// # use teurlaks::{Core, Limits};
@@ -271,6 +317,54 @@ impl Core {
     /// ```
     pub fn compact(&mut self) -> Result<usize, Refused> {
         self.compact_all()
+    }
+
+    /// Takes at most so many steps of a [compaction](Core::compact), at least one, and says how
+    /// many pages went and whether there is more to do. The next call goes on where this one
+    /// stopped, and once there is no more to do, the next one begins anew.
+    ///
+    /// A step trims one shard, retires one group, plans, folds one pair, adopts one group, or
+    /// forgets. A plan looks at up to `budget` groups of the pool, or 64 if that is more, beside up
+    /// to 4,096 of the shards; if more were left in the pool before, by an end or by retirements,
+    /// at up to 4,096. To choose groups, and for each adoption, it also looks once at each page of
+    /// a shard.
+    ///
+    /// Between two calls every key stays valid: it is found, set and freed as ever. A plan may be
+    /// open then, so [`Core::mark`], [`Core::mark_some`], [`Core::mesh`], [`Core::adopt`] and
+    /// [`Core::forget`] may be refused with [`Refused::PlanOpen`], and so may [`Core::end`] and
+    /// [`Core::retire`] for a shard that has a group of the plan. The groups of the plan, and up to
+    /// as many in the pool, take no object meanwhile: what is inserted goes to other pages.
+    /// [`Core::step`] takes a step of that plan, and [`Core::close`] ends it: the compaction then
+    /// goes on with what comes after its folds.
+    ///
+    /// # Errors
+    ///
+    /// - [`Refused::PlanOpen`]: a mark of the caller's has opened a plan;
+    /// - [`Refused::OutOfMemory`]: memory was refused. Every key has its object, and the next call
+    ///   goes on from there. It also counts the pages that went in this one.
+    ///
+    /// ```
+    /// # use teurlaks::{Core, Limits};
+    /// let mut core = Core::new(Limits::default())?;
+    /// let keys: Vec<_> = (0..25_600).map(|i| core.insert(0, i)).collect::<Result<_, _>>()?;
+    /// for (i, key) in keys.iter().enumerate().filter(|(i, _)| i % 23 != 0) {
+    ///     core.free(*key);
+    /// }
+    /// let mut gone = 0;
+    /// loop {
+    ///     let done = core.compact_within(16)?; // between other work
+    ///     gone += done.pages;
+    ///     assert_eq!(core.get(keys[46]), Some(46));
+    ///     if !done.more {
+    ///         break;
+    ///     }
+    /// }
+    /// assert_eq!(core.pages(), 100 - gone);
+    /// assert!(gone > 80);
+    /// # Ok::<(), teurlaks::Refused>(())
+    /// ```
+    pub fn compact_within(&mut self, budget: usize) -> Result<Compacted, Refused> {
+        self.compact_some(budget)
     }
 
     /// How many shards there are, with those that have ended.
@@ -319,8 +413,8 @@ impl Core {
     ///
     /// [`Refused::OutOfMemory`] where memory was refused for the text.
     pub fn certificate(&self) -> Result<Option<String>, Refused> {
-        // SAFETY: as in `insert`, and so many bytes stand there.
-        certificate_text(|text, len| unsafe { raw::teurlaks_certificate(self.handle.get(), text, len) })
+        // SAFETY: as in `get`, and so many bytes stand there.
+        certificate_text(|text, len| unsafe { raw::teurlaks_certificate(&self.handle, text, len) })
     }
 }
 
@@ -535,6 +629,17 @@ macro_rules! meshing {
         pub fn compact(&mut self) -> Result<usize, crate::Refused> {
             self.first = 0;
             self.core.compact()
+        }
+
+        /// Takes at most so many steps of a compaction, as
+        /// [`Core::compact_within`](crate::Core::compact_within).
+        ///
+        /// # Errors
+        ///
+        /// As of [`Core::compact_within`](crate::Core::compact_within).
+        pub fn compact_within(&mut self, budget: usize) -> Result<crate::Compacted, crate::Refused> {
+            self.first = 0;
+            self.core.compact_within(budget)
         }
     };
 }

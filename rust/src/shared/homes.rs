@@ -69,6 +69,14 @@ impl Home<'_> {
         self.at.store(shard, Ordering::Relaxed);
     }
 
+    /// Leaves this shard, which has many pages, for the next one before the next home, or of all
+    /// where there is none.
+    #[cold]
+    pub fn move_on(self) {
+        let next = self.beside().next().or_else(|| self.all().next());
+        self.move_to(next.unwrap_or(self.shard()));
+    }
+
     /// The shards from this one up to the next home, which come before all others where this one is full, from the one after this on.
     pub fn beside(self) -> impl Iterator<Item = u8> + Clone {
         let (here, apart) = (usize::from(self.shard()), self.homes.apart);

@@ -1,6 +1,7 @@
 //! One shard of a store that threads share: a store behind a lock, and its compaction in pieces, between which others have the lock.
 
-use crate::core::{Limits, Stepped};
+use crate::compact::Compacted;
+use crate::core::Limits;
 use crate::refused::Refused;
 use crate::store::Store;
 use std::hint;
@@ -8,11 +9,12 @@ use std::sync::atomic::{AtomicUsize, Ordering};
 use std::sync::{Mutex, MutexGuard, PoisonError, TryLockError};
 use std::thread;
 
-/// How many groups are retired, folded or adopted under one hold of the lock: the retirements are the longest, 0.1 to 0.4 ms.
+/// How many steps of a compaction are taken under one hold of the lock: the retirements are the
+/// longest, 0.1 to 0.4 ms.
 const PIECE: usize = 16;
 
-/// The fewest pages for which a core gets a pool. It dates from when a pool took 136 KB, half of so many pages.
-const FEWEST_PAGES: usize = 68;
+/// The fewest pages for which a core gets a pool, which takes some memory of its own.
+const FEWEST_PAGES: usize = 4;
 
 /// How often a compaction lets others run where they wait for the lock, before it goes on all the same.
 const MOST_YIELDS: usize = 200;
@@ -27,8 +29,19 @@ pub(super) struct Shard<T> {
     store: Mutex<Option<Store<T>>>,
     // How many threads wait for it, as far as they say so.
     waiting: AtomicUsize,
-    // Whoever compacts holds this lock throughout, and the one of the store piece by piece. It says whether the core has a pool, which stays.
-    has_pool: Mutex<bool>,
+    // Whoever compacts holds this lock throughout, and the one of the store piece by piece.
+    pool: Mutex<Pool>,
+}
+
+/// What is known of a core's compactions.
+#[derive(Default)]
+struct Pool {
+    // Whether the core has a pool, which stays.
+    is_there: bool,
+    // Whether a compaction has begun and is not done.
+    is_under_way: bool,
+    // The pages that went in parts that were refused later.
+    pages: usize,
 }
 
 /// The store of a shard under its lock.
@@ -39,7 +52,7 @@ impl<T> Shard<T> {
         Shard {
             store: Mutex::new(None),
             waiting: AtomicUsize::new(0),
-            has_pool: Mutex::new(false),
+            pool: Mutex::default(),
         }
     }
 
@@ -90,20 +103,6 @@ impl<T> Shard<T> {
         done
     }
 
-    /// Does pieces of work, 16 parts each, as long as a part says that there is more.
-    fn pieces(&self, mut part: impl FnMut(&mut Store<T>) -> Result<bool, Refused>) -> Result<(), Refused> {
-        let mut piece = |store: &mut Store<T>| -> Result<bool, Refused> {
-            for _ in 0..PIECE {
-                if !part(store)? {
-                    return Ok(false);
-                }
-            }
-            Ok(true)
-        };
-        while self.piece(&mut piece).transpose()? == Some(true) {}
-        Ok(())
-    }
-
     /// Gives back the pages on which nothing is live, and says how many went.
     pub fn trim(&self) -> usize {
         // It is refused only where there is no such shard.
@@ -111,26 +110,67 @@ impl<T> Shard<T> {
     }
 
     /// Whoever has it compacts or forgets alone.
-    fn lock_pool(&self) -> MutexGuard<'_, bool> {
-        self.has_pool.lock().unwrap_or_else(PoisonError::into_inner)
+    fn lock_pool(&self) -> MutexGuard<'_, Pool> {
+        self.pool.lock().unwrap_or_else(PoisonError::into_inner)
     }
 
-    /// Compacts as `Core::compact` does, in pieces, and says how many pages went. It forgets
-    /// before, since what is forgotten need not move, and at its end.
+    /// Compacts as `Core::compact` does, in pieces, and says how many pages went.
     pub fn compact(&self) -> Result<usize, Refused> {
-        let mut has_pool = self.lock_pool();
-        self.forget_some()?;
-        let gone = self.fold_all(&mut has_pool)?;
-        self.forget_some()?;
-        Ok(gone)
+        let mut pool = self.lock_pool();
+        let mut left = usize::MAX;
+        let done = self.compact_pieces(&mut pool, &mut left);
+        if done.is_err() {
+            pool.is_under_way = false;
+            pool.pages = 0;
+            self.piece(Store::give_up_compaction);
+        }
+        done.map(|done| done.pages)
+    }
+
+    /// Takes so many steps of a compaction at most, in pieces, and takes them off what is left.
+    pub fn compact_within(&self, left: &mut usize) -> Result<Compacted, Refused> {
+        self.compact_pieces(&mut self.lock_pool(), left)
+    }
+
+    /// Ends a compaction that is under way, where it is.
+    pub fn give_up(&self) {
+        let mut pool = self.lock_pool();
+        if std::mem::take(&mut pool.is_under_way) {
+            self.piece(Store::give_up_compaction);
+        }
+    }
+
+    /// Forgets before the first piece, since what is forgotten need not move.
+    fn compact_pieces(&self, pool: &mut Pool, left: &mut usize) -> Result<Compacted, Refused> {
+        if !pool.is_under_way {
+            let Some(pages) = self.lock().as_ref().map(Store::pages) else {
+                return Ok(Compacted::default());
+            };
+            *left = left.saturating_sub(1);
+            self.forget_some()?;
+            if pages < FEWEST_PAGES && !pool.is_there {
+                let pages = self.trim();
+                return Ok(Compacted { pages, more: false });
+            }
+            (pool.is_there, pool.is_under_way) = (true, true);
+        }
+        while pool.is_under_way && *left > 0 {
+            let piece = PIECE.min(*left);
+            *left -= piece;
+            let done = self.piece(|store| store.compact_within(piece)).transpose()?;
+            pool.pages += done.map_or(0, |done| done.pages);
+            pool.is_under_way = done.is_some_and(|done| done.more);
+        }
+        Ok(Compacted {
+            pages: std::mem::take(&mut pool.pages),
+            more: pool.is_under_way,
+        })
     }
 
     /// Forgets as `Core::forget` does, behind a compaction that is under way, and says how many
-    /// spans went.
+    /// spans went: none while a compaction in parts has a plan open, which forgets at its end.
     pub fn forget(&self) -> usize {
         let _alone = self.lock_pool();
-        // It is refused only while a plan is open: whoever opens one closes it before another has
-        // the pool.
         self.forget_some().unwrap_or(0)
     }
 
@@ -138,69 +178,9 @@ impl<T> Shard<T> {
         self.piece(Store::forget).unwrap_or(Ok(0))
     }
 
-    /// Trims, folds as long as that gives a sixteenth of the pages back, and says how many pages
-    /// went.
-    fn fold_all(&self, has_pool: &mut bool) -> Result<usize, Refused> {
-        let mut gone = self.trim();
-        // What a refusal has left in the pool.
-        self.adopt_all()?;
-        loop {
-            let pages = self.lock().as_ref().map_or(0, Store::pages);
-            if pages < FEWEST_PAGES && !*has_pool {
-                return Ok(gone);
-            }
-            *has_pool = true;
-            let folded = self.fold_sparse_pages(pages / 2)?;
-            gone += folded;
-            if folded == 0 || folded * 16 < pages {
-                return Ok(gone);
-            }
-        }
-    }
-
-    /// Folds so many of the sparsest pages onto the others, and says how many went.
-    fn fold_sparse_pages(&self, most: usize) -> Result<usize, Refused> {
-        let folded = self.retire(most).and_then(|()| self.mesh());
-        self.adopt_all()?;
-        folded
-    }
-
-    /// Leaves so many of the sparsest groups to the pool. One call for 16 of them takes hardly longer than one for one.
-    fn retire(&self, most: usize) -> Result<(), Refused> {
-        for left in (1..=most).rev().step_by(PIECE) {
-            let piece = PIECE.min(left);
-            if self.piece(|store| store.retire(0, piece)).transpose()? != Some(piece) {
-                break;
-            }
-        }
-        Ok(())
-    }
-
-    /// Marks, takes all steps and closes, and says how many pages went. The plan is closed also where a step is refused.
-    fn mesh(&self) -> Result<usize, Refused> {
-        self.piece(Store::mark_some).transpose()?;
-        let folded = self.take_steps();
-        self.piece(Store::close).transpose()?;
-        folded
-    }
-
-    fn take_steps(&self) -> Result<usize, Refused> {
-        let mut folded = 0;
-        self.pieces(|store| {
-            let step = store.step()?;
-            folded += usize::from(matches!(step, Stepped::Folded(..)));
-            Ok(step != Stepped::NoPairLeft)
-        })?;
-        Ok(folded)
-    }
-
-    /// Has the shard adopt what the pool has, as far as it may have pages.
-    fn adopt_all(&self) -> Result<(), Refused> {
-        self.pieces(|store| match store.adopt(0) {
-            Ok(_) => Ok(true),
-            Err(Refused::NothingToAdopt | Refused::PagesSpent) => Ok(false),
-            Err(refused) => Err(refused),
-        })
+    /// How many pages it has, and how many of them can go at most.
+    pub fn pages_and_most_folds(&self) -> (usize, usize) {
+        self.lock().as_ref().map_or((0, 0), Store::pages_and_most_folds)
     }
 }
 

@@ -261,6 +261,55 @@ fn exactly(left: usize) -> (usize, Option<usize>) {
     (left, Some(left))
 }
 
+impl<'s, T> DoubleEndedIterator for Iter<'s, T> {
+    #[inline]
+    fn next_back(&mut self) -> Option<(Key, &'s T)> {
+        self.values.next_back_ref(&mut self.walk)
+    }
+}
+
+impl<'s, T> DoubleEndedIterator for IterMut<'s, T> {
+    #[inline]
+    fn next_back(&mut self) -> Option<(Key, &'s mut T)> {
+        self.walk.next_back()
+    }
+}
+
+impl<T> DoubleEndedIterator for Keys<'_, T> {
+    #[inline]
+    fn next_back(&mut self) -> Option<Key> {
+        self.iter.next_back().map(|(key, _)| key)
+    }
+}
+
+impl<'s, T> DoubleEndedIterator for Values<'s, T> {
+    #[inline]
+    fn next_back(&mut self) -> Option<&'s T> {
+        self.iter.next_back().map(|(_, value)| value)
+    }
+}
+
+impl<'s, T> DoubleEndedIterator for ValuesMut<'s, T> {
+    #[inline]
+    fn next_back(&mut self) -> Option<&'s mut T> {
+        self.iter.next_back().map(|(_, value)| value)
+    }
+}
+
+impl<T> DoubleEndedIterator for IntoIter<T> {
+    #[inline]
+    fn next_back(&mut self) -> Option<(Key, T)> {
+        self.values.next_back_taken(&mut self.walk)
+    }
+}
+
+impl<T> DoubleEndedIterator for Drain<'_, T> {
+    fn next_back(&mut self) -> Option<(Key, T)> {
+        let (key, _) = self.slab.values.next_back_ref(&mut self.walk)?;
+        Some((key, self.slab.remove(key)?))
+    }
+}
+
 impl<T> ExactSizeIterator for Iter<'_, T> {}
 impl<T> ExactSizeIterator for IterMut<'_, T> {}
 impl<T> ExactSizeIterator for Keys<'_, T> {}
@@ -302,5 +351,27 @@ impl<T> IntoIterator for Slab<T> {
     fn into_iter(self) -> IntoIter<T> {
         let walk = self.walk();
         IntoIter::new(self.values, walk)
+    }
+}
+
+impl<T> Extend<T> for Slab<T> {
+    /// As [`Slab::try_extend`].
+    ///
+    /// # Panics
+    ///
+    /// If a value is refused.
+    fn extend<I: IntoIterator<Item = T>>(&mut self, values: I) {
+        self.try_extend(values).expect("there is room for each value");
+    }
+}
+
+impl<T> FromIterator<T> for Slab<T> {
+    /// As [`Slab::try_from_iter`].
+    ///
+    /// # Panics
+    ///
+    /// If a value is refused.
+    fn from_iter<I: IntoIterator<Item = T>>(values: I) -> Slab<T> {
+        Slab::try_from_iter(values).expect("there is room for each value")
     }
 }

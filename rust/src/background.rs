@@ -1,0 +1,192 @@
+//! Compaction on a thread of its own.
+
+use crate::compact::Compacted;
+use crate::refused::Refused;
+use std::fmt;
+use std::io;
+use std::sync::atomic::{AtomicUsize, Ordering};
+use std::sync::{Arc, Condvar, Mutex, PoisonError};
+use std::thread::{self, JoinHandle};
+use std::time::Duration;
+
+/// When a compaction in the background runs, and how much it does at a time: of
+/// [`SharedStore::compact_in_background`](crate::SharedStore::compact_in_background) and
+/// [`Arena::compact_in_background`](crate::Arena::compact_in_background).
+#[derive(Clone, Copy, Debug, PartialEq, Eq, Hash)]
+pub struct Policy {
+    /// How long it sleeps between two looks at the numbers of pages and of live keys. Less than a
+    /// millisecond counts as one.
+    pub interval: Duration,
+    /// How many steps a part of a compaction has: after each the thread lets others run, and looks
+    /// whether it is to end.
+    pub budget: usize,
+    /// How many percent of the pages must be able to go for a compaction to begin. The estimate is
+    /// the number of pages without those that what is live needs if they were full, so it is too
+    /// high if values stand at the same slots of many pages. After a compaction by which fewer went
+    /// the next one waits for 1 interval, then 3, 7 and so on up to 63, unless so many further
+    /// pages could go.
+    pub least_percent: usize,
+}
+
+impl Default for Policy {
+    /// A look every 100 milliseconds, parts of 64 steps, and a compaction where 25 % of the pages
+    /// could go.
+    fn default() -> Policy {
+        Policy {
+            interval: Duration::from_millis(100),
+            budget: 64,
+            least_percent: 25,
+        }
+    }
+}
+
+impl Policy {
+    /// Whether a compaction pays of so many pages of which so many may go.
+    fn pays(&self, pages: usize, may_go: usize) -> bool {
+        may_go > 0 && may_go.saturating_mul(100) >= pages.saturating_mul(self.least_percent)
+    }
+}
+
+/// What is compacted in the background.
+pub(crate) trait Compacts: Send + 'static {
+    /// How many pages there are, and how many of them can go at most.
+    fn pages_and_most_folds(&self) -> (usize, usize);
+
+    /// Has others begin what they do for a compaction of so many pages.
+    fn prepare(&self, _pages: usize) {}
+
+    /// Whether the others are done, as far as can be said.
+    fn is_prepared(&self) -> bool {
+        true
+    }
+
+    /// Takes so many steps of a compaction.
+    fn compact_part(&self, budget: usize) -> Result<Compacted, Refused>;
+
+    /// Ends a compaction where it is.
+    fn give_up(&self);
+}
+
+/// A compaction on a thread of its own, until this is dropped.
+#[must_use = "the compaction ends when this is dropped"]
+pub struct Background {
+    shared: Arc<Shared>,
+    // Until it is joined.
+    thread: Option<JoinHandle<()>>,
+}
+
+/// What the thread and its guard share.
+struct Shared {
+    is_over: Mutex<bool>,
+    ends: Condvar,
+    // How many pages went.
+    pages: AtomicUsize,
+}
+
+impl Shared {
+    /// Sleeps for so long, or until the guard is dropped, and says whether that is so.
+    fn sleep(&self, interval: Duration) -> bool {
+        let is_over = self.is_over.lock().unwrap_or_else(PoisonError::into_inner);
+        let slept = self.ends.wait_timeout_while(is_over, interval, |is_over| !*is_over);
+        *slept.unwrap_or_else(PoisonError::into_inner).0
+    }
+
+    fn is_over(&self) -> bool {
+        *self.is_over.lock().unwrap_or_else(PoisonError::into_inner)
+    }
+}
+
+impl Background {
+    /// Begins the thread.
+    pub(crate) fn begin(policy: Policy, compacts: impl Compacts) -> io::Result<Background> {
+        let shared = Arc::new(Shared {
+            is_over: Mutex::new(false),
+            ends: Condvar::new(),
+            pages: AtomicUsize::new(0),
+        });
+        let with_thread = Arc::clone(&shared);
+        let thread = thread::Builder::new()
+            .name("teurlaks".into())
+            .spawn(move || run(policy, &compacts, &with_thread))?;
+        Ok(Background {
+            shared,
+            thread: Some(thread),
+        })
+    }
+
+    /// How many pages it has given back so far.
+    #[must_use]
+    pub fn pages(&self) -> usize {
+        self.shared.pages.load(Ordering::Relaxed)
+    }
+}
+
+/// For how many intervals others are waited for at most, and for how many a compaction waits that
+/// would hardly give anything.
+const MOST_WAITS: u32 = 63;
+
+/// Looks, sleeps and compacts until the guard is dropped.
+fn run(policy: Policy, compacts: &impl Compacts, shared: &Shared) {
+    let interval = policy.interval.max(Duration::from_millis(1));
+    // For how many intervals the next compaction waits, and how many more pages could go after the
+    // last one.
+    let (mut pause, mut waits, mut stay) = (0, 0, 0);
+    while !shared.sleep(interval) {
+        let (pages, most_folds) = compacts.pages_and_most_folds();
+        if !policy.pays(pages, most_folds) {
+            continue;
+        }
+        if waits > 0 && !policy.pays(pages, most_folds.saturating_sub(stay)) {
+            waits -= 1;
+            continue;
+        }
+        compacts.prepare(pages);
+        for _ in 0..MOST_WAITS {
+            if compacts.is_prepared() || shared.sleep(interval) {
+                break;
+            }
+        }
+        let before = shared.pages.load(Ordering::Relaxed);
+        // If memory is refused, there may be some again later.
+        let _ = compact(policy, compacts, shared);
+        let gone = shared.pages.load(Ordering::Relaxed) - before;
+        pause = if policy.pays(pages, gone) {
+            0
+        } else {
+            MOST_WAITS.min(2 * pause + 1)
+        };
+        waits = pause;
+        stay = compacts.pages_and_most_folds().1;
+    }
+    compacts.give_up();
+}
+
+/// Compacts in parts until there is no more to do, or the guard is dropped.
+fn compact(policy: Policy, compacts: &impl Compacts, shared: &Shared) -> Result<(), Refused> {
+    while !shared.is_over() {
+        let done = compacts.compact_part(policy.budget)?;
+        shared.pages.fetch_add(done.pages, Ordering::Relaxed);
+        if !done.more {
+            break;
+        }
+        thread::yield_now();
+    }
+    Ok(())
+}
+
+impl Drop for Background {
+    fn drop(&mut self) {
+        *self.shared.is_over.lock().unwrap_or_else(PoisonError::into_inner) = true;
+        self.shared.ends.notify_all();
+        // Its panic would be one of the store's, which was reported when it came.
+        let _ = self.thread.take().map(JoinHandle::join);
+    }
+}
+
+impl fmt::Debug for Background {
+    fn fmt(&self, f: &mut fmt::Formatter<'_>) -> fmt::Result {
+        f.debug_struct("Background")
+            .field("pages", &self.pages())
+            .finish_non_exhaustive()
+    }
+}
