@@ -48,3 +48,33 @@ build() {
     "$top/meshrun" --prove >&2
     (cd "$here" && cargo build --quiet --release)
 }
+
+# The archive is that of the folder which TEURLAKS_ARCHIVE names, or it is proved and made.
+make_archive_here() {
+    if [ -n "${TEURLAKS_ARCHIVE:-}" ]; then return; fi
+    # shellcheck disable=SC2016
+    bash -c '. "$0/tools/lib.sh" && make_archive >&2' "$top"
+    export TEURLAKS_ARCHIVE="$top/crates/teurlaks_c/out"
+}
+
+# Builds the programs over the crate `teurlaks`.
+build_library() {
+    make_archive_here
+    (cd "$here/library" && CARGO_TARGET_DIR="$here/out/target" cargo build --quiet --release)
+}
+
+# What stands above the figures of a file: the day, the machine and what was measured.
+heading() {
+    echo "# $(date -u +%Y-%m-%d). $(system)."
+    echo "# commit $(git -C "$top" rev-parse --short=8 HEAD); $(rustc --version); $(peers)."
+}
+
+# Of lines that differ in the last word alone, which is a number, the one with the least.
+least() {
+    awk '{
+        key = $0
+        sub(/ [^ ]*$/, "", key)
+        if (!(key in least)) { order[++keys] = key; least[key] = $NF }
+        if ($NF < least[key]) least[key] = $NF
+    } END { for (i = 1; i <= keys; i++) print order[i], least[order[i]] }'
+}
