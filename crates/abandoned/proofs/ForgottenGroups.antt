@@ -4,7 +4,6 @@ use Rattle.std.specs.FinSet.{empty}
 use Rattle.std.specs.List.{Contains}
 use Rattle.std.specs.Prelude.{IsSome, MatchOption, nat_lt}
 use Rattle.std.proofs.lemmas.Bool.{cases_lt, false≢true}
-use Rattle.std.proofs.lemmas.List.{length-map}
 use Rattle.page.specs.Words.{Words}
 use Rattle.span.specs.Ids.{rank}
 use Rattle.span.specs.State.{SpanState}
@@ -18,7 +17,6 @@ use Rattle.groups.proofs.GuestDirectory.{IsDirectory-left}
 use Rattle.groups.proofs.Lists.{before-map, same_some}
 use Rattle.shard.proofs.ChangedBelow.{changed_below}
 use Rattle.abandoned.specs.Forgets.{left_in}
-use Rattle.abandoned.specs.Groups.{GroupsState}
 use Rattle.abandoned.specs.Noted.{AreNoted}
 use Rattle.abandoned.specs.Ranked.{AreFound, HaveGuestsOnce, HaveOwnHeads, KeepsPaged, LetsGo, arranged, head_rank, in_order, lower}
 use Rattle.abandoned.specs.State.{PooledState}
@@ -65,6 +63,11 @@ AreFound-without_dead groups place_of found = record {
   only = λ number place is. let old = found.only number place is in (without_dead old.0, get-map without_dead groups place old.0 old.1, old.2);
 }
 
+pub AreNoted-without_dead : (groups : List PooledState) (ranks : List ℕ) → AreNoted groups ranks → AreNoted (map without_dead groups) ranks
+AreNoted-without_dead groups ranks noted index group there paged =
+    let was = before-map without_dead groups index group there in
+    subst (λ (g : PooledState). Contains ranks (head_rank g)) was.2 (noted index was.0 was.1 (subst (λ (g : PooledState). IsSome g.page) (sym was.2) paged))
+
 -- the heads of a row of which some groups have forgotten guests
 was_below : (at : ℕ) (groups : List PooledState) (index : ℕ) (group : PooledState) → slice_get (changed_below without_dead at groups) index ≡ Some group
     → (was : PooledState) × (slice_get groups index ≡ Some was) × (group.head.id ≡ was.head.id)
@@ -84,11 +87,11 @@ HaveOwnHeads-found groups place_of found i j a b at_i at_j same = AreApart-found
 
 -- a row and the list in order have the same groups
 
-pub KnowsGuests-row : (row groups : List PooledState) (entries : Entries) → in_order row ≡ groups → KnowsGuests groups entries → KnowsGuests row entries
-KnowsGuests-row row groups entries order known =
-    IsDirectory-left (λ (g : PooledState). g.head.id) (λ (g : PooledState). g.guests) groups row entries known
-    (λ index group here. let found = in-arranged head_rank row group (index, here) in (found.0, ap (λ gs. slice_get gs found.0) (sym order) ∙ found.1))
-    (λ index place group guest here there. arranged-in head_rank row group (index, ap (λ gs. slice_get gs index) order ∙ here))
+pub KnowsGuests-row : (row : List PooledState) (entries : Entries) → KnowsGuests (in_order row) entries → KnowsGuests row entries
+KnowsGuests-row row entries known =
+    IsDirectory-left (λ (g : PooledState). g.head.id) (λ (g : PooledState). g.guests) (in_order row) row entries known
+    (λ index group here. in-arranged head_rank row group (index, here))
+    (λ index place group guest here there. arranged-in head_rank row group (index, here))
 
 pub KnowsGuests-in_order : (row : List PooledState) (entries : Entries) → KnowsGuests row entries → KnowsGuests (in_order row) entries
 KnowsGuests-in_order row entries known =
@@ -96,10 +99,8 @@ KnowsGuests-in_order row entries known =
     (λ index group here. arranged-in head_rank row group (index, here))
     (λ index place group guest here there. in-arranged head_rank row group (index, here))
 
-pub HaveGuestsOnce-row : (row groups : List PooledState) → in_order row ≡ groups → HaveGuestsOnce groups → HaveGuestsOnce row
-HaveGuestsOnce-row row groups order once index group here =
-    let found = in-arranged head_rank row group (index, here) in
-    once found.0 group (ap (λ gs. slice_get gs found.0) (sym order) ∙ found.1)
+pub HaveGuestsOnce-row : (row : List PooledState) → HaveGuestsOnce (in_order row) → HaveGuestsOnce row
+HaveGuestsOnce-row row once index group here = let found = in-arranged head_rank row group (index, here) in once found.0 group found.1
 
 -- groups with no page that go, one after another
 
@@ -179,11 +180,12 @@ paged_in-without_dead (group ∷ groups) = by_test (is_some group.page) (paged_i
     by_test true rest = ap (λ gs. without_dead group ∷ gs) rest
     by_test false rest = rest
 
-pub groups-left : (old mid new : GroupsState) → mid ≡ record old { groups = map without_dead old.groups } → new ≡ record mid { groups = paged_in mid.groups }
-    → new ≡ record old { groups = left_in old.groups }
-groups-left old mid new forgot kept =
-    kept ∙ ap (λ (s : GroupsState). record s { groups = paged_in s.groups }) forgot
-    ∙ ap (λ (gs : List PooledState). record old { groups = gs }) (paged_in-without_dead old.groups)
+-- what is left of a row, as the list in order has it
+pub in_order-left_in : (row : List PooledState) (place_of : ℕ → Option ℕ) → AreFound row place_of → (left : List PooledState) (now : ℕ → Option ℕ) → AreFound left now
+    → KeepsPaged (map without_dead row) left → in_order left ≡ left_in (in_order row)
+in_order-left_in row place_of found left now found_now keeps =
+    in_order-paged (map without_dead row) place_of (AreFound-without_dead row place_of found) left now found_now keeps
+    ∙ ap paged_in (in_order-without_dead row) ∙ paged_in-without_dead (in_order row)
 
 -- a group that is left stood there with its page, and with more guests
 pub before-left : (groups : List PooledState) (index : ℕ) (group : PooledState) → slice_get (left_in groups) index ≡ Some group
@@ -192,22 +194,6 @@ before-left groups index group there =
     let before = before-map without_dead (filter paged groups) index group there in
     let was = before-filter paged groups index before.0 before.1 in
     (before.0, was.0, was.1, was.2, before.2)
-
-pub AreNoted-left : (groups : List PooledState) (ranks : List ℕ) → AreNoted groups ranks → AreNoted (left_in groups) ranks
-AreNoted-left groups ranks noted index group there has =
-    let was = before-left groups index group there in
-    subst (λ (g : PooledState). Contains ranks (head_rank g)) was.4 (noted was.1 was.0 was.2 was.3)
-
-pub length-left : (groups : List PooledState) → length (left_in groups) ≤ length groups
-length-left groups = omega (arith, length-map (filter paged groups) (without_dead {Closed = _}), fewer groups)
-  where
-    fewer : (groups : List PooledState) → length (filter paged groups) ≤ length groups
-    fewer [] = omega arith
-    fewer (group ∷ groups) = by_test (paged group) (fewer groups)
-      where
-        by_test : (b : Bool) → length (filter paged groups) ≤ length groups → length (cond b (group ∷ filter paged groups) (filter paged groups)) ≤ suc (length groups)
-        by_test true rest = omega (arith, rest)
-        by_test false rest = omega (arith, rest)
 
 -- a sound group with no page keeps no guest
 no_guest : (groups : List PooledState) → AreSoundGroups groups → (index : ℕ) (group : PooledState) → slice_get groups index ≡ Some group → is_some group.page ≡ false → live_among group.guests ≡ []

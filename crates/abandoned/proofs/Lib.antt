@@ -10,6 +10,7 @@ pub mod HeadPlaces
 pub mod Heads
 pub mod Here
 pub mod Inserted
+pub mod KeptTable
 pub mod Lifted
 pub mod LiveKeys
 pub mod Moving

@@ -1,6 +1,6 @@
 -- Ranks that are noted, and the least of them.
-use Rattle.std.proofs.Common.{Bor, true, zero, suc, ◌≡◌, ℕ, ◌+◌, ◌<◌, ◌≤◌, false, List, [], ◌∷◌, length, insert, map, Some, None, take, get_or, slice_get, ap, sym, subst, ◌∙◌, refl, inl, inr, ◌⊎◌, arith}
-use Rattle.std.specs.Prelude.{IfNone, IfSome, IsSome, Err, MatchOption, Ok, OnErr, OnOk, Option, Result, is_some, max, remove}
+use Rattle.std.proofs.Common.{true, zero, suc, ◌≡◌, ℕ, ◌+◌, ◌<◌, ◌≤◌, false, List, [], ◌∷◌, ◌++◌, length, map, set, Some, None, take, get_or, slice_get, ap, sym, subst, ◌∙◌, refl, inl, inr, ◌⊎◌, arith}
+use Rattle.std.specs.Prelude.{IfNone, IfSome, IsSome, Option, is_some}
 use Rattle.std.specs.BinaryHeap.{IsHeap, IsUpperBound, PopsGreatest}
 use Rattle.std.specs.List.{All, Contains}
 use Rattle.std.specs.List.Sorted.{IsPermutation}
@@ -9,20 +9,16 @@ use Rattle.std.specs.declared.cmp.Reverse.{Reverse}
 use Rattle.std.proofs.lemmas.Bool.{false≢true}
 use Rattle.std.proofs.lemmas.Bool.Decides.{nat_tests}
 use Rattle.std.proofs.lemmas.List.{length-map}
-use Rattle.std.proofs.lemmas.List.Sorted.{Contains-permutation, IsPermutation-map, length_permutation}
+use Rattle.std.proofs.lemmas.List.Sorted.{Contains-permutation, IsPermutation-map}
 use Rattle.page.specs.Words.{Words}
 use Rattle.span.specs.declared.id.SpanId.{SpanId}
-use Rattle.groups.proofs.Lists.{cases-insert, same_some}
-use Rattle.groups.proofs.Removed.{before-remove}
+use Rattle.groups.proofs.Lists.{cases-set, same_some}
 use Rattle.abandoned.specs.Calls.{HasNoPage}
 use Rattle.span.specs.Ids.{rank}
-use Rattle.groups.specs.Group.{HasNoHead}
-use Rattle.groups.proofs.Ranks.{id_from_rank}
-use Rattle.abandoned.specs.Groups.{GroupsState, HasHeadAt}
 use Rattle.abandoned.specs.Noted.{AreNoted, HasNoPageAt, IsHeadOfFirstPaged, IsLeastOf, IsPagedHead}
-use Rattle.abandoned.specs.Ranked.{AreOfOld, HasNoRank, HasRankAt, head_rank, in_order}
+use Rattle.abandoned.specs.Ranked.{HasRankAt, head_rank, in_order}
 use Rattle.abandoned.specs.State.{PooledState}
-use Rattle.abandoned.proofs.Arranged.{AreUp, IsPermutation-arranged, arranged-in, one_place}
+use Rattle.abandoned.proofs.Arranged.{AreApart, AreUp, arranged-in}
 use Rattle.abandoned.proofs.RankedGroups.{get-push}
 use Rattle.abandoned.proofs.Walked.{before-more, take_all}
 
@@ -74,34 +70,33 @@ Contains-put numbers more x moved = Contains-permutation (x ∷ numbers) more x 
 
 -- what is noted of the groups after a change of them
 
-pub AreNoted-of_old : (ranks : List ℕ) (old new : GroupsState) → AreOfOld old new → AreNoted old.groups ranks → AreNoted new.groups ranks
-AreNoted-of_old ranks old new of noted index group there paged = let was = of.paged index group there paged in subst (Contains ranks) was.4 (noted was.1 was.0 was.2 was.3)
-
-pub AreNoted-insert : (groups : List PooledState) (at : ℕ) (group : PooledState) → at ≤ length groups → (ranks more : List ℕ)
-    → ((n : ℕ) → Contains ranks n → Contains more n) → (IsSome group.page → Contains more (head_rank group))
-    → AreNoted groups ranks → AreNoted (insert groups at group) more
-AreNoted-insert groups at group within ranks more grown its noted index other there paged = elim (cases-insert groups at group within index other there) [
-  | inl low ↦ grown (head_rank other) (noted index other low.1 paged)
-  | inr (inl now) ↦ subst (λ (g : PooledState). Contains more (head_rank g)) now.1 (its (subst (λ (g : PooledState). IsSome g.page) (sym now.1) paged))
-  | inr (inr high) ↦ grown (head_rank other) (noted high.0 other high.3 paged)
+pub AreNoted-push : (groups : List PooledState) (group : PooledState) (ranks more : List ℕ) → ((n : ℕ) → Contains ranks n → Contains more n)
+    → (IsSome group.page → Contains more (head_rank group)) → AreNoted groups ranks → AreNoted (groups ++ group ∷ []) more
+AreNoted-push groups group ranks more grown its noted index other there paged = elim (get-push groups group index other there) [
+  | inl early ↦ grown (head_rank other) (noted index other early paged)
+  | inr last ↦ subst (λ (g : PooledState). Contains more (head_rank g)) last.1 (its (subst (λ (g : PooledState). IsSome g.page) (sym last.1) paged))
 ]
 
-pub AreNoted-remove : (groups : List PooledState) (at : ℕ) (ranks : List ℕ) → AreNoted groups ranks → AreNoted (remove groups at) ranks
-AreNoted-remove groups at ranks noted index group there paged = let before = before-remove groups at index group there in noted before.0 group before.2 paged
+pub AreNoted-set : (groups : List PooledState) (place : ℕ) (group now : PooledState) → slice_get groups place ≡ Some group → now.head.id ≡ group.head.id
+    → (IsSome now.page → IsSome group.page) → (ranks : List ℕ) → AreNoted groups ranks → AreNoted (set groups place now) ranks
+AreNoted-set groups place group now here same pages ranks noted index other there paged = elim (cases-set groups place now index other there) [
+  | inl is ↦ subst (Contains ranks) (sym (ap rank same) ∙ ap head_rank is.1) (noted place group here (pages (subst (λ (g : PooledState). IsSome g.page) (sym is.1) paged)))
+  | inr old ↦ noted index other old.1 paged
+]
 
-pub AreNoted-in_order : (row groups : List PooledState) → in_order row ≡ groups → (ranks : List ℕ) → AreNoted row ranks → AreNoted groups ranks
-AreNoted-in_order row groups order ranks noted index group there paged =
-    let stands = arranged-in head_rank row group (index, ap (λ gs. slice_get gs index) order ∙ there) in
-    noted stands.0 group stands.1 paged
+-- of groups that all stood before
+pub AreNoted-stood : (groups left : List PooledState) → ((now : ℕ) (group : PooledState) → slice_get left now ≡ Some group → (was : ℕ) × (slice_get groups was ≡ Some group))
+    → (ranks : List ℕ) → AreNoted groups ranks → AreNoted left ranks
+AreNoted-stood groups left stood ranks noted index group there paged = let was = stood index group there in noted was.0 group was.1 paged
+
+pub AreNoted-in_order : (row : List PooledState) (ranks : List ℕ) → AreNoted row ranks → AreNoted (in_order row) ranks
+AreNoted-in_order row ranks = AreNoted-stood row (in_order row) (λ index group there. arranged-in head_rank row group (index, there)) ranks
 
 pub AreNoted-more : (groups : List PooledState) (at : ℕ) (group : PooledState) → slice_get groups at ≡ Some group → (ranks more : List ℕ)
     → ((n : ℕ) → Contains ranks n → Contains more n) → (IsSome group.page → Contains more (head_rank group))
     → AreNoted (take at groups) ranks → AreNoted (take (at + 1) groups) more
-AreNoted-more groups at group here ranks more grown its noted index other there paged =
-    elim (get-push (take at groups) group index other (ap (λ gs. slice_get gs index) (sym (before-more groups at group here)) ∙ there)) [
-      | inl early ↦ grown (head_rank other) (noted index other early paged)
-      | inr last ↦ subst (λ (g : PooledState). Contains more (head_rank g)) last.1 (its (subst (λ (g : PooledState). IsSome g.page) (sym last.1) paged))
-    ]
+AreNoted-more groups at group here ranks more grown its noted =
+    subst (λ gs. AreNoted gs more) (sym (before-more groups at group here)) (AreNoted-push (take at groups) group ranks more grown its noted)
 
 -- a page, or none
 page_none : (page : Option Words) → (IsSome page → ⊥) → page ≡ None
@@ -140,28 +135,12 @@ module _ (groups : List PooledState) (ranks : List ℕ) (noted : AreNoted groups
   )
 
 -- where the group of a rank has no page, no group of the rank has one
-pub HasNoPageAt-unpaged : (groups : List PooledState) → AreUp head_rank groups → (n : ℕ) (group : PooledState) → HasRankAt groups n group → is_some group.page ≡ false → HasNoPageAt groups n
-HasNoPageAt-unpaged groups up n group its off other its_too =
-    let at : its_too.0 ≡ its.0 = one_place head_rank groups up its_too.0 its.0 other group its_too.1 its.1 (its_too.2 ∙ sym its.2) in
+pub HasNoPageAt-unpaged : (groups : List PooledState) → AreApart head_rank groups → (n : ℕ) (group : PooledState) → HasRankAt groups n group → is_some group.page ≡ false → HasNoPageAt groups n
+HasNoPageAt-unpaged groups apart n group its off other its_too =
+    let at : its_too.0 ≡ its.0 = apart its_too.0 its.0 other group its_too.1 its.1 (its_too.2 ∙ sym its.2) in
     let same : other ≡ group = same_some (sym its_too.1 ∙ ap (slice_get groups) at ∙ its.1) in
     page_none other.page (λ paged. false≢true (sym off ∙ subst (λ (g : PooledState). is_some g.page ≡ true) same paged))
 
 -- all of the first
 pub AreNoted-all : (groups : List PooledState) (at : ℕ) → length groups ≤ at → (ranks : List ℕ) → AreNoted (take at groups) ranks → AreNoted groups ranks
 AreNoted-all groups at most ranks noted = subst (λ gs. AreNoted gs ranks) (take_all groups at most) noted
-
--- what is found by the rank of a head is the group of the head
-pub MatchOption-head : (groups : List PooledState) (head : SpanId) (n : ℕ) → n ≡ rank head → (found : Option (Bor PooledState))
-    → MatchOption found (HasNoRank groups n) (λ group. HasRankAt groups n group.now)
-    → MatchOption found (HasNoHead groups head) (λ group. HasHeadAt groups head group.now)
-MatchOption-head groups head n is None none = λ index group its. none index group its.here (ap rank its.head_is ∙ sym is)
-MatchOption-head groups head n is (Some group) its = (its.0, record { here = its.1; head_is = id_from_rank group.now.head.id head (its.2 ∙ is) })
-
--- what a call that makes room leaves of groups and room, done or not
-pub kept-reserve : {A E : Type 0} (r : Result A E) (old new : GroupsState) (more : ℕ) → OnOk r (new ≡ record old { room = max old.room more })
-    → OnErr r (new ≡ old) → (new.groups ≡ old.groups) × (new.room ≤ max old.room more)
-kept-reserve (Ok a) old new more ok err = (ap (λ (s : GroupsState). s.groups) ok, (let e = ap (λ (s : GroupsState). s.room) ok in omega arith))
-kept-reserve (Err e) old new more ok err = (ap (λ (s : GroupsState). s.groups) err, (let e = ap (λ (s : GroupsState). s.room) err in omega arith))
-
-pub length-in_order : (row groups : List PooledState) → in_order row ≡ groups → length row ≡ length groups
-length-in_order row groups order = sym (length_permutation row (in_order row) (IsPermutation-arranged head_rank row)) ∙ ap (λ (gs : List PooledState). length gs) order

@@ -1,6 +1,6 @@
 -- Groups in a row, found by the ranks of their heads: one that comes, one that changes, and one that goes.
 use Rattle.std.proofs.Common.{zero, suc, ◌≡◌, ◌≢◌, ℕ, ◌-◌, ◌<◌, ◌≤◌, List, [], ◌∷◌, ◌++◌, length, length-set, get_or, insert, Option, Some, None, set, slice_get, take, ap, sym, subst, ◌∙◌, refl, inl, inr, ◌⊎◌, arith}
-use Rattle.std.specs.Prelude.{IsSome, remove, swap_remove}
+use Rattle.std.specs.Prelude.{remove, swap_remove}
 use Rattle.std.proofs.lemmas.Bool.{cases_eq, cases_lt}
 use Rattle.std.proofs.lemmas.List.Sorted.{length_permutation}
 use Rattle.std.proofs.lemmas.Option.{slice_get-get_or, slice_get_within}
@@ -10,7 +10,8 @@ use Rattle.groups.proofs.Maps.{Sets}
 use Rattle.groups.proofs.Ranks.{id_from_rank}
 use Rattle.span.specs.Ids.{rank}
 use Rattle.span.specs.declared.id.SpanId.{SpanId}
-use Rattle.abandoned.specs.Ranked.{AreFound, AreOfOld, HasNoRank, HasRankAt, LetsGo, head_rank, in_order, lower}
+use Rattle.abandoned.specs.Groups.{HasHeadAt}
+use Rattle.abandoned.specs.Ranked.{AreFound, HasRankAt, LetsGo, head_rank, in_order, lower}
 use Rattle.abandoned.specs.State.{PooledState}
 use Rattle.abandoned.proofs.Arranged.{AreApart, AreUp, AreUp-arranged, IsIn, IsPermutation-arranged, arranged-in, arranged-more, get-set_other, in-arranged, lower-within, lower-before, place-after, remove-insert, arranged-set}
 
@@ -35,6 +36,10 @@ get-take_past [] (suc n) at past = refl
 get-take_past (x ∷ xs) zero at past = refl
 get-take_past (x ∷ xs) (suc n) zero past = absurd (omega arith)
 get-take_past (x ∷ xs) (suc n) (suc at) past = get-take_past xs n at (omega arith)
+
+-- a row has as many groups as the list in order
+pub length-row : (groups : List PooledState) → length groups ≡ length (in_order groups)
+length-row groups = sym (length_permutation groups (in_order groups) (IsPermutation-arranged head_rank groups))
 
 -- no group
 pub AreFound-none : (place_of : ℕ → Option ℕ) → ((number : ℕ) → place_of number ≡ None) → AreFound [] place_of
@@ -100,23 +105,27 @@ module _ (groups : List PooledState) (place_of : ℕ → Option ℕ) (found : Ar
 
   -- a rank is found, or no head has it
 
-  pub HasNoRank-found : (number : ℕ) → place_of number ≡ None → HasNoRank (in_order groups) number
-  HasNoRank-found number none index group there same =
-      let stands = arranged-in head_rank groups group (index, there) in
-      let e = sym (ap place_of same ∙ none) ∙ found.known stands.0 group stands.1 in
-      cc
-
   pub HasNoHead-found : (head : SpanId) → place_of (rank head) ≡ None → HasNoHead (in_order groups) head
-  HasNoHead-found head none index group is = HasNoRank-found (rank head) none index group is.here (ap rank is.head_is)
+  HasNoHead-found head none index group is =
+      let stands = arranged-in head_rank groups group (index, is.here) in
+      let e = sym (ap place_of (ap rank is.head_is) ∙ none) ∙ found.known stands.0 group stands.1 in
+      cc
 
   pub found_within : (number place : ℕ) → place_of number ≡ Some place → place < length groups
   found_within number place is = let at = found.only number place is in slice_get_within groups place at.0 at.1
 
+  pub HasRankAt-row : (number place : ℕ) (group : PooledState) → place_of number ≡ Some place → slice_get groups place ≡ Some group → HasRankAt groups number group
+  HasRankAt-row number place group is there = let at = found.only number place is in (place, there, ap head_rank (same_some (sym there ∙ at.1)) ∙ at.2)
+
   pub HasRankAt-found : (number place : ℕ) (group : PooledState) → place_of number ≡ Some place → slice_get groups place ≡ Some group → HasRankAt (in_order groups) number group
   HasRankAt-found number place group is there =
-      let at = found.only number place is in
       let stands = in-arranged head_rank groups group (place, there) in
-      (stands.0, stands.1, ap head_rank (same_some (sym there ∙ at.1)) ∙ at.2)
+      (stands.0, stands.1, (HasRankAt-row number place group is there).2)
+
+  pub HasHeadAt-found : (head : SpanId) (place : ℕ) (group : PooledState) → place_of (rank head) ≡ Some place → slice_get groups place ≡ Some group → HasHeadAt (in_order groups) head group
+  HasHeadAt-found head place group is there =
+      let its = HasRankAt-found (rank head) place group is there in
+      (its.0, record { here = its.1; head_is = id_from_rank group.head.id head its.2 })
 
   -- where the group of a head stands
   pub place-IsHeadOf : (head : SpanId) (index : ℕ) (group : PooledState) → IsHeadOf (in_order groups) head index group
@@ -127,6 +136,9 @@ module _ (groups : List PooledState) (place_of : ℕ → Option ℕ) (found : Ar
 
   pub there-IsHeadOf : (head : SpanId) (index : ℕ) (group : PooledState) → IsHeadOf (in_order groups) head index group → (at : ℕ) → place_of (rank head) ≡ Some at → slice_get groups at ≡ Some group
   there-IsHeadOf head index group is at at_is = let found_at = place-IsHeadOf head index group is in subst (λ n. slice_get groups n ≡ Some group) (same_some (sym found_at.1 ∙ at_is)) found_at.2
+
+  pub has_place : (head : SpanId) (group : PooledState) → HasHeadAt (in_order groups) head group → place_of (rank head) ≡ None → ⊥
+  has_place head group its none = let found_at = place-IsHeadOf head its.0 group its.1 in let e = sym none ∙ found_at.1 in cc
 
   -- the head that was looked for
   pub head_found : (head : SpanId) (at : ℕ) → place_of (rank head) ≡ Some at → (group : PooledState) → slice_get groups at ≡ Some group → group.head.id ≡ head
@@ -192,24 +204,6 @@ module _ (groups : List PooledState) (place_of : ℕ → Option ℕ) (found : Ar
 
     pub in_order-set : (head : SpanId) (index : ℕ) → IsHeadOf (in_order groups) head index group → in_order (set groups place now) ≡ set (in_order groups) index now
     in_order-set head index is = arranged-set head_rank groups apart_here place group now here (ap rank same_head) index is.here
-
-    pub AreOfOld-set : (IsSome now.page → IsSome group.page) → (room : ℕ)
-        → AreOfOld (record { groups = in_order groups; room = room }) (record { groups = in_order (set groups place now); room = room })
-    AreOfOld-set pages room = record {
-      count = length_permutation (set groups place now) (in_order (set groups place now)) (IsPermutation-arranged head_rank (set groups place now))
-          ∙ length-set groups place now ∙ sym (length_permutation groups (in_order groups) (IsPermutation-arranged head_rank groups));
-      room = refl;
-      paged = λ index z there paged.
-          let stands = arranged-in head_rank (set groups place now) z (index, there) in
-          elim (cases-set groups place now stands.0 z stands.1) [
-            | inl is ↦
-                let was = in-arranged head_rank groups group (place, here) in
-                (group, was.0, was.1, pages (subst (λ (g : PooledState). IsSome g.page) (sym is.1) paged), sym (ap rank same_head) ∙ ap head_rank is.1)
-            | inr old ↦
-                let was = in-arranged head_rank groups z (stands.0, old.1) in
-                (z, was.0, was.1, paged, refl)
-          ];
-    }
 
   -- a group that goes, whose place the last takes
   module _ (place : ℕ) (gone : PooledState) (here : slice_get groups place ≡ Some gone) (left : List PooledState) (left_is : left ≡ swap_remove groups place gone) where

@@ -66,21 +66,19 @@ AreUp-map key other f same xs up low high a b less at_low at_high =
     omega arith
 
 -- the groups of a row, sorted by their heads
-pub groups-sorted : (row groups sorted : List PooledState) → in_order row ≡ groups → Ascend groups → IsPermutation row sorted → IsNonDecreasingBy head_rank sorted → sorted ≡ groups
-groups-sorted row groups sorted order ascend moved rises =
-    sorted-same head_rank groups sorted ascend
-    (subst (λ gs. IsPermutation gs sorted) order
-    (IsPermutation-trans (in_order row) row sorted (IsPermutation-sym row (in_order row) (IsPermutation-arranged head_rank row)) moved)) rises
+pub groups-sorted : (row sorted : List PooledState) → Ascend (in_order row) → IsPermutation row sorted → IsNonDecreasingBy head_rank sorted → sorted ≡ in_order row
+groups-sorted row sorted ascend moved rises =
+    sorted-same head_rank (in_order row) sorted ascend
+    (IsPermutation-trans (in_order row) row sorted (IsPermutation-sym row (in_order row) (IsPermutation-arranged head_rank row)) moved) rises
 
 -- what is told of those of a row that have a page, sorted by their heads
-pub summaries-sorted : (row groups : List PooledState) (list sorted : List Entry) → in_order row ≡ groups → Ascend groups
-    → list ≡ map summary (filter paged row) → IsPermutation list sorted → IsNonDecreasingBy (λ entry. rank entry.id) sorted
-    → sorted ≡ map summary (filter paged groups)
-summaries-sorted row groups list sorted order ascend told moved rises =
-    sorted-same (λ (entry : Entry). rank entry.id) (map summary (filter paged groups)) sorted
-    (AreUp-map head_rank (λ (entry : Entry). rank entry.id) summary (λ group. refl) (filter paged groups) (Ascend-filter paged groups ascend))
-    (IsPermutation-trans (map summary (filter paged groups)) list sorted
-    (subst (λ gs. IsPermutation (map summary (filter paged gs)) list) order (subst (IsPermutation (map summary (filter paged (in_order row)))) (sym told)
-    (IsPermutation-map summary (filter paged (in_order row)) (filter paged row) (IsPermutation-sym (filter paged row) (filter paged (in_order row)) (filter-arranged paged head_rank row)))))
+pub summaries-sorted : (row : List PooledState) (list sorted : List Entry) → Ascend (in_order row) → list ≡ map summary (filter paged row) → IsPermutation list sorted
+    → IsNonDecreasingBy (λ entry. rank entry.id) sorted → sorted ≡ map summary (filter paged (in_order row))
+summaries-sorted row list sorted ascend told moved rises =
+    sorted-same (λ (entry : Entry). rank entry.id) (map summary (filter paged (in_order row))) sorted
+    (AreUp-map head_rank (λ (entry : Entry). rank entry.id) summary (λ group. refl) (filter paged (in_order row)) (Ascend-filter paged (in_order row) ascend))
+    (IsPermutation-trans (map summary (filter paged (in_order row))) list sorted
+    (subst (IsPermutation (map summary (filter paged (in_order row)))) (sym told)
+    (IsPermutation-map summary (filter paged (in_order row)) (filter paged row) (IsPermutation-sym (filter paged row) (filter paged (in_order row)) (filter-arranged paged head_rank row))))
     moved)
     rises

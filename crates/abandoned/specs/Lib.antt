@@ -1,14 +1,14 @@
 pub mod Calls
 pub mod Forgets
 pub mod Groups
-pub mod GroupsKept
 pub mod Handover
 pub mod Kept
 pub mod Noted
 pub mod Ranked
-pub mod RankedKept
 pub mod RanksKept
 pub mod Retires
 pub mod Shown
 pub mod Sound
 pub mod State
+pub mod TableKept
+pub mod Tabled

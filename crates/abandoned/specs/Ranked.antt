@@ -1,8 +1,7 @@
 -- Groups in a row, found by the ranks of their heads. No public clause cites this module.
-use Rattle.std.specs.Prelude.{suc, ◌≡◌, ◌≢◌, ◌≤◌, ℕ, if◌then◌else◌, List, [], ◌∷◌, Option, Some, IsSome, count_by, insert, length, nat_lt, slice_get}
+use Rattle.std.specs.Prelude.{suc, ◌≡◌, ◌≢◌, ◌≤◌, ℕ, if◌then◌else◌, List, [], ◌∷◌, Option, Some, IsSome, count_by, insert, nat_lt, slice_get}
 use Rattle.span.specs.declared.id.SpanId.{SpanId}
 use Rattle.span.specs.Ids.{rank, same_span}
-use Rattle.abandoned.specs.Groups.{GroupsState}
 use Rattle.abandoned.specs.State.{PooledState}
 
 -- how many of the first have a number below this one
@@ -28,10 +27,6 @@ pub record AreFound (groups : List PooledState) (place_of : ℕ → Option ℕ) 
   pub known : (place : ℕ) (group : PooledState) → slice_get groups place ≡ Some group → place_of (head_rank group) ≡ Some place
   pub only : (number place : ℕ) → place_of number ≡ Some place → (group : PooledState) × (slice_get groups place ≡ Some group) × (head_rank group ≡ number)
 
--- no group has a head of this rank
-abbrev pub HasNoRank : List PooledState → ℕ → Type 0
-HasNoRank groups number = (index : ℕ) (group : PooledState) → slice_get groups index ≡ Some group → head_rank group ≢ number
-
 -- the group is one of these, and its head has this rank
 abbrev pub HasRankAt : List PooledState → ℕ → PooledState → Type 0
 HasRankAt groups number group = (index : ℕ) × (slice_get groups index ≡ Some group) × (head_rank group ≡ number)
@@ -40,13 +35,6 @@ HasRankAt groups number group = (index : ℕ) × (slice_get groups index ≡ Som
 pub record LetsGo (groups : List PooledState) (place : ℕ) (left : List PooledState) : Type 0 where
   pub stood : (now : ℕ) (group : PooledState) → slice_get left now ≡ Some group → (was : ℕ) × (was ≢ place) × (slice_get groups was ≡ Some group)
   pub stay : (was : ℕ) (group : PooledState) → slice_get groups was ≡ Some group → was ≢ place → (now : ℕ) × (slice_get left now ≡ Some group)
-
--- there are as many groups, and room for as many, and each that has a page is of the head of one that had a page
-pub record AreOfOld (old new : GroupsState) : Type 0 where
-  pub count : length new.groups ≡ length old.groups
-  pub room : new.room ≡ old.room
-  pub paged : (index : ℕ) (group : PooledState) → slice_get new.groups index ≡ Some group → IsSome group.page
-      → (was : PooledState) × (at : ℕ) × (slice_get old.groups at ≡ Some was) × IsSome was.page × (head_rank was ≡ head_rank group)
 
 -- each head stands once
 abbrev pub HaveOwnHeads : List PooledState → Type 0

@@ -47,9 +47,8 @@
 //! ```
 #![tactic(auto)]
 
-mod by_head;
-mod by_rank;
 mod error;
+mod group_table;
 mod pool;
 mod pooled;
 mod ranks;

@@ -15,7 +15,7 @@ ghost use Rattle.groups.specs.Group.{IsElsewhere, IsHere, live_in, summary};
 ghost use Rattle.span.specs.declared.limits.TheConstants.{ALL_IDS};
 ghost use Rattle.bitmap.specs.declared.bits.TheConstants.{SLOTS};
 
-use crate::by_head::Groups;
+use crate::group_table::GroupTable;
 use crate::pooled::Pooled;
 use groups::{Directory, Place};
 use shard::{Found, Freed};
@@ -34,7 +34,7 @@ mod retiring;
 #[derive(Drop)]
 pub struct Pool<L: Log = Kept> {
     alloc: Global,
-    groups: Groups<L>,
+    groups: GroupTable<L>,
     directory: Directory,
     // For how many more groups room is reserved, and for how many more spans.
     group_room: usize,
@@ -85,7 +85,7 @@ impl<L: Log> Pool<L> {
     {
         Pool {
             alloc,
-            groups: Groups::new(alloc),
+            groups: GroupTable::new(alloc),
             directory: Directory::new(alloc),
             group_room: 0,
             span_room: 0,
