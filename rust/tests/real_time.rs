@@ -11,15 +11,51 @@ use teurlaks::{Key, Limits, Refused};
 /// How often it asks.
 const ROUNDS: usize = 20;
 
-/// How long it may wait, but for some times when other programs have the processor. A thread that
-/// never sleeps waits for a second and more.
+/// How long it may be at work while it waits. A thread that never sleeps has the processor for a
+/// second and more, which the system then takes from it for some milliseconds.
 const LONGEST: Duration = Duration::from_millis(300);
-const BUT_FOR: usize = 3;
+
+/// A thread that sleeps is at work for less than such a part of the time that it waits, however long
+/// other programs have the processor.
+const PART: u32 = 2;
+
+/// What one call took.
+#[derive(Clone, Copy, Debug, PartialEq, Eq, PartialOrd, Ord)]
+struct Wait {
+    by_the_clock: Duration,
+    at_work: Duration,
+}
+
+impl Wait {
+    /// Whether the thread let the owner run.
+    fn is_asleep(self) -> bool {
+        self.at_work < LONGEST || self.at_work * PART < self.by_the_clock
+    }
+}
+
+#[repr(C)]
+struct Time {
+    seconds: i64,
+    nanoseconds: i64,
+}
 
 extern "C" {
+    fn clock_gettime(clock: i32, time: *mut Time) -> i32;
     fn sched_getcpu() -> i32;
     fn sched_setaffinity(process: i32, bytes: usize, processors: *const u64) -> i32;
     fn sched_setscheduler(process: i32, policy: i32, priority: *const i32) -> i32;
+}
+
+/// How long this thread has been at work.
+fn time_at_work() -> Duration {
+    const OF_THIS_THREAD: i32 = 3;
+    let mut time = Time {
+        seconds: 0,
+        nanoseconds: 0,
+    };
+    // SAFETY: there is room for a time.
+    assert_eq!(unsafe { clock_gettime(OF_THIS_THREAD, &mut time) }, 0);
+    Duration::new(time.seconds as u64, time.nanoseconds as u32)
 }
 
 /// Has this thread run on that processor alone, and says whether the system does so.
@@ -49,7 +85,7 @@ fn own(seat: &Seat<u64>, keys: &[Key], is_kept: &AtomicBool, done: &AtomicBool) 
 
 /// Asks for what the other seat keeps, again and again once it keeps that, and says how long each
 /// call took.
-fn ask(seat: &Seat<u64>, key: Key, is_kept: &AtomicBool) -> Vec<Duration> {
+fn ask(seat: &Seat<u64>, key: Key, is_kept: &AtomicBool) -> Vec<Wait> {
     let ask = |round| {
         let begun = Instant::now();
         while !is_kept.load(Ordering::Relaxed) && begun.elapsed() < Duration::from_secs(2) {
@@ -58,16 +94,19 @@ fn ask(seat: &Seat<u64>, key: Key, is_kept: &AtomicBool) -> Vec<Duration> {
         // The owner is in one of its calls when this thread is woken, and then waits for the
         // processor.
         thread::sleep(Duration::from_micros(500 + 37 * round));
-        let begun = Instant::now();
+        let (begun, before) = (Instant::now(), time_at_work());
         assert_eq!(seat.get(key), Some(7));
         is_kept.store(false, Ordering::Relaxed);
-        begun.elapsed()
+        Wait {
+            by_the_clock: begun.elapsed(),
+            at_work: time_at_work() - before,
+        }
     };
     (0..ROUNDS as u64).map(ask).collect()
 }
 
 #[test]
-fn it_waits_for_milliseconds() -> Result<(), Refused> {
+fn it_sleeps_while_it_waits() -> Result<(), Refused> {
     let limits = Limits {
         shards: 2,
         ..Limits::default()
@@ -94,11 +133,9 @@ fn it_waits_for_milliseconds() -> Result<(), Refused> {
     match waits {
         Some(mut waits) => {
             waits.sort_unstable();
-            println!(
-                "a real-time thread waited for {:?} at most, of {waits:?}",
-                waits[ROUNDS - 1]
-            );
-            assert!(waits[ROUNDS - 1 - BUT_FOR] < LONGEST, "it waited for {waits:?}");
+            let longest = waits[ROUNDS - 1].by_the_clock;
+            println!("a real-time thread waited for {longest:?} at most, of {waits:?}");
+            assert!(waits.into_iter().all(Wait::is_asleep), "it does not sleep");
         }
         None => println!("the system refuses a real-time thread: its waits stay unknown"),
     }
