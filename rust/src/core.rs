@@ -485,6 +485,12 @@ impl Core {
             slots: 256 / usize::from(self.least_words),
         }
     }
+
+    /// How many pages there are, and how many of them can go at most.
+    pub(crate) fn pages_and_most_folds(&self) -> (usize, usize) {
+        let pages = self.occupancy();
+        (pages.pages, pages.most_folds())
+    }
 }
 
 // SAFETY: that a handle may go to another thread is proved in `crates/teurlaks_c` (`unsafe impl Send for Handle`, with its proof), and `&mut`

@@ -388,8 +388,7 @@ impl<T> Store<T> {
 
     /// How many pages it has, and how many of them can go at most.
     pub(crate) fn pages_and_most_folds(&self) -> (usize, usize) {
-        let pages = self.core.occupancy();
-        (pages.pages, pages.most_folds())
+        self.core.pages_and_most_folds()
     }
 
     /// Ends a compaction in parts where it is.

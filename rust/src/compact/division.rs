@@ -10,13 +10,11 @@ const WORTH: usize = 16;
 /// at too few to be worth it, so such a round is retired over several calls.
 const LEAST_ROUND: usize = 64;
 
-/// Of so many pages at most all are divided whatever is expected of them, since that is cheap, and
-/// since by chance few pages may fit better or worse than expected.
+/// So many pages at most are divided without a look at some before, since that is cheap.
 const FEW_PAGES: usize = 512;
 
-/// With how many others a page has to fit, as far as can be expected, for all pages to be divided:
-/// with fewer the sparsest ones say as much.
-const LEAST_PARTNERS: f64 = 0.5;
+/// How many quarters of the pages, the sparsest ones, a round of all retires, in turn.
+const RETIRED_QUARTERS: [usize; 3] = [4, 2, 3];
 
 /// How many quarters of the groups that a round has retired the shards adopt again, in turn. So each
 /// two quarters of them, by heads, are once on different sides of a plan.
@@ -83,16 +81,6 @@ impl Occupancy {
         }
         self.pages.saturating_sub(count(real(self.live) / reachable))
     }
-
-    /// How many other pages can be expected to fit a page, if each slot is live by the same chance.
-    fn partners(self) -> f64 {
-        let full = self.mean() / real(self.slots);
-        let mut chance = real(self.pages);
-        for _ in 0..self.slots {
-            chance *= (1.0 - full * full).max(0.0);
-        }
-        chance
-    }
 }
 
 // Counts of pages and values are far below 2^52.
@@ -125,16 +113,17 @@ impl Division {
 }
 
 /// The rounds of a compaction. The first leaves as few pages in the shards as can be expected to
-/// stay, so that several plans fold the others onto these. Then come rounds that divide the pages
-/// by heads, as long as they are worth it: all pages if these can be expected to have pairs, and
-/// else the sparsest ones, at first a few.
+/// stay, so that several plans fold the others onto these. If nothing of the kind can be expected,
+/// or if it gives little, and there are many pages, the next one looks at some of the sparsest
+/// alone, and is the last unless that is worth it. Then come rounds that divide the pages by heads,
+/// until none of three in a row is worth it.
 #[derive(Clone, Copy, Default)]
 pub(crate) struct Rounds {
+    // Whether any round was worth it.
+    has_paid: bool,
     has_gathered: bool,
     // How many divisions by heads there were.
     turns: usize,
-    // How many groups of the pool the next division of some pages has.
-    sample: usize,
     // How many rounds in a row were not worth it, and after how many of them the last one is over.
     poor: usize,
     most_poor: usize,
@@ -144,10 +133,10 @@ impl Rounds {
     /// The division of the next round, if there is one. A plan of it compares at most 4,096 times
     /// so many pairs of groups as the budget is, or as 64 or 4,096 if that is out of these bounds.
     pub fn next(&mut self, pages: Occupancy, budget: usize) -> Option<Division> {
-        let most = budget.clamp(LEAST_ROUND, MOST_GROUPS);
         if pages.most_folds() == 0 || self.poor > 0 && self.poor >= self.most_poor {
             return None;
         }
+        let most = budget.clamp(LEAST_ROUND, MOST_GROUPS);
         self.most_poor = KEPT_QUARTERS.len();
         if !std::mem::replace(&mut self.has_gathered, true) {
             let retired = pages.expected_folds();
@@ -155,18 +144,27 @@ impl Rounds {
                 return Some(Division { retired, kept: 0 });
             }
         }
-        let quarters = KEPT_QUARTERS[self.turns % KEPT_QUARTERS.len()];
-        let is_promising = pages.pages <= FEW_PAGES || pages.partners() >= LEAST_PARTNERS;
-        let retired = if is_promising && is_bounded(pages.pages / 2, pages.pages, most) {
-            if pages.pages > FEW_PAGES {
-                self.most_poor = 2;
-            }
-            pages.pages
-        } else {
+        if !self.has_paid && pages.pages > FEW_PAGES {
             self.most_poor = 1;
-            self.sample = (2 * self.sample).clamp(LEAST_ROUND, most);
-            pages.pages.min(self.sample * 4 / (4 - quarters))
-        };
+            return self.of_some(pages, LEAST_ROUND);
+        }
+        if is_bounded(pages.pages / 2, pages.pages, most) {
+            let quarters = RETIRED_QUARTERS[self.turns % RETIRED_QUARTERS.len()];
+            return self.by_heads((pages.pages * quarters / 4).max(2));
+        }
+        self.most_poor = 1;
+        self.of_some(pages, most)
+    }
+
+    /// A division of some of the sparsest pages, of which so many are in the pool.
+    fn of_some(&mut self, pages: Occupancy, pool: usize) -> Option<Division> {
+        let kept = KEPT_QUARTERS[self.turns % KEPT_QUARTERS.len()];
+        self.by_heads(pages.pages.min(pool * 4 / (4 - kept)))
+    }
+
+    /// A division by heads of so many of the sparsest pages.
+    fn by_heads(&mut self, retired: usize) -> Option<Division> {
+        let quarters = KEPT_QUARTERS[self.turns % KEPT_QUARTERS.len()];
         let kept = (retired * quarters / 4).max(1);
         self.turns += 1;
         (kept < retired).then_some(Division { retired, kept })
@@ -175,6 +173,7 @@ impl Rounds {
     /// Notes how many groups a round folded, of so many of the smaller side of its plans.
     pub fn note(&mut self, folded: usize, smaller: usize) {
         if is_worth(folded, smaller) {
+            self.has_paid = true;
             self.poor = 0;
         } else {
             self.poor += 1;
@@ -215,9 +214,8 @@ mod tests {
         assert!((480..520).contains(&(1945 - thinned(1945, 20).expected_folds())));
         assert!((640..700).contains(&(1976 - thinned(1976, 25).expected_folds())));
         assert_eq!((FULL.most_folds(), FULL.expected_folds()), (0, 0));
-        // Half full pages fit some others, but no second one.
+        // Of half full pages none can be expected to fit another that is chosen.
         assert_eq!(thinned(2000, 50).expected_folds(), 0);
-        assert!(thinned(2000, 50).partners() > 1.0 && thinned(2000, 70).partners() < 0.5);
         let none = Occupancy {
             pages: 9,
             live: 0,

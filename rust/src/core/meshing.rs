@@ -292,16 +292,16 @@ impl Core {
     ///
     /// It goes by rounds. In each some pages, of each shard those with the fewest live keys, go to
     /// the pool; as many as can be are folded onto the others, by one plan after another as long as
-    /// one folds a sixteenth of its smaller side; and the shards adopt the rest. From the numbers
-    /// of pages and of live keys it is estimated how many pages can stay. If that many can, the
-    /// first round leaves only these in the shards, so that several pages are folded onto each. The
-    /// further rounds divide the pages by their heads, and each at another place. There are further
-    /// ones as long as they give a sixteenth back.
+    /// one folds a sixteenth of its smaller side; and the shards adopt the rest. The first leaves as
+    /// few pages in the shards as can be expected to stay by the numbers of pages and of live keys,
+    /// so that several pages are folded onto each. If no fold can be expected, or if that gives less
+    /// than a sixteenth, a round looks at 128 pages alone, where there are more than 512, and is
+    /// the last one unless that is worth it. The further rounds divide the pages by their heads,
+    /// and each at another place, until three in a row give less than a sixteenth.
     ///
-    /// If what is live needs all pages even if these were full, nothing is retired or planned. If by
-    /// the estimate hardly two pages fit each other, a round looks at 128 of the pages with the
-    /// fewest live keys alone, and at more only if that pays. The estimate takes live keys to stand
-    /// at slots at random, and all objects to be as small as the smallest that was ever put.
+    /// If what is live needs all pages even if these were full, nothing is retired or planned. What
+    /// can be expected takes live keys to stand at slots at random, and all objects to be as small
+    /// as the smallest that was ever put.
     ///
     /// A page that is folded takes no object of its own any more, so each fold uses up one of the
     /// 4,294,967,295 pages that a shard may open in its life.
