@@ -174,7 +174,7 @@ impl<T> SharedSlab<T> {
     ///
     /// # Errors
     ///
-    /// [`Refused::OutOfMemory`] where memory was refused.
+    /// None: the limits are in range.
     pub fn new() -> Result<SharedSlab<T>, Refused> {
         SharedSlab::with_limits(Limits {
             shards: MOST_SHARDS as u32,
@@ -738,12 +738,8 @@ unsafe impl<T: Send + Sync> Sync for SharedSlab<T> {}
 
 impl<T> Default for SharedSlab<T> {
     /// A slab as of [`SharedSlab::new`].
-    ///
-    /// # Panics
-    ///
-    /// Where memory is refused.
     fn default() -> SharedSlab<T> {
-        SharedSlab::new().expect("there is memory for a slab with no value")
+        SharedSlab::new().expect("the limits are in range")
     }
 }
 

@@ -236,10 +236,10 @@ fn as_a_map<P: Default + Send + Sync>(shards: u32, acts: usize, seed: u64) -> Re
     Ok(())
 }
 
-/// How much is done, where no variable says so.
-fn acts(asked_by_nobody: usize) -> usize {
+/// So much is done, or less if a variable says so.
+fn acts(most: usize) -> usize {
     let asked = std::env::var("CALLS").ok().and_then(|calls| calls.parse().ok());
-    asked.unwrap_or(asked_by_nobody)
+    asked.unwrap_or(most).min(most)
 }
 
 #[test]
