@@ -1,5 +1,6 @@
 //! All shards as one value.
 
+mod many;
 mod meshing;
 
 pub(crate) use meshing::{certificate_text, done, letting_go, marked, meshing, stepped, MOST_GROUPS};
