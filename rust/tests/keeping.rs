@@ -357,7 +357,7 @@ fn beside_each_other(threads: usize, lanes: u32, calls: usize) {
             .collect();
         while !workers.iter().all(|worker| worker.is_finished()) {
             let totals = arena.totals();
-            assert!(totals.pages > 0 || totals.live == 0, "{totals:?}");
+            assert!(totals.pages > 0 || totals.live == 0);
             arena.mesh().unwrap();
             thread::sleep(Duration::from_millis(1));
         }

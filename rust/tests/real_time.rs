@@ -11,51 +11,17 @@ use teurlaks::{Key, Limits, Refused};
 /// How often it asks.
 const ROUNDS: usize = 20;
 
-/// How long it may be at work while it waits. A thread that never sleeps has the processor for a
-/// second and more, which the system then takes from it for some milliseconds.
+/// For how long it may have the processor in a call, but for some times. A thread that never sleeps
+/// has it for nearly a second, until the system lets others run. How long a call takes by the clock
+/// says less: other programs may have the processor meanwhile.
 const LONGEST: Duration = Duration::from_millis(300);
-
-/// A thread that sleeps is at work for less than such a part of the time that it waits, however long
-/// other programs have the processor.
-const PART: u32 = 2;
-
-/// What one call took.
-#[derive(Clone, Copy, Debug, PartialEq, Eq, PartialOrd, Ord)]
-struct Wait {
-    by_the_clock: Duration,
-    at_work: Duration,
-}
-
-impl Wait {
-    /// Whether the thread let the owner run.
-    fn is_asleep(self) -> bool {
-        self.at_work < LONGEST || self.at_work * PART < self.by_the_clock
-    }
-}
-
-#[repr(C)]
-struct Time {
-    seconds: i64,
-    nanoseconds: i64,
-}
+const BUT_FOR: usize = 3;
 
 extern "C" {
-    fn clock_gettime(clock: i32, time: *mut Time) -> i32;
+    fn clock_gettime(clock: i32, time: *mut [i64; 2]) -> i32;
     fn sched_getcpu() -> i32;
     fn sched_setaffinity(process: i32, bytes: usize, processors: *const u64) -> i32;
     fn sched_setscheduler(process: i32, policy: i32, priority: *const i32) -> i32;
-}
-
-/// How long this thread has been at work.
-fn time_at_work() -> Duration {
-    const OF_THIS_THREAD: i32 = 3;
-    let mut time = Time {
-        seconds: 0,
-        nanoseconds: 0,
-    };
-    // SAFETY: there is room for a time.
-    assert_eq!(unsafe { clock_gettime(OF_THIS_THREAD, &mut time) }, 0);
-    Duration::new(time.seconds as u64, time.nanoseconds as u32)
 }
 
 /// Has this thread run on that processor alone, and says whether the system does so.
@@ -73,6 +39,16 @@ fn go_before_others() -> bool {
     unsafe { sched_setscheduler(0, FIRST_IN_FIRST_OUT, &priority) == 0 }
 }
 
+/// For how long this thread has had a processor so far.
+fn processor_time() -> Duration {
+    const OF_THIS_THREAD: i32 = 3;
+    let mut time = [0, 0];
+    // SAFETY: seconds and nanoseconds stand there.
+    assert_eq!(unsafe { clock_gettime(OF_THIS_THREAD, &mut time) }, 0);
+    let [seconds, nanoseconds] = time.map(|it| u64::try_from(it).expect("it began at 0"));
+    Duration::from_secs(seconds) + Duration::from_nanos(nanoseconds)
+}
+
 /// Makes calls on its own shard, and says whether it keeps that, until it is told to stop.
 fn own(seat: &Seat<u64>, keys: &[Key], is_kept: &AtomicBool, done: &AtomicBool) {
     while !done.load(Ordering::Relaxed) {
@@ -83,9 +59,9 @@ fn own(seat: &Seat<u64>, keys: &[Key], is_kept: &AtomicBool, done: &AtomicBool) 
     }
 }
 
-/// Asks for what the other seat keeps, again and again once it keeps that, and says how long each
-/// call took.
-fn ask(seat: &Seat<u64>, key: Key, is_kept: &AtomicBool) -> Vec<Wait> {
+/// Asks for what the other seat keeps, again and again once it keeps that, and says for how long it
+/// had the processor in each call.
+fn ask(seat: &Seat<u64>, key: Key, is_kept: &AtomicBool) -> Vec<Duration> {
     let ask = |round| {
         let begun = Instant::now();
         while !is_kept.load(Ordering::Relaxed) && begun.elapsed() < Duration::from_secs(2) {
@@ -94,13 +70,10 @@ fn ask(seat: &Seat<u64>, key: Key, is_kept: &AtomicBool) -> Vec<Wait> {
         // The owner is in one of its calls when this thread is woken, and then waits for the
         // processor.
         thread::sleep(Duration::from_micros(500 + 37 * round));
-        let (begun, before) = (Instant::now(), time_at_work());
+        let before = processor_time();
         assert_eq!(seat.get(key), Some(7));
         is_kept.store(false, Ordering::Relaxed);
-        Wait {
-            by_the_clock: begun.elapsed(),
-            at_work: time_at_work() - before,
-        }
+        processor_time() - before
     };
     (0..ROUNDS as u64).map(ask).collect()
 }
@@ -117,7 +90,7 @@ fn it_sleeps_while_it_waits() -> Result<(), Refused> {
     // SAFETY: it tells which processor this thread is on.
     let processor = u32::try_from(unsafe { sched_getcpu() }).expect("Linux tells it");
     let (is_kept, done) = (AtomicBool::new(false), AtomicBool::new(false));
-    let waits = thread::scope(|scope| {
+    let times = thread::scope(|scope| {
         let (keys, is_kept, done) = (&keys, &is_kept, &done);
         let owner = scope.spawn(move || {
             stay_on(processor);
@@ -125,19 +98,21 @@ fn it_sleeps_while_it_waits() -> Result<(), Refused> {
         });
         let is_real_time = move || stay_on(processor) && go_before_others();
         let asker = scope.spawn(move || is_real_time().then(|| ask(&there, keys[7], is_kept)));
-        let waits = asker.join().unwrap();
+        let times = asker.join().unwrap();
         done.store(true, Ordering::Relaxed);
         owner.join().unwrap();
-        waits
+        times
     });
-    match waits {
-        Some(mut waits) => {
-            waits.sort_unstable();
-            let longest = waits[ROUNDS - 1].by_the_clock;
-            println!("a real-time thread waited for {longest:?} at most, of {waits:?}");
-            assert!(waits.into_iter().all(Wait::is_asleep), "it does not sleep");
+    match times {
+        Some(mut times) => {
+            times.sort_unstable();
+            println!(
+                "a real-time thread had the processor for {:?} at most, of {times:?}",
+                times[ROUNDS - 1]
+            );
+            assert!(times[ROUNDS - 1 - BUT_FOR] < LONGEST, "it had it for {times:?}");
         }
-        None => println!("the system refuses a real-time thread: its waits stay unknown"),
+        None => println!("the system refuses a real-time thread: its times stay unknown"),
     }
     Ok(())
 }
