@@ -52,8 +52,8 @@ pub(crate) trait Compacts: Send + 'static {
     /// How many pages there are, and how many of them can go at most.
     fn pages_and_most_folds(&self) -> (usize, usize);
 
-    /// Has others begin what they do for a compaction of so many pages.
-    fn prepare(&self, _pages: usize) {}
+    /// Has others begin what they do for a compaction.
+    fn prepare(&self) {}
 
     /// Whether the others are done, as far as can be said.
     fn is_prepared(&self) -> bool {
@@ -140,7 +140,7 @@ fn run(policy: Policy, compacts: &impl Compacts, shared: &Shared) {
             waits -= 1;
             continue;
         }
-        compacts.prepare(pages);
+        compacts.prepare();
         for _ in 0..MOST_WAITS {
             if compacts.is_prepared() || shared.sleep(interval) {
                 break;

@@ -1,12 +1,13 @@
 //! All shards as one value.
 
+mod many;
 mod meshing;
 
 pub(crate) use meshing::{certificate_text, done, letting_go, marked, meshing, stepped, MOST_GROUPS};
 pub use meshing::{Marked, Stepped};
 
 use crate::bytes::{words_for, Bytes, BytesKey, Words, MOST_BYTES, MOST_WORDS};
-use crate::compact::Progress;
+use crate::compact::{Occupancy, Progress};
 use crate::names::Key;
 use crate::raw;
 use crate::refused::Refused;
@@ -535,12 +536,19 @@ impl Core {
         pages
     }
 
-    /// How many pages there are, and how many of them can go at most: what is live needs the
-    /// others, be each of these as full as it can be.
+    /// How many pages there are, and how many keys are live on them.
+    pub(crate) fn occupancy(&self) -> Occupancy {
+        Occupancy {
+            pages: self.pages(),
+            live: self.live,
+            slots: 256 / usize::from(self.least_words),
+        }
+    }
+
+    /// How many pages there are, and how many of them can go at most.
     pub(crate) fn pages_and_most_folds(&self) -> (usize, usize) {
-        let (pages, slots) = (self.pages(), 256 / usize::from(self.least_words));
-        let needed = self.live / slots + usize::from(self.live % slots != 0);
-        (pages, pages.saturating_sub(needed))
+        let pages = self.occupancy();
+        (pages.pages, pages.most_folds())
     }
 }
 

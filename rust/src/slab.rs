@@ -659,12 +659,9 @@ impl<T> Slab<T> {
     /// with it. Every key stays valid, and all groups are in shards afterwards, also those that an
     /// end or a retirement had left to the pool.
     ///
-    /// It goes by rounds, as [`Core::compact`] does: in each the pages with the fewest values go to
-    /// the pool, up to half of all and up to 4,096; as many as can be are folded onto others, and
-    /// the shards adopt the rest in turn; if that gave an eighth of them back, there is another
-    /// round. Only pages are retired whose values fit on some other page by their number, so
-    /// nothing is retired or planned if no two pages have as few values together as one has slots.
-    /// At which slots values are is seen by the plan alone.
+    /// It goes by rounds, as [`Core::compact`] does, but only pages are retired whose values fit on
+    /// some other page by their number. So nothing is retired or planned if no two pages have as few
+    /// values together as one has slots. At which slots values are is seen by the plan alone.
     ///
     /// Each fold copies the values of a page, and a plan looks at each pair of up to 4,096 pages on
     /// each side, those with the fewest values. A page that is folded takes no value of its own any

@@ -84,9 +84,24 @@ fn sleeps_where_nothing_pays() {
         assert!(store.free(*key));
     }
     waits_until(|| store.pages() < 20);
-    // It counts a page after the page is gone.
-    waits_until(|| background.pages() > 180);
     assert!(format!("{background:?}").starts_with("Background { pages: "));
+}
+
+/// It counts each page that it gives back, after the page is gone.
+#[test]
+fn counts_pages() {
+    let limits = Limits {
+        shards: 1,
+        ..Limits::default()
+    };
+    let store = Arc::new(SharedStore::<u64>::with_limits(limits).unwrap());
+    let keys: Vec<_> = (0..51_200).map(|n| store.insert(n).unwrap()).collect();
+    for key in &keys[2560..] {
+        assert!(store.free(*key));
+    }
+    let background = store.compact_in_background(SOON).unwrap();
+    waits_until(|| background.pages() >= 190);
+    assert_eq!((background.pages(), store.pages()), (190, 10));
 }
 
 /// A drop ends the thread, in whatever it is.

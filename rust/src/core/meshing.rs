@@ -1,7 +1,7 @@
 //! What a core does with whole groups: ends, begins, retirements, trims and adoptions, marks and their steps.
 
 use super::{Core, Plan};
-use crate::compact::{Compact, Compacted};
+use crate::compact::{is_worth, Compact, Compacted};
 use crate::names::Group;
 use crate::raw;
 use crate::refused::Refused;
@@ -28,6 +28,13 @@ impl Marked {
     pub(crate) fn wants_another(&self) -> bool {
         let sees_all = self.abandoned.max(self.owned) < MOST_GROUPS;
         !sees_all && self.folds > 0 && self.folds * 16 >= self.abandoned
+    }
+
+    /// Whether a compaction plans once more with what this plan leaves in the pool: it leaves
+    /// some, and folds enough of its smaller side.
+    pub(crate) fn is_worth_repeating(&self) -> bool {
+        let leaves_some = self.folds < self.abandoned || self.abandoned >= MOST_GROUPS;
+        leaves_some && is_worth(self.folds, self.abandoned.min(self.owned))
     }
 }
 
@@ -309,13 +316,17 @@ impl Core {
     /// are in shards afterwards, also those that an end or a retirement had left to the pool.
     ///
     /// It goes by rounds. In each some pages, of each shard those with the fewest live keys, go to
-    /// the pool; as many as can be are folded onto the others, and the shards adopt the rest in
-    /// turn. There is another round if that gave at least an eighth of them back. How many they are
-    /// is estimated before: half of all, up to 4,096, and at most half of those that can go at all,
-    /// since what is live needs the other pages even if these were full. So nothing is retired or
-    /// planned if all pages are full, and little if they nearly are. The estimate sees the numbers
-    /// of pages and of live keys. It does not see how keys are spread over pages and slots, and
-    /// takes all objects to be as small as the smallest that was ever put.
+    /// the pool; as many as can be are folded onto the others, by one plan after another as long as
+    /// one folds a sixteenth of its smaller side; and the shards adopt the rest. The first leaves as
+    /// few pages in the shards as can be expected to stay by the numbers of pages and of live keys,
+    /// so that several pages are folded onto each. If no fold can be expected, or if that gives less
+    /// than a sixteenth, a round looks at 128 pages alone, where there are more than 512, and is
+    /// the last one unless that is worth it. The further rounds divide the pages by their heads,
+    /// and each at another place, until three in a row give less than a sixteenth.
+    ///
+    /// If what is live needs all pages even if these were full, nothing is retired or planned. What
+    /// can be expected takes live keys to stand at slots at random, and all objects to be as small
+    /// as the smallest that was ever put.
     ///
     /// A page that is folded takes no object of its own any more, so each fold uses up one of the
     /// 4,294,967,295 pages that a shard may open in its life.
@@ -349,10 +360,11 @@ impl Core {
     /// stopped, and once there is no more to do, the next one begins anew.
     ///
     /// A step trims one shard, retires one group, plans, folds one pair, adopts one group, or
-    /// forgets. A plan looks at up to `budget` groups of the pool, or 64 if that is more, beside up
-    /// to 4,096 of the shards; if more were left in the pool before, by an end or by retirements,
-    /// at up to 4,096. To choose groups, and for each adoption, it also looks once at each page of
-    /// a shard.
+    /// forgets. A plan compares at most 4,096 times `budget` pairs of groups, where a budget below
+    /// 64 counts as 64, and one above 4,096 as that: so of more than some thousand pages a round
+    /// takes those with the fewest live keys alone. If more groups were left in the pool before, by
+    /// an end or by retirements, it compares up to 4,096 of these with as many of the shards. To
+    /// choose groups, and for each adoption, it also looks once at each page of a shard.
     ///
     /// Between two calls every key stays valid: it is found, set and freed as ever. A plan may be
     /// open then, so [`Core::mark`], [`Core::mark_some`], [`Core::mesh`], [`Core::adopt`] and
