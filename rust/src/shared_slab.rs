@@ -374,6 +374,7 @@ impl<T> SharedSlab<T> {
         self.with(key, |table, inner| {
             let (page, slot) = table.find_live(inner)?;
             slot.pin_live();
+            table.hint(inner, page);
             // SAFETY: its slot has the key's name, and is pinned.
             Some(unsafe { Pinned::new(page, key) })
         })?
@@ -509,11 +510,17 @@ impl<T> SharedSlab<T> {
         self.len() == 0
     }
 
-    /// How many pages of 4,096 bytes the cores have. There is a page of values for each, and one for
-    /// each page that stayed behind a fold since one of its values had a guard.
+    /// How many pages of 4,096 bytes the cores have.
     #[must_use]
     pub fn pages(&self) -> usize {
         self.sum(Table::pages)
+    }
+
+    /// How many pages of values there are: one for each page of a core with a value, and one for each
+    /// that stayed behind a fold, since one of its values had a guard.
+    #[must_use]
+    pub fn value_pages(&self) -> usize {
+        self.sum(Table::value_pages)
     }
 
     fn sum(&self, count: impl Fn(&Table<T>) -> usize) -> usize {

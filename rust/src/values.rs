@@ -659,6 +659,17 @@ impl Block {
     /// Of a page that there is not.
     pub(crate) const NOWHERE: Block = Block(NonNull::dangling());
 
+    /// The block at this address.
+    pub(crate) fn at(address: NonNull<u8>) -> Block {
+        Block(address)
+    }
+
+    /// Where it is.
+    #[inline]
+    pub(crate) fn address(self) -> NonNull<u8> {
+        self.0
+    }
+
     // SAFETY, of all below: the block of a home, and of a page on which spans have values, has `BLOCK_BYTES` bytes, of zeros at first, and a slot is one
     // below `SLOTS`.
 

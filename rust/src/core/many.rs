@@ -36,11 +36,14 @@ impl Core {
         if keys.try_reserve(words.len()).is_err() {
             return Err(Refused::OutOfMemory);
         }
+        if !words.is_empty() {
+            self.has_shard(shard)?;
+            self.open()?;
+        }
         for words in words.chunks(BLOCK) {
             let mut room = [NO_KEY; BLOCK];
             let (first, len) = (words.as_ptr().cast(), words.len());
-            // SAFETY: the handle has a core, no other call runs, a word is its two halves, the lower one first, and so many words and
-            // places are there.
+            // SAFETY: no other call runs, a word is its two halves, the lower one first, and so many words and places are there.
             let reply = unsafe { raw::teurlaks_put_many(&mut self.handle, shard, first, len, room.as_mut_ptr(), len) };
             keys.extend(room.iter().take(reply.count).filter_map(|key| Key::of(*key)));
             self.live += reply.count;
@@ -73,7 +76,7 @@ impl Core {
             let room = raws(keys);
             let mut replies = [NOTHING; BLOCK];
             let len = keys.len();
-            // SAFETY: the handle has a core, no call that writes runs beside this one, and so many keys and places are there.
+            // SAFETY: no call that writes runs beside this one, and so many keys and places are there.
             unsafe { raw::teurlaks_get_many(&self.handle, room.as_ptr(), len, replies.as_mut_ptr(), len) };
             let mut place = 0;
             iter::from_fn(move || {
