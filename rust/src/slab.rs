@@ -72,7 +72,7 @@ impl<T> Slab<T> {
     ///
     /// # Errors
     ///
-    /// [`Refused::OutOfMemory`] where memory was refused.
+    /// None: it takes no memory until its first value.
     pub fn new() -> Result<Slab<T>, Refused> {
         let mut slab = Slab::with_limits(Limits {
             shards: SHARDS,
@@ -82,11 +82,11 @@ impl<T> Slab<T> {
         Ok(slab)
     }
 
-    /// A slab of these limits.
+    /// A slab of these limits. It takes no memory until its first value.
     ///
     /// # Errors
     ///
-    /// [`Refused::Config`] exactly where a number is out of its range, and [`Refused::OutOfMemory`] where memory was refused.
+    /// [`Refused::Config`] exactly where a number is out of its range.
     pub fn with_limits(limits: Limits) -> Result<Slab<T>, Refused> {
         Ok(Slab {
             core: Core::new(limits)?,
@@ -403,6 +403,29 @@ impl<T> Slab<T> {
     #[inline]
     pub fn get_mut(&mut self, key: Key) -> Option<&mut T> {
         self.values.get_mut(key)
+    }
+
+    /// The value of a live key, of which nothing is asked but that.
+    ///
+    /// # Safety
+    ///
+    /// The key is live.
+    #[inline]
+    #[must_use]
+    pub unsafe fn get_unchecked(&self, key: Key) -> &T {
+        // SAFETY: as of this call.
+        unsafe { self.values.get_unchecked(key).as_ref() }
+    }
+
+    /// The value of a live key, to be changed, of which nothing is asked but that.
+    ///
+    /// # Safety
+    ///
+    /// The key is live.
+    #[inline]
+    pub unsafe fn get_unchecked_mut(&mut self, key: Key) -> &mut T {
+        // SAFETY: as of this call, and nothing else is lent meanwhile.
+        unsafe { self.values.get_unchecked(key).as_mut() }
     }
 
     /// The values of these keys, to be changed, in their order: `None` where one is not live, or two are the same.
@@ -735,12 +758,8 @@ impl<T> Compact for Slab<T> {
 
 impl<T> Default for Slab<T> {
     /// A slab as of [`Slab::new`].
-    ///
-    /// # Panics
-    ///
-    /// Where memory is refused.
     fn default() -> Slab<T> {
-        Slab::new().expect("there is memory for a slab with no value")
+        Slab::new().expect("the limits are in range")
     }
 }
 

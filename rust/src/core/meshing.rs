@@ -60,9 +60,11 @@ impl Core {
     /// - [`Refused::Config`]: there is no such shard;
     /// - [`Refused::OutOfMemory`]: none of these holds, and memory was refused.
     pub fn end(&mut self, shard: u32) -> Result<(), Refused> {
+        self.has_shard(shard)?;
+        self.open()?;
         // SAFETY: as in `insert`.
         done(unsafe { raw::teurlaks_end(&mut self.handle, shard) })?;
-        self.ended[shard as usize] = true;
+        self.ended |= 1 << shard;
         self.pool = true;
         Ok(())
     }
@@ -88,9 +90,12 @@ impl Core {
     /// # Ok::<(), Refused>(())
     /// ```
     pub fn begin(&mut self, shard: u32) -> Result<(), Refused> {
+        if !self.is_open() {
+            return self.has_shard(shard).and(Err(Refused::Running));
+        }
         // SAFETY: as in `insert`.
         done(unsafe { raw::teurlaks_begin(&mut self.handle, shard) })?;
-        self.ended[shard as usize] = false;
+        self.ended &= !(1 << shard);
         Ok(())
     }
 
@@ -120,6 +125,9 @@ impl Core {
     /// # Ok::<(), teurlaks::Refused>(())
     /// ```
     pub fn retire(&mut self, shard: u32, most: usize) -> Result<usize, Refused> {
+        if !self.is_open() {
+            return self.has_shard(shard).map(|()| 0);
+        }
         // SAFETY: as in `insert`.
         let raw::RetireReply { status, count } = unsafe { raw::teurlaks_retire(&mut self.handle, shard, most) };
         self.pool |= count > 0;
@@ -146,6 +154,9 @@ impl Core {
     /// # Ok::<(), teurlaks::Refused>(())
     /// ```
     pub fn trim(&mut self, shard: u32) -> Result<usize, Refused> {
+        if !self.is_open() {
+            return self.has_shard(shard).map(|()| 0);
+        }
         // SAFETY: as in `insert`.
         let raw::TrimReply { status, count } = unsafe { raw::teurlaks_trim(&mut self.handle, shard) };
         done(status).map(|()| count)
@@ -177,6 +188,9 @@ impl Core {
     /// # Ok::<(), teurlaks::Refused>(())
     /// ```
     pub fn forget(&mut self) -> Result<usize, Refused> {
+        if !self.is_open() {
+            return Ok(0);
+        }
         // SAFETY: as in `insert`.
         let raw::ForgetReply { status, count } = unsafe { raw::teurlaks_forget(&mut self.handle) };
         done(status).map(|()| count)
@@ -193,6 +207,9 @@ impl Core {
     /// - [`Refused::Config`]: there is no such shard;
     /// - [`Refused::OutOfMemory`]: none of these holds, and memory was refused.
     pub fn adopt(&mut self, shard: u32) -> Result<Group, Refused> {
+        if !self.is_open() {
+            return Err(Refused::NothingToAdopt);
+        }
         // SAFETY: as in `insert`.
         let adopted = unsafe { raw::teurlaks_adopt(&mut self.handle, shard) };
         self.pool &= adopted.status != raw::NOTHING_TO_ADOPT;
@@ -207,6 +224,7 @@ impl Core {
     /// - [`Refused::TooMany`]: a side has more than 4,096 groups that have a page;
     /// - [`Refused::OutOfMemory`]: none of these holds, and memory was refused.
     pub fn mark(&mut self) -> Result<Marked, Refused> {
+        self.open()?;
         // SAFETY: as in `insert`.
         let marked = marked(unsafe { raw::teurlaks_mark(&mut self.handle) })?;
         self.plan = Plan::Caller;
@@ -221,6 +239,7 @@ impl Core {
     /// - [`Refused::PlanOpen`]: a plan is open;
     /// - [`Refused::OutOfMemory`]: none is, and memory was refused.
     pub fn mark_some(&mut self) -> Result<Marked, Refused> {
+        self.open()?;
         // SAFETY: as in `insert`.
         let marked = marked(unsafe { raw::teurlaks_mark_some(&mut self.handle) })?;
         self.plan = Plan::Caller;
@@ -259,6 +278,9 @@ impl Core {
     /// - [`Refused::NoPlan`]: no plan is open;
     /// - [`Refused::OutOfMemory`]: memory was refused; the pair is then still the next.
     pub fn step(&mut self) -> Result<Stepped, Refused> {
+        if !self.is_open() {
+            return Err(Refused::NoPlan);
+        }
         // SAFETY: as in `insert`.
         stepped(unsafe { raw::teurlaks_step(&mut self.handle) })
     }
@@ -269,6 +291,9 @@ impl Core {
     ///
     /// [`Refused::NoPlan`] alone, where no plan is open.
     pub fn close(&mut self) -> Result<(), Refused> {
+        if !self.is_open() {
+            return Err(Refused::NoPlan);
+        }
         // SAFETY: as in `insert`.
         done(unsafe { raw::teurlaks_close(&mut self.handle) })?;
         self.plan = Plan::None;
@@ -386,8 +411,7 @@ impl Core {
 
     /// How many shards have not ended.
     pub(crate) fn running_shards(&self) -> usize {
-        let ended = self.ended.iter().filter(|ended| **ended).count();
-        self.limits.shards as usize - ended
+        (self.limits.shards - self.ended.count_ones()) as usize
     }
 
     /// Trims each shard, and says how many pages went.
@@ -425,6 +449,9 @@ impl Core {
     ///
     /// [`Refused::OutOfMemory`] where memory was refused for the text.
     pub fn certificate(&self) -> Result<Option<String>, Refused> {
+        if !self.is_open() {
+            return Ok(None);
+        }
         // SAFETY: as in `get`, and so many bytes stand there.
         certificate_text(|text, len| unsafe { raw::teurlaks_certificate(&self.handle, text, len) })
     }
