@@ -15,11 +15,11 @@ const SOON: Policy = Policy {
     least_percent: 25,
 };
 
-/// Waits until it is so, a minute at most.
+/// Waits until it is so, four minutes at most: valgrind on a busy machine takes some.
 fn waits_until(mut is_so: impl FnMut() -> bool) {
     let begun = Instant::now();
     while !is_so() {
-        assert!(begun.elapsed() < Duration::from_secs(60), "it waits for ever");
+        assert!(begun.elapsed() < Duration::from_secs(240), "it waits for ever");
         thread::sleep(Duration::from_millis(1));
     }
 }

@@ -235,6 +235,19 @@ mod tests {
         assert_eq!(rounds.next(thinned(8000, 80), usize::MAX), None);
     }
 
+    /// No two of three rounds divide the pages at one place, by how many live keys they have or by
+    /// heads.
+    #[test]
+    fn divides_at_several_places() {
+        let mut rounds = Rounds::default();
+        let mut next = || rounds.next(thinned(400, 50), usize::MAX).unwrap();
+        let (one, two, three) = (next(), next(), next());
+        for (one, other) in [(one, two), (two, three), (one, three)] {
+            assert_ne!(one.retired, other.retired);
+            assert_ne!(one.kept * other.retired, other.kept * one.retired);
+        }
+    }
+
     /// Whatever the budget is, a plan compares at most 4,096 times so many pairs, 64 at least.
     #[test]
     fn plans_are_bounded() {
