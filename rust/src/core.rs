@@ -39,6 +39,20 @@ impl Default for Limits {
     }
 }
 
+impl Limits {
+    /// That each number is in its range, as the library has it.
+    pub(crate) fn check(self) -> Result<(), Refused> {
+        let in_range = (1..=MOST_SHARDS as u32).contains(&self.shards)
+            && (1..=MOST_PAGES).contains(&self.pages)
+            && self.generations >= 1;
+        if in_range {
+            Ok(())
+        } else {
+            Err(Refused::Config)
+        }
+    }
+}
+
 /// How many shards there are at most.
 pub(crate) const MOST_SHARDS: usize = 64;
 

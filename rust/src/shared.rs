@@ -1,6 +1,6 @@
 //! Plain values that threads share.
 
-mod homes;
+pub(crate) mod homes;
 mod iter;
 mod shard;
 

@@ -96,10 +96,10 @@ impl Walk {
 
 impl<T> Values<T> {
     /// Whether a value stands in a block of its own.
-    const APART: bool = size_of::<T>() > MOST_BYTES || size_of::<T>() > 0 && align_of::<T>() > MOST_ALIGN;
+    pub const APART: bool = size_of::<T>() > MOST_BYTES || size_of::<T>() > 0 && align_of::<T>() > MOST_ALIGN;
 
     /// What stands at a slot of a page: the value, or where it is.
-    const STORED: Layout = if Self::APART {
+    pub const STORED: Layout = if Self::APART {
         Layout::new::<*mut T>()
     } else {
         Layout::new::<T>()

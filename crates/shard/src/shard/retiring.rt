@@ -13,7 +13,7 @@ use span::{Log, SpanId};
 use std::alloc::{AllocError, Global};
 
 /// What a shard tells of a group in which a key is live.
-#[derive(Clone, Copy, Debug)]
+#[derive(Clone, Copy)]
 pub struct LiveGroup {
     /// The id of its head.
     pub head: SpanId,
