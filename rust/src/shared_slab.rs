@@ -174,7 +174,7 @@ impl<T> SharedSlab<T> {
     ///
     /// # Errors
     ///
-    /// [`Refused::OutOfMemory`] where memory was refused.
+    /// None: the limits are in range.
     pub fn new() -> Result<SharedSlab<T>, Refused> {
         SharedSlab::with_limits(Limits {
             shards: MOST_SHARDS as u32,
@@ -374,6 +374,7 @@ impl<T> SharedSlab<T> {
         self.with(key, |table, inner| {
             let (page, slot) = table.find_live(inner)?;
             slot.pin_live();
+            table.hint(inner, page);
             // SAFETY: its slot has the key's name, and is pinned.
             Some(unsafe { Pinned::new(page, key) })
         })?
@@ -509,11 +510,17 @@ impl<T> SharedSlab<T> {
         self.len() == 0
     }
 
-    /// How many pages of 4,096 bytes the cores have. There is a page of values for each, and one for
-    /// each page that stayed behind a fold since one of its values had a guard.
+    /// How many pages of 4,096 bytes the cores have.
     #[must_use]
     pub fn pages(&self) -> usize {
         self.sum(Table::pages)
+    }
+
+    /// How many pages of values there are: one for each page of a core with a value, and one for each
+    /// that stayed behind a fold, since one of its values had a guard.
+    #[must_use]
+    pub fn value_pages(&self) -> usize {
+        self.sum(Table::value_pages)
     }
 
     fn sum(&self, count: impl Fn(&Table<T>) -> usize) -> usize {
@@ -738,12 +745,8 @@ unsafe impl<T: Send + Sync> Sync for SharedSlab<T> {}
 
 impl<T> Default for SharedSlab<T> {
     /// A slab as of [`SharedSlab::new`].
-    ///
-    /// # Panics
-    ///
-    /// Where memory is refused.
     fn default() -> SharedSlab<T> {
-        SharedSlab::new().expect("there is memory for a slab with no value")
+        SharedSlab::new().expect("the limits are in range")
     }
 }
 

@@ -237,6 +237,18 @@ impl<T> Values<T> {
         Some(unsafe { home.block.value::<T>(slot).as_mut() })
     }
 
+    /// Where the value of the key is.
+    ///
+    /// # Safety
+    ///
+    /// The key has a value.
+    #[inline]
+    pub unsafe fn get_unchecked(&self, key: Key) -> NonNull<T> {
+        // SAFETY: a span that has a value has a home.
+        let home = unsafe { self.spans.find(key.span()).unwrap_unchecked() };
+        home.block.value::<T>(slot_of(key))
+    }
+
     /// The values of the keys, to be changed, where each has one and no two are the same.
     pub fn get_disjoint_mut<const N: usize>(&mut self, keys: [Key; N]) -> Option<[&mut T; N]> {
         let mut found = [NonNull::dangling(); N];
@@ -646,6 +658,17 @@ impl Page {
 impl Block {
     /// Of a page that there is not.
     pub(crate) const NOWHERE: Block = Block(NonNull::dangling());
+
+    /// The block at this address.
+    pub(crate) fn at(address: NonNull<u8>) -> Block {
+        Block(address)
+    }
+
+    /// Where it is.
+    #[inline]
+    pub(crate) fn address(self) -> NonNull<u8> {
+        self.0
+    }
 
     // SAFETY, of all below: the block of a home, and of a page on which spans have values, has `BLOCK_BYTES` bytes, of zeros at first, and a slot is one
     // below `SLOTS`.

@@ -296,6 +296,70 @@ fn full_pages_stay() -> Result<(), Refused> {
     }
     let pages = core.pages();
     assert_eq!((core.compact()?, core.pages(), core.retire(1, 1)), (0, pages, Ok(0)));
+    assert_eq!((slab.certificate()?, core.certificate()?), (None, None)); // nothing was planned
+    Ok(())
+}
+
+/// As few pages stay as can be expected: several are folded onto each, and not pair by pair alone.
+#[test]
+fn few_pages_stay() -> Result<(), Refused> {
+    for (one_in, percent) in [(20, 13), (10, 24), (6, 41)] {
+        let (mut core, stay) = sparse::<Core>(60_000, one_in)?;
+        let before = core.pages();
+        core.compact()?;
+        let after = core.pages();
+        assert!(after * 100 <= before * percent, "one in {one_in}: {after} of {before}");
+        finds_all(&core, &stay);
+    }
+    Ok(())
+}
+
+/// Pages that only fit others of their own half by heads are found by rounds that divide them
+/// elsewhere.
+#[test]
+fn halves_differ() -> Result<(), Refused> {
+    const PAGES: usize = 600;
+    // A page of each quarter fits those of one other quarter alone.
+    const OCCUPIED: [[usize; 2]; 4] = [[0, 2], [1, 3], [0, 1], [2, 3]];
+    let mut core = Core::new(Limits::default())?;
+    let keys = (0..PAGES * 16)
+        .map(|place| core.insert_words(0, &[place as u128; 16]))
+        .collect::<Result<Vec<_>, _>>()?;
+    for (place, key) in keys.iter().enumerate() {
+        if !OCCUPIED[place / 16 * 4 / PAGES].contains(&(place % 16)) {
+            core.free(*key);
+        }
+    }
+    core.compact()?;
+    assert!(core.pages() <= PAGES * 5 / 8, "{} of {PAGES}", core.pages());
+    Ok(())
+}
+
+/// Each call retires, adopts and folds at most as many groups as its budget says.
+#[test]
+fn budgets_are_kept() -> Result<(), Refused> {
+    for budget in [1, 5, 40] {
+        let (mut core, _) = sparse::<Core>(30_000, 10)?;
+        let (mut pages, mut pool) = (core.pages(), Some(0));
+        loop {
+            let done = core.compact_within(budget)?;
+            assert_eq!(pages - core.pages(), done.pages);
+            // How many groups the pool has is seen while no plan of the compaction is open.
+            let now = core.mark_some().ok().map(|marked| marked.abandoned);
+            if now.is_some() {
+                core.close()?;
+            }
+            if let (Some(before), Some(now)) = (pool, now) {
+                let moved = usize::abs_diff(before, now);
+                assert!(moved <= budget, "{moved} groups by a budget of {budget}");
+            }
+            (pages, pool) = (core.pages(), now);
+            if !done.more {
+                break;
+            }
+        }
+        assert_eq!(pool, Some(0));
+    }
     Ok(())
 }
 

@@ -223,6 +223,8 @@ fn as_a_map<P: Default + Send + Sync>(shards: u32, acts: usize, seed: u64) -> Re
     let live = mem::take(&mut expected.live);
     let made = count(&gone) + live.len();
     drop(expected);
+    slab.compact()?;
+    assert!(slab.value_pages() <= slab.pages());
     let mut slab = Arc::try_unwrap(slab).expect("nobody else has a share");
     let mut seen = BTreeMap::new();
     for (key, value) in slab.unique_iter() {
@@ -236,10 +238,10 @@ fn as_a_map<P: Default + Send + Sync>(shards: u32, acts: usize, seed: u64) -> Re
     Ok(())
 }
 
-/// How much is done, where no variable says so.
-fn acts(asked_by_nobody: usize) -> usize {
+/// So much is done, or less if a variable says so.
+fn acts(most: usize) -> usize {
     let asked = std::env::var("CALLS").ok().and_then(|calls| calls.parse().ok());
-    asked.unwrap_or(asked_by_nobody)
+    asked.unwrap_or(most).min(most)
 }
 
 #[test]
@@ -451,8 +453,10 @@ fn what_is_lent_does_not_move() {
     assert!(slab.compact().unwrap() > 30); // the core folds all the same
     assert!(all_are_found(&slab, &keys, 23));
     assert!(guards.iter().map(at).eq(before.iter().copied()));
+    assert!(slab.value_pages() > slab.pages());
     drop(guards);
     slab.compact().unwrap();
+    assert_eq!(slab.value_pages(), slab.pages());
     let now: Vec<_> = keys.iter().step_by(5).map(|key| at(&slab.get(*key).unwrap())).collect();
     assert_ne!(now, before); // what stayed behind has moved
     assert!(all_are_found(&slab, &keys, 23) && slab.len() == keys.len());

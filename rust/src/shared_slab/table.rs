@@ -99,12 +99,12 @@ impl<T> Table<T> {
             Some(home) => home,
             None => self.open_page(key),
         };
-        let number = home.page as usize;
         home.live += 1;
+        let page = page_of(home);
         if home.live == 1 {
+            let number = home.page as usize;
             self.pages[number].spans += 1;
         }
-        let page = self.page(number);
         page.slot(slot_of(key)).set_name(name_of(key));
         Ok((key, page))
     }
@@ -138,7 +138,8 @@ impl<T> Table<T> {
         sheet.head = key.span();
         self.grow_hints();
         self.set_hint(key.span(), number);
-        self.spans.insert(key.span(), number, Block::NOWHERE)
+        let page = self.page(number as usize);
+        self.spans.insert(key.span(), number, Block::at(page.address()))
     }
 
     /// Makes a larger table of hints, with all that there are, if that has become small.
@@ -172,8 +173,7 @@ impl<T> Table<T> {
         if slot_of(key) >= Page::<T>::SLOTS {
             return None;
         }
-        let home = self.spans.find(key.span())?;
-        let page = self.page(home.page as usize);
+        let page = page_of(self.spans.find(key.span())?);
         (page.slot(slot_of(key)).name() == name_of(key)).then_some(page)
     }
 
@@ -183,11 +183,12 @@ impl<T> Table<T> {
     pub fn find_live(&self, key: Key) -> Option<(Page<T>, &Slot)> {
         let page = self.find(key)?;
         let slot = page.slot(slot_of(key));
-        if !slot.is_live() {
-            return None;
-        }
+        slot.is_live().then_some((page, slot))
+    }
+
+    /// Writes that the key's span is on the page, for threads whose hint was missing or old.
+    pub fn hint(&self, key: Key, page: Page<T>) {
         self.hints().set(key.serial(), page);
-        Some((page, slot))
     }
 
     /// Removes the value of the key, or marks it as removed if it is pinned.
@@ -235,7 +236,7 @@ impl<T> Table<T> {
         let home = self.spans.find_mut(key.span()).expect("a live key has a home");
         home.live -= 1;
         let (left, number) = (home.live, home.page);
-        self.page(number as usize).slot(slot_of(key)).set_name(NO_NAME);
+        page_of::<T>(home).slot(slot_of(key)).set_name(NO_NAME);
         self.core.free_live(key);
         if left == 0 {
             self.forget_span(key.span(), number);
@@ -295,7 +296,8 @@ impl<T> Table<T> {
     /// Makes a page that of the head, which has none.
     fn make_main(&mut self, head: Span, number: u32) {
         self.ready = false;
-        self.spans.insert(head, number, Block::NOWHERE);
+        let page = self.page(number as usize);
+        self.spans.insert(head, number, Block::at(page.address()));
         self.set_hint(head, number);
     }
 
@@ -349,11 +351,12 @@ impl<T> Table<T> {
 
     /// Notes that the values of the span are on the second page, and no more on the first.
     fn move_home(&mut self, span: Span, from: u32, to: u32) {
+        let page = self.page(to as usize);
         let home = self.spans.find_mut(span).expect("a value has a home");
         if home.page == to {
             return;
         }
-        home.page = to;
+        (home.page, home.block) = (to, Block::at(page.address()));
         self.pages[from as usize].spans -= 1;
         self.pages[to as usize].spans += 1;
         self.set_hint(span, to);
@@ -408,6 +411,10 @@ impl<T> Table<T> {
 
     pub fn pages(&self) -> usize {
         self.core.pages()
+    }
+
+    pub fn value_pages(&self) -> usize {
+        self.pages.iter().filter(|sheet| sheet.spans > 0).count()
     }
 
     pub fn pages_and_most_folds(&self) -> (usize, usize) {
@@ -503,6 +510,12 @@ impl<T> Sheet<T> {
         spans: 0,
         head: Span::LEAST,
     };
+}
+
+/// The page of a home, whose address stands there for that of a block.
+#[inline]
+fn page_of<T>(home: &Home) -> Page<T> {
+    Page::of(home.block.address())
 }
 
 /// The name of a slot that no key has.
