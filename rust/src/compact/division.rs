@@ -105,6 +105,12 @@ pub(crate) struct Division {
     pub kept: usize,
 }
 
+/// The round that looks whether a few of the sparsest pages fit.
+const SOME: Division = Division {
+    retired: 2 * LEAST_ROUND,
+    kept: LEAST_ROUND,
+};
+
 impl Division {
     /// How many groups of those that were retired are kept, if fewer could be than were asked for.
     pub fn kept_of(self, retired: usize) -> usize {
@@ -146,20 +152,15 @@ impl Rounds {
         }
         if !self.has_paid && pages.pages > FEW_PAGES {
             self.most_poor = 1;
-            return self.of_some(pages, LEAST_ROUND);
+            return Some(SOME);
         }
         if is_bounded(pages.pages / 2, pages.pages, most) {
             let quarters = RETIRED_QUARTERS[self.turns % RETIRED_QUARTERS.len()];
             return self.by_heads((pages.pages * quarters / 4).max(2));
         }
         self.most_poor = 1;
-        self.of_some(pages, most)
-    }
-
-    /// A division of some of the sparsest pages, of which so many are in the pool.
-    fn of_some(&mut self, pages: Occupancy, pool: usize) -> Option<Division> {
         let kept = KEPT_QUARTERS[self.turns % KEPT_QUARTERS.len()];
-        self.by_heads(pages.pages.min(pool * 4 / (4 - kept)))
+        self.by_heads(pages.pages.min(most * 4 / (4 - kept)))
     }
 
     /// A division by heads of so many of the sparsest pages.
@@ -194,7 +195,7 @@ fn is_bounded(pool: usize, pages: usize, most: usize) -> bool {
 
 #[cfg(test)]
 mod tests {
-    use super::{Division, Occupancy, Rounds};
+    use super::{Occupancy, Rounds, SOME};
 
     const FULL: Occupancy = Occupancy {
         pages: 8192,
@@ -229,8 +230,7 @@ mod tests {
         assert_eq!(Rounds::default().next(FULL, usize::MAX), None);
         // Of what hardly fits few are looked at, and no more if that gives nothing.
         let mut rounds = Rounds::default();
-        let few = Division { retired: 128, kept: 64 };
-        assert_eq!(rounds.next(thinned(8000, 80), usize::MAX), Some(few));
+        assert_eq!(rounds.next(thinned(8000, 80), usize::MAX), Some(SOME));
         rounds.note(0, 64);
         assert_eq!(rounds.next(thinned(8000, 80), usize::MAX), None);
     }
