@@ -24,8 +24,9 @@ pub extern "C" fn teurlaks_put_many(
     words: &[RawWord],
     keys: &mut [RawKey],
 ) -> ManyReply
-    ensures live { IsSome handle.old.held → Changes handle.old.held (λ old new. PutsMany old shard
-        (take (length keys.old) (objects_of words.now)) keys.old result keys.new new) handle.new.held }
+    ensures live { IsSome handle.old.held → Changes handle.old.held (λ old new.
+        PutsMany old shard (take (length keys.old) (objects_of words.now)) keys.old result keys.new
+        new) handle.new.held }
     ensures none { handle.old.held ≡ None → (result.status ≡ no_core) × (result.count ≡ 0)
         × (keys.new ≡ keys.old) × (handle.new.held ≡ None) }
 {
