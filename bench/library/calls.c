@@ -22,7 +22,9 @@ CALL struct teurlaks_key c_core_put(struct teurlaks_word word) {
 
 CALL uint64_t c_core_get(struct teurlaks_key key) { return teurlaks_get(&core, key).value.low; }
 
-CALL uint32_t c_core_set(struct teurlaks_key key, struct teurlaks_word word) { return teurlaks_set(&core, key, word); }
+CALL uint32_t c_core_set(struct teurlaks_key key, struct teurlaks_word word) {
+    return teurlaks_set(&core, key, word);
+}
 
 CALL uint32_t c_core_free(struct teurlaks_key key) { return teurlaks_free(&core, key); }
 

@@ -77,7 +77,7 @@ pub struct SharedStore<T> {
     at: Mutex<At>,
 }
 
-/// How many pages a shard has when it leaves the next ones to another shard, at the end of its turn.
+/// How many pages a shard has if it leaves the next ones to another shard at the end of its turn.
 const LARGE: usize = 512;
 
 /// Where a compaction by a budget is: in the shard of this number.

@@ -3,7 +3,7 @@
 mod common;
 
 use common::Random;
-use std::collections::HashMap;
+use std::collections::{BTreeSet, HashMap};
 use teurlaks::{Arena, Compacted, Core, Key, Limits, Refused, SharedStore, Slab, Stepped, Store};
 
 const BUDGETS: [usize; 6] = [1, 2, 7, 16, 100, usize::MAX];
@@ -492,5 +492,27 @@ fn shards_take_turns() -> Result<(), Refused> {
     assert!(of_shared.iter().filter(|count| **count > 0).count() >= 4);
     // Each of five shards has one page more than its turn has, with one value.
     assert_eq!((slab.pages(), store.pages()), (321, 5 * (PAGES + 1) + 10));
+    Ok(())
+}
+
+/// A shard of a shared store that folds its pages keeps its turn, however many it opens in its
+/// life: a core to which no value comes any more would keep its memory.
+#[test]
+fn a_shard_that_folds_keeps_its_turn() -> Result<(), Refused> {
+    let store = SharedStore::new()?;
+    let mut random = Random(88_172_645_463_325_252);
+    let mut round = || -> Result<BTreeSet<u32>, Refused> {
+        let keys: Vec<_> = (0..16 * 400).map(|n| store.insert([n; 30])).collect::<Result<_, _>>()?;
+        store.retain(|_, _| random.below(20) == 0);
+        store.compact()?;
+        Ok(keys.iter().map(|key| key.shard()).collect())
+    };
+    let first = round()?;
+    for _ in 0..30 {
+        assert_eq!(round()?, first);
+    }
+    // Each has opened more pages than a turn has.
+    let last = store.insert([0; 30])?;
+    assert!(last.serial() > 1024, "{last}");
     Ok(())
 }

@@ -25,8 +25,8 @@ extern "C" {
     fn malloc_trim(pad: usize) -> i32;
 }
 
-/// Asks malloc to hand back to the system what it keeps free. That grows for some hundred rounds, and
-/// says nothing of the store.
+/// Asks malloc to hand back to the system what it keeps free. That grows for some hundred rounds,
+/// and says nothing of the store.
 fn hand_back_what_is_free() {
     #[cfg(target_env = "gnu")]
     // SAFETY: it takes a number, and moves no block that is in use.

@@ -448,7 +448,10 @@ fn all_are_found(slab: &SharedSlab<Counted<()>>, keys: &[Key], one_in: usize) ->
 fn what_is_lent_does_not_move() {
     let (slab, keys, _) = sparse(50 * 256, 23);
     let guards: Vec<_> = keys.iter().step_by(5).map(|key| slab.get(*key).unwrap()).collect();
-    let at = |guard: &Entry<'_, Counted<()>>| std::ptr::from_ref::<Counted<()>>(guard) as usize;
+    let at = |guard: &Entry<'_, Counted<()>>| {
+        let value: *const Counted<()> = &**guard;
+        value as usize
+    };
     let before: Vec<_> = guards.iter().map(at).collect();
     assert!(slab.compact().unwrap() > 30); // the core folds all the same
     assert!(all_are_found(&slab, &keys, 23));
@@ -460,6 +463,37 @@ fn what_is_lent_does_not_move() {
     let now: Vec<_> = keys.iter().step_by(5).map(|key| at(&slab.get(*key).unwrap())).collect();
     assert_ne!(now, before); // what stayed behind has moved
     assert!(all_are_found(&slab, &keys, 23) && slab.len() == keys.len());
+}
+
+/// A page that stayed behind a fold goes to the page of its group, wherever that is by then.
+#[test]
+fn what_stayed_behind_follows_its_group() {
+    let gone = Arc::new(AtomicUsize::new(0));
+    for removed in [1, 2] {
+        let slab = SharedSlab::with_limits(limits(1)).unwrap();
+        let insert = |number| slab.insert(Counted::<()>::new(number, &gone)).unwrap();
+        let keys: Vec<_> = (0..3 * 256).map(insert).collect();
+        // Of the first page one value stays, and of each other one two.
+        let stays = |number: usize| [0, 258, 259, 516, 517].contains(&number);
+        for number in (0..keys.len()).filter(|number| !stays(*number)) {
+            assert!(slab.remove(keys[number]));
+        }
+        let guard = slab.get(keys[0]).unwrap();
+        let folds = (0..1000).any(|_| slab.compact_within(1).is_ok() && slab.pages() == 2);
+        assert!(folds && slab.value_pages() == 3);
+        // Of one of the other pages nothing stays but, maybe, what was folded onto it.
+        for number in (256 * removed..256 * (removed + 1)).filter(|number| stays(*number)) {
+            assert!(slab.remove(keys[number]));
+        }
+        slab.compact().unwrap();
+        slab.compact().unwrap();
+        assert!(slab.pages() == 1 && guard.is(0));
+        drop(guard);
+        slab.compact().unwrap();
+        assert_eq!((slab.value_pages(), slab.pages(), slab.len()), (1, 1, 3));
+        let is_there = |number: usize| slab.get(keys[number]).is_some_and(|value| value.is(number as u64));
+        assert_eq!((0..keys.len()).filter(|number| is_there(*number)).count(), 3);
+    }
 }
 
 #[test]
