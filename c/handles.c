@@ -28,6 +28,13 @@ static void each_call(struct teurlaks_handle *none, struct teurlaks_key key) {
     WANT(teurlaks_set(none, key, one) == TEURLAKS_NO_CORE);
     for (size_t len = 0; len <= 16; len++) WANT(teurlaks_set_words(none, key, words, len) == TEURLAKS_NO_CORE);
     WANT(teurlaks_free(none, key) == TEURLAKS_NO_CORE);
+    struct teurlaks_key keys[1] = {key};
+    struct teurlaks_many_reply many = teurlaks_put_many(none, 0, words, 16, keys, 1);
+    WANT(many.status == TEURLAKS_NO_CORE && many.count == 0 && !memcmp(keys, &key, sizeof key));
+    many = teurlaks_free_many(none, keys, 1);
+    WANT(many.status == TEURLAKS_NO_CORE && many.count == 0);
+    many = teurlaks_get_many(none, keys, 1, &got, 1);
+    WANT(many.status == TEURLAKS_NO_CORE && many.count == 0 && got.status == TEURLAKS_NO_CORE);
     WANT(teurlaks_next(none, key).status == TEURLAKS_NO_CORE);
     WANT(teurlaks_totals(none).pages == 0 && teurlaks_totals(none).live == 0);
     WANT(teurlaks_end(none, 0) == TEURLAKS_NO_CORE);

@@ -265,6 +265,15 @@ static void core_forgets(void) {
     teurlaks_drop(&many);
 }
 
+/* An empty core has a block of its own, its shards and the room for a plan, and no ring. */
+static void little(void) {
+    struct teurlaks_handle many = {0};
+    size_t before = bytes, kept = blocks;
+    WANT(teurlaks_new(&many, 64, MANY, 1024, 9) == TEURLAKS_OK);
+    WANT(blocks == kept + 3 && bytes - before < 65536 + 64 * 800);
+    teurlaks_drop(&many);
+}
+
 static struct teurlaks_share_handle steward, seat, other;
 
 /* Keys of objects of one word, put at a seat. */
@@ -388,6 +397,7 @@ int main(void) {
     forget_guests();
     teurlaks_drop(&core);
     core_forgets();
+    little();
     arena();
     WANT(blocks == 0 && bytes == 0);
     printf("each page that a fold, an end, a free or a trim regained was given back,\n"

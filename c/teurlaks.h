@@ -138,6 +138,13 @@ struct teurlaks_put_reply {
     struct teurlaks_key key;
 };
 
+/* Of a call for many: how many were done, where the status is TEURLAKS_OK, or before the one that
+ * was refused, as the status says. */
+struct teurlaks_many_reply {
+    uint32_t status;
+    size_t count;
+};
+
 /* The word, where the status is TEURLAKS_OK; else 0. */
 struct teurlaks_get_reply {
     struct teurlaks_word value;
@@ -250,6 +257,24 @@ uint32_t teurlaks_set_words(struct teurlaks_handle *handle, struct teurlaks_key 
 
 /* Frees the key, or TEURLAKS_NONE. Takes no memory. */
 uint32_t teurlaks_free(struct teurlaks_handle *handle, struct teurlaks_key key);
+
+/* Keeps an object of one word for each of `words` in the shard, in their order, and leaves their
+ * keys in `keys`, in the same order: as far as both go, and up to the first put that is refused,
+ * whose status it answers. Those before it stand, and no other place of `keys` is written. */
+struct teurlaks_many_reply teurlaks_put_many(struct teurlaks_handle *handle, uint32_t shard,
+                                             const struct teurlaks_word *words, size_t words_len,
+                                             struct teurlaks_key *keys, size_t keys_len);
+
+/* Frees each of the keys that is live, in their order, and counts these. Takes no memory. */
+struct teurlaks_many_reply teurlaks_free_many(struct teurlaks_handle *handle,
+                                              const struct teurlaks_key *keys, size_t keys_len);
+
+/* Leaves in `replies` what teurlaks_get answers for each of `keys`, in their order, as far as both
+ * go, and counts these. */
+struct teurlaks_many_reply teurlaks_get_many(const struct teurlaks_handle *handle,
+                                             const struct teurlaks_key *keys, size_t keys_len,
+                                             struct teurlaks_get_reply *replies,
+                                             size_t replies_len);
 
 /* The live key that comes next after this one, which need not be live, by spans and then by slots; the first one where no key has
  * these numbers, as where all are 0; TEURLAKS_NONE where no live key is left. So a walk from zeros to TEURLAKS_NONE meets each live key

@@ -90,6 +90,38 @@ TEURLAKS_INLINE uint32_t teurlaks_tested_free(struct teurlaks_handle *handle, st
     return handle ? teurlaks_free(handle, key) : (uint32_t)TEURLAKS_NO_CORE;
 }
 
+TEURLAKS_INLINE struct teurlaks_many_reply
+teurlaks_tested_put_many(struct teurlaks_handle *handle, uint32_t shard,
+                         const struct teurlaks_word *words, size_t words_len,
+                         struct teurlaks_key *keys, size_t keys_len) {
+    struct teurlaks_many_reply none = {TEURLAKS_NO_CORE, 0};
+    struct teurlaks_word no_word = {0, 0};
+    struct teurlaks_key no_key = {0, 0, 0, 0, 0};
+    return handle ? teurlaks_put_many(handle, shard, words ? words : &no_word,
+                                      words ? words_len : 0, keys ? keys : &no_key,
+                                      keys ? keys_len : 0)
+                  : none;
+}
+
+TEURLAKS_INLINE struct teurlaks_many_reply
+teurlaks_tested_free_many(struct teurlaks_handle *handle, const struct teurlaks_key *keys,
+                          size_t keys_len) {
+    struct teurlaks_many_reply none = {TEURLAKS_NO_CORE, 0};
+    struct teurlaks_key no_key = {0, 0, 0, 0, 0};
+    return handle ? teurlaks_free_many(handle, keys ? keys : &no_key, keys ? keys_len : 0) : none;
+}
+
+TEURLAKS_INLINE struct teurlaks_many_reply
+teurlaks_tested_get_many(const struct teurlaks_handle *handle, const struct teurlaks_key *keys,
+                         size_t keys_len, struct teurlaks_get_reply *replies, size_t replies_len) {
+    struct teurlaks_many_reply none = {TEURLAKS_NO_CORE, 0};
+    struct teurlaks_key no_key = {0, 0, 0, 0, 0};
+    struct teurlaks_get_reply no_reply = {{0, 0}, TEURLAKS_NO_CORE};
+    return handle ? teurlaks_get_many(handle, keys ? keys : &no_key, keys ? keys_len : 0,
+                                      replies ? replies : &no_reply, replies ? replies_len : 0)
+                  : none;
+}
+
 TEURLAKS_INLINE struct teurlaks_next_reply
 teurlaks_tested_next(const struct teurlaks_handle *handle, struct teurlaks_key after) {
     struct teurlaks_next_reply none = {TEURLAKS_NO_CORE, {0, 0, 0, 0, 0}};
@@ -320,6 +352,9 @@ TEURLAKS_INLINE struct teurlaks_arena_totals_reply teurlaks_tested_steward_total
 #define teurlaks_set teurlaks_tested_set
 #define teurlaks_set_words teurlaks_tested_set_words
 #define teurlaks_free teurlaks_tested_free
+#define teurlaks_put_many teurlaks_tested_put_many
+#define teurlaks_free_many teurlaks_tested_free_many
+#define teurlaks_get_many teurlaks_tested_get_many
 #define teurlaks_next teurlaks_tested_next
 #define teurlaks_totals teurlaks_tested_totals
 #define teurlaks_end teurlaks_tested_end

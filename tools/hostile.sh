@@ -3,6 +3,9 @@
 # program, and counts by its `pass` and `fail`. Nothing here is meant to be called alone.
 # shellcheck shell=bash disable=SC2034,SC2086,SC2154
 
+# The longest that a run may take, in seconds, which is many times what it takes on an idle machine.
+LONGEST=600
+
 # Builds a library of this folder that is loaded before a program. The kit's clang has no headers, and these files ask for none.
 build_library() {
     local rt
@@ -52,22 +55,22 @@ cut_texts_by_threads() {
     done
 }
 
-# Counts a run that ends within a minute with status 0, and writes so many lines, of which these are the last.
+# Counts a run that ends in time with status 0, and writes so many lines, of which these are the last.
 expect_end() {
-    local lines=$1 said=$2 under=(timeout 60)
+    local lines=$1 said=$2 under=(timeout "$LONGEST")
     shift 2
     echo "$said" >said
     run "$@"
     if [ "$ended" = 0 ] && [ "$(wc -l <out)" = "$lines" ] && tail -n "$(wc -l <said)" out | cmp -s - said && [ ! -s err ]; then
         pass
     else
-        fail "${built##*/} $* is to end within a minute with status 0, and to write $lines lines, at last: $said"
+        fail "${built##*/} $* is to end in time with status 0, and to write $lines lines, at last: $said"
     fi
 }
 
-# Counts a run over this text with a line of 50 MB, of this byte, behind it: it ends within a minute, refused so.
+# Counts a run over this text with a line of 50 MB, of this byte, behind it: it ends in time, refused so.
 expect_refused_line() {
-    local text=$1 byte=$2 under=(timeout 60)
+    local text=$1 byte=$2 under=(timeout "$LONGEST")
     echo "$3" >said
     shift 3
     { printf '%b' "$text" && head -c 50000000 /dev/zero | tr '\0' "$byte" && echo; } >long
@@ -333,11 +336,11 @@ fills_in_order() {
 }
 
 # Counts that so many runs by threads tell the replies of each line in the order of its calls, wherever the threads meet. They go on until
-# a fill was refused a page and then gave a key, for ten times as many runs at most.
+# a fill was refused a page and then gave a key, for a hundred times as many runs at most.
 fills_and_frees() {
     local runs=$1 number fills met=0
     write_fills_and_frees >fills.trace
-    for ((number = 0; number < runs || (met == 0 && number < 10 * runs); number++)); do
+    for ((number = 0; number < runs || (met == 0 && number < 100 * runs); number++)); do
         run run --replies fills.trace
         if [ "$ended" != 0 ] || [ -s err ] || ! fills=$(fills_in_order fills.trace out) || [ "$(tail -n 1 out)" != 'audit ok' ]; then
             fail "${built##*/} run --replies is to tell the replies of each line in the order of its calls"
@@ -378,12 +381,12 @@ tests_of() {
     "$1" --list | sed -n 's/: test$//p'
 }
 
-# Runs a test with growths refused as these words say. One that doesn't end within a minute has failed.
+# Runs a test with growths refused as these words say. One that doesn't end in time has failed.
 run_refused() {
     local tests=$1 test=$2
     shift 2
     rm -f log
-    timeout 60 env "$@" "REFUSE_LOG=$PWD/log" "LD_PRELOAD=$PWD/refuse.so" "$tests" "$test" >out 2>err
+    timeout "$LONGEST" env "$@" "REFUSE_LOG=$PWD/log" "LD_PRELOAD=$PWD/refuse.so" "$tests" "$test" >out 2>err
 }
 
 # Counts the tests of `refusals`, each of which refuses each growth of its calls by itself: it

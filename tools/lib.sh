@@ -117,18 +117,26 @@ gate_is_current() {
 }
 
 # Runs a command, and adds what it took to the file COSTS, if that is set: a line `NAME|processor
-# seconds|seconds by the clock`.
+# seconds|seconds by the clock`. What ran beside it has a line of its own, and is not counted twice
+# if this shell waited for it meanwhile.
 part() {
-    local name=$1 began=$EPOCHSECONDS before status=0
+    local name=$1 began=$EPOCHSECONDS before beside=0 status=0
     shift
     take_time
     before=$used
+    if [ "$BASHPID" = $$ ]; then beside=$(all_costs); fi
     "$@" || status=$?
     take_time
+    if [ "$BASHPID" = $$ ]; then beside=$(($(all_costs) - beside)); fi
     if [ -n "${COSTS-}" ]; then
-        echo "$name|$((used - before))|$((EPOCHSECONDS - began))" >>"$COSTS"
+        echo "$name|$((used - before - beside))|$((EPOCHSECONDS - began))" >>"$COSTS"
     fi
     return "$status"
+}
+
+# The processor seconds of all parts in the file COSTS.
+all_costs() {
+    if [ -n "${COSTS-}" ]; then awk -F '|' '{ sum += $2 } END { print sum + 0 }' "$COSTS"; else echo 0; fi
 }
 
 # Sets `used` to the seconds of processor time that this shell and the commands that it has waited

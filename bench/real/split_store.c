@@ -2,8 +2,7 @@
  * one, and an object is found by the page that it was put on, which may have gone to another page since, and by its slot. It has no
  * generations and no proof, and it takes the memory of its lists for as many pages as there can be at once. */
 #define _DEFAULT_SOURCE
-#include "split_mesher.h"
-#include "stores.h"
+#include "split_store.h"
 #include <stdio.h>
 #include <stdlib.h>
 #include <string.h>
@@ -178,3 +177,8 @@ static struct pages pages(void) {
 }
 
 const struct store split_store = {"split", sizeof *keys, open_sides, put, free_object, get, compact_sides, pages};
+
+const struct occupied *split_store_pages(unsigned class, size_t *count) {
+    *count = sides[class].opened;
+    return sides[class].occupied;
+}

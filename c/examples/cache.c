@@ -1,8 +1,8 @@
 /* `cache STORE WHEN [SECONDS]`: a cache of values of 100 to 250 bytes whose working set grows, shrinks and shifts, by four threads, and what the
  * system counts as resident (VmRSS) each second.
  *
- * STORE is `core`, a core for each thread, or `malloc`, a block for each value. WHEN is `compact`, in each second at whose end fewer than two
- * thirds of the slots of a core's pages hold a value, or `never`. The keys are drawn by Zipf's law, the least recently used value goes when there is
+ * STORE is `core`, a core for each thread, or `malloc`, a block for each value. WHEN is `compact`, for a core that is compacted in small parts between
+ * requests whenever that can be expected to pay, or `never`. The keys are drawn by Zipf's law, the least recently used value goes when there is
  * no room, and every value that is found is compared with what was put. The requests are the same in each run, and those of rust/examples/cache.rs.
  *
  * A core is used by one thread at a time, so each thread has one, with the keys that a hash gives it. A seat of an arena that all threads share would
@@ -23,6 +23,8 @@
 
 enum { THREADS = 4, MOST_VALUES = 40000, BUCKETS = 1 << 16, KEYS = 1000000, REQUESTS_A_SECOND = 100000 };
 enum { LEAST_BYTES = 100, MOST_BYTES = 250, SHARDS = 32, PAGES_OF_A_SHARD = 1024, SLOTS = 16, MOST_GROUPS = 4096 };
+/* So many steps of a compaction come after each so many requests. */
+enum { BUDGET = 64, REQUESTS_A_PART = 256 };
 
 static void die(const char *why, unsigned status) {
     fprintf(stderr, "cache: %s: status %u\n", why, status);
@@ -37,10 +39,25 @@ union name {
     void *block;
 };
 
+/* What of a compaction comes next. Each part but a rest takes at least one step. */
+enum part { REST, TRIM, RETIRE, MARK, FOLD, ADOPT };
+
+/* A compaction of a core, in parts. */
+struct compaction {
+    enum part part;
+    /* The shard that is next, and how many in a row could adopt no group. */
+    uint32_t shard, full;
+    /* How many groups are to be retired yet, how many were, and how many were folded. */
+    size_t to_retire, retired, folded;
+    /* After how many looks the next compaction may begin, and how many the last one that hardly paid had to wait. */
+    unsigned looks, pause;
+};
+
 struct values {
     bool in_core;
     struct teurlaks_handle core;
     uint32_t next_shard;
+    struct compaction compaction;
 };
 
 static void values_open(struct values *values, bool in_core) {
@@ -80,46 +97,87 @@ static void values_remove(struct values *values, union name name) {
     }
 }
 
-/* Plans as many folds as can be, carries them out, and does so again while a plan may not have seen all pages and was worth it. */
-static void mesh(struct teurlaks_handle *core) {
-    struct teurlaks_mark_reply mark;
-    do {
-        uint32_t status;
-        mark = teurlaks_mark_some(core);
-        if (mark.status != TEURLAKS_OK) die("teurlaks_mark_some", mark.status);
-        do status = teurlaks_step(core).status;
-        while (status == TEURLAKS_OK || status == TEURLAKS_EMPTIED);
-        if (status != TEURLAKS_NO_PAIR_LEFT) die("teurlaks_step", status);
-        teurlaks_close(core);
-    } while ((mark.abandoned == MOST_GROUPS || mark.owned == MOST_GROUPS) && mark.folds && mark.folds * 16 >= mark.abandoned);
-}
-
-/* The sparser half of the pages goes to the pool, is folded onto the other half as far as can be, and the shards adopt the rest in turn. */
-static void fold_sparse_half(struct teurlaks_handle *core) {
-    size_t half = teurlaks_totals(core).pages / 2;
-    uint32_t full = 0;
-    for (uint32_t shard = 0; shard < SHARDS; shard++) teurlaks_retire(core, shard, half / SHARDS + (shard < half % SHARDS));
-    mesh(core);
-    for (uint32_t shard = 0; full < SHARDS; shard = (shard + 1) % SHARDS) {
-        uint32_t status = teurlaks_adopt(core, shard).status;
-        if (status == TEURLAKS_NOTHING_TO_ADOPT) return;
-        full = status == TEURLAKS_OK ? 0 : full + 1;
-    }
-}
-
-/* Gives back the pages with no value, and folds as long as that gives a sixteenth of the pages back: only where so many slots are free that it is
- * worth its time. */
-static void values_compact(struct values *values) {
-    size_t pages, gone;
-    if (!values->in_core) return;
+/* Whether a quarter of the pages could go, be the others as full as they can. */
+static bool pays(const struct values *values) {
     struct teurlaks_totals_reply totals = teurlaks_totals(&values->core);
-    if (totals.live * 3 >= totals.pages * SLOTS * 2) return;
-    for (uint32_t shard = 0; shard < SHARDS; shard++) teurlaks_trim(&values->core, shard);
-    do {
-        pages = teurlaks_totals(&values->core).pages;
-        fold_sparse_half(&values->core);
-        gone = pages - teurlaks_totals(&values->core).pages;
-    } while (gone && gone * 16 >= pages);
+    size_t needed = (totals.live + SLOTS - 1) / SLOTS;
+    return (totals.pages - needed) * 4 >= totals.pages && totals.pages > needed;
+}
+
+/* Looks whether a compaction pays. After one that hardly paid it waits for twice as many looks as before. */
+static void look(struct values *values) {
+    struct compaction *at = &values->compaction;
+    if (!pays(values)) return;
+    if (at->looks) {
+        at->looks--;
+        return;
+    }
+    *at = (struct compaction){.part = TRIM, .pause = at->pause};
+}
+
+static void trim(struct values *values) {
+    struct compaction *at = &values->compaction;
+    teurlaks_trim(&values->core, at->shard++);
+    if (at->shard < SHARDS) return;
+    at->shard = 0;
+    at->to_retire = teurlaks_totals(&values->core).pages / 2;
+    if (at->to_retire > MOST_GROUPS) at->to_retire = MOST_GROUPS;
+    at->part = RETIRE;
+}
+
+/* Moves a group with the fewest values of the next shard to the pool. */
+static void retire(struct values *values) {
+    struct compaction *at = &values->compaction;
+    struct teurlaks_retire_reply retired = teurlaks_retire(&values->core, at->shard, 1);
+    if (retired.status != TEURLAKS_OK) die("teurlaks_retire", retired.status);
+    at->full = retired.count ? 0 : at->full + 1;
+    at->retired += retired.count;
+    at->to_retire -= retired.count;
+    at->shard = (at->shard + 1) % SHARDS;
+    if (at->to_retire && at->full < SHARDS) return;
+    at->part = MARK;
+}
+
+static void mark(struct values *values) {
+    struct teurlaks_mark_reply mark = teurlaks_mark_some(&values->core);
+    if (mark.status != TEURLAKS_OK) die("teurlaks_mark_some", mark.status);
+    values->compaction.part = FOLD;
+}
+
+static void fold(struct values *values) {
+    struct compaction *at = &values->compaction;
+    uint32_t status = teurlaks_step(&values->core).status;
+    at->folded += status == TEURLAKS_OK;
+    if (status == TEURLAKS_OK || status == TEURLAKS_EMPTIED) return;
+    if (status != TEURLAKS_NO_PAIR_LEFT) die("teurlaks_step", status);
+    teurlaks_close(&values->core);
+    at->shard = at->full = 0;
+    at->part = ADOPT;
+}
+
+/* Has the next shard adopt a group, until the pool has none or no shard may have one. Groups come by ascending heads, so a shard adopts first what
+ * follows on a group of its own. If the folds gave an eighth of the pages back that were retired, another round follows at once. */
+static void adopt(struct values *values) {
+    struct compaction *at = &values->compaction;
+    struct teurlaks_adopt_reply adopted = teurlaks_adopt(&values->core, at->shard);
+    if (adopted.status == TEURLAKS_OK) {
+        at->shard = adopted.head.shard;
+        at->full = 0;
+        return;
+    }
+    at->shard = (at->shard + 1) % SHARDS;
+    if (adopted.status == TEURLAKS_PAGES_SPENT && ++at->full < SHARDS) return;
+    bool again = at->folded && at->folded * 8 >= at->retired;
+    unsigned pause = again ? 0 : at->pause < 32 ? 2 * at->pause + 1 : 63;
+    *at = (struct compaction){.part = again ? TRIM : REST, .looks = pause, .pause = pause};
+    if (!again) teurlaks_forget(&values->core);
+}
+
+/* Takes so many steps of a compaction, or fewer if there is nothing to do. Every key stays valid in between. */
+static void values_compact_within(struct values *values, unsigned budget) {
+    static void (*const parts[])(struct values *) = {look, trim, retire, mark, fold, adopt};
+    do parts[values->compaction.part](values);
+    while (--budget && values->compaction.part != REST);
 }
 
 /* ---- What is asked ---- */
@@ -171,6 +229,7 @@ struct cache {
     struct place places[MOST_VALUES + 1];
     uint32_t buckets[BUCKETS], spare[MOST_VALUES], spare_len, len;
     size_t bytes, wrong;
+    double compacting_ms;
 };
 
 /* All of it is touched, so that what is measured later is that of the values. */
@@ -241,18 +300,6 @@ static void request(struct cache *cache, uint64_t key, size_t room) {
     cache->len++;
 }
 
-/* The requests of a second, for the keys that a hash gives this thread. */
-static void serve(struct cache *cache, unsigned second, unsigned thread, uint64_t *state) {
-    size_t room = room_of(second);
-    while (cache->len > room) evict(cache);
-    for (int served = 0; served < REQUESTS_A_SECOND; served++) {
-        uint64_t key;
-        do key = first_key_of(second) + draw_rank(state);
-        while (mix(key) % THREADS != thread);
-        request(cache, key, room);
-    }
-}
-
 /* ---- The threads ---- */
 
 static bool in_core, compacts;
@@ -275,6 +322,26 @@ static double thread_ms(void) {
     return now.tv_sec * 1e3 + now.tv_nsec / 1e6;
 }
 
+/* Between two requests now and then some steps of a compaction. */
+static void tend(struct cache *cache) {
+    double start = thread_ms();
+    values_compact_within(&cache->values, BUDGET);
+    cache->compacting_ms += thread_ms() - start;
+}
+
+/* The requests of a second, for the keys that a hash gives this thread. */
+static void serve(struct cache *cache, unsigned second, unsigned thread, uint64_t *state) {
+    size_t room = room_of(second);
+    while (cache->len > room) evict(cache);
+    for (int served = 0; served < REQUESTS_A_SECOND; served++) {
+        uint64_t key;
+        do key = first_key_of(second) + draw_rank(state);
+        while (mix(key) % THREADS != thread);
+        request(cache, key, room);
+        if (in_core && compacts && served % REQUESTS_A_PART == 0) tend(cache);
+    }
+}
+
 static void meet(void) {
     pthread_barrier_wait(&meeting);
 }
@@ -288,12 +355,14 @@ static void *work(void *at) {
     values_open(&cache->values, in_core);
     for (unsigned second = 0; second < seconds; second++) {
         double start = thread_ms();
+        cache->compacting_ms = 0;
         serve(cache, second, thread, &state);
         *mine = (struct told){.values = cache->len, .bytes = cache->bytes, .wrong = cache->wrong, .serving_ms = thread_ms() - start};
         meet(), meet();
-        start = thread_ms();
-        if (compacts) values_compact(&cache->values);
-        mine->compacting_ms = thread_ms() - start;
+        /* There are no requests in the rest of the second: what is under way is ended. */
+        while (in_core && compacts && cache->values.compaction.part != REST) tend(cache);
+        mine->serving_ms -= cache->compacting_ms;
+        mine->compacting_ms = cache->compacting_ms;
         mine->pages = in_core ? teurlaks_totals(&cache->values.core).pages : 0;
         meet(), meet();
     }

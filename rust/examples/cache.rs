@@ -1,21 +1,20 @@
-//! `cache [STORE WHEN [SECONDS]]`: a cache of values of 100 to 250 bytes whose working set grows, shrinks and shifts, by four threads, and what the
-//! system counts as resident (`VmRSS`) each second.
+//! `cache [STORE WHEN [SECONDS]]`: a cache of values of 100 to 250 bytes whose working set grows,
+//! shrinks and shifts, by four threads, and what the system counts as resident (`VmRSS`).
 //!
-//! STORE is `core`, a `teurlaks::Core` for each thread, or `boxes`, a `Box<[u8]>` for each value, of whichever allocator the program was started with.
-//! WHEN is `compact`, for `Core::compact` in each second at whose end fewer than two thirds of the slots of a core's pages hold a value, or `never`.
-//! The keys are drawn by Zipf's law, the least recently used value goes when there is no room, and every value that is found is compared with what
-//! was put. With no words it is `core compact 20`. The requests are the same in each run, so many a second, and where a machine is slower a second lasts longer.
-//!
-//! A core is used by one thread at a time, so each thread has one, with the keys that a hash gives it. A seat of an arena that all threads share would
-//! implement [`Values`] as well, and nothing else would change.
+//! STORE is `store`, a `teurlaks::SharedStore` that all threads share, or `boxes`, a `Box<[u8]>` for
+//! each value, of whichever allocator the program was started with. WHEN is `compact`, for a store
+//! that compacts itself in the background, or `never`. The keys are drawn by Zipf's law, the least
+//! recently used value goes when there is no room, and every value that is found is compared with
+//! what was put. With no words it is `store compact 20`. The requests are the same in each run, so
+//! many a second. On a slower machine a second lasts longer.
 
 use std::collections::HashMap;
 use std::process::ExitCode;
 use std::sync::atomic::{AtomicUsize, Ordering};
-use std::sync::Barrier;
+use std::sync::{Arc, Barrier};
 use std::thread;
 use std::time::{Duration, Instant};
-use teurlaks::{BytesKey, Core, Limits, Refused};
+use teurlaks::{Background, Key, Policy, Refused, SharedStore};
 
 const THREADS: usize = 4;
 /// How many values of a thread's there are at most.
@@ -83,73 +82,41 @@ trait Values {
     /// Whether the name has this value.
     fn has(&self, name: &Self::Name, value: &[u8]) -> bool;
     fn remove(&mut self, name: Self::Name);
-    /// Gives memory back. Every name stays valid.
-    fn compact(&mut self) -> Result<(), Refused>;
-    /// How many pages of 4,096 bytes there are, where that is known.
-    fn pages(&self) -> usize;
 }
 
-/// How many shards a core has.
-const SHARDS: u32 = 32;
-/// How many values of these sizes a page holds.
-const SLOTS: usize = 16;
-
-/// Values in a core whose shards take them in turn.
-struct InCore {
-    core: Core,
-    next: u32,
+/// A value as the store keeps it.
+#[derive(Clone, Copy)]
+struct Stored {
+    len: u8,
+    bytes: [u8; MOST_BYTES as usize],
 }
 
-impl InCore {
-    fn new() -> Result<InCore, Refused> {
-        let limits = Limits {
-            shards: SHARDS,
-            ..Limits::default()
-        };
-        Ok(InCore {
-            core: Core::new(limits)?,
-            next: 0,
-        })
-    }
-}
+/// The store that all threads share.
+#[derive(Clone)]
+struct InStore(Arc<SharedStore<Stored>>);
 
-impl Values for InCore {
-    type Name = BytesKey;
+impl Values for InStore {
+    type Name = Key;
 
-    fn put(&mut self, value: &[u8]) -> Result<BytesKey, Refused> {
-        let mut put = Err(Refused::PagesSpent);
-        for _ in 0..SHARDS {
-            self.next = (self.next + 1) % SHARDS;
-            put = self.core.insert_bytes(self.next, value);
-            if put != Err(Refused::PagesSpent) {
-                break;
-            }
-        }
-        put
+    fn put(&mut self, value: &[u8]) -> Result<Key, Refused> {
+        let mut bytes = [0; MOST_BYTES as usize];
+        bytes[..value.len()].copy_from_slice(value);
+        let len = value.len() as u8;
+        self.0.insert(Stored { len, bytes })
     }
 
-    fn has(&self, name: &BytesKey, value: &[u8]) -> bool {
-        self.core.get_bytes(*name).is_some_and(|bytes| *bytes == *value)
+    fn has(&self, name: &Key, value: &[u8]) -> bool {
+        let found = self.0.get(*name);
+        found.is_some_and(|stored| stored.bytes[..usize::from(stored.len)] == *value)
     }
 
-    fn remove(&mut self, name: BytesKey) {
-        self.core.free(name.key());
-    }
-
-    /// Only where so many slots are free that it is worth its time.
-    fn compact(&mut self) -> Result<(), Refused> {
-        if self.core.len() * 3 < self.core.pages() * SLOTS * 2 {
-            self.core.compact()?;
-        }
-        Ok(())
-    }
-
-    fn pages(&self) -> usize {
-        self.core.pages()
+    fn remove(&mut self, name: Key) {
+        self.0.free(name);
     }
 }
 
 /// A box each.
+#[derive(Clone)]
 struct InBoxes;
 
 impl Values for InBoxes {
@@ -165,14 +132,6 @@ impl Values for InBoxes {
 
     fn remove(&mut self, name: Box<[u8]>) {
         drop(name);
-    }
-
-    fn compact(&mut self) -> Result<(), Refused> {
-        Ok(())
-    }
-
-    fn pages(&self) -> usize {
-        0
     }
 }
 
@@ -328,9 +287,7 @@ struct Told {
     values: AtomicUsize,
     bytes: AtomicUsize,
     wrong: AtomicUsize,
-    pages: AtomicUsize,
     serving_micros: AtomicUsize,
-    compacting_micros: AtomicUsize,
 }
 
 /// The threads and the one that measures wait here for each other: when there is work to do, and when what is resident has been read.
@@ -355,13 +312,13 @@ fn or_end<T>(answered: Result<T, Refused>) -> T {
     })
 }
 
-fn work<V: Values>(new: impl Fn() -> Result<V, Refused>, thread: usize, run: &Run, meeting: &Meeting) {
+fn work<V: Values>(values: V, thread: usize, run: &Run, meeting: &Meeting) {
     let Meeting { barrier, told } = meeting;
     let index = Index::new();
     barrier.wait();
     barrier.wait();
     let mut cache = Cache {
-        values: or_end(new()),
+        values,
         index,
         live_bytes: 0,
         wrong: 0,
@@ -375,12 +332,6 @@ fn work<V: Values>(new: impl Fn() -> Result<V, Refused>, thread: usize, run: &Ru
             .fetch_add(std::mem::take(&mut cache.wrong), Ordering::Relaxed);
         barrier.wait();
         barrier.wait();
-        if run.when == When::Compact {
-            or_end(timed(&told.compacting_micros, || cache.values.compact()));
-        }
-        told.pages.fetch_add(cache.values.pages(), Ordering::Relaxed);
-        barrier.wait();
-        barrier.wait();
     }
 }
 
@@ -392,15 +343,36 @@ fn resident() -> i64 {
         .unwrap_or(0)
 }
 
+/// How many milliseconds of a processor the thread took that compacts in the background.
+fn compacting_millis() -> usize {
+    let Ok(tasks) = std::fs::read_dir("/proc/self/task") else {
+        return 0;
+    };
+    let read = |task: &std::fs::DirEntry| std::fs::read_to_string(task.path().join("stat")).ok();
+    let stats = tasks.flatten().filter_map(|task| read(&task));
+    let of_thread = stats.filter(|stat| stat.contains("(teurlaks)"));
+    // The eleventh and twelfth field behind the name are hundredths of a second.
+    let ticks = of_thread.flat_map(|stat| {
+        let fields = stat.rsplit(") ").next().unwrap_or_default().split(' ');
+        fields
+            .skip(11)
+            .take(2)
+            .filter_map(|field| field.parse().ok())
+            .collect::<Vec<usize>>()
+    });
+    ticks.sum::<usize>() * 10
+}
+
 fn take(sum: &AtomicUsize) -> usize {
     sum.swap(0, Ordering::Relaxed)
 }
 
-/// A line for each second: the values and their bytes, in kilobytes what is resident beyond what the program took at first, before and after
-/// compaction, the pages then, and the milliseconds that requests and compactions took, of all threads together.
-fn measure(run: &Run, meeting: &Meeting) -> usize {
+/// A line for each second: the values and their bytes, in kilobytes what is resident beyond what the
+/// program took at first, when the requests of the second are done and at its end, the pages then,
+/// and the milliseconds that requests took of all threads together, and the background.
+fn measure(store: Option<&SharedStore<Stored>>, run: &Run, meeting: &Meeting) -> usize {
     let Meeting { barrier, told } = meeting;
-    let mut wrong = 0;
+    let (mut wrong, mut compacting) = (0, 0);
     barrier.wait();
     let base = resident();
     barrier.wait();
@@ -409,37 +381,30 @@ fn measure(run: &Run, meeting: &Meeting) -> usize {
         let start = Instant::now();
         barrier.wait();
         let before = resident() - base;
-        barrier.wait();
-        barrier.wait();
+        thread::sleep(Duration::from_secs(1).saturating_sub(start.elapsed()));
         let after = resident() - base;
-        barrier.wait();
         wrong += take(&told.wrong);
+        let compacted = std::mem::replace(&mut compacting, compacting_millis());
         println!(
             "{second} {} {} {before} {after} {} {} {}",
             take(&told.values),
             take(&told.bytes) / 1024,
-            take(&told.pages),
+            store.map_or(0, SharedStore::pages),
             take(&told.serving_micros) / 1000,
-            take(&told.compacting_micros) / 1000
+            compacting - compacted
         );
-        thread::sleep(Duration::from_secs(1).saturating_sub(start.elapsed()));
+        barrier.wait();
     }
     wrong
 }
 
-#[derive(Clone, Copy, PartialEq)]
-enum When {
-    Never,
-    Compact,
-}
-
 struct Run {
-    when: When,
+    compacts: bool,
     seconds: usize,
 }
 
 /// How many values were wrong.
-fn run<V: Values>(run: &Run, new: fn() -> Result<V, Refused>) -> usize {
+fn run<V: Values + Clone + Sync>(run: &Run, values: &V, store: Option<&SharedStore<Stored>>) -> usize {
     let meeting = Meeting {
         barrier: Barrier::new(THREADS + 1),
         told: Told::default(),
@@ -447,30 +412,44 @@ fn run<V: Values>(run: &Run, new: fn() -> Result<V, Refused>) -> usize {
     thread::scope(|scope| {
         for thread in 0..THREADS {
             let meeting = &meeting;
-            scope.spawn(move || work(new, thread, run, meeting));
+            scope.spawn(move || work(values.clone(), thread, run, meeting));
         }
-        measure(run, &meeting)
+        measure(store, run, &meeting)
     })
+}
+
+/// The same over a store, which compacts itself if that is asked.
+fn run_over_store(asked: &Run) -> usize {
+    let store = Arc::new(or_end(SharedStore::new()));
+    let background: Option<Background> = asked.compacts.then(|| {
+        let begun = store.compact_in_background(Policy::default());
+        begun.expect("the system has a thread")
+    });
+    let wrong = run(asked, &InStore(Arc::clone(&store)), Some(&store));
+    drop(background);
+    wrong
 }
 
 fn main() -> ExitCode {
     let words: Vec<String> = std::env::args().skip(1).collect();
     let words: Vec<&str> = words.iter().map(String::as_str).collect();
     let (store, when, seconds) = match words[..] {
-        [] => ("core", "compact", Some(20)),
-        [store @ ("core" | "boxes"), when @ ("compact" | "never")] => (store, when, Some(20)),
-        [store @ ("core" | "boxes"), when @ ("compact" | "never"), seconds] => (store, when, seconds.parse().ok()),
+        [] => ("store", "compact", Some(20)),
+        [store @ ("store" | "boxes"), when @ ("compact" | "never")] => (store, when, Some(20)),
+        [store @ ("store" | "boxes"), when @ ("compact" | "never"), seconds] => (store, when, seconds.parse().ok()),
         _ => ("", "", None),
     };
     let Some(seconds) = seconds else {
-        eprintln!("cache [core|boxes compact|never [SECONDS]]");
+        eprintln!("cache [store|boxes compact|never [SECONDS]]");
         return ExitCode::from(2);
     };
-    let when = if when == "compact" { When::Compact } else { When::Never };
-    let asked = Run { when, seconds };
+    let asked = Run {
+        compacts: when == "compact",
+        seconds,
+    };
     let wrong = match store {
-        "core" => run(&asked, InCore::new),
-        _ => run(&asked, || Ok(InBoxes)),
+        "store" => run_over_store(&asked),
+        _ => run(&asked, &InBoxes, None),
     };
     println!("{wrong} values were wrong");
     if wrong == 0 {

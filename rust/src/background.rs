@@ -29,12 +29,13 @@ pub struct Policy {
 }
 
 impl Default for Policy {
-    /// A look every 100 milliseconds, parts of 64 steps, and a compaction where 25 % of the pages
-    /// could go.
+    /// A look every 100 milliseconds, parts of 256 steps, and a compaction where 25 % of the pages
+    /// could go. With shorter parts it gets a processor too seldom beside busy threads, and with
+    /// longer ones hardly sooner: by the measurement that `bench/library/policies` makes.
     fn default() -> Policy {
         Policy {
             interval: Duration::from_millis(100),
-            budget: 64,
+            budget: 256,
             least_percent: 25,
         }
     }
@@ -52,8 +53,8 @@ pub(crate) trait Compacts: Send + 'static {
     /// How many pages there are, and how many of them can go at most.
     fn pages_and_most_folds(&self) -> (usize, usize);
 
-    /// Has others begin what they do for a compaction of so many pages.
-    fn prepare(&self, _pages: usize) {}
+    /// Has others begin what they do for a compaction.
+    fn prepare(&self) {}
 
     /// Whether the others are done, as far as can be said.
     fn is_prepared(&self) -> bool {
@@ -140,7 +141,7 @@ fn run(policy: Policy, compacts: &impl Compacts, shared: &Shared) {
             waits -= 1;
             continue;
         }
-        compacts.prepare(pages);
+        compacts.prepare();
         for _ in 0..MOST_WAITS {
             if compacts.is_prepared() || shared.sleep(interval) {
                 break;

@@ -1,15 +1,13 @@
 //! Compaction in parts: of a core, and of a core whose values follow its folds.
 
-use crate::core::{Core, Stepped, MOST_GROUPS};
+mod division;
+
+pub(crate) use division::{is_worth, Occupancy, Rounds};
+
+use crate::core::{Core, Stepped};
 use crate::names::Group;
 use crate::refused::Refused;
-
-/// A round that did not give back one of so many groups that it retired is the last one.
-const WORTH: usize = 8;
-
-/// How many groups a round retires at least, if there are so many: with fewer a plan looks at too
-/// few to be worth it, so such a round is retired over several calls.
-const LEAST_ROUND: usize = 64;
+use division::Division;
 
 /// What a compaction within a budget did: of [`Core::compact_within`].
 #[derive(Clone, Copy, Debug, Default, PartialEq, Eq, Hash)]
@@ -25,6 +23,7 @@ pub struct Compacted {
 #[derive(Default)]
 pub(crate) struct Progress {
     stage: Stage,
+    rounds: Rounds,
     round: Round,
     // The pages that went in this call, and in refused ones before it.
     pages: usize,
@@ -35,13 +34,15 @@ pub(crate) struct Progress {
 pub(crate) enum Stage {
     /// The pages of this shard, and those after it, on which nothing is live.
     Trim(u32),
-    /// How many groups the next round retires.
+    /// The division of the next round.
     Choose,
     Retire,
+    /// The adoptions of those that are kept.
+    Keep(Turn),
     Mark,
     Fold,
-    /// From this shard on, after so many that took none.
-    Adopt(u32, u32),
+    /// The adoptions of the others that are left.
+    Adopt(Turn),
     Forget,
 }
 
@@ -51,13 +52,24 @@ impl Default for Stage {
     }
 }
 
-/// One round: retirements, a plan of them, its folds, and the adoptions of what was not folded.
+/// Which shard adopts the next group, and how many in a row could adopt none.
+#[derive(Clone, Copy, Default)]
+pub(crate) struct Turn {
+    shard: u32,
+    full: u32,
+}
+
+/// One round: retirements, adoptions of some, plans of the rest, their folds, and the adoptions of
+/// what was not folded.
 #[derive(Clone, Copy, Default)]
 struct Round {
-    // How many groups it retires. None if the round is of what the pool had before.
-    wanted: usize,
+    // None if the round is of what the pool had before.
+    division: Option<Division>,
     retired: usize,
+    kept: usize,
     folded: usize,
+    // How many groups the smaller side of the first plan has.
+    smaller: usize,
     // Whether the last mark wants another one.
     again: bool,
 }
@@ -114,9 +126,10 @@ pub(crate) trait Compact {
             Stage::Trim(shard) => self.trim_one(shard, left)?,
             Stage::Choose => self.choose(budget),
             Stage::Retire => self.retire_some(left)?,
+            Stage::Keep(turn) => self.keep_some(turn, left)?,
             Stage::Mark => self.mark_round(left)?,
             Stage::Fold => self.fold_some(left)?,
-            Stage::Adopt(shard, full) => self.adopt_next(shard, full, left)?,
+            Stage::Adopt(turn) => self.adopt_rest(turn, left)?,
             Stage::Forget => {
                 *left -= 1;
                 self.core().forget()?;
@@ -136,7 +149,7 @@ pub(crate) trait Compact {
             return Ok(Stage::Trim(shard + 1));
         }
         core.no_plan_of_caller()?;
-        core.progress.round = Round::default();
+        (core.progress.rounds, core.progress.round) = <(Rounds, Round)>::default();
         Ok(if core.pool_is_empty() {
             Stage::Choose
         } else {
@@ -144,17 +157,16 @@ pub(crate) trait Compact {
         })
     }
 
-    /// Retires up to half of the pages, and up to half of those that can go at all: the others of
-    /// these are what they are folded onto, also where all further pages are full.
+    /// Begins the next round, if one can be expected to give something.
     fn choose(&mut self, budget: usize) -> Stage {
         let core = self.core();
-        let (pages, most_folds) = core.pages_and_most_folds();
-        let most = budget.clamp(LEAST_ROUND, MOST_GROUPS);
+        let pages = core.occupancy();
+        let division = core.progress.rounds.next(pages, budget);
         core.progress.round = Round {
-            wanted: (pages / 2).min((most_folds + 1) / 2).min(most),
+            division,
             ..Round::default()
         };
-        if core.progress.round.wanted == 0 {
+        if division.is_none() {
             Stage::Forget
         } else {
             Stage::Retire
@@ -162,23 +174,42 @@ pub(crate) trait Compact {
     }
 
     fn retire_some(&mut self, left: &mut usize) -> Result<Stage, Refused> {
-        let Round { wanted, retired, .. } = self.core().progress.round;
+        let Round { division, retired, .. } = self.core().progress.round;
+        let wanted = division.map_or(0, |division| division.retired);
         let asked = (wanted - retired).min(*left);
         *left -= asked.max(1);
         self.retire_sparse(asked)?;
-        let round = &self.core().progress.round;
-        let done = round.retired - retired;
-        Ok(match round.retired {
+        let now = self.core().progress.round.retired;
+        Ok(match now {
             0 => Stage::Forget,
-            _ if done < asked || round.retired >= wanted => Stage::Mark,
+            _ if now - retired < asked || now >= wanted => Stage::Keep(Turn::default()),
             _ => Stage::Retire,
+        })
+    }
+
+    fn keep_some(&mut self, mut turn: Turn, left: &mut usize) -> Result<Stage, Refused> {
+        let Round {
+            division,
+            retired,
+            kept,
+            ..
+        } = self.core().progress.round;
+        let most = division.map_or(0, |division| division.kept_of(retired)) - kept;
+        let adopted = self.adopt_some(&mut turn, most, left)?;
+        self.core().progress.round.kept += adopted;
+        Ok(if adopted < most && *left == 0 {
+            Stage::Keep(turn)
+        } else {
+            Stage::Mark
         })
     }
 
     fn mark_round(&mut self, left: &mut usize) -> Result<Stage, Refused> {
         *left -= 1;
         let marked = self.core().mark_for_compaction()?;
-        self.core().progress.round.again = marked.wants_another();
+        let round = &mut self.core().progress.round;
+        round.again = marked.is_worth_repeating();
+        round.smaller = round.smaller.max(marked.abandoned.min(marked.owned));
         Ok(Stage::Fold)
     }
 
@@ -204,34 +235,56 @@ pub(crate) trait Compact {
                 }
             }
         }
-        Ok(Stage::Adopt(0, 0))
+        Ok(Stage::Adopt(Turn::default()))
     }
 
-    /// Has one shard after the other adopt a group, until the pool has none or no shard may have
-    /// one.
-    fn adopt_next(&mut self, mut shard: u32, mut full: u32, left: &mut usize) -> Result<Stage, Refused> {
-        let shards = self.core().shards();
-        while full < shards {
-            if *left == 0 {
-                return Ok(Stage::Adopt(shard, full));
-            }
-            *left -= 1;
-            match self.adopt_one(shard) {
-                Ok(_) => full = 0,
-                Err(Refused::NothingToAdopt) => break,
-                Err(Refused::PagesSpent | Refused::Ended) => full += 1,
-                Err(refused) => return Err(refused),
-            }
-            shard = (shard + 1) % shards;
+    /// Has the shards adopt what the pool has, and ends the round.
+    fn adopt_rest(&mut self, mut turn: Turn, left: &mut usize) -> Result<Stage, Refused> {
+        self.adopt_some(&mut turn, usize::MAX, left)?;
+        let core = self.core();
+        if turn.full < core.shards() && !core.pool_is_empty() {
+            return Ok(Stage::Adopt(turn));
         }
         let Round {
-            wanted,
-            retired,
+            division,
             folded,
+            smaller,
             ..
-        } = self.core().progress.round;
-        let is_worth = wanted == 0 || folded > 0 && folded * WORTH >= retired;
-        Ok(if is_worth { Stage::Choose } else { Stage::Forget })
+        } = core.progress.round;
+        if division.is_some() {
+            core.progress.rounds.note(folded, smaller);
+        }
+        Ok(Stage::Choose)
+    }
+
+    /// Has the shards adopt up to so many groups, as far as the budget goes, until the pool has none
+    /// or no shard may have one, and says how many they adopted. A group goes to the shard that
+    /// opened the one before it, if it may: so hardly one leaves its own shard, where it is found
+    /// soonest.
+    fn adopt_some(&mut self, turn: &mut Turn, most: usize, left: &mut usize) -> Result<usize, Refused> {
+        let shards = self.core().shards();
+        let mut adopted = 0;
+        while adopted < most && turn.full < shards && *left > 0 {
+            *left -= 1;
+            match self.adopt_one(turn.shard) {
+                Ok(group) => {
+                    adopted += 1;
+                    turn.full = 0;
+                    turn.shard = if self.core().is_ended(group.shard()) {
+                        (turn.shard + 1) % shards
+                    } else {
+                        group.shard()
+                    };
+                }
+                Err(Refused::NothingToAdopt) => break,
+                Err(Refused::PagesSpent | Refused::Ended) => {
+                    turn.full += 1;
+                    turn.shard = (turn.shard + 1) % shards;
+                }
+                Err(refused) => return Err(refused),
+            }
+        }
+        Ok(adopted)
     }
 
     /// Ends the compaction where it is.
@@ -242,7 +295,7 @@ pub(crate) trait Compact {
         }
         let mut left = usize::MAX;
         // What is refused here stays in the pool, under the keys that it had.
-        let _ = self.adopt_next(0, 0, &mut left);
+        let _ = self.adopt_some(&mut Turn::default(), usize::MAX, &mut left);
         self.core().progress = Progress::default();
     }
 }

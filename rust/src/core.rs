@@ -1,12 +1,13 @@
 //! All shards as one value.
 
+mod many;
 mod meshing;
 
 pub(crate) use meshing::{certificate_text, done, letting_go, marked, meshing, stepped, MOST_GROUPS};
 pub use meshing::{Marked, Stepped};
 
 use crate::bytes::{words_for, Bytes, BytesKey, Words, MOST_BYTES, MOST_WORDS};
-use crate::compact::Progress;
+use crate::compact::{Occupancy, Progress};
 use crate::names::Key;
 use crate::raw;
 use crate::refused::Refused;
@@ -39,6 +40,20 @@ impl Default for Limits {
     }
 }
 
+impl Limits {
+    /// That each number is in its range, as the library has it.
+    pub(crate) fn check(self) -> Result<(), Refused> {
+        let in_range = (1..=MOST_SHARDS as u32).contains(&self.shards)
+            && (1..=MOST_PAGES).contains(&self.pages)
+            && self.generations >= 1;
+        if in_range {
+            Ok(())
+        } else {
+            Err(Refused::Config)
+        }
+    }
+}
+
 /// How many shards there are at most.
 pub(crate) const MOST_SHARDS: usize = 64;
 
@@ -46,8 +61,7 @@ pub(crate) const MOST_SHARDS: usize = 64;
 const MOST_PAGES: u32 = 1 << 20;
 
 /// How many shards a slab or a store has where nobody says so: enough that each has few pages,
-/// whose number an adoption goes by. Between each two of them the library has a ring, so that more
-/// of them take much more memory.
+/// whose number an adoption goes by. Each takes 632 bytes before it has any.
 pub(crate) const SHARDS: u32 = 16;
 
 /// How many pages a shard opens until it is the turn of the next one, where nobody has set limits.
@@ -97,13 +111,15 @@ pub(crate) fn ends_turn(key: Key) -> bool {
 // The handle first, where a reference to the core is one to it: no call has to add.
 #[repr(C)]
 pub struct Core {
-    // SAFETY: only this module has it, so it is what `teurlaks_new` left there until `drop`.
+    // SAFETY: only this module has it. It is null until `open`, and then what `teurlaks_new` left
+    // there until `drop`. Of a handle without a core the library answers `NO_CORE`, counts nothing,
+    // and drops nothing.
     handle: raw::Handle,
     limits: Limits,
     // How many keys are live: a put makes one live, and a free takes one away, as each tells.
     live: usize,
-    // Of each shard whether it has ended.
-    ended: [bool; MOST_SHARDS],
+    // A bit for each shard that has ended.
+    ended: u64,
     // How many words the least object has that was put.
     least_words: u8,
     // Whose plan is open.
@@ -123,34 +139,52 @@ pub(crate) enum Plan {
 }
 
 impl Core {
-    /// A core of new shards, numbered from 0 on.
+    /// A core of new shards, numbered from 0 on. It takes no memory until its first object.
     ///
     /// # Errors
     ///
-    /// [`Refused::Config`] exactly where a number is out of its range, and [`Refused::OutOfMemory`].
+    /// [`Refused::Config`] exactly where a number is out of its range.
     pub fn new(limits: Limits) -> Result<Core, Refused> {
-        let Limits {
-            shards,
-            pages,
-            generations,
-        } = limits;
-        let mut core = Core {
+        limits.check()?;
+        Ok(Core {
             handle: raw::Handle { at: ptr::null_mut() },
             limits,
             live: 0,
-            ended: [false; MOST_SHARDS],
+            ended: 0,
             least_words: MOST_WORDS as u8,
             plan: Plan::None,
             pool: false,
             progress: Progress::default(),
-        };
-        // SAFETY: the handle has no core yet. A core that has none is not dropped below.
-        match unsafe { raw::teurlaks_new(&mut core.handle, shards, pages, 1, generations) } {
-            raw::OK => Ok(core),
-            other => {
-                std::mem::forget(core);
-                Err(Refused::of(other))
-            }
+        })
+    }
+
+    /// Whether its shards are there, which come with the first call that needs them.
+    #[inline]
+    fn is_open(&self) -> bool {
+        !self.handle.at.is_null()
+    }
+
+    /// Sees to it that its shards are there.
+    #[cold]
+    fn open(&mut self) -> Result<(), Refused> {
+        if self.is_open() {
+            return Ok(());
+        }
+        let Limits {
+            shards,
+            pages,
+            generations,
+        } = self.limits;
+        // SAFETY: the handle has no core yet. One that is refused stays null.
+        done(unsafe { raw::teurlaks_new(&mut self.handle, shards, pages, 1, generations) })
+    }
+
+    /// That there is such a shard.
+    fn has_shard(&self, shard: u32) -> Result<(), Refused> {
+        if shard < self.limits.shards {
+            Ok(())
+        } else {
+            Err(Refused::Config)
         }
     }
 
@@ -172,7 +206,7 @@ impl Core {
     /// ```
     #[must_use]
     pub fn is_ended(&self, shard: u32) -> bool {
-        self.ended.get(shard as usize) == Some(&true)
+        self.ended.checked_shr(shard).unwrap_or(0) & 1 == 1
     }
 
     /// Keeps an object of one word in the shard, and gives its key, which was never given out before.
@@ -185,9 +219,20 @@ impl Core {
     /// - [`Refused::OutOfMemory`]: none of these holds, and memory was refused.
     #[inline]
     pub fn insert(&mut self, shard: u32, word: u128) -> Result<Key, Refused> {
-        // SAFETY: the handle has a core, and no other call runs.
+        // SAFETY: no other call runs.
         let put = unsafe { raw::teurlaks_put(&mut self.handle, shard, halves(word)) };
+        if put.status == raw::NO_CORE {
+            return self.insert_first(shard, word);
+        }
         self.was_put(put, 1)
+    }
+
+    /// As `insert`, where nothing was put before.
+    #[cold]
+    fn insert_first(&mut self, shard: u32, word: u128) -> Result<Key, Refused> {
+        self.has_shard(shard)?;
+        self.open()?;
+        self.insert(shard, word)
     }
 
     /// Keeps an object of 1, 4 or 16 words in the shard, and gives its key.
@@ -247,7 +292,25 @@ impl Core {
     pub(crate) unsafe fn put_words(&mut self, shard: u32, first: *const u128, len: usize) -> Result<Key, Refused> {
         // SAFETY: as in `insert`, and a word is its two halves, the lower one first.
         let put = unsafe { raw::teurlaks_put_words(&mut self.handle, shard, first.cast(), len) };
+        if put.status == raw::NO_CORE {
+            // SAFETY: as of this call.
+            return unsafe { self.put_first_words(shard, first, len) };
+        }
         self.was_put(put, len)
+    }
+
+    /// As `put_words`, where nothing was put before.
+    ///
+    /// # Safety
+    ///
+    /// As of [`Core::put_words`].
+    #[cold]
+    unsafe fn put_first_words(&mut self, shard: u32, first: *const u128, len: usize) -> Result<Key, Refused> {
+        self.has_shard(shard)?;
+        is_length_of_object(len)?;
+        self.open()?;
+        // SAFETY: as of this call.
+        unsafe { self.put_words(shard, first, len) }
     }
 
     // What a put of so many words answers, which makes a key live where it is done.
@@ -263,7 +326,7 @@ impl Core {
     #[inline]
     #[must_use]
     pub fn get(&self, key: Key) -> Option<u128> {
-        // SAFETY: the handle has a core, and no call that writes runs beside this one.
+        // SAFETY: no call that writes runs beside this one.
         let got = unsafe { raw::teurlaks_get(&self.handle, key.raw()) };
         (got.status == raw::OK).then(|| u128::from(got.value.high) << 64 | u128::from(got.value.low))
     }
@@ -305,7 +368,8 @@ impl Core {
     #[must_use]
     pub fn contains(&self, key: Key) -> bool {
         // SAFETY: as in `get`.
-        unsafe { raw::teurlaks_get(&self.handle, key.raw()).status != raw::NONE }
+        let status = unsafe { raw::teurlaks_get(&self.handle, key.raw()).status };
+        status != raw::NONE && status != raw::NO_CORE
     }
 
     /// Sets the key to an object of this word in place, and says whether it did: where the key is live and has an object of one word. The
@@ -328,7 +392,11 @@ impl Core {
     #[inline]
     pub fn set(&mut self, key: Key, word: u128) -> Result<bool, Refused> {
         // SAFETY: as in `insert`.
-        was_set(unsafe { raw::teurlaks_set(&mut self.handle, key.raw(), halves(word)) })
+        let status = unsafe { raw::teurlaks_set(&mut self.handle, key.raw(), halves(word)) };
+        if status == raw::NO_CORE {
+            return Ok(false);
+        }
+        was_set(status)
     }
 
     /// Sets the key to an object of these words, as [`Core::set`] does with one, where its object has as many.
@@ -350,7 +418,11 @@ impl Core {
     #[inline]
     pub(crate) unsafe fn set_all_words(&mut self, key: Key, first: *const u128, len: usize) -> Result<bool, Refused> {
         // SAFETY: as in `put_words`.
-        was_set(unsafe { raw::teurlaks_set_words(&mut self.handle, key.raw(), first.cast(), len) })
+        let status = unsafe { raw::teurlaks_set_words(&mut self.handle, key.raw(), first.cast(), len) };
+        if status == raw::NO_CORE {
+            return is_length_of_object(len).map(|()| false);
+        }
+        was_set(status)
     }
 
     /// Sets the key to an object of this word, and gives the one that it had, where it is live and has an object of one word; else nothing
@@ -463,12 +535,19 @@ impl Core {
         pages
     }
 
-    /// How many pages there are, and how many of them can go at most: what is live needs the
-    /// others, be each of these as full as it can be.
+    /// How many pages there are, and how many keys are live on them.
+    pub(crate) fn occupancy(&self) -> Occupancy {
+        Occupancy {
+            pages: self.pages(),
+            live: self.live,
+            slots: 256 / usize::from(self.least_words),
+        }
+    }
+
+    /// How many pages there are, and how many of them can go at most.
     pub(crate) fn pages_and_most_folds(&self) -> (usize, usize) {
-        let (pages, slots) = (self.pages(), 256 / usize::from(self.least_words));
-        let needed = self.live / slots + usize::from(self.live % slots != 0);
-        (pages, pages.saturating_sub(needed))
+        let pages = self.occupancy();
+        (pages.pages, pages.most_folds())
     }
 }
 
@@ -484,7 +563,7 @@ unsafe impl Sync for Core {}
 
 impl Drop for Core {
     fn drop(&mut self) {
-        // SAFETY: the handle has a core, and nothing uses it after.
+        // SAFETY: nothing uses the handle after.
         unsafe { raw::teurlaks_drop(&mut self.handle) }
     }
 }
@@ -522,6 +601,16 @@ fn words_of<R>(bytes: &[u8], keep: impl FnOnce(*const u128, usize) -> Result<R, 
         first.cast::<u8>().copy_from_nonoverlapping(bytes.as_ptr(), bytes.len());
     }
     keep(first, len)
+}
+
+// That an object may have so many words.
+#[cold]
+fn is_length_of_object(len: usize) -> Result<(), Refused> {
+    if matches!(len, 1 | 4 | 16) {
+        Ok(())
+    } else {
+        Err(Refused::Config)
+    }
 }
 
 // What a put answers: its key, where it was done.

@@ -12,6 +12,7 @@ mod names;
 mod raw;
 mod refused;
 pub mod shared;
+pub mod shared_slab;
 pub mod slab;
 mod spans;
 pub mod store;
@@ -30,6 +31,8 @@ pub use names::{Group, Key, ParseKeyError};
 pub use refused::{InsertError, Refused};
 #[doc(inline)]
 pub use shared::SharedStore;
+#[doc(inline)]
+pub use shared_slab::{Clear, SharedSlab};
 #[doc(inline)]
 pub use slab::Slab;
 #[doc(inline)]

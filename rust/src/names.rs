@@ -279,6 +279,14 @@ impl Span {
     pub fn number(self) -> u64 {
         self.0
     }
+
+    /// The serial number in it.
+    #[inline]
+    // It is cut out of the name.
+    #[allow(clippy::cast_possible_truncation)]
+    pub fn serial(self) -> u32 {
+        self.0 as u32
+    }
 }
 
 /// The name of a group of spans on one page: the shard that opened its head, and the head's serial number there. It is printed

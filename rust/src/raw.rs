@@ -69,6 +69,13 @@ pub struct PutReply {
 
 #[repr(C)]
 #[derive(Clone, Copy)]
+pub struct ManyReply {
+    pub status: u32,
+    pub count: usize,
+}
+
+#[repr(C)]
+#[derive(Clone, Copy)]
 pub struct GetReply {
     pub value: RawWord,
     pub status: u32,
@@ -195,6 +202,22 @@ extern "C" {
     pub fn teurlaks_set(handle: *mut Handle, key: RawKey, value: RawWord) -> u32;
     pub fn teurlaks_set_words(handle: *mut Handle, key: RawKey, words: *const RawWord, words_len: usize) -> u32;
     pub fn teurlaks_free(handle: *mut Handle, key: RawKey) -> u32;
+    pub fn teurlaks_put_many(
+        handle: *mut Handle,
+        shard: u32,
+        words: *const RawWord,
+        words_len: usize,
+        keys: *mut RawKey,
+        keys_len: usize,
+    ) -> ManyReply;
+    pub fn teurlaks_free_many(handle: *mut Handle, keys: *const RawKey, keys_len: usize) -> ManyReply;
+    pub fn teurlaks_get_many(
+        handle: *const Handle,
+        keys: *const RawKey,
+        keys_len: usize,
+        replies: *mut GetReply,
+        replies_len: usize,
+    ) -> ManyReply;
     pub fn teurlaks_next(handle: *const Handle, after: RawKey) -> NextReply;
     pub fn teurlaks_totals(handle: *const Handle) -> TotalsReply;
     pub fn teurlaks_key_bits(shards: u32, spans: u32, generations: u32) -> KeyBitsReply;

@@ -1,6 +1,6 @@
 //! Plain values that threads share.
 
-mod homes;
+pub(crate) mod homes;
 mod iter;
 mod shard;
 
@@ -77,6 +77,9 @@ pub struct SharedStore<T> {
     at: Mutex<At>,
 }
 
+/// How many pages a shard has if it leaves the next ones to another shard at the end of its turn.
+const LARGE: usize = 512;
+
 /// Where a compaction by a budget is: in the shard of this number.
 #[derive(Default)]
 struct At {
@@ -131,12 +134,22 @@ impl<T: Copy> SharedStore<T> {
         match self.insert_in(home.shard(), value) {
             Ok(key) => {
                 if ends_turn(key) {
-                    home.move_on();
+                    self.move_on_if_large(home);
                 }
                 Ok(key)
             }
             Err(Refused::PagesSpent) => self.insert_beyond(home, value),
             refused => refused,
+        }
+    }
+
+    /// Leaves a shard that has many pages. One that opened as many in its life and gave them back
+    /// goes on, since a core that gets no more values keeps some memory for ever.
+    #[cold]
+    fn move_on_if_large(&self, home: Home<'_>) {
+        let shard = &self.shards[usize::from(home.shard())];
+        if shard.pages() >= LARGE {
+            home.move_on();
         }
     }
 

@@ -72,7 +72,7 @@ impl<T> Slab<T> {
     ///
     /// # Errors
     ///
-    /// [`Refused::OutOfMemory`] where memory was refused.
+    /// None: it takes no memory until its first value.
     pub fn new() -> Result<Slab<T>, Refused> {
         let mut slab = Slab::with_limits(Limits {
             shards: SHARDS,
@@ -82,11 +82,11 @@ impl<T> Slab<T> {
         Ok(slab)
     }
 
-    /// A slab of these limits.
+    /// A slab of these limits. It takes no memory until its first value.
     ///
     /// # Errors
     ///
-    /// [`Refused::Config`] exactly where a number is out of its range, and [`Refused::OutOfMemory`] where memory was refused.
+    /// [`Refused::Config`] exactly where a number is out of its range.
     pub fn with_limits(limits: Limits) -> Result<Slab<T>, Refused> {
         Ok(Slab {
             core: Core::new(limits)?,
@@ -405,6 +405,29 @@ impl<T> Slab<T> {
         self.values.get_mut(key)
     }
 
+    /// The value of a live key, of which nothing is asked but that.
+    ///
+    /// # Safety
+    ///
+    /// The key is live.
+    #[inline]
+    #[must_use]
+    pub unsafe fn get_unchecked(&self, key: Key) -> &T {
+        // SAFETY: as of this call.
+        unsafe { self.values.get_unchecked(key).as_ref() }
+    }
+
+    /// The value of a live key, to be changed, of which nothing is asked but that.
+    ///
+    /// # Safety
+    ///
+    /// The key is live.
+    #[inline]
+    pub unsafe fn get_unchecked_mut(&mut self, key: Key) -> &mut T {
+        // SAFETY: as of this call, and nothing else is lent meanwhile.
+        unsafe { self.values.get_unchecked(key).as_mut() }
+    }
+
     /// The values of these keys, to be changed, in their order: `None` where one is not live, or two are the same.
     ///
     /// ```
@@ -636,12 +659,9 @@ impl<T> Slab<T> {
     /// with it. Every key stays valid, and all groups are in shards afterwards, also those that an
     /// end or a retirement had left to the pool.
     ///
-    /// It goes by rounds, as [`Core::compact`] does: in each the pages with the fewest values go to
-    /// the pool, up to half of all and up to 4,096; as many as can be are folded onto others, and
-    /// the shards adopt the rest in turn; if that gave an eighth of them back, there is another
-    /// round. Only pages are retired whose values fit on some other page by their number, so
-    /// nothing is retired or planned if no two pages have as few values together as one has slots.
-    /// At which slots values are is seen by the plan alone.
+    /// It goes by rounds, as [`Core::compact`] does, but only pages are retired whose values fit on
+    /// some other page by their number. So nothing is retired or planned if no two pages have as few
+    /// values together as one has slots. At which slots values are is seen by the plan alone.
     ///
     /// Each fold copies the values of a page, and a plan looks at each pair of up to 4,096 pages on
     /// each side, those with the fewest values. A page that is folded takes no value of its own any
@@ -738,12 +758,8 @@ impl<T> Compact for Slab<T> {
 
 impl<T> Default for Slab<T> {
     /// A slab as of [`Slab::new`].
-    ///
-    /// # Panics
-    ///
-    /// Where memory is refused.
     fn default() -> Slab<T> {
-        Slab::new().expect("there is memory for a slab with no value")
+        Slab::new().expect("the limits are in range")
     }
 }
 

@@ -7,7 +7,8 @@ use crate::values::Block;
 /// Where the values of a span are.
 #[derive(Clone, Copy)]
 pub(crate) struct Home {
-    span: Span,
+    /// Whose home it is.
+    pub span: Span,
     /// The block of its page.
     pub block: Block,
     /// The number of its page.
@@ -67,7 +68,7 @@ impl Spans {
         if additional <= self.room {
             return Ok(());
         }
-        let spans = self.places.len() / 2 - self.room;
+        let spans = self.len();
         let len = (2 * (spans + additional)).next_power_of_two().max(LEAST_PLACES);
         // A number has 32 bits.
         if len / 2 > u32::MAX as usize {
@@ -107,6 +108,11 @@ impl Spans {
         }
         let place = self.place_of(span)?;
         self.places[place].as_mut()
+    }
+
+    /// How many homes there are.
+    pub fn len(&self) -> usize {
+        self.places.len() / 2 - self.room
     }
 
     /// All homes.

@@ -75,7 +75,7 @@ impl<T: Copy> Store<T> {
     ///
     /// # Errors
     ///
-    /// [`Refused::OutOfMemory`] where memory was refused.
+    /// None: it takes no memory until its first value.
     pub fn new() -> Result<Store<T>, Refused> {
         let mut store = Store::with_limits(Limits {
             shards: SHARDS,
@@ -85,11 +85,11 @@ impl<T: Copy> Store<T> {
         Ok(store)
     }
 
-    /// A store of these limits.
+    /// A store of these limits. It takes no memory until its first value.
     ///
     /// # Errors
     ///
-    /// [`Refused::Config`] exactly where a number is out of its range, and [`Refused::OutOfMemory`] where memory was refused.
+    /// [`Refused::Config`] exactly where a number is out of its range.
     pub fn with_limits(limits: Limits) -> Result<Store<T>, Refused> {
         let () = Self::FITS;
         Ok(Store {
@@ -106,8 +106,7 @@ impl<T: Copy> Store<T> {
     /// # Errors
     ///
     /// [`Refused::Config`] where 64 shards are too few: for more than 17,179,869,184 values,
-    /// 4,294,967,296 of more than 16 bytes, or 1,073,741,824 of more than 64;
-    /// [`Refused::OutOfMemory`] where memory was refused.
+    /// 4,294,967,296 of more than 16 bytes, or 1,073,741,824 of more than 64.
     pub fn with_capacity(capacity: usize) -> Result<Store<T>, Refused> {
         let limits = Limits::default();
         let of_a_shard = limits.pages as usize * Self::SLOTS;
@@ -451,12 +450,8 @@ impl<T: Copy> FromIterator<T> for Store<T> {
 
 impl<T: Copy> Default for Store<T> {
     /// A store as of [`Store::new`].
-    ///
-    /// # Panics
-    ///
-    /// Where memory is refused.
     fn default() -> Store<T> {
-        Store::new().expect("there is memory for a store with no value")
+        Store::new().expect("the limits are in range")
     }
 }
 

@@ -96,10 +96,10 @@ impl Walk {
 
 impl<T> Values<T> {
     /// Whether a value stands in a block of its own.
-    const APART: bool = size_of::<T>() > MOST_BYTES || size_of::<T>() > 0 && align_of::<T>() > MOST_ALIGN;
+    pub const APART: bool = size_of::<T>() > MOST_BYTES || size_of::<T>() > 0 && align_of::<T>() > MOST_ALIGN;
 
     /// What stands at a slot of a page: the value, or where it is.
-    const STORED: Layout = if Self::APART {
+    pub const STORED: Layout = if Self::APART {
         Layout::new::<*mut T>()
     } else {
         Layout::new::<T>()
@@ -235,6 +235,18 @@ impl<T> Values<T> {
         let (home, slot) = self.find(key)?;
         // SAFETY: as in `get`, and nothing else is lent meanwhile.
         Some(unsafe { home.block.value::<T>(slot).as_mut() })
+    }
+
+    /// Where the value of the key is.
+    ///
+    /// # Safety
+    ///
+    /// The key has a value.
+    #[inline]
+    pub unsafe fn get_unchecked(&self, key: Key) -> NonNull<T> {
+        // SAFETY: a span that has a value has a home.
+        let home = unsafe { self.spans.find(key.span()).unwrap_unchecked() };
+        home.block.value::<T>(slot_of(key))
     }
 
     /// The values of the keys, to be changed, where each has one and no two are the same.
@@ -646,6 +658,17 @@ impl Page {
 impl Block {
     /// Of a page that there is not.
     pub(crate) const NOWHERE: Block = Block(NonNull::dangling());
+
+    /// The block at this address.
+    pub(crate) fn at(address: NonNull<u8>) -> Block {
+        Block(address)
+    }
+
+    /// Where it is.
+    #[inline]
+    pub(crate) fn address(self) -> NonNull<u8> {
+        self.0
+    }
 
     // SAFETY, of all below: the block of a home, and of a page on which spans have values, has `BLOCK_BYTES` bytes, of zeros at first, and a slot is one
     // below `SLOTS`.

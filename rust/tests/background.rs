@@ -15,11 +15,11 @@ const SOON: Policy = Policy {
     least_percent: 25,
 };
 
-/// Waits until it is so, a minute at most.
+/// Waits until it is so, four minutes at most: valgrind on a busy machine takes some.
 fn waits_until(mut is_so: impl FnMut() -> bool) {
     let begun = Instant::now();
     while !is_so() {
-        assert!(begun.elapsed() < Duration::from_secs(60), "it waits for ever");
+        assert!(begun.elapsed() < Duration::from_secs(240), "it waits for ever");
         thread::sleep(Duration::from_millis(1));
     }
 }
@@ -84,9 +84,24 @@ fn sleeps_where_nothing_pays() {
         assert!(store.free(*key));
     }
     waits_until(|| store.pages() < 20);
-    // It counts a page after the page is gone.
-    waits_until(|| background.pages() > 180);
     assert!(format!("{background:?}").starts_with("Background { pages: "));
+}
+
+/// It counts each page that it gives back, after the page is gone.
+#[test]
+fn counts_pages() {
+    let limits = Limits {
+        shards: 1,
+        ..Limits::default()
+    };
+    let store = Arc::new(SharedStore::<u64>::with_limits(limits).unwrap());
+    let keys: Vec<_> = (0..51_200).map(|n| store.insert(n).unwrap()).collect();
+    for key in &keys[2560..] {
+        assert!(store.free(*key));
+    }
+    let background = store.compact_in_background(SOON).unwrap();
+    waits_until(|| background.pages() >= 190);
+    assert_eq!((background.pages(), store.pages()), (190, 10));
 }
 
 /// A drop ends the thread, in whatever it is.

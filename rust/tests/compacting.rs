@@ -3,7 +3,7 @@
 mod common;
 
 use common::Random;
-use std::collections::HashMap;
+use std::collections::{BTreeSet, HashMap};
 use teurlaks::{Arena, Compacted, Core, Key, Limits, Refused, SharedStore, Slab, Stepped, Store};
 
 const BUDGETS: [usize; 6] = [1, 2, 7, 16, 100, usize::MAX];
@@ -296,6 +296,70 @@ fn full_pages_stay() -> Result<(), Refused> {
     }
     let pages = core.pages();
     assert_eq!((core.compact()?, core.pages(), core.retire(1, 1)), (0, pages, Ok(0)));
+    assert_eq!((slab.certificate()?, core.certificate()?), (None, None)); // nothing was planned
+    Ok(())
+}
+
+/// As few pages stay as can be expected: several are folded onto each, and not pair by pair alone.
+#[test]
+fn few_pages_stay() -> Result<(), Refused> {
+    for (one_in, percent) in [(20, 13), (10, 24), (6, 41)] {
+        let (mut core, stay) = sparse::<Core>(60_000, one_in)?;
+        let before = core.pages();
+        core.compact()?;
+        let after = core.pages();
+        assert!(after * 100 <= before * percent, "one in {one_in}: {after} of {before}");
+        finds_all(&core, &stay);
+    }
+    Ok(())
+}
+
+/// Pages that only fit others of their own half by heads are found by rounds that divide them
+/// elsewhere.
+#[test]
+fn halves_differ() -> Result<(), Refused> {
+    const PAGES: usize = 600;
+    // A page of each quarter fits those of one other quarter alone.
+    const OCCUPIED: [[usize; 2]; 4] = [[0, 2], [1, 3], [0, 1], [2, 3]];
+    let mut core = Core::new(Limits::default())?;
+    let keys = (0..PAGES * 16)
+        .map(|place| core.insert_words(0, &[place as u128; 16]))
+        .collect::<Result<Vec<_>, _>>()?;
+    for (place, key) in keys.iter().enumerate() {
+        if !OCCUPIED[place / 16 * 4 / PAGES].contains(&(place % 16)) {
+            core.free(*key);
+        }
+    }
+    core.compact()?;
+    assert!(core.pages() <= PAGES * 5 / 8, "{} of {PAGES}", core.pages());
+    Ok(())
+}
+
+/// Each call retires, adopts and folds at most as many groups as its budget says.
+#[test]
+fn budgets_are_kept() -> Result<(), Refused> {
+    for budget in [1, 5, 40] {
+        let (mut core, _) = sparse::<Core>(30_000, 10)?;
+        let (mut pages, mut pool) = (core.pages(), Some(0));
+        loop {
+            let done = core.compact_within(budget)?;
+            assert_eq!(pages - core.pages(), done.pages);
+            // How many groups the pool has is seen while no plan of the compaction is open.
+            let now = core.mark_some().ok().map(|marked| marked.abandoned);
+            if now.is_some() {
+                core.close()?;
+            }
+            if let (Some(before), Some(now)) = (pool, now) {
+                let moved = usize::abs_diff(before, now);
+                assert!(moved <= budget, "{moved} groups by a budget of {budget}");
+            }
+            (pages, pool) = (core.pages(), now);
+            if !done.more {
+                break;
+            }
+        }
+        assert_eq!(pool, Some(0));
+    }
     Ok(())
 }
 
@@ -428,5 +492,27 @@ fn shards_take_turns() -> Result<(), Refused> {
     assert!(of_shared.iter().filter(|count| **count > 0).count() >= 4);
     // Each of five shards has one page more than its turn has, with one value.
     assert_eq!((slab.pages(), store.pages()), (321, 5 * (PAGES + 1) + 10));
+    Ok(())
+}
+
+/// A shard of a shared store that folds its pages keeps its turn, however many it opens in its
+/// life: a core to which no value comes any more would keep its memory.
+#[test]
+fn a_shard_that_folds_keeps_its_turn() -> Result<(), Refused> {
+    let store = SharedStore::new()?;
+    let mut random = Random(88_172_645_463_325_252);
+    let mut round = || -> Result<BTreeSet<u32>, Refused> {
+        let keys: Vec<_> = (0..16 * 400).map(|n| store.insert([n; 30])).collect::<Result<_, _>>()?;
+        store.retain(|_, _| random.below(20) == 0);
+        store.compact()?;
+        Ok(keys.iter().map(|key| key.shard()).collect())
+    };
+    let first = round()?;
+    for _ in 0..30 {
+        assert_eq!(round()?, first);
+    }
+    // Each has opened more pages than a turn has.
+    let last = store.insert([0; 30])?;
+    assert!(last.serial() > 1024, "{last}");
     Ok(())
 }

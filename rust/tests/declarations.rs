@@ -219,6 +219,7 @@ fn exported() -> Declarations {
         "walks",
         "stewards",
         "leaving",
+        "many",
         "places",
         "key_numbers",
         "recorded_stewards",
@@ -229,8 +230,8 @@ fn exported() -> Declarations {
             &mut declarations,
         );
     }
-    assert_eq!(declarations.functions.len(), 56);
-    assert_eq!(declarations.structs.len(), 25);
+    assert_eq!(declarations.functions.len(), 59);
+    assert_eq!(declarations.structs.len(), 26);
     for name in READING {
         let (params, _) = declarations.functions.get_mut(name).expect("an export");
         params[0].1 = "*const Handle".into();
@@ -240,9 +241,10 @@ fn exported() -> Declarations {
 
 /// The calls that only read a core. The exports of Rattle declare `&mut Handle` for each; Rust and C
 /// declare it as a pointer through which nothing is written.
-const READING: [&str; 5] = [
+const READING: [&str; 6] = [
     "teurlaks_get",
     "teurlaks_get_words",
+    "teurlaks_get_many",
     "teurlaks_next",
     "teurlaks_totals",
     "teurlaks_certificate",

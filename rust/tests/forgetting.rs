@@ -20,6 +20,21 @@ fn rounds() -> usize {
     asked.unwrap_or(20)
 }
 
+#[cfg(target_env = "gnu")]
+extern "C" {
+    fn malloc_trim(pad: usize) -> i32;
+}
+
+/// Asks malloc to hand back to the system what it keeps free. That grows for some hundred rounds,
+/// and says nothing of the store.
+fn hand_back_what_is_free() {
+    #[cfg(target_env = "gnu")]
+    // SAFETY: it takes a number, and moves no block that is in use.
+    unsafe {
+        malloc_trim(0);
+    }
+}
+
 /// Does so many rounds, and holds what is resident after the last one against what was after the
 /// one in which it had settled.
 fn stays_flat<R>(name: &str, mut round: R) -> Result<(), Refused>
@@ -31,6 +46,7 @@ where
     let mut resident = Vec::new();
     for _ in 0..rounds() {
         round(&mut random)?;
+        hand_back_what_is_free();
         resident.push(kilobytes("VmRSS:").saturating_sub(base));
     }
     println!("{name}: {resident:?} KB");

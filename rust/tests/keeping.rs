@@ -356,7 +356,8 @@ fn beside_each_other(threads: usize, lanes: u32, calls: usize) {
             .map(|seat| scope.spawn(move || work(seat)))
             .collect();
         while !workers.iter().all(|worker| worker.is_finished()) {
-            assert!(arena.totals().pages > 0 || arena.totals().live == 0);
+            let totals = arena.totals();
+            assert!(totals.pages > 0 || totals.live == 0);
             arena.mesh().unwrap();
             thread::sleep(Duration::from_millis(1));
         }

@@ -24,7 +24,7 @@ const SERIALS: u64 = 1 << 32;
 const NO_HINT: u64 = 0;
 
 /// Where a span may be.
-#[derive(Clone, Copy, PartialEq, Eq, Debug)]
+#[derive(Clone, Copy, PartialEq, Eq)]
 pub(crate) enum Place {
     /// Nowhere, for now or for good: it was not opened yet, or it was forgotten.
     Nowhere,
@@ -35,7 +35,7 @@ pub(crate) enum Place {
 }
 
 /// What a word says: in which place the span of the serial may be.
-#[derive(Clone, Copy, PartialEq, Eq, Debug)]
+#[derive(Clone, Copy)]
 pub(crate) struct Hint {
     pub(crate) serial: u32,
     pub(crate) place: Place,

@@ -6,6 +6,7 @@ pub mod Entries
 pub mod FieldSteps
 pub mod Fields
 pub mod FieldsKept
+pub mod FilledLists
 pub mod Flagged
 pub mod ForgottenSpans
 pub mod Groups

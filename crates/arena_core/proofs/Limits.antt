@@ -38,6 +38,7 @@ limits-CoreStep old new (Set key value) (Refused OutOfMemory) step = limits-same
 limits-CoreStep old new (Free key) (Freed freed) step = limits-FreesKey old new key freed step
 limits-CoreStep old new (Later worker key) Sent step = ap (λ (c : CoreState). c.limits) step.rest
 limits-CoreStep old new (Later worker key) (Refused RingFull) step = limits-same old new step.1
+limits-CoreStep old new (Later worker key) (Refused OutOfMemory) step = limits-same old new step.1
 limits-CoreStep old new (Later worker key) (Refused Config) step = limits-same old new step.1
 limits-CoreStep old new (Settle worker shard) (Settled (Some key)) step = limits-FreesKey
     (with_rings old (with_ring_at old.rings worker shard (with_keys step.ring step.left))) new key step.freed step.frees

@@ -5,7 +5,7 @@ use Rattle.span.specs.declared.key.Key.{Key}
 use Rattle.span.specs.PlainMap.{with_pending}
 use Rattle.arena_core.specs.declared.event.Event.TheVariants.{Free, Later, Settle}
 use Rattle.arena_core.specs.declared.reply.Refusal.{Refusal}
-use Rattle.arena_core.specs.declared.reply.Refusal.TheVariants.{Config, RingFull}
+use Rattle.arena_core.specs.declared.reply.Refusal.TheVariants.{Config, OutOfMemory, RingFull}
 use Rattle.arena_core.specs.declared.reply.Reply.TheVariants as reply
 use Rattle.arena_core.specs.Plain.{IsOutside, Loses, PlainStep}
 use Rattle.arena_core.specs.Rings.{CannotSend, RingState, Sends, Takes, keys_of, pending_at, ring_at, with_keys, with_ring_at}
@@ -55,10 +55,17 @@ module _ (old : CoreState) (sound : IsSound old) (worker : ℕ) (key : Key) wher
         exact = ((ring, here, full ∙ fine.0), refl);
         plain = (ap length (pending-here old.rings worker key.span.shard ring here) ∙ full ∙ fine.0, refl);
       }
+  unsent OutOfMemory (ring, here, room) =
+      let fine = sound.rings.each worker key.span.shard ring here in
+      record {
+        kept = sound;
+        exact = ((ring, here, omega (arith, room, fine.0)), refl);
+        plain = (omega (arith, room, fine.0, ap length (pending-here old.rings worker key.span.shard ring here)), refl);
+      }
   unsent Config none =
       let outside = IsOutside-none old.limits old.rings worker key.span.shard sound.rings none in
       record { kept = sound; exact = (outside, refl); plain = (outside, refl) }
-  unsent refusal never = absurd never
+  unsent refusal (ring, here, never) = absurd never
 
   pub IsSent-later : (answer : Result (Unit {0}) Refusal) (rings : List (List RingState))
       → MatchResult answer (λ done. Sends old.rings worker key rings) (λ refusal. CannotSend refusal old.rings worker key.span.shard × (rings ≡ old.rings))

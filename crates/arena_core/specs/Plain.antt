@@ -36,6 +36,7 @@ PlainStep limits old (Free key) (Freed freed) new = Loses old key freed new
 PlainStep limits old (Later worker key) Sent new = (length (old.pending worker key.span.shard) < limits.ring_capacity)
     × (new ≡ with_pending old worker key.span.shard (old.pending worker key.span.shard ++ key ∷ []))
 PlainStep limits old (Later worker key) (Refused RingFull) new = (length (old.pending worker key.span.shard) ≡ limits.ring_capacity) × (new ≡ old)
+PlainStep limits old (Later worker key) (Refused OutOfMemory) new = (length (old.pending worker key.span.shard) < limits.ring_capacity) × (new ≡ old)
 PlainStep limits old (Later worker key) (Refused Config) new = IsOutside limits worker key.span.shard × (new ≡ old)
 -- the front key leaves the list and, where it is there, the map
 PlainStep limits old (Settle worker shard) (Settled (Some key)) new = (rest : List Key) × (freed : Bool) × (old.pending worker shard ≡ key ∷ rest)

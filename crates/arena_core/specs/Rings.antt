@@ -2,7 +2,7 @@
 use Rattle.std.specs.Prelude.{◌≡◌, ℕ, ◌<◌, List, [], ◌∷◌, ◌++◌, length, replicate, slice_get, slice_set, slice_index_or, Option, Some, None}
 use Rattle.span.specs.declared.key.Key.{Key}
 use Rattle.arena_core.specs.declared.reply.Refusal.{Refusal}
-use Rattle.arena_core.specs.declared.reply.Refusal.TheVariants.{RingFull, Config}
+use Rattle.arena_core.specs.declared.reply.Refusal.TheVariants.{OutOfMemory, RingFull, Config}
 
 -- a ring: how many keys it holds at most, and the keys that wait in it, the oldest first
 pub record RingState : Type 0 where
@@ -50,11 +50,16 @@ pub record Sends (old : List (List RingState)) (worker : ℕ) (key : Key) (new :
   pub room : length ring.keys < ring.capacity
   pub after : new ≡ with_ring_at old worker key.span.shard (with_keys ring (ring.keys ++ key ∷ []))
 
--- why a key is not sent: its ring holds as many keys as it may, or there is no such ring
+-- why a ring takes no key: it holds as many keys as it may, or it has room, and memory for its keys was refused
+abbrev pub CannotEnter : Refusal → RingState → Type 0
+CannotEnter RingFull ring = length ring.keys ≡ ring.capacity
+CannotEnter OutOfMemory ring = length ring.keys < ring.capacity
+CannotEnter refusal ring = ⊥
+
+-- why a key is not sent: its ring takes none, or there is no such ring
 abbrev pub CannotSend : Refusal → List (List RingState) → ℕ → ℕ → Type 0
-CannotSend RingFull rings worker shard = (ring : RingState) × (ring_at rings worker shard ≡ Some ring) × (length ring.keys ≡ ring.capacity)
 CannotSend Config rings worker shard = ring_at rings worker shard ≡ None
-CannotSend refusal rings worker shard = ⊥
+CannotSend refusal rings worker shard = (ring : RingState) × (ring_at rings worker shard ≡ Some ring) × CannotEnter refusal ring
 
 -- the oldest key leaves the ring from this worker to this shard, if one waits there
 abbrev pub Takes : List (List RingState) → ℕ → ℕ → Option Key → List (List RingState) → Type 0

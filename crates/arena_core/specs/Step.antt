@@ -155,6 +155,10 @@ pub record SendsKey (old : CoreState) (worker : ℕ) (key : Key) (new : CoreStat
 abbrev pub HasFullRing : CoreState → ℕ → ℕ → Type 0
 HasFullRing core worker shard = (ring : RingState) × (ring_at core.rings worker shard ≡ Some ring) × (length ring.keys ≡ core.limits.ring_capacity)
 
+-- the ring from this worker to this shard has room for a key
+abbrev pub HasRoomInRing : CoreState → ℕ → ℕ → Type 0
+HasRoomInRing core worker shard = (ring : RingState) × (ring_at core.rings worker shard ≡ Some ring) × (length ring.keys < core.limits.ring_capacity)
+
 -- the oldest key leaves the ring from the worker to the shard, and is freed wherever its span then is, if it is live
 pub record Settles (old : CoreState) (worker shard : ℕ) (key : Key) (new : CoreState) : Type 0 where
   pub ring : RingState
@@ -288,6 +292,7 @@ CoreStep old (Set key value) (Refused OutOfMemory) new = (may_set (shown old) ke
 CoreStep old (Free key) (Freed freed) new = FreesKey old key freed new
 CoreStep old (Later worker key) Sent new = SendsKey old worker key new
 CoreStep old (Later worker key) (Refused RingFull) new = HasFullRing old worker key.span.shard × (new ≡ old)
+CoreStep old (Later worker key) (Refused OutOfMemory) new = HasRoomInRing old worker key.span.shard × (new ≡ old)
 CoreStep old (Later worker key) (Refused Config) new = IsOutside old.limits worker key.span.shard × (new ≡ old)
 CoreStep old (Settle worker shard) (Settled (Some key)) new = Settles old worker shard key new
 CoreStep old (Settle worker shard) (Settled None) new = HasEmptyRing old worker shard × (new ≡ old)

@@ -2,7 +2,7 @@
 use span::{Key, Object};
 
 /// One call on the core: what it is asked.
-#[derive(Clone, Copy, PartialEq, Eq, Debug)]
+#[derive(Clone, Copy, Debug)]
 pub enum Event {
     /// Keep the object in the shard of this number, from 0 on.
     Put { shard: u32, value: Object },

@@ -72,7 +72,7 @@ impl Core<Kept> {
     /// A core of `shards` new shards, numbered from 0 on, and an empty pool. A shard may have `page_limit` pages of
     /// 4,096 bytes, and may open as many spans as there are serials; [`Core::with_limits`] takes another number. A slot is given
     /// the generations from 1 to `gens`. From each of as many workers as shards there is a ring to each shard, which holds
-    /// `ring_capacity` keys of deferred frees; its room is made here.
+    /// `ring_capacity` keys of deferred frees; its room is made with its first key.
     ///
     /// [`CoreError::Config`] comes exactly where a number is out of its range, which is 1 to 64
     /// shards, 1 to 1,048,576 pages, 1 to 1,024 entries, and from 1 generation on;
@@ -134,7 +134,7 @@ impl<L: Log> Core<L> {
         let count = limits.shards();
         let ring_capacity = limits.ring_capacity();
         let plan = CurrentPlan::new(alloc)?;
-        let rings = Rings::new(alloc, count, ring_capacity)?;
+        let rings = Rings::new(alloc, count, ring_capacity);
         let shards = new_shards(alloc, limits)?;
         let forgotten = Forgotten::new();
         Ok(Core {
@@ -168,9 +168,10 @@ impl<L: Log> Core<L> {
     /// | [`Refusal::Config`] | there is no such shard | | there is no such shard | there is no such shard | there is no such shard | there is no such shard | there is no such shard | | |
     /// | [`Refusal::OutOfMemory`] | an allocation was refused | an allocation was refused | an allocation was refused | | an allocation was refused | | an allocation was refused | an allocation was refused | an allocation was refused; the pair stays next |
     ///
-    /// A look-up, a free and a close are never refused, and take no memory. A set is refused only in place of a yes. A begin, a deferred
-    /// free and a settling take no memory either: [`Refusal::RingFull`] comes exactly where the ring of the deferred free holds
-    /// as many keys as it may, and [`Refusal::Config`] exactly where there is no such worker or shard.
+    /// A look-up, a free and a close are never refused, and take no memory. A set is refused only in place of a yes. A begin and a
+    /// settling take no memory either. Of a deferred free, [`Refusal::RingFull`] comes exactly where its ring holds as many keys as
+    /// it may, [`Refusal::Config`] exactly where there is no such worker or shard, and [`Refusal::OutOfMemory`] only where neither
+    /// holds. The first key of a ring takes the memory for all that the ring holds, and no later one takes any.
     ///
     /// A mark that is not refused plans as many folds as can be, and shows it: no plan of what stands has more pairs. A mark of some
     /// ([`Event::MarkSome`]) sees at most 4,096 groups of each side, those with the fewest live slots, and no plan of these has more pairs;

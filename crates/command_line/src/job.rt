@@ -16,7 +16,7 @@ mod help;
 use help::{CHECK_HELP, PROGRAM_HELP, RUN_HELP, VERSION};
 
 /// What the program is asked to do.
-#[derive(Clone, Copy, Debug, PartialEq, Eq)]
+#[derive(Clone, Copy)]
 pub enum Job<'a> {
     /// `run [TRACE] [--serial] [--replies] [--certificate FILE]`: replay a trace and write its report.
     Run {

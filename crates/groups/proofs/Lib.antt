@@ -19,6 +19,7 @@ pub mod LiveCounts
 pub mod Logged
 pub mod Logs
 pub mod Maps
+pub mod NoneLive
 pub mod Places
 pub mod PutGroups
 pub mod Ranks

@@ -10,10 +10,13 @@ use span::{Key, Log, Span, SpanId};
 
 impl<L: Log> Spans<L> {
     /// The first live key of its spans from this id on, by ids and then by slots. It takes no
-    /// memory.
+    /// memory, and looks at no span where none of their slots is live.
     pub fn first_live(&self, from: SpanId) -> Option<Key>
         ensures { IsFirstAmong (all_spans self.now) (rank from) result }
     {
+        if self.live() == 0 {
+            return None;
+        }
         let low = from.rank();
         let mut first: Option<Key> = None;
         for place in 0..self.len() {

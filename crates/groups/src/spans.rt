@@ -102,8 +102,8 @@ impl<L: Log> Spans<L> {
         Ok(())
     }
 
-    /// Takes the other spans in as its last guests, in a list with room for all its guests. The list that they
-    /// stood in before is given for it, with none. No slot is live on both sides. It takes no memory.
+    /// Takes the other spans in as its last guests. If its own list has no room for them, all its guests move to the list that
+    /// is given, which has, and that is given its own list, with none. No slot is live on both sides. It takes no memory.
     pub fn take_guests(&mut self, spans: Spans<L>, room: &mut Vec<Span<L>>)
         requires apart { AreDisjoint (union_of (all_spans self.old)) (union_of (all_spans spans)) }
         requires none { room.old.items ≡ [] }
@@ -412,8 +412,8 @@ fn push_log(logs: &mut Vec<SpanLog>, span: Span<Kept>)
     logs.push_reserved(span.into_log());
 }
 
-// Moves the head and the others after the guests, all of them into the list with room for them. The lists change
-// places, so that the one with room has none afterwards.
+// Moves the head and the others after the guests. If their list has no room left, all move into the one that has, and the lists
+// change places, so that the one with room has none afterwards.
 fn append_all<L: Log>(
     guests: &mut Vec<Span<L>>,
     room: &mut Vec<Span<L>>,
@@ -425,6 +425,11 @@ fn append_all<L: Log>(
     ensures guests { guests.new.items ≡ guests.old.items ++ head ∷ others.items }
     ensures none { room.new.items ≡ [] }
 {
+    if others.len() < guests.capacity() - guests.len() {
+        guests.push_reserved(head);
+        append_reserved(guests, &mut others);
+        return;
+    }
     append_reserved(room, guests);
     room.push_reserved(head);
     append_reserved(room, &mut others);

@@ -1,9 +1,11 @@
 //! Replays by threads.
 use arena::Gate;
 use std::alloc::Global;
+use std::hint::spin_loop;
+use std::sync::Wait;
 use std::sync::atomic::{AtomicBool, Ordering};
 use std::test::Fail;
-use std::thread;
+use std::thread::Threads;
 use thread_runner::replay_gated;
 use trace_runner::Memory;
 
@@ -36,17 +38,17 @@ impl Visit {
         }
     }
 
-    /// Waits, where this is the shard's first call, for the other's to be inside too, for a while.
+    /// Waits, where this is the shard's first call, for the other's to be inside too, for some seconds of a processor.
     fn meet(&self, other: &Visit) {
         if self.inside.swap(true, Ordering::SeqCst) {
             return;
         }
-        for _ in 0..1_000_000 {
+        for _ in 0..100_000_000 {
             if other.inside.load(Ordering::SeqCst) {
                 self.met.store(true, Ordering::SeqCst);
                 return;
             }
-            thread::yield_now();
+            spin_loop();
         }
     }
 }
@@ -85,27 +87,39 @@ fn threads_run_side_by_side(rt: HostRuntime) -> Result<(), Fail> {
     Ok(())
 }
 
-/// Each call on shard 2 takes its time.
+/// Each call on shard 2 takes its time, in which it has a processor.
 #[derive(Drop)]
 struct Dawdle;
 
 impl Gate for Dawdle {
     fn inside(&self, shard: u32) {
         if shard == 2 {
-            for _ in 0..1_000_000 {
-                thread::yield_now();
+            for _ in 0..10_000_000 {
+                spin_loop();
             }
         }
     }
 }
 
-#[test]
-fn steps_are_taken_beside_threads(rt: HostRuntime) -> Result<(), Fail> {
-    let alloc: Global = rt.alloc();
+/// Whether the step came before the free.
+fn is_taken_beside<R: Threads + Wait + Sync>(rt: &R, alloc: Global) -> Result<bool, Fail> {
     let mut out = Memory::new(alloc);
     let mut cert = Vec::new(alloc);
     let text = STEP_BESIDE_A_FREE;
-    replay_gated(&rt, alloc, Dawdle, text, true, &mut out, &mut cert)?;
-    assert_eq!(rt; out.bytes.as_slice(), STEP_BESIDE_A_FREE_REPORT);
+    replay_gated(rt, alloc, Dawdle, text, true, &mut out, &mut cert)?;
+    Ok(out.bytes.as_slice() == STEP_BESIDE_A_FREE_REPORT)
+}
+
+#[test]
+fn steps_are_taken_beside_threads(rt: HostRuntime) -> Result<(), Fail> {
+    // The thread of the steps may come late to a processor: then once more.
+    let mut is_beside = false;
+    for _ in 0..20 {
+        if is_taken_beside(&rt, rt.alloc())? {
+            is_beside = true;
+            break;
+        }
+    }
+    assert!(rt; is_beside);
     Ok(())
 }

@@ -31,7 +31,7 @@ key_cmp a b = ordering_then (nat_cmp a.0 b.0) (nat_cmp a.1 b.1)
 key_total : IsTotalOrder key_cmp
 key_total = then_total (on_total (λ (k : ℕ × ℕ). k.0) nat_cmp_total) (on_total (λ (k : ℕ × ℕ). k.1) nat_cmp_total)
 
-in_order : (a b c d : ℕ) → is_lt (ordering_then (nat_cmp b a) (nat_cmp d c)) ≡ false → (a < b) ⊎ ((a ≡ b) × (c ≤ d))
+pub in_order : (a b c d : ℕ) → is_lt (ordering_then (nat_cmp b a) (nat_cmp d c)) ≡ false → (a < b) ⊎ ((a ≡ b) × (c ≤ d))
 in_order a b c d h = by_ranked (b < a) (b ≡ a) (a < b) (nat_cmp b a) (ranked b a _ refl)
     (λ e less. absurd (true≢false (sym (ap (λ o. is_lt (ordering_then o (nat_cmp d c))) e) ∙ h)))
     (λ e same. inr (sym same, ge_from_not_lt d c (sym (ap (λ o. is_lt (ordering_then o (nat_cmp d c))) e) ∙ h)))
@@ -145,7 +145,7 @@ apart-distinct told distinct low high a b less at_low at_high same =
     true≢false (sym (eq-eqb (rank (get_or told low a).head) (rank (get_or told high a).head)
     (omega (arith, same, ap (λ (x : LiveGroup). rank x.head) is_a, ap (λ (x : LiveGroup). rank x.head) is_b))) ∙ apart)
 
-moved : {X : Type 0} (xs ys : List X) (k : ℕ) (x : X) → IsPermutation xs ys → slice_get xs k ≡ Some x → (l : ℕ) × (slice_get ys l ≡ Some x)
+pub moved : {X : Type 0} (xs ys : List X) (k : ℕ) (x : X) → IsPermutation xs ys → slice_get xs k ≡ Some x → (l : ℕ) × (slice_get ys l ≡ Some x)
 moved xs ys k x permutation at =
     let there = Contains-permutation xs ys x permutation (k, slice_get_within xs k x at, get_or_from_slice_get xs k x x at) in
     (there.0, slice_get_read ys (length ys) there.0 x refl there.1 (sym there.2))

@@ -1,9 +1,10 @@
 //! Calls at sizes far beyond those of the other tests, with ample memory: no size alone is a reason
 //! for a call to be refused.
 use abandoned::Pool;
+use arena_core::{Core, Event, Reply};
 use fold::{Step, fold_one};
 use shard::{Freed, Replaced, Shard};
-use span::{Class, Counted, Kept, Key, Log, MOST_SPANS, Object, SpanId};
+use span::{Class, Counted, Kept, Key, Log, MOST_RING_KEYS, MOST_SPANS, Object, SpanId};
 use std::alloc::Global;
 
 // How many pages a shard gets.
@@ -177,4 +178,37 @@ fn folds_onto_a_group_of_sixty_spans(rt: HostRuntime) {
         [folded::<Kept>(rt.alloc()), folded::<Counted>(rt.alloc())],
         [wanted, wanted]
     );
+}
+
+// How many keys the rings take from these workers to these shards, and how many are settled.
+fn left_and_settled(alloc: Global, rings: &[(u32, u32)]) -> Option<(usize, usize)> {
+    let mut core = Core::<Counted>::with_log(alloc, 64, 4, MOST_RING_KEYS, 9).ok()?;
+    let mut left = 0usize;
+    let mut settled = 0usize;
+    for (worker, shard) in rings {
+        let key = Key::new(SpanId::new(*shard, 0)?, 0, 1)?;
+        for _ in 0..MOST_RING_KEYS {
+            let reply = core.step(Event::Later {
+                worker: *worker,
+                key,
+            });
+            left = left.saturating_add(usize::from(matches!(reply, Reply::Sent)));
+        }
+    }
+    for (worker, shard) in rings {
+        for _ in 0..MOST_RING_KEYS {
+            let reply = core.step(Event::Settle {
+                worker: *worker,
+                shard: *shard,
+            });
+            settled = settled.saturating_add(usize::from(matches!(reply, Reply::Settled(Some(_)))));
+        }
+    }
+    Some((left, settled))
+}
+
+#[test]
+fn fills_rings_of_the_first_and_last_of_64_shards(rt: HostRuntime) {
+    let rings = [(63, 63), (0, 0), (63, 0), (0, 63), (31, 17)];
+    assert_eq!(rt; left_and_settled(rt.alloc(), &rings), Some((5_120, 5_120)));
 }

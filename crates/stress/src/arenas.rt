@@ -6,6 +6,7 @@
 ghost use Rattle.std.specs.Prelude.{◌≡◌, length};
 ghost use Rattle.arena.specs.Seats.{AreSeatsOf};
 
+use crate::held::{TURNS, is_set_in_time};
 use abandoned::{AdoptError, ReceiveError};
 use arena::{Arena, Gate, NoGate, OpenError, Seat, Stepped, Steward, finish};
 use fold::Step;
@@ -587,7 +588,8 @@ struct Signals {
     missed: AtomicU64,
 }
 
-// A gate that holds a thread inside of shard 0 until a put in another shard has answered, for at most 1,000,000 turns.
+// A gate that holds a thread inside of shard 0 until a put in another shard has answered, for at most
+// TURNS turns.
 #[derive(Drop)]
 struct Held<'a> {
     signals: &'a Signals,
@@ -599,21 +601,10 @@ impl<'a> Gate for Held<'a> {
             return;
         }
         self.signals.came.store(1, SeqCst);
-        if !is_set_in_time(&self.signals.answered) {
+        if !is_set_in_time(&self.signals.answered, TURNS) {
             self.signals.missed.store(1, SeqCst);
         }
     }
-}
-
-// Waits for the word to be 1, for at most 1,000,000 turns, and says whether it is.
-fn is_set_in_time(word: &AtomicU64) -> bool {
-    for _ in 0..1_000_000 {
-        if word.load(SeqCst) == 1 {
-            return true;
-        }
-        thread::yield_now();
-    }
-    false
 }
 
 fn put_once<G: Gate, R: Wait>(rt: &R, arena: &Arena<G>, seat: &mut Seat) -> bool
@@ -626,7 +617,7 @@ fn put_once<G: Gate, R: Wait>(rt: &R, arena: &Arena<G>, seat: &mut Seat) -> bool
 fn put_beside<R: Wait>(rt: &R, arena: &Arena<Held<'_>>, signals: &Signals, seat: &mut Seat) -> bool
     requires { seat.old.limits ≡ arena.now.limits }
 {
-    let came = is_set_in_time(&signals.came);
+    let came = is_set_in_time(&signals.came, TURNS);
     let put = put_once(rt, arena, seat);
     signals.answered.store(1, SeqCst);
     came && put

@@ -5,6 +5,7 @@ use arena::{Arena, Dropped, Gate, Seat, Steward, Totals};
 use mesh_graph::AtHand;
 use span::{Counted, Key, Object, SpanId};
 use std::alloc::Global;
+use std::hint::spin_loop;
 use std::sync::Wait;
 use std::sync::atomic::AtomicU64;
 use std::sync::atomic::Ordering::SeqCst;
@@ -62,8 +63,9 @@ impl<'a> Gate for Holding<'a> {
     }
 }
 
-// How many turns a thread waits for one that nothing keeps.
-pub(crate) const TURNS: usize = 1_000_000;
+// How many turns a thread waits for one that nothing keeps: some seconds of a processor. A turn lets
+// no other thread run, since on a busy machine that takes milliseconds, and on an idle one nothing.
+pub(crate) const TURNS: usize = 100_000_000;
 
 // Waits for the word to be 1, for at most that many turns, and says whether it is.
 pub(crate) fn is_set_in_time(word: &AtomicU64, turns: usize) -> bool {
@@ -71,7 +73,7 @@ pub(crate) fn is_set_in_time(word: &AtomicU64, turns: usize) -> bool {
         if word.load(SeqCst) == 1 {
             return true;
         }
-        thread::yield_now();
+        spin_loop();
     }
     false
 }
@@ -405,7 +407,7 @@ fn closes_at_once<R: Threads + Wait + Sync>(rt: &R, alloc: Global) -> Option<boo
     let gate = Holding {
         signals: &signals,
         shard: 1,
-        turns: 20_000,
+        turns: TURNS / 50,
     };
     let Three {
         arena,
@@ -447,8 +449,7 @@ fn closes_under_all_locks(rt: HostRuntime) -> Result<(), Fail> {
     Ok(())
 }
 
-// Whether the key's shard is busy at each of that many look-ups, between which other threads may
-// run.
+// Whether the key's shard is busy at each of that many look-ups.
 fn stays_busy(
     arena: &Arena<Holding<'_>, Counted>,
     seat: &mut Seat,
@@ -459,7 +460,7 @@ fn stays_busy(
         if !seat.fits(arena) || seat.try_get(arena, key, &mut [0u128]).is_ok() {
             return false;
         }
-        thread::yield_now();
+        spin_loop();
     }
     true
 }
@@ -475,12 +476,12 @@ fn watch(
     let came = is_set_in_time(&signals.came, TURNS);
     signals.begun.store(1, SeqCst);
     let mut is_busy = false;
-    for _ in 0..TURNS / 2 {
+    for _ in 0..TURNS / 10 {
         if stays_busy(arena, seat, key, 1) {
             is_busy = true;
             break;
         }
-        thread::yield_now();
+        spin_loop();
     }
     let stays = is_busy && stays_busy(arena, seat, key, 1000);
     signals.answered.store(1, SeqCst);

@@ -316,7 +316,7 @@ fn next_reply(found: Option<Key>) -> NextReply
 
 // What was found, as C has it where it wants one word.
 #[inline(always)]
-fn got(found: Option<&[u128]>) -> GetReply
+pub(crate) fn got(found: Option<&[u128]>) -> GetReply
     requires { IfSome found (λ words. IsObject words.now) }
     ensures { SaysGot result (option_map (λ words. words.now) found.entry) }
 {

@@ -50,6 +50,7 @@ mod held;
 mod key_numbers;
 mod keys;
 mod leaving;
+mod many;
 mod meshing;
 mod places;
 mod recorded;
@@ -74,6 +75,7 @@ pub use calls::{
 };
 pub use key_numbers::{teurlaks_key_bits, teurlaks_key_from_u64, teurlaks_key_to_u64};
 pub use leaving::teurlaks_seat_leave;
+pub use many::{teurlaks_free_many, teurlaks_get_many, teurlaks_put_many};
 pub use meshing::{
     teurlaks_adopt, teurlaks_begin, teurlaks_certificate, teurlaks_close, teurlaks_end,
     teurlaks_forget, teurlaks_mark, teurlaks_retire, teurlaks_step, teurlaks_trim,

@@ -69,6 +69,14 @@ pub struct WordsReply {
     pub len: usize,
 }
 
+/// What many calls at once answer: how many were done, and `OK`, or why the next one was refused.
+#[repr(C)]
+#[derive(Clone, Copy)]
+pub struct ManyReply {
+    pub status: u32,
+    pub count: usize,
+}
+
 /// What a step of a walk answers: the key that comes next where the status is `OK`.
 #[repr(C)]
 #[derive(Clone, Copy)]

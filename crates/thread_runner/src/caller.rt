@@ -42,7 +42,7 @@ pub(crate) struct Caller<'a, G: Gate> {
 }
 
 /// Where a line stands, and which keys it names, by their places among all keys that the lines bind.
-#[derive(Clone, Copy, Debug, PartialEq, Eq)]
+#[derive(Clone, Copy)]
 struct Spot {
     /// The line's number.
     number: usize,

@@ -15,7 +15,7 @@ use std::sync::Wait;
 use trace_runner::{Answer, LineAnswer};
 
 /// What a line came to other than by a call on a key.
-#[derive(Clone, Copy, Debug, PartialEq, Eq)]
+#[derive(Clone, Copy)]
 pub enum Other {
     /// A put found no usable slot, and the shard may have no further page; or an adoption found the shard to have as many groups
     /// as it may have pages.
@@ -45,7 +45,7 @@ pub enum Other {
 }
 
 /// What a line came to other than by a call on a key, with its place in the trace.
-#[derive(Clone, Copy, Debug, PartialEq, Eq)]
+#[derive(Clone, Copy)]
 pub struct OtherLine {
     /// The number of the line, where the first line of the trace is 1.
     pub line: usize,
@@ -54,7 +54,7 @@ pub struct OtherLine {
 }
 
 /// What a diary keeps of a call on a line, or of keys that came in, beside the receipts.
-#[derive(Clone, Copy, Debug, PartialEq, Eq)]
+#[derive(Clone, Copy)]
 pub enum Entry {
     /// A call on a key, on the line of that number. Its receipt is the next.
     Called(usize),

@@ -10,7 +10,7 @@ use thiserror::Error;
 use trace_runner::{Cause, ParseError};
 
 /// Why a run came to no end.
-#[derive(Clone, Copy, Debug, PartialEq, Eq)]
+#[derive(Clone, Copy)]
 pub(crate) enum Halt {
     /// Memory ran out.
     OutOfMemory,

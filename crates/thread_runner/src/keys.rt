@@ -9,7 +9,7 @@ use span::Key;
 use std::alloc::{AllocError, Global};
 
 /// What puts one after another gave: keys of slots one after another of one span, with one generation, or nothing.
-#[derive(Clone, Copy, Debug, PartialEq, Eq)]
+#[derive(Clone, Copy)]
 pub(crate) struct Given {
     /// The place of the first one's key among all keys that the lines bind.
     pub(crate) place: usize,

@@ -123,6 +123,7 @@ KeepsPlan-step old new (Free key) (Freed true) may (inr step) = subst (KeepsPlan
 KeepsPlan-step old new (Free key) (Freed false) may step = KeepsPlan-same old new step.1
 KeepsPlan-step old new (Later worker key) Sent may step = subst (KeepsPlan old) (sym step.rest) (record { shards = record { limits = refl; ended = λ number. refl }; plan = refl })
 KeepsPlan-step old new (Later worker key) (Refused RingFull) may step = KeepsPlan-same old new step.1
+KeepsPlan-step old new (Later worker key) (Refused OutOfMemory) may step = KeepsPlan-same old new step.1
 KeepsPlan-step old new (Later worker key) (Refused Config) may step = KeepsPlan-same old new step.1
 KeepsPlan-step old new (Settle worker shard) reply may step = absurd may
 KeepsPlan-step old new (End shard) reply may step = absurd may
@@ -184,6 +185,7 @@ IsServed-step old new (Set key value) (Refused OutOfMemory) may step = tt
 IsServed-step old new (Free key) (Freed freed) may step = tt
 IsServed-step old new (Later worker key) Sent may step = tt
 IsServed-step old new (Later worker key) (Refused RingFull) may step = tt
+IsServed-step old new (Later worker key) (Refused OutOfMemory) may step = tt
 IsServed-step old new (Later worker key) (Refused Config) may step = elim step.0 [ inl outside ↦ omega (arith, may.0, outside) | inr outside ↦ omega (arith, may.1, outside) ]
 IsServed-step old new (Settle worker shard) reply may step = absurd may
 IsServed-step old new (End shard) reply may step = absurd may

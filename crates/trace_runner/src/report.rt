@@ -9,7 +9,7 @@ use std::alloc::{AllocError, Global};
 use std::marker::Model;
 
 /// What a call of the trace answered, or an adoption. It takes as much room as an object does, 272 bytes, and a few words.
-#[derive(Clone, Copy, Debug, PartialEq, Eq)]
+#[derive(Clone, Copy)]
 pub enum Answer {
     /// A put stored its object under this key.
     Key(Key),
@@ -53,7 +53,7 @@ pub enum Answer {
 }
 
 /// An answer with its place in the trace.
-#[derive(Clone, Copy, Debug, PartialEq, Eq)]
+#[derive(Clone, Copy)]
 pub struct LineAnswer {
     /// The number of the line that asked for it, where the first line of the trace is 1.
     pub line: usize,
@@ -62,7 +62,7 @@ pub struct LineAnswer {
 }
 
 /// A step of an open plan: the pair that was next, and what came of it.
-#[derive(Clone, Copy, Debug, PartialEq, Eq)]
+#[derive(Clone, Copy)]
 pub struct TakenStep {
     /// The head of the abandoned group.
     pub abandoned: SpanId,
@@ -187,7 +187,7 @@ pub enum PlanNews {
 }
 
 /// The counts at the end of a run.
-#[derive(Clone, Copy, Debug, PartialEq, Eq)]
+#[derive(Clone, Copy)]
 pub struct Ending {
     /// The pages in use.
     pub pages: usize,

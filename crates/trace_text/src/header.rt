@@ -22,7 +22,7 @@ use span::{MOST_RING_KEYS, MOST_SHARDS};
 pub const TRACE_PAGES: u32 = 1024;
 
 /// The version of the grammar that a trace is written in.
-#[derive(Clone, Copy, Debug, PartialEq, Eq)]
+#[derive(Clone, Copy)]
 pub enum Version {
     /// The first line is `mesh 1`: every object has one word.
     One,
@@ -124,7 +124,7 @@ impl Version {
 }
 
 /// What a trace is read by, and the sizes that it is run with.
-#[derive(Clone, Copy, Debug, PartialEq, Eq)]
+#[derive(Clone, Copy)]
 pub struct Header {
     /// The version, which decides what calls the lines may have.
     pub version: Version,

@@ -4,7 +4,7 @@ use super::name::{Name, Reference};
 use span::Class;
 
 /// A call that a thread makes.
-#[derive(Debug, Drop, PartialEq, Eq)]
+#[derive(Drop)]
 pub enum Call {
     /// Puts the object of the class that counts up from `value`, and binds the name to its key.
     Put {
@@ -61,7 +61,7 @@ pub enum Call {
 }
 
 /// A line below the header.
-#[derive(Debug, Drop, PartialEq, Eq)]
+#[derive(Drop)]
 pub enum Line {
     /// An empty line or a remark.
     Silent,
@@ -74,7 +74,7 @@ pub enum Line {
 }
 
 /// The keys that a name is bound to.
-#[derive(Clone, Copy, Debug, PartialEq, Eq)]
+#[derive(Clone, Copy)]
 pub enum Keys {
     /// One, by a put. The name alone refers to it.
     One,
@@ -83,7 +83,7 @@ pub enum Keys {
 }
 
 /// What a name is bound to.
-#[derive(Clone, Copy, Debug, PartialEq, Eq)]
+#[derive(Clone, Copy)]
 pub struct Binding {
     /// The keys that it stands for.
     pub keys: Keys,

@@ -18,7 +18,7 @@ use std::marker::Model;
 const NAME_LENGTH: usize = 16;
 
 /// A name: 1 to 16 small letters and digits, of which the first is a letter.
-#[derive(Clone, Debug, Drop)]
+#[derive(Clone, Drop)]
 pub struct Name {
     bytes: ArrayVec<u8, NAME_LENGTH>,
 }
@@ -98,7 +98,7 @@ impl Hash for Name {
 }
 
 /// A name, or a name and an index, for one of the keys that the name is bound to.
-#[derive(Debug, Drop, PartialEq, Eq)]
+#[derive(Drop)]
 pub struct Reference {
     /// The name, which an earlier line binds.
     pub name: Name,

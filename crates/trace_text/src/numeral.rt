@@ -8,7 +8,7 @@ ghost use Rattle.certificate.specs.Number.{number_in};
 ghost use Rattle.trace_text.specs.Number.{clipped_number, HasValue, KeepsNumber};
 
 /// A number in digits, of any length.
-#[derive(Clone, Copy, Debug, PartialEq, Eq)]
+#[derive(Clone, Copy)]
 pub enum Number {
     /// Its value.
     Fits(u128),

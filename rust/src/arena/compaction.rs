@@ -3,7 +3,7 @@
 use super::{Arena, Seat};
 use crate::background::{Background, Compacts, Policy};
 use crate::bytes::words_for;
-use crate::compact::Compacted;
+use crate::compact::{Compacted, Occupancy, Rounds};
 use crate::core::Stepped;
 use crate::refused::Refused;
 use std::io;
@@ -85,7 +85,7 @@ impl<T> Arena<T> {
     fn compact_step(&mut self) -> Result<bool, Refused> {
         match self.part {
             Part::Mark => {
-                let again = self.mark_some()?.wants_another();
+                let again = self.mark_some()?.is_worth_repeating();
                 self.part = Part::Fold { again };
             }
             Part::Fold { again } => match self.step()? {
@@ -128,6 +128,15 @@ impl<T: Copy + Send + 'static> Arena<T> {
     /// How many values share a page.
     const SLOTS: usize = 256 / words_for(size_of::<T>());
 
+    fn occupancy(&mut self) -> Occupancy {
+        let totals = self.totals();
+        Occupancy {
+            pages: totals.pages,
+            live: totals.live,
+            slots: Self::SLOTS,
+        }
+    }
+
     /// Compacts the arena on a thread of its own for as long as the guard lives that is returned.
     /// The thread looks now and then how many pages could go. If that pays, it asks the seats to
     /// retire groups, which they do when they call [`Seat::help_compact`]; a while later it folds
@@ -168,6 +177,7 @@ impl<T: Copy + Send + 'static> Arena<T> {
         let steward = Steward {
             arena: Arc::clone(arena),
             helpers: AtomicU32::new(0),
+            rounds: Mutex::default(),
         };
         Background::begin(policy, steward)
     }
@@ -178,6 +188,8 @@ struct Steward<T> {
     arena: Arc<Mutex<Arena<T>>>,
     // How many seats had helped when that was last asked.
     helpers: AtomicU32,
+    // Which round comes next: one that gathers, and then one of a half.
+    rounds: Mutex<Rounds>,
 }
 
 impl<T> Steward<T> {
@@ -189,20 +201,26 @@ impl<T> Steward<T> {
 
 impl<T: Copy + Send + 'static> Compacts for Steward<T> {
     fn pages_and_most_folds(&self) -> (usize, usize) {
-        let totals = self.lock().totals();
-        let needed = totals.live / Arena::<T>::SLOTS + usize::from(totals.live % Arena::<T>::SLOTS != 0);
-        (totals.pages, totals.pages.saturating_sub(needed))
+        let pages = self.lock().occupancy();
+        (pages.pages, pages.most_folds())
     }
 
-    /// Asks each seat for its part of half of the pages, unless they were asked before and none has
-    /// helped yet.
-    fn prepare(&self, pages: usize) {
+    /// Asks each seat for its part of what a store would retire, in turn by what can be expected to
+    /// stay and by halves; unless they were asked before and none has helped yet.
+    fn prepare(&self) {
         let mut arena = self.lock();
         if arena.turn.asked().most > 0 && arena.turn.helpers() == 0 {
             return;
         }
-        let seats = arena.limits.shards as usize;
-        arena.ask_to_retire(u32::try_from(pages / 2 / seats).unwrap_or(u32::MAX));
+        let pages = arena.occupancy();
+        let mut rounds = self.rounds.lock().unwrap_or_else(PoisonError::into_inner);
+        let division = rounds.next(pages, usize::MAX);
+        let (retired, kept) = division.map_or((0, 0), |division| (division.retired, division.kept));
+        if kept > 0 || division.is_none() {
+            *rounds = Rounds::default();
+        }
+        let most = (retired - kept) / arena.limits.shards as usize;
+        arena.ask_to_retire(u32::try_from(most).unwrap_or(u32::MAX));
         self.helpers.store(0, Ordering::Relaxed);
     }
 

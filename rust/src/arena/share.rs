@@ -6,6 +6,7 @@ use crate::raw;
 use std::cell::UnsafeCell;
 use std::sync::atomic::{AtomicBool, AtomicU32, AtomicU64, Ordering};
 use std::sync::{Arc, Mutex, PoisonError};
+use std::time::{Duration, Instant};
 use std::{hint, mem, ptr, thread};
 
 /// A handle to the steward of an arena.
@@ -340,18 +341,21 @@ const SOME_WAITS: u32 = 8;
 /// How often it waits before it sleeps.
 const MOST_WAITS: u32 = 32;
 
-/// How often it waits, some 0.3 seconds in all and nearly all of that asleep, before it takes what
-/// it waits for to be a session.
-const MOST_SLEEPS: u32 = 1 << 12;
+/// A call that has waited so often, and slept for so long by the clock, takes what it waits for to
+/// be a session. On a busy machine few sleeps take that long; on an idle one many take less.
+const MOST_SLEEPS: u32 = 1 << 9;
+const LONGEST: Duration = Duration::from_millis(300);
 
 /// Waits longer and longer. The library itself looks at a lock 50 times before it answers that another thread has it.
 struct Patience {
     times: u32,
+    // When it first slept.
+    asleep: Option<Instant>,
 }
 
 impl Patience {
     fn new() -> Patience {
-        Patience { times: 0 }
+        Patience { times: 0, asleep: None }
     }
 
     /// Whether it has waited for longer than most locks are held.
@@ -366,14 +370,17 @@ impl Patience {
 
     /// Whether it has waited for longer than a lock is held that is in no session.
     fn is_spent(&self) -> bool {
-        self.times >= MOST_SLEEPS
+        self.times >= MOST_SLEEPS && self.asleep.is_some_and(|since| since.elapsed() >= LONGEST)
     }
 
     fn wait(&mut self) {
         match self.times {
             few if few < MOST_PAUSES => (0..1 << few).for_each(|_| hint::spin_loop()),
             some if some < MOST_WAITS => thread::yield_now(),
-            _ => thread::sleep(SLEEP),
+            _ => {
+                self.asleep.get_or_insert_with(Instant::now);
+                thread::sleep(SLEEP);
+            }
         }
         self.times = self.times.saturating_add(1);
     }

@@ -1,7 +1,7 @@
 //! What a core does with whole groups: ends, begins, retirements, trims and adoptions, marks and their steps.
 
 use super::{Core, Plan};
-use crate::compact::{Compact, Compacted};
+use crate::compact::{is_worth, Compact, Compacted};
 use crate::names::Group;
 use crate::raw;
 use crate::refused::Refused;
@@ -29,6 +29,13 @@ impl Marked {
         let sees_all = self.abandoned.max(self.owned) < MOST_GROUPS;
         !sees_all && self.folds > 0 && self.folds * 16 >= self.abandoned
     }
+
+    /// Whether a compaction plans once more with what this plan leaves in the pool: it leaves
+    /// some, and folds enough of its smaller side.
+    pub(crate) fn is_worth_repeating(&self) -> bool {
+        let leaves_some = self.folds < self.abandoned || self.abandoned >= MOST_GROUPS;
+        leaves_some && is_worth(self.folds, self.abandoned.min(self.owned))
+    }
 }
 
 /// What a step did.
@@ -53,9 +60,11 @@ impl Core {
     /// - [`Refused::Config`]: there is no such shard;
     /// - [`Refused::OutOfMemory`]: none of these holds, and memory was refused.
     pub fn end(&mut self, shard: u32) -> Result<(), Refused> {
+        self.has_shard(shard)?;
+        self.open()?;
         // SAFETY: as in `insert`.
         done(unsafe { raw::teurlaks_end(&mut self.handle, shard) })?;
-        self.ended[shard as usize] = true;
+        self.ended |= 1 << shard;
         self.pool = true;
         Ok(())
     }
@@ -81,9 +90,12 @@ impl Core {
     /// # Ok::<(), Refused>(())
     /// ```
     pub fn begin(&mut self, shard: u32) -> Result<(), Refused> {
+        if !self.is_open() {
+            return self.has_shard(shard).and(Err(Refused::Running));
+        }
         // SAFETY: as in `insert`.
         done(unsafe { raw::teurlaks_begin(&mut self.handle, shard) })?;
-        self.ended[shard as usize] = false;
+        self.ended &= !(1 << shard);
         Ok(())
     }
 
@@ -113,6 +125,9 @@ impl Core {
     /// # Ok::<(), teurlaks::Refused>(())
     /// ```
     pub fn retire(&mut self, shard: u32, most: usize) -> Result<usize, Refused> {
+        if !self.is_open() {
+            return self.has_shard(shard).map(|()| 0);
+        }
         // SAFETY: as in `insert`.
         let raw::RetireReply { status, count } = unsafe { raw::teurlaks_retire(&mut self.handle, shard, most) };
         self.pool |= count > 0;
@@ -139,6 +154,9 @@ impl Core {
     /// # Ok::<(), teurlaks::Refused>(())
     /// ```
     pub fn trim(&mut self, shard: u32) -> Result<usize, Refused> {
+        if !self.is_open() {
+            return self.has_shard(shard).map(|()| 0);
+        }
         // SAFETY: as in `insert`.
         let raw::TrimReply { status, count } = unsafe { raw::teurlaks_trim(&mut self.handle, shard) };
         done(status).map(|()| count)
@@ -170,6 +188,9 @@ impl Core {
     /// # Ok::<(), teurlaks::Refused>(())
     /// ```
     pub fn forget(&mut self) -> Result<usize, Refused> {
+        if !self.is_open() {
+            return Ok(0);
+        }
         // SAFETY: as in `insert`.
         let raw::ForgetReply { status, count } = unsafe { raw::teurlaks_forget(&mut self.handle) };
         done(status).map(|()| count)
@@ -186,6 +207,9 @@ impl Core {
     /// - [`Refused::Config`]: there is no such shard;
     /// - [`Refused::OutOfMemory`]: none of these holds, and memory was refused.
     pub fn adopt(&mut self, shard: u32) -> Result<Group, Refused> {
+        if !self.is_open() {
+            return Err(Refused::NothingToAdopt);
+        }
         // SAFETY: as in `insert`.
         let adopted = unsafe { raw::teurlaks_adopt(&mut self.handle, shard) };
         self.pool &= adopted.status != raw::NOTHING_TO_ADOPT;
@@ -200,6 +224,7 @@ impl Core {
     /// - [`Refused::TooMany`]: a side has more than 4,096 groups that have a page;
     /// - [`Refused::OutOfMemory`]: none of these holds, and memory was refused.
     pub fn mark(&mut self) -> Result<Marked, Refused> {
+        self.open()?;
         // SAFETY: as in `insert`.
         let marked = marked(unsafe { raw::teurlaks_mark(&mut self.handle) })?;
         self.plan = Plan::Caller;
@@ -214,6 +239,7 @@ impl Core {
     /// - [`Refused::PlanOpen`]: a plan is open;
     /// - [`Refused::OutOfMemory`]: none is, and memory was refused.
     pub fn mark_some(&mut self) -> Result<Marked, Refused> {
+        self.open()?;
         // SAFETY: as in `insert`.
         let marked = marked(unsafe { raw::teurlaks_mark_some(&mut self.handle) })?;
         self.plan = Plan::Caller;
@@ -252,6 +278,9 @@ impl Core {
     /// - [`Refused::NoPlan`]: no plan is open;
     /// - [`Refused::OutOfMemory`]: memory was refused; the pair is then still the next.
     pub fn step(&mut self) -> Result<Stepped, Refused> {
+        if !self.is_open() {
+            return Err(Refused::NoPlan);
+        }
         // SAFETY: as in `insert`.
         stepped(unsafe { raw::teurlaks_step(&mut self.handle) })
     }
@@ -262,6 +291,9 @@ impl Core {
     ///
     /// [`Refused::NoPlan`] alone, where no plan is open.
     pub fn close(&mut self) -> Result<(), Refused> {
+        if !self.is_open() {
+            return Err(Refused::NoPlan);
+        }
         // SAFETY: as in `insert`.
         done(unsafe { raw::teurlaks_close(&mut self.handle) })?;
         self.plan = Plan::None;
@@ -284,13 +316,17 @@ impl Core {
     /// are in shards afterwards, also those that an end or a retirement had left to the pool.
     ///
     /// It goes by rounds. In each some pages, of each shard those with the fewest live keys, go to
-    /// the pool; as many as can be are folded onto the others, and the shards adopt the rest in
-    /// turn. There is another round if that gave at least an eighth of them back. How many they are
-    /// is estimated before: half of all, up to 4,096, and at most half of those that can go at all,
-    /// since what is live needs the other pages even if these were full. So nothing is retired or
-    /// planned if all pages are full, and little if they nearly are. The estimate sees the numbers
-    /// of pages and of live keys. It does not see how keys are spread over pages and slots, and
-    /// takes all objects to be as small as the smallest that was ever put.
+    /// the pool; as many as can be are folded onto the others, by one plan after another as long as
+    /// one folds a sixteenth of its smaller side; and the shards adopt the rest. The first leaves as
+    /// few pages in the shards as can be expected to stay by the numbers of pages and of live keys,
+    /// so that several pages are folded onto each. If no fold can be expected, or if that gives less
+    /// than a sixteenth, a round looks at 128 pages alone, where there are more than 512, and is
+    /// the last one unless that is worth it. The further rounds divide the pages by their heads,
+    /// and each at another place, until three in a row give less than a sixteenth.
+    ///
+    /// If what is live needs all pages even if these were full, nothing is retired or planned. What
+    /// can be expected takes live keys to stand at slots at random, and all objects to be as small
+    /// as the smallest that was ever put.
     ///
     /// A page that is folded takes no object of its own any more, so each fold uses up one of the
     /// 4,294,967,295 pages that a shard may open in its life.
@@ -324,10 +360,11 @@ impl Core {
     /// stopped, and once there is no more to do, the next one begins anew.
     ///
     /// A step trims one shard, retires one group, plans, folds one pair, adopts one group, or
-    /// forgets. A plan looks at up to `budget` groups of the pool, or 64 if that is more, beside up
-    /// to 4,096 of the shards; if more were left in the pool before, by an end or by retirements,
-    /// at up to 4,096. To choose groups, and for each adoption, it also looks once at each page of
-    /// a shard.
+    /// forgets. A plan compares at most 4,096 times `budget` pairs of groups, where a budget below
+    /// 64 counts as 64, and one above 4,096 as that: so of more than some thousand pages a round
+    /// takes those with the fewest live keys alone. If more groups were left in the pool before, by
+    /// an end or by retirements, it compares up to 4,096 of these with as many of the shards. To
+    /// choose groups, and for each adoption, it also looks once at each page of a shard.
     ///
     /// Between two calls every key stays valid: it is found, set and freed as ever. A plan may be
     /// open then, so [`Core::mark`], [`Core::mark_some`], [`Core::mesh`], [`Core::adopt`] and
@@ -374,8 +411,7 @@ impl Core {
 
     /// How many shards have not ended.
     pub(crate) fn running_shards(&self) -> usize {
-        let ended = self.ended.iter().filter(|ended| **ended).count();
-        self.limits.shards as usize - ended
+        (self.limits.shards - self.ended.count_ones()) as usize
     }
 
     /// Trims each shard, and says how many pages went.
@@ -413,6 +449,9 @@ impl Core {
     ///
     /// [`Refused::OutOfMemory`] where memory was refused for the text.
     pub fn certificate(&self) -> Result<Option<String>, Refused> {
+        if !self.is_open() {
+            return Ok(None);
+        }
         // SAFETY: as in `get`, and so many bytes stand there.
         certificate_text(|text, len| unsafe { raw::teurlaks_certificate(&self.handle, text, len) })
     }

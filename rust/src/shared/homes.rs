@@ -12,7 +12,7 @@ const TURNS: usize = 4;
 const THREADS: usize = 64;
 
 /// The homes of all threads: of each the shard that took its last value.
-pub(super) struct Homes {
+pub(crate) struct Homes {
     // By the thread's number, and then by turns.
     of: Box<[[AtomicU8; TURNS]; THREADS]>,
     // How many shards there are, and how many from a home on to the next.
@@ -22,7 +22,7 @@ pub(super) struct Homes {
 
 /// One home of the thread that asked for it.
 #[derive(Clone, Copy)]
-pub(super) struct Home<'h> {
+pub(crate) struct Home<'h> {
     homes: &'h Homes,
     at: &'h AtomicU8,
 }

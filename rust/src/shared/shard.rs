@@ -178,6 +178,11 @@ impl<T> Shard<T> {
         self.piece(Store::forget).unwrap_or(Ok(0))
     }
 
+    /// How many pages it has.
+    pub fn pages(&self) -> usize {
+        self.lock().as_ref().map_or(0, Store::pages)
+    }
+
     /// How many pages it has, and how many of them can go at most.
     pub fn pages_and_most_folds(&self) -> (usize, usize) {
         self.lock().as_ref().map_or((0, 0), Store::pages_and_most_folds)

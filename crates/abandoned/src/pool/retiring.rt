@@ -90,8 +90,7 @@ impl<L: Log> Pool<L> {
         ensures sound { IsSound self.new }
         ensures sound_shard { IsSoundShard shard.new }
     {
-        let mut going = shard.sparsest_first()?;
-        going.truncate(most);
+        let going = shard.sparsest(most)?;
         self.reserve(going.len(), span_count(going.as_slice()))?;
         self.take_going(shard, going.as_slice());
         shard.sweep();

@@ -14,6 +14,7 @@ ghost use Rattle.span.specs.declared.limits.TheConstants.{ALL_IDS};
 
 use super::Shard;
 use crate::group::Group;
+use crate::head_indexes::HeadIndexes;
 use groups::Directory;
 use span::Counted;
 
@@ -27,14 +28,26 @@ impl Shard<Counted> {
         ensures sound { IsSound self.new }
     {
         let before = self.span_count();
-        forget_all(&mut self.groups, &mut self.directory, self.group_room);
+        forget_all(
+            &mut self.groups,
+            &mut self.directory,
+            &mut self.heads,
+            self.number,
+            self.group_room,
+        );
         before - self.span_count()
     }
 }
 
-// Has each group forget its guests in which no slot is live. Then gives back the room of groups that were folded, if half of it is enough
+// Has each group forget its guests in which no slot is live, and notes where the others stand then. Then gives back the room of groups that were folded, if half of it is enough
 // for the groups that are here and for those that room is reserved for.
-fn forget_all(groups: &mut Vec<Group<Counted>>, directory: &mut Directory, room: usize)
+fn forget_all(
+    groups: &mut Vec<Group<Counted>>,
+    directory: &mut Directory,
+    heads: &mut HeadIndexes,
+    number: u32,
+    room: usize,
+)
     requires room { vec_len groups.old + room ≤ vec_capacity groups.old }
     requires known { KnowsGuests groups.old.items directory.old.entries }
     requires ascend { Ascend groups.old.items }
@@ -44,8 +57,9 @@ fn forget_all(groups: &mut Vec<Group<Counted>>, directory: &mut Directory, room:
     ensures capacity { vec_len groups.new + room ≤ vec_capacity groups.new }
     ensures known { KnowsGuests groups.new.items directory.new.entries }
     ensures room { directory.new.room ≡ directory.old.room }
+    ensures heads { heads.new ≡ heads.old }
 {
-    forget_each(groups, directory);
+    forget_each(groups, directory, heads, number);
     give_back(groups, room);
 }
 
@@ -62,7 +76,12 @@ fn give_back(groups: &mut Vec<Group<Counted>>, room: usize)
 }
 
 // Has each of the groups forget its guests in which no slot is live.
-fn forget_each(groups: &mut Vec<Group<Counted>>, directory: &mut Directory)
+fn forget_each(
+    groups: &mut Vec<Group<Counted>>,
+    directory: &mut Directory,
+    heads: &mut HeadIndexes,
+    number: u32,
+)
     requires known { KnowsGuests groups.old.items directory.old.entries }
     requires ascend { Ascend groups.old.items }
     requires once { (index : ℕ) (group : GroupState) → slice_get groups.old.items index ≡ Some group
@@ -72,14 +91,20 @@ fn forget_each(groups: &mut Vec<Group<Counted>>, directory: &mut Directory)
     ensures capacity { vec_capacity groups.new ≡ vec_capacity groups.old }
     ensures known { KnowsGuests groups.new.items directory.new.entries }
     ensures room { directory.new.room ≡ directory.old.room }
+    ensures heads { heads.new ≡ heads.old }
 {
     for index in 0..groups.len() {
-        forget_in(&mut groups[index], directory);
+        forget_in(&mut groups[index], directory, heads, number);
     }
 }
 
 // Has the group forget its guests in which no slot is live. The entries of the others say where they stand then.
-fn forget_in(group: &mut Group<Counted>, directory: &mut Directory)
+fn forget_in(
+    group: &mut Group<Counted>,
+    directory: &mut Directory,
+    heads: &mut HeadIndexes,
+    number: u32,
+)
     requires { AreEntered (struck directory.old.entries (dead_among group.old.guests))
         (live_among group.old.guests) }
     ensures group { group.new ≡ without_dead group.old }
@@ -87,8 +112,10 @@ fn forget_in(group: &mut Group<Counted>, directory: &mut Directory)
       entries = entered (struck directory.old.entries (dead_among group.old.guests))
           (live_among group.old.guests) group.old.head.id 1;
     } }
+    ensures heads { heads.new ≡ heads.old }
 {
     directory.strike_dead(group.spans().guests());
     group.forget_guests();
     directory.move_all(group.spans().guests(), group.head_id());
+    heads.note_guests(group.spans().guests(), 0, group.head_id(), number);
 }

@@ -1,5 +1,5 @@
 // Look-ups and frees, and where the span of a key stands.
-ghost use Rattle.std.specs.Prelude.{◌≡◌, ◌<◌, ◌≤◌, ℕ, false, true, IfSome, MatchOption, if◌then◌else◌, is_some, length};
+ghost use Rattle.std.specs.Prelude.{◌≡◌, ◌+◌, ◌<◌, ◌≤◌, ℕ, false, true, IfSome, MatchOption, if◌then◌else◌, is_some, length};
 ghost use Rattle.span.specs.Order.{HasNoneFrom, IsFirstFrom};
 ghost use Rattle.span.specs.PlainMap as plain;
 ghost use Rattle.span.specs.State.{SpanState};
@@ -11,7 +11,6 @@ ghost use Rattle.shard.specs.Sound.{IsSound};
 
 use super::{Found, Freed, Shard, head_index};
 use crate::head_indexes::is_noted;
-use groups::Place;
 use span::{Key, Log, SpanId};
 
 impl<L: Log> Shard<L> {
@@ -91,6 +90,10 @@ impl<L: Log> Shard<L> {
         if self.is_head(noted, id) {
             return Some((noted, 0));
         }
+        let (near, place) = self.near_guest(id);
+        if near < self.groups.len() {
+            return Some((near, place));
+        }
         let (index, place) = self.find_moved(id, is_noted);
         if index >= self.groups.len() {
             return None;
@@ -107,6 +110,36 @@ impl<L: Log> Shard<L> {
         ensures sound { IsSound self.now }
     {
         index < self.groups.len() && self.groups[index].head_id() == head
+    }
+
+    // Where the guest stands, if what is noted of it holds; else past all groups.
+    #[inline(always)]
+    fn near_guest(&self, id: SpanId) -> (usize, usize)
+        ensures { result.0 < length self.now.groups → (group : GroupState) × (span : SpanState)
+            × IsHere self.now.groups id result.0 result.1 group span }
+    {
+        let (index, before) = self.heads.guest_at(id.serial);
+        if self.is_guest(index, before, id) {
+            return (index, before + 1);
+        }
+        (self.groups.len(), 0)
+    }
+
+    // Whether the group at the index, if there is one, has this guest after so many others.
+    #[inline(always)]
+    fn is_guest(&self, index: usize, place: usize, guest: SpanId) -> bool
+        requires { place < 1024 }
+        ensures { result ≡ true → (group : GroupState) × (span : SpanState)
+            × IsHere self.now.groups guest index (place + 1) group span }
+    {
+        if index >= self.groups.len() {
+            return false;
+        }
+        let group = &self.groups[index];
+        if place + 1 >= group.len() {
+            return false;
+        }
+        group.span_at(place + 1).id() == guest
     }
 
     // The index that is noted for the head, and whether it is one of those that the shard notes: its group stands there, if
@@ -163,8 +196,9 @@ impl<L: Log> Shard<L> {
         ensures here { result.0 < length self.now.groups → (group : GroupState) × (span : SpanState)
             × IsHere self.now.groups id result.0 result.1 group span }
     {
-        let head = Place { head: id, place: 0 };
-        let at = self.directory.place_of(id).unwrap_or(head);
+        let Some(at) = self.directory.place_of(id) else {
+            return (self.groups.len(), 0);
+        };
         let Some(index) = self.find_head(at.head) else {
             return (self.groups.len(), 0);
         };

@@ -10,7 +10,7 @@ use std::time::{Duration, Instant};
 use std::{fs, thread};
 
 /// How long what takes milliseconds may take beside other programs.
-const LONG: Duration = Duration::from_secs(30);
+const LONG: Duration = Duration::from_secs(60);
 
 /// Where Linux tells of this thread.
 fn this_thread() -> Option<PathBuf> {

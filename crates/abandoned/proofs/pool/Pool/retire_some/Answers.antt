@@ -14,8 +14,8 @@ use Rattle.abandoned.proofs.Retiring.{AreReady-going, HasNoLive-fewer, HasRetire
 use Rattle.abandoned.proofs.pool.Pool.retire_some.Goals as goal
 
 pub span_count-requires : goal.span_count-requires
-span_count-requires g c = span_count-going c.args.shard.now c.in_ok-going.going.items c.as_slice.result.now c.args.most c.requires.sound_shard
-    c.in_ok-going.ensures (c.as_slice.ensures.value ∙ c.truncate.ensures.items)
+span_count-requires g c = span_count-going c.args.shard.now c.in_ok-going.ensures.0 c.as_slice.result.now c.args.most c.requires.sound_shard
+    c.in_ok-going.ensures.1 (c.as_slice.ensures.value ∙ c.in_ok-going.ensures.2)
 
 -- those that are to go are ready, and nothing has left before
 ready_with : (pool made : PoolState) (shard : ShardState) (going rest : List LiveGroup) → made ≡ pool → swept shard ≡ shard → AreReady pool shard going rest → AreReady made (swept shard) going rest
@@ -25,21 +25,21 @@ ready_with pool made shard going rest made_is same ready = subst (λ (p : PoolSt
 pub take_going-requires : goal.take_going-requires
 take_going-requires g c = record {
   ready = (
-    drop c.args.most c.in_ok-going.going.items,
+    drop c.args.most c.in_ok-going.ensures.0,
     ready_with (with_rooms c.args.self.now c.len.result c.span_count.result) _ c.args.shard.now c.as_slice-2.result.now
-        (drop c.args.most c.in_ok-going.going.items) (c.in_ok-reserve.ensures {u = tt}).ok (swept-open c.args.shard.now c.requires.open)
-        (AreReady-going c.args.self.now c.args.shard.now c.in_ok-going.going.items c.as_slice-2.result.now c.args.most c.len.result c.span_count.result
-        c.requires.sound c.requires.sound_shard c.requires.apart c.in_ok-going.ensures
-        (c.as_slice-2.ensures.value ∙ c.truncate.ensures.items) (omega (arith, c.len.ensures, c.as_slice-2.ensures.len))
+        (drop c.args.most c.in_ok-going.ensures.0) (c.in_ok-reserve.ensures {u = tt}).ok (swept-open c.args.shard.now c.requires.open)
+        (AreReady-going c.args.self.now c.args.shard.now c.in_ok-going.ensures.0 c.as_slice-2.result.now c.args.most c.len.result c.span_count.result
+        c.requires.sound c.requires.sound_shard c.requires.apart c.in_ok-going.ensures.1
+        (c.as_slice-2.ensures.value ∙ c.in_ok-going.ensures.2) (omega (arith, c.len.ensures, c.as_slice-2.ensures.len))
         (c.span_count.ensures ∙ ap span_count (c.as_slice.ensures.value ∙ sym c.as_slice-2.ensures.value))),
   );
 }
 
 pub returns-clause-ok : goal.returns-clause-ok
 returns-clause-ok g c =
-    let told = c.in_ok-going.going.items in
+    let told = c.in_ok-going.ensures.0 in
     let going = c.as_slice-2.result.now in
-    let is = c.as_slice-2.ensures.value ∙ c.truncate.ensures.items in
+    let is = c.as_slice-2.ensures.value ∙ c.in_ok-going.ensures.2 in
     let count : length going ≡ c.len-2.result = omega (arith, c.len-2.ensures, c.as_slice-2.ensures.len) in
     let at_most = length-going told going c.args.most is in
     let same = swept-open c.args.shard.now c.requires.open in
@@ -57,7 +57,7 @@ returns-clause-ok g c =
       all = λ fewer. HasNoLive-fewer c.sweep.new.self.groups told going c.args.most is
           (subst (λ (s : ShardState). AreSparsestFirst s.groups (drop c.args.most told)) (sym c.sweep.ensures.swept)
           (c.take_going.ensures.left (drop c.args.most told) (ready_with made _ c.args.shard.now going (drop c.args.most told) (c.in_ok-reserve.ensures {u = tt}).ok same
-          (AreReady-going c.args.self.now c.args.shard.now told going c.args.most c.len.result c.span_count.result c.requires.sound c.requires.sound_shard c.requires.apart c.in_ok-going.ensures
+          (AreReady-going c.args.self.now c.args.shard.now told going c.args.most c.len.result c.span_count.result c.requires.sound c.requires.sound_shard c.requires.apart c.in_ok-going.ensures.1
           is (omega (arith, c.len.ensures, c.as_slice-2.ensures.len)) (c.span_count.ensures ∙ ap span_count (c.as_slice.ensures.value ∙ sym c.as_slice-2.ensures.value))))))
           (omega arith);
     }

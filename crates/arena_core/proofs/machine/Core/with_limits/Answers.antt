@@ -8,7 +8,7 @@ use Rattle.arena_core.proofs.Start.{HasSoundGroups-new_core, IsSound-new_core, n
 use Rattle.arena_core.proofs.machine.Core.with_limits.Goals as goal
 
 -- the fields show as a new core of these numbers
-made : (g : _) (c : goal.After-new-3 g)
+made : (g : _) (c : goal.After-new-2 g)
     → ◌≡◌ {A = CoreState} (record {
       limits = record {
         shards = length c.in_ok-shards.shards.items;
@@ -20,25 +20,25 @@ made : (g : _) (c : goal.After-new-3 g)
       shards = c.in_ok-shards.shards.items;
       pool = c.with_log.result;
       plan = c.in_ok-plan.plan;
-      rings = c.in_ok-rings.rings;
+      rings = c.new-rings.result;
       forgotten = c.new-forgotten.result.spans;
     })
     (new_core c.args.limits)
 made g c = new_core-fields c.args.limits c.page_limit.result c.span_limit.result c.ring_capacity-ring_capacity.result c.gens.result c.in_ok-shards.shards.items
-    c.with_log.result c.in_ok-plan.plan c.in_ok-rings.rings c.new-forgotten.result.spans
+    c.with_log.result c.in_ok-plan.plan c.new-rings.result c.new-forgotten.result.spans
     c.page_limit.ensures.page_limit c.span_limit.ensures.span_limit c.ring_capacity-ring_capacity.ensures.ring_capacity c.gens.ensures.gens
     c.in_ok-shards.ensures.shards c.with_log.ensures.empty c.in_ok-plan.ensures
-    (c.in_ok-rings.ensures ∙ (λ i. new_rings (c.shards-count.ensures.shards i) (c.ring_capacity-ring_capacity.ensures.ring_capacity i)))
+    (c.new-rings.ensures ∙ (λ i. new_rings (c.shards-count.ensures.shards i) (c.ring_capacity-ring_capacity.ensures.ring_capacity i)))
     c.new-forgotten.ensures
 
-sound : (g : _) (c : goal.After-new-3 g) → IsSound (new_core c.args.limits)
+sound : (g : _) (c : goal.After-new-2 g) → IsSound (new_core c.args.limits)
 sound g c = IsSound-new_core c.args.limits (HasSoundGroups-new_core c.args.limits c.page_limit.ensures.within c.in_ok-shards.ensures.sound)
 
 pub invariant_of-result : goal.invariant_of-result
 invariant_of-result g c =
     record {
       sound = subst IsSound (sym (made g c)) (sound g c);
-      moved = subst (λ shards. KnowsMoved shards c.new-3.result.entries) (sym c.in_ok-shards.ensures.shards) (KnowsMoved-new c.args.limits c.new-3.result.entries);
+      moved = subst (λ shards. KnowsMoved shards c.new-2.result.entries) (sym c.in_ok-shards.ensures.shards) (KnowsMoved-new c.args.limits c.new-2.result.entries);
     }
 
 pub returns-clause-ok : goal.returns-clause-ok

@@ -1,28 +1,40 @@
-use Rattle.std.proofs.Common.{◌≡◌, Some, MatchResult, List, refl, set, slice_get, subst, sym, ap, ◌∙◌}
+use Rattle.std.proofs.Common.{◌≡◌, ◌<◌, List, MatchResult, arith, refl, replicate, set, subst, sym, ◌∙◌}
 use Rattle.std.proofs.lemmas.Option.{slice_get_read}
+use Rattle.std.proofs.lemmas.Result.{err_from_is_err_and}
 use Rattle.std.specs.Prelude.{vec_len}
-use Rattle.arena_core.specs.Rings.{CannotSend, RingState, Sends, ring_at}
-use Rattle.arena_core.proofs.RingSteps.{Sends-row, no_item, ring_at-past}
+use Rattle.arena_core.specs.Filled.{filled}
+use Rattle.arena_core.specs.Rings.{CannotSend, RingState, Sends, new_ring}
+use Rattle.arena_core.proofs.FilledLists.{filled-get, filled-set}
+use Rattle.arena_core.proofs.RingSteps.{Sends-row, Sends-unreached}
 use Rattle.arena_core.proofs.rings.Rings.send.Goals as goal
 
-pub returns-in_default-get_mut : goal.returns-in_default-get_mut
-returns-in_default-get_mut c =
-    let here : slice_get c.self.inside.inboxes.items c.args.key.span.shard ≡ Some c.inbox.inside.rings.items =
-    slice_get_read c.self.inside.inboxes.items (vec_len c.self.inside.inboxes) c.args.key.span.shard c.in-Some.inbox.now c.self.inside.inboxes.ok.0
-    (c.in-Some.ensures.variant.0 refl) c.in-Some.ensures.value ∙ ap Some (sym c.inbox.view_is) in
-    let past = ring_at-past c.self.inside.inboxes.items c.args.worker c.args.key.span.shard c.inbox.inside.rings.items here
-    (no_item c.inbox.inside.rings.items (vec_len c.inbox.inside.rings) c.args.worker c.inbox.inside.rings.ok.0 c.in_default-get_mut.ensures.variant.1) in
-    (ap (λ s. ring_at s c.args.worker c.args.key.span.shard) (sym c.self.view_is) ∙ past.0, past.1 ∙ c.self.view_is)
+pub returns-in_err-reach_inbox : goal.returns-in_err-reach_inbox
+returns-in_err-reach_inbox c =
+    let refused = err_from_is_err_and c.from_residual.result c.from_residual.ensures.1 in
+    let told = c.in_err-reach_inbox.ensures {u = tt} in
+    let items = c.self.inside.inboxes.items in
+    rw (refused.1, refused.2) (
+      subst (λ (s : List (List RingState)). CannotSend c.in_err-reach_inbox.field-0.0 s c.args.worker c.args.key.span.shard) c.self.view_is
+          (Sends-unreached c.self.inside.shards c.self.inside.capacity items c.args.worker c.args.key.span.shard
+          (omega (arith, told.refused.0, c.self.inside.inboxes.ok.0)) c.self.invariant.1 c.in_err-reach_inbox.field-0.0 told.refused.1),
+      told.same ∙ c.self.view_is,
+    )
 
 pub returns : goal.returns
 returns c =
-    let here : slice_get c.self.inside.inboxes.items c.args.key.span.shard ≡ Some c.inbox.inside.rings.items =
-    slice_get_read c.self.inside.inboxes.items (vec_len c.self.inside.inboxes) c.args.key.span.shard c.in-Some.inbox.now c.self.inside.inboxes.ok.0
-    (c.in-Some.ensures.variant.0 refl) c.in-Some.ensures.value ∙ ap Some (sym c.inbox.view_is) in
-    let there = slice_get_read c.inbox.inside.rings.items (vec_len c.inbox.inside.rings) c.args.worker c.in-Some-get_mut.ring.now c.inbox.inside.rings.ok.0
-    (c.in-Some-get_mut.ensures.variant.0 refl) c.in-Some-get_mut.ensures.value in
-    let now = set c.self.inside.inboxes.items c.args.key.span.shard (set c.inbox.inside.rings.items c.args.worker c.send.new.self) in
+    let told = c.in_ok-reach_inbox.ensures {u = tt} in
+    let items = c.reach_inbox.new.inboxes.items in
+    let filling = replicate c.self.inside.shards (new_ring c.self.inside.capacity) in
+    let below : c.args.key.span.shard < vec_len c.reach_inbox.new.inboxes = told.here in
+    let there = slice_get_read items (vec_len c.reach_inbox.new.inboxes) c.args.key.span.shard c.index_mut.result.now c.reach_inbox.new.inboxes.ok.0 below
+    c.index_mut.ensures.value in
+    let all = filled c.self.inside.shards filling items in
+    let now = filled c.self.inside.shards filling (set items c.args.key.span.shard c.send.new.self) in
     subst (λ (s : List (List RingState)). MatchResult c.send.result (λ sent. Sends s c.args.worker c.args.key now)
-    (λ refusal. CannotSend refusal s c.args.worker c.args.key.span.shard × (now ≡ s))) c.self.view_is
-    (Sends-row c.self.inside.inboxes.items c.args.worker c.args.key.span.shard c.inbox.inside.rings.items here c.in-Some-get_mut.ring.now there c.send.new.self
-    c.args.key c.send.result refl c.send.ensures)
+    (λ refusal. CannotSend refusal s c.args.worker c.args.key.span.shard × (now ≡ s))) (told.same ∙ c.self.view_is)
+    (subst (λ (n : List (List RingState)). MatchResult c.send.result (λ sent. Sends all c.args.worker c.args.key n)
+    (λ refusal. CannotSend refusal all c.args.worker c.args.key.span.shard × (n ≡ all)))
+    (sym (filled-set c.self.inside.shards filling items c.args.key.span.shard c.send.new.self (omega (arith, below, c.reach_inbox.new.inboxes.ok.0))))
+    (Sends-row all c.args.worker c.args.key.span.shard c.index_mut.result.now
+    (filled-get c.self.inside.shards filling items c.args.key.span.shard c.index_mut.result.now there (omega (arith, below, told.few)))
+    c.send.new.self c.args.key c.send.result refl c.send.ensures))

@@ -1,9 +1,10 @@
-use Rattle.std.proofs.Common.{subst, sym, take, ◌++◌, ◌∷◌, []}
+use Rattle.std.proofs.Common.{subst, sym, ◌∙◌, take, ◌++◌, ◌∷◌, []}
 use Rattle.std.specs.Prelude.{MatchOption}
 use Rattle.span.specs.Ids.{rank}
 use Rattle.groups.specs.FirstLive.{HasNoneIn, IsFirstAmong, IsSooner, rank_or_end}
 use Rattle.groups.specs.Spans.{all_spans}
 use Rattle.groups.proofs.FirstLive.{IsFirstAmong-found, IsFirstAmong-passed, take-more}
+use Rattle.groups.proofs.NoneLive.{IsFirstAmong-none}
 use Rattle.groups.proofs.spans.Spans.first_live.Goals as goal
 use Rattle.groups.proofs.spans.Spans.first_live.Goals.{in-Some, in_default}
 
@@ -26,3 +27,6 @@ loop-place-preserved g c =
           (IsFirstAmong-passed (take c.loop-place.place spans) low before span c.loop-place.invariant
           (subst (λ o. MatchOption o (HasNoneIn low (rank_or_end before) span) (IsSooner low (rank_or_end before) span)) w.in_default.is its)))
     ]
+
+pub returns-then-live-eq0 : goal.returns-then-live-eq0
+returns-then-live-eq0 g c = IsFirstAmong-none (all_spans c.args.self.now) (rank c.args.from) (sym c.live.ensures.live ∙ c.if-live-eq0.true)

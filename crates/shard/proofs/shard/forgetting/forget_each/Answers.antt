@@ -42,6 +42,7 @@ loop-index-preserved c =
       capacity = c.loop-index.invariant.capacity;
       known = rw (c.forget_in.ensures.group, c.forget_in.ensures.directory) known;
       room = rw (c.forget_in.ensures.directory) c.loop-index.invariant.room;
+      heads = c.forget_in.ensures.heads ∙ c.loop-index.invariant.heads;
     }
 
 pub returns-clause-items : goal.returns-clause-items

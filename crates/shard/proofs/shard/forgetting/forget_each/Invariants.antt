@@ -11,4 +11,5 @@ invariant-loop-index l = record {
   capacity : vec_capacity l.groups ≡ vec_capacity l.fn.groups;
   known : KnowsGuests l.groups.items l.directory.entries;
   room : l.directory.room ≡ l.fn.directory.room;
+  heads : l.heads ≡ l.fn.heads;
 }

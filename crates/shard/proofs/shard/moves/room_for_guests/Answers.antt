@@ -18,4 +18,4 @@ returns-clause-room g c =
     let found = c.in-Some-head_index.ensures.head in
     let here = head_read c.args.groups.now c.args.groups.now refl c.in-Some.head c.in-Some-head_index.index found c.index-groups-index.result c.index-groups-index.is in
     IsGuestRoom-here c.args.groups.now c.requires c.in-Some.head c.in-Some-head_index.index c.index-groups-index.result here c.args.more (vec_capacity c.in_ok-room.room)
-    (omega (arith, c.len-guests.ensures, c.saturating_add.ensures, c.in_ok-room.ensures.exact, c.in_ok-room.room.small))
+    (omega (arith, c.len-guests.ensures, c.guest_room.ensures, c.in_ok-room.ensures.exact, c.in_ok-room.room.small))

@@ -42,8 +42,8 @@ invariant_of-self c = record {
       (vec_capacity c.self.inside.guest_room) c.self.invariant.room_for_guests);
   guests_known = c.forget_all.ensures.known;
   room_for_entries = rw c.forget_all.ensures.room c.self.invariant.room_for_entries;
-  heads_known = rw c.forget_all.ensures.items (KnowsHeads-without_dead c.self.inside.number c.self.inside.groups.items c.self.inside.heads c.self.invariant.heads_known);
-  room_for_heads = c.self.invariant.room_for_heads;
+  heads_known = rw (c.forget_all.ensures.items, c.forget_all.ensures.heads) (KnowsHeads-without_dead c.self.inside.number c.self.inside.groups.items c.self.inside.heads c.self.invariant.heads_known);
+  room_for_heads = rw c.forget_all.ensures.heads c.self.invariant.room_for_heads;
 }
 
 -- how many spans there are before and after

@@ -1,0 +1,142 @@
+//! What has no value takes no memory, and answers as what had values once.
+
+use std::mem::size_of;
+use std::panic::{RefUnwindSafe, UnwindSafe};
+use teurlaks::{Core, Key, Limits, Refused, SharedSlab, SharedStore, Slab, Store};
+
+/// What glibc says of its memory, of all threads.
+#[repr(C)]
+struct Info {
+    arena: usize,
+    ordblks: usize,
+    smblks: usize,
+    hblks: usize,
+    hblkhd: usize,
+    usmblks: usize,
+    fsmblks: usize,
+    uordblks: usize,
+    fordblks: usize,
+    keepcost: usize,
+}
+
+extern "C" {
+    fn mallinfo2() -> Info;
+}
+
+/// How many bytes the allocator has given out.
+fn bytes_taken() -> usize {
+    // SAFETY: it takes nothing.
+    let info = unsafe { mallinfo2() };
+    info.uordblks + info.hblkhd
+}
+
+/// How many bytes so many of these take, each with its own size.
+fn bytes_each<S>(make: impl Fn() -> S) -> usize {
+    const COUNT: usize = 1000;
+    let mut made = Vec::with_capacity(COUNT);
+    let before = bytes_taken();
+    made.extend((0..COUNT).map(|_| make()));
+    // What the harness of tests takes or frees meanwhile is less than a byte each.
+    let beside = (bytes_taken().saturating_sub(before) + COUNT - 1) / COUNT;
+    size_of::<S>() + beside
+}
+
+fn no_value_takes_no_memory() {
+    let limits = Limits {
+        shards: 64,
+        ..Limits::default()
+    };
+    for each in [
+        bytes_each(|| Core::new(limits)),
+        bytes_each(Store::<u64>::new),
+        bytes_each(|| Store::<[u64; 30]>::with_limits(limits)),
+    ] {
+        assert!(each <= 200, "{each} bytes");
+    }
+    for each in [
+        bytes_each(Slab::<u64>::new),
+        bytes_each(|| Slab::<[u64; 30]>::with_limits(limits)),
+        bytes_each(Slab::<[u64; 1000]>::default),
+    ] {
+        assert!(each <= 512, "{each} bytes");
+    }
+    // Nor does what is asked of it.
+    let (mut slab, mut core) = (Slab::<String>::default(), Core::new(limits).unwrap());
+    let before = bytes_taken();
+    let key = "0.0/0/1".parse().unwrap();
+    assert!(slab.get(key).is_none() && slab.remove(key).is_none() && slab.iter().next().is_none());
+    assert_eq!((slab.compact(), slab.shrink_to_fit(), slab.forget()), (Ok(0), 0, Ok(0)));
+    assert_eq!((core.compact(), core.get(key), core.free(key)), (Ok(0), None, false));
+    // A core takes more, and the harness of tests less.
+    assert!(bytes_taken() < before + 1000);
+}
+
+/// What a core that has no key answers to each call, as a text.
+fn answers(core: &mut Core) -> Vec<String> {
+    let key: Key = "0.0/7/9".parse().unwrap();
+    let mut said = vec![
+        format!("{:?} {:?} {}", core.get(key), core.get_words(key), core.contains(key)),
+        format!("{:?} {:?} {}", core.set(key, 7), core.replace(key, 7), core.free(key)),
+        format!("{:?} {:?}", core.set_words(key, &[0; 4]), core.set_words(key, &[0; 2])),
+        format!(
+            "{:?} {:?} {:?}",
+            core.remove(key),
+            core.next_live(None),
+            core.next_live(Some(key))
+        ),
+        format!("{:?} {:?} {:?}", core.len(), core.pages(), core.iter().next()),
+        format!("{:?}", core.drain().next()),
+        format!("{:?}", core.certificate()),
+        format!("{:?} {:?}", core.insert_words(0, &[]), core.insert_words(2, &[0; 4])),
+        format!("{:?} {:?}", core.insert(2, 7), core.insert_bytes(2, b"a")),
+        format!("{:?} {:?}", core.step(), core.close()),
+        format!("{:?} {:?}", core.forget(), core.compact()),
+    ];
+    for shard in [0, 2] {
+        said.push(format!("{:?} {:?}", core.begin(shard), core.trim(shard)));
+        said.push(format!("{:?} {:?}", core.retire(shard, 3), core.adopt(shard)));
+    }
+    said
+}
+
+/// What comes after these answers, of calls that make the core's shards.
+fn later_answers(core: &mut Core) -> Vec<String> {
+    vec![
+        format!("{:?} {:?} {:?}", core.end(2), core.end(1), core.end(1)),
+        format!("{:?} {:?}", core.is_ended(1), core.insert(1, 7)),
+        format!("{:?} {:?} {:?}", core.mark(), core.mark(), core.step()),
+        format!("{:?} {:?} {:?}", core.forget(), core.close(), core.mesh()),
+    ]
+}
+
+fn it_answers_as_one_that_had_values() -> Result<(), Refused> {
+    let limits = Limits {
+        shards: 2,
+        ..Limits::default()
+    };
+    let (mut new, mut used) = (Core::new(limits)?, Core::new(limits)?);
+    let key = used.insert(0, 7)?;
+    assert!(used.free(key) && used.trim(0) == Ok(1));
+    assert_eq!(answers(&mut new), answers(&mut used));
+    assert_eq!(later_answers(&mut new), later_answers(&mut used));
+    let mut new = Core::new(limits)?;
+    assert_eq!(new.insert_words(1, &[7; 16])?.to_string(), "1.0/0/1");
+    Ok(())
+}
+
+/// A value that was lent to a call that panicked may be used again.
+fn unwinds<T: UnwindSafe + RefUnwindSafe>(_: &T) {}
+
+#[test]
+fn until_used() -> Result<(), Refused> {
+    no_value_takes_no_memory();
+    it_answers_as_one_that_had_values()?;
+    unwinds(&Slab::<String>::new()?);
+    unwinds(&SharedSlab::<String>::new()?);
+    unwinds(&(
+        Store::<u8>::new()?,
+        SharedStore::<u8>::new()?,
+        Core::new(Limits::default())?,
+    ));
+    Ok(())
+}
