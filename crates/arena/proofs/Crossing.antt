@@ -11,8 +11,8 @@ use Rattle.std.specs.contracts.impls.GlobalAllocator.TheImpl
 use Rattle.span.specs.declared.log.Log.{Ghosts}
 use Rattle.shard.proofs.shard.Shard.TheSendSync as shard
 use Rattle.shard.specs.contracts.shard.Shard
-use Rattle.abandoned.proofs.pool.Pool.TheSendSync as pool
-use Rattle.abandoned.specs.contracts.pool.Pool
+use Rattle.pool.proofs.pool.Pool.TheSendSync as pool
+use Rattle.pool.specs.contracts.pool.Pool
 use Rattle.marks.proofs.limits.Limits.TheSendSync as limits
 use Rattle.latch.proofs.latch.Latch.TheSendSync as latch
 use Rattle.latch.specs.contracts.latch.Latch

@@ -14,8 +14,8 @@ use Rattle.shard.specs.declared.shard.Freed.{Freed}
 use Rattle.shard.specs.declared.shard.Freed.TheVariants as freed
 use Rattle.shard.specs.declared.shard.replacing.Replaced.{Replaced}
 use Rattle.shard.specs.declared.shard.replacing.Replaced.TheVariants as replaced
-use Rattle.abandoned.specs.Calls.{Frees as FreesPooled, Gets as GetsPooled, Sets as SetsPooled}
-use Rattle.abandoned.specs.State.{PoolState}
+use Rattle.pool.specs.Calls.{Frees as FreesPooled, Gets as GetsPooled, Sets as SetsPooled}
+use Rattle.pool.specs.State.{PoolState}
 use Rattle.arena.specs.Told.{changes_at, free_told, set_told}
 
 pub Gets-elsewhere : (owner : ShardState) (key : Key) (at : Option ℕ) → ((what : Found) × Gets owner key what × (at ≡ changes_at what)) → at ≡ None → IsElsewhere owner.groups key.span

@@ -15,10 +15,10 @@ use Rattle.shard.specs.declared.shard.Freed.{Freed}
 use Rattle.shard.specs.declared.shard.Freed.TheVariants as freed
 use Rattle.groups.proofs.Lists.{same_some}
 use Rattle.groups.proofs.Standing.{spans_of-with_span}
-use Rattle.abandoned.specs.Calls.{Frees as FreesPooled}
-use Rattle.abandoned.specs.Sound.{IsSound}
-use Rattle.abandoned.specs.State.{PoolState}
-use Rattle.abandoned.proofs.Freed.{groups-Leaves}
+use Rattle.pool.specs.Calls.{Frees as FreesPooled}
+use Rattle.pool.specs.Sound.{IsSound}
+use Rattle.pool.specs.State.{PoolState}
+use Rattle.pool.proofs.Freed.{groups-Leaves}
 use Rattle.arena.specs.SpanCounts.{pooled_spans, shard_spans, spans_of_all}
 
 -- another group with as many spans in the place of one

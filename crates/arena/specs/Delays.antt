@@ -1,4 +1,5 @@
--- How long a key waits at a seat for its block to be full, counted in calls of the seat: the 64th further call hands it over.
+-- How long a key waits at a seat for its block to be full, counted in calls of the seat: the 64th
+-- further call hands it over.
 use Rattle.std.specs.Prelude.{◌≡◌, ℕ, ◌+◌, All, List, Option, None, Some, IsSome, nat_lt, if◌then◌else◌}
 use Rattle.remote_queue.specs.Rings.{Sending}
 use Rattle.arena.specs.Seats.{AreNoFewer, KeepsEnds, SeatState, free_places, sent_lists}
@@ -8,7 +9,8 @@ use Rattle.arena.specs.declared.outboxes.TheConstants.{MOST_DELAY}
 abbrev pub NoneWaits : List Sending → Type 0
 NoneWaits outboxes = All (λ outbox. outbox.waiting ≡ 0) outboxes
 
--- how many calls were made since the first key was left that may still wait, after one call more; none where no key waits, as after the last call that it may wait
+-- how many calls were made since the first key was left that may still wait, after one call more;
+-- none where no key waits, as after the last call that it may wait
 abbrev pub delay_after : Option ℕ → Option ℕ
 delay_after None = None
 delay_after (Some calls) = if nat_lt (calls + 1) MOST_DELAY then Some (calls + 1) else None
@@ -18,7 +20,8 @@ abbrev pub delay_begun : Option ℕ → Option ℕ
 delay_begun None = Some 0
 delay_begun (Some calls) = delay_after (Some calls)
 
--- the same worker, section, numbers and rings, the same takers' ends, and the same keys sent; and no place that was known to be free is lost
+-- the same worker, section, numbers and rings, the same takers' ends, and the same keys sent; and
+-- no place that was known to be free is lost
 pub record KeepsSeat (old new : SeatState) : Type 0 where
   pub ends : KeepsEnds old new
   pub section_is : new.section ≡ old.section
@@ -37,7 +40,8 @@ pub record HandsOver (old new : SeatState) : Type 0 where
   pub none : HasNoneWaiting new
   pub unchanged : old.delay ≡ None → new ≡ old
 
--- one call of the seat more: where no key waits it is as it was; where keys wait the call is counted, and nothing else changes, or it is the last that they may wait, and they are handed over
+-- one call of the seat more: where no key waits it is as it was; where keys wait the call is
+-- counted, and nothing else changes, or it is the last that they may wait, and they are handed over
 pub record CountsCall (old new : SeatState) : Type 0 where
   pub kept : KeepsSeat old new
   pub delay_is : new.delay ≡ delay_after old.delay

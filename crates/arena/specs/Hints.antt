@@ -32,6 +32,7 @@ place_code Nowhere = 1
 place_code Pool = 2
 place_code (Shard number) = 3 + number
 
--- the word that says where the span of the serial may be: the code in its upper half, the serial in its lower
+-- the word that says where the span of the serial may be: the code in its upper half, the serial in
+-- its lower
 abbrev pub hint_word : Hint → ℕ
 hint_word hint = place_code hint.place * 2 ^ 32 + hint.serial

@@ -9,14 +9,18 @@ pub record Table : Type 0 where
   pub rows : List (List Ring)
   pub columns : List (List Ring)
 
--- a table of as many workers and shards, in which the ring of a worker to a shard is that of the shard from the worker
+-- a table of as many workers and shards, in which the ring of a worker to a shard is that of the
+-- shard from the worker
 abbrev pub IsTableOf : ℕ → Table → Type 0
 IsTableOf shards table =
-    (length table.rows ≡ shards) × (length table.columns ≡ shards) × All (λ row. length row ≡ shards) table.rows
+    (length table.rows ≡ shards) × (length table.columns ≡ shards)
+    × All (λ row. length row ≡ shards) table.rows
     × All (λ column. length column ≡ shards) table.columns × AreTransposed table.rows table.columns
 
--- the worker's number, the section of the run that it is in, the numbers and the rings of its arena, and its ends of rings: to each shard, and from each worker into its own shard;
--- and, where keys may wait for their block to be full, how many calls it made since the first of these was left
+-- the worker's number, the section of the run that it is in, the numbers and the rings of its
+-- arena, and its ends of rings: to each shard, and from each worker into its own shard; and, where
+-- keys may wait for their block to be full, how many calls it made since the first of these was
+-- left
 pub record SeatState : Type 0 where
   pub worker : ℕ
   pub section : ℕ
@@ -70,15 +74,18 @@ AreNoFewer before after = (shard : ℕ) → slice_index_or before shard 0 ≤ sl
 -- of each ring between the seats at least as many places are known to be free as before
 abbrev pub KeepPlaces : List SeatState → List SeatState → Type 0
 KeepPlaces before after =
-    (worker : ℕ) → AreNoFewer (slice_index_or (map (λ seat. free_places seat.outboxes) before) worker []) (slice_index_or (map (λ seat. free_places seat.outboxes) after) worker [])
+    (worker : ℕ) → AreNoFewer (slice_index_or (map (λ seat. free_places seat.outboxes) before)
+    worker []) (slice_index_or (map (λ seat. free_places seat.outboxes) after) worker [])
 
 -- what a worker sent to a shard
 abbrev pub sent_on : List SeatState → ℕ → ℕ → List Key
-sent_on seats worker shard = slice_index_or (slice_index_or (map sent_lists seats) worker []) shard []
+sent_on seats worker shard = slice_index_or (slice_index_or (map sent_lists seats) worker []) shard
+    []
 
 -- what a shard's thread took of what a worker sent
 abbrev pub taken_on : List SeatState → ℕ → ℕ → List Key
-taken_on seats shard worker = slice_index_or (slice_index_or (map (λ seat. taken_lists seat.inboxes) seats) shard []) worker []
+taken_on seats shard worker = slice_index_or (slice_index_or
+    (map (λ seat. taken_lists seat.inboxes) seats) shard []) worker []
 
 -- the same worker, numbers, arena's rings, and rings of its own
 pub record KeepsEnds (old new : SeatState) : Type 0 where
@@ -97,17 +104,29 @@ pub record SendingSide : Type 0 where
   pub sent : List (List Key)
 
 abbrev pub sending_side : SeatState → SendingSide
-sending_side seat = record { worker = seat.worker; section = seat.section; limits = seat.limits; rings = out_rings seat; sent = sent_lists seat }
+sending_side seat =
+    record {
+      worker = seat.worker;
+      section = seat.section;
+      limits = seat.limits;
+      rings = out_rings seat;
+      sent = sent_lists seat;
+    }
 
--- one seat a worker, in order, each with an end to each shard and from each worker; a worker's end to a shard and that shard's end from the worker are of one ring
+-- one seat a worker, in order, each with an end to each shard and from each worker; a worker's end
+-- to a shard and that shard's end from the worker are of one ring
 pub record AreLinked (seats : List SeatState) : Type 0 where
-  pub in_order : (worker : ℕ) (d : SeatState) → worker < length seats → (slice_index_or seats worker d).worker ≡ worker
-  pub wide : All (λ seat. (length seat.outboxes ≡ length seats) × (length seat.inboxes ≡ length seats)) seats
-  pub linked : (worker shard : ℕ) → cell (map out_rings seats) worker shard ≡ cell (map in_rings seats) shard worker
+  pub in_order : (worker : ℕ) (d : SeatState) → worker < length seats
+      → (slice_index_or seats worker d).worker ≡ worker
+  pub wide : All (λ seat. (length seat.outboxes ≡ length seats)
+      × (length seat.inboxes ≡ length seats)) seats
+  pub linked : (worker shard : ℕ) → cell (map out_rings seats) worker shard
+      ≡ cell (map in_rings seats) shard worker
 
 -- each seat stands at its worker's number
 abbrev pub AreInOrder : List SeatState → Type 0
-AreInOrder seats = (worker : ℕ) (d : SeatState) → worker < length seats → (slice_index_or seats worker d).worker ≡ worker
+AreInOrder seats = (worker : ℕ) (d : SeatState) → worker < length seats
+    → (slice_index_or seats worker d).worker ≡ worker
 
 -- all seats of the arena with these numbers and rings: one a worker, in order
 pub record AreSeatsOf (limits : Limits) (table : Table) (seats : List SeatState) : Type 0 where

@@ -9,8 +9,13 @@ abbrev pub TellsOwn : {Told : Type 0} → Option Told → Told → Type 0
 TellsOwn None told = Unit {0}
 TellsOwn (Some own) told = told ≡ own
 
--- a look-up whose own shard tells how many changes the span's log has, and that the key has this value: it tells both, with the value's words in the room; where the
--- own shard does not have the span, it tells and leaves in the room what another place finds, or that this place is not to be had, with the room as it was
-abbrev pub LooksUpOwn : {W : Type 0} → (W → ℕ) → Option ℕ → Option Value → List W → Result (Option ℕ × ℕ) Busy → List W → Type 0
-LooksUpOwn word (Some at) value room told after = MatchResult told (λ got. (got.1 ≡ at) × WritesFound word value room got.0 after) (λ busy. ⊥)
-LooksUpOwn word None value room told after = MatchResult told (λ got. LooksUp word room got.0 after) (λ busy. after ≡ room)
+-- a look-up whose own shard tells how many changes the span's log has, and that the key has this
+-- value: it tells both, with the value's words in the room; where the own shard does not have the
+-- span, it tells and leaves in the room what another place finds, or that this place is not to be
+-- had, with the room as it was
+abbrev pub LooksUpOwn : {W : Type 0} → (W → ℕ) → Option ℕ → Option Value → List W
+    → Result (Option ℕ × ℕ) Busy → List W → Type 0
+LooksUpOwn word (Some at) value room told after = MatchResult told (λ got. (got.1 ≡ at)
+    × WritesFound word value room got.0 after) (λ busy. ⊥)
+LooksUpOwn word None value room told after = MatchResult told (λ got. LooksUp word room got.0 after)
+    (λ busy. after ≡ room)

@@ -2,7 +2,7 @@
 use Rattle.std.specs.Prelude.{ℕ, List, length, sum_by}
 use Rattle.shard.specs.State.{ShardState}
 use Rattle.groups.specs.Group.{spans_in}
-use Rattle.abandoned.specs.State.{PoolState}
+use Rattle.pool.specs.State.{PoolState}
 
 -- how many spans the shard has
 abbrev pub shard_spans : ShardState → ℕ

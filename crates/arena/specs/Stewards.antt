@@ -17,6 +17,7 @@ begun steward pairs = record steward { plan = Some (record { pairs = pairs; done
 
 -- a step takes the pair that is next, or says that none is left or that no plan is open
 abbrev pub Steps : Option OpenPlan → Stepped → Option OpenPlan → Type 0
-Steps old (Taken abandoned owned step) new = (next_pair old ≡ Some (abandoned, owned)) × (new ≡ option_map with_next_done old)
+Steps old (Taken abandoned owned step) new = (next_pair old ≡ Some (abandoned, owned))
+    × (new ≡ option_map with_next_done old)
 Steps old NoPairLeft new = IsSome old × (next_pair old ≡ None) × (new ≡ old)
 Steps old NoPlan new = (old ≡ None) × (new ≡ old)

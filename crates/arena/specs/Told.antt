@@ -9,18 +9,23 @@ use Rattle.shard.specs.declared.shard.Freed.TheVariants as freed
 use Rattle.shard.specs.declared.shard.replacing.Replaced.{Replaced}
 use Rattle.shard.specs.declared.shard.replacing.Replaced.TheVariants as replaced
 
--- the words of an object stand in the room, from its first place on, where there is room for all of them; else the room is as it was
+-- the words of an object stand in the room, from its first place on, where there is room for all of
+-- them; else the room is as it was
 abbrev pub Writes : {W : Type 0} → (W → ℕ) → Value → List W → List W → Type 0
-Writes word words room after = ((length words ≤ length room) × (map word after ≡ words ++ drop (length words) (map word room))) ⊎ ((length room < length words) × (after ≡ room))
+Writes word words room after = ((length words ≤ length room)
+    × (map word after ≡ words ++ drop (length words) (map word room)))
+    ⊎ ((length room < length words) × (after ≡ room))
 
 -- what a look-up that found this tells, which is how many words there are, and leaves in the room
 abbrev pub WritesFound : {W : Type 0} → (W → ℕ) → Option Value → List W → Option ℕ → List W → Type 0
 WritesFound word None room told after = (told ≡ None) × (after ≡ room)
-WritesFound word (Some words) room told after = (told ≡ Some (length words)) × Writes word words room after
+WritesFound word (Some words) room told after = (told ≡ Some (length words))
+    × Writes word words room after
 
 -- a look-up finds an object or nothing, tells which, and leaves its words in the room
 abbrev pub LooksUp : {W : Type 0} → (W → ℕ) → List W → Option ℕ → List W → Type 0
-LooksUp word room told after = (found : Option Value) × IfSome found IsObject × WritesFound word found room told after
+LooksUp word room told after = (found : Option Value) × IfSome found IsObject
+    × WritesFound word found room told after
 
 -- how many changes the log of the span has in which a look-up was; none where the span is not there
 abbrev pub changes_at : Found → Option ℕ
@@ -28,13 +33,15 @@ changes_at (found.Value value at) = Some at
 changes_at (found.Gone at) = Some at
 changes_at found.NotHere = None
 
--- whether a set was done, and how many changes stood in its span's log before it; none where the span is not there
+-- whether a set was done, and how many changes stood in its span's log before it; none where the
+-- span is not there
 abbrev pub set_told : Replaced → Option (Bool × ℕ)
 set_told (replaced.Yes at) = Some (true, at)
 set_told (replaced.No at) = Some (false, at)
 set_told replaced.NotHere = None
 
--- whether a free was done, and how many changes stood in its span's log before it; none where the span is not there
+-- whether a free was done, and how many changes stood in its span's log before it; none where the
+-- span is not there
 abbrev pub free_told : Freed → Option (Bool × ℕ)
 free_told (freed.Yes at) = Some (true, at)
 free_told (freed.No at) = Some (false, at)

@@ -1,11 +1,13 @@
--- How far a walk over the live keys of an arena has come. Keys come by the shards that opened their spans, by serials, and then by slots.
+-- How far a walk over the live keys of an arena has come. Keys come by the shards that opened their
+-- spans, by serials, and then by slots.
 use Rattle.std.specs.Prelude.{◌≡◌, ◌⊎◌, ◌+◌, ◌<◌, ◌≤◌}
 use Rattle.span.specs.declared.key.Key.{Key}
 use Rattle.arena.specs.declared.walk.Walk.{Walk}
 
 -- the walk stands where it stood, or further on
 abbrev pub HasGoneOn : Walk → Walk → Type 0
-HasGoneOn old new = (old.shard < new.shard) ⊎ ((new.shard ≡ old.shard) × ((old.serial < new.serial) ⊎ ((new.serial ≡ old.serial) × (old.slot ≤ new.slot))))
+HasGoneOn old new = (old.shard < new.shard) ⊎ ((new.shard ≡ old.shard)
+    × ((old.serial < new.serial) ⊎ ((new.serial ≡ old.serial) × (old.slot ≤ new.slot))))
 
 -- where the key is
 abbrev pub walk_at : Key → Walk

@@ -14,19 +14,20 @@ use crate::locks::{LockedShard, LockedShards, lock_all, totals_of};
 use crate::patience::{Patience, Tries, Waits};
 use crate::ring_table::RingTable;
 use crate::steward::Steward;
-use abandoned::Pool;
 use certificate::Certificate;
 use fold::Step;
 use latch::{Busy, Latch, LatchGuard};
 use marks::{Limits, MarkError, Totals, mark_in, mark_some_in};
 use mesh_graph::{AtHand, MOST_GROUPS, Runner};
+use pool::Pool;
 use shard::Shard;
 use span::{Kept, Log, SpanId};
 use std::alloc::{AllocError, Global};
 use std::sync::Wait;
 
-/// Shards and the pool, each behind a lock of its own, with how many spans each shard has opened, and hints of where these may be.
-/// The pool's lock is taken first, and then those of shards, ascending.
+/// Shards and the pool, each behind a lock of its own, with how many spans each shard has opened,
+/// and hints of where these may be. The pool's lock is taken first, and then those of shards,
+/// ascending.
 #[derive(Drop)]
 pub struct Arena<G: Gate, L: Log = Kept> {
     pub(crate) alloc: Global,
@@ -62,15 +63,17 @@ enum Sight {
 }
 
 impl<G: Gate, L: Log> Arena<G, L> {
-    /// Makes a plan of as many folds as can be of what stands now, under all locks, hands it to the steward, and closes
-    /// the groups that it folds onto. It gives what it saw, the plan, and the short set that shows it best. The runner fills the rows
-    /// of its graph, in as many pieces as the arena has shards if it goes by pieces; the answer does not depend on it.
+    /// Makes a plan of as many folds as can be of what stands now, under all locks, hands it to the
+    /// steward, and closes the groups that it folds onto. It gives what it saw, the plan, and the
+    /// short set that shows it best. The runner fills the rows of its graph, in as many pieces as
+    /// the arena has shards if it goes by pieces; the answer does not depend on it.
     ///
     /// # Errors
     ///
-    /// As those of [`mark_in`] on what all locks lend: `PlanOpen`, `TooMany`, `Doubled`, and `OutOfMemory` where an allocation was
-    /// refused. The plan of the steward is as it was. But for a steward that has a plan, when each comes the contract of
-    /// `mark_in` says; no clause here can name what the locks guarded.
+    /// As those of [`mark_in`] on what all locks lend: `PlanOpen`, `TooMany`, `Doubled`, and
+    /// `OutOfMemory` where an allocation was refused. The plan of the steward is as it was. But for
+    /// a steward that has a plan, when each comes the contract of `mark_in` says; no clause here
+    /// can name what the locks guarded.
     pub fn mark<R: Wait, N: Runner>(
         &self,
         rt: &R,
@@ -102,13 +105,14 @@ impl<G: Gate, L: Log> Arena<G, L> {
         made
     }
 
-    /// A mark that sees of each side the 4,096 groups with the fewest live slots, or all where there are no more: what [`Arena::mark`] does
-    /// with all groups it does with these.
+    /// A mark that sees of each side the 4,096 groups with the fewest live slots, or all where
+    /// there are no more: what [`Arena::mark`] does with all groups it does with these.
     ///
     /// # Errors
     ///
-    /// As those of [`mark_some_in`](marks::mark_some_in) on what all locks lend: `PlanOpen`, `Doubled`, and `OutOfMemory` where an
-    /// allocation was refused. The plan of the steward is as it was.
+    /// As those of [`mark_some_in`](marks::mark_some_in) on what all locks lend: `PlanOpen`,
+    /// `Doubled`, and `OutOfMemory` where an allocation was refused. The plan of the steward is as
+    /// it was.
     pub fn mark_some<R: Wait, N: Runner>(
         &self,
         rt: &R,
@@ -143,12 +147,14 @@ impl<G: Gate, L: Log> Arena<G, L> {
         made
     }
 
-    /// What [`Arena::mark`] does, where no other thread has a lock. The thread that asks fills the rows ([`AtHand`]).
+    /// What [`Arena::mark`] does, where no other thread has a lock. The thread that asks fills the
+    /// rows ([`AtHand`]).
     ///
     /// # Errors
     ///
-    /// [`Busy`] where another thread has one. Else the mark, whose errors are those of [`Arena::mark`]. The plan of the steward is as
-    /// it was, where the answer is [`Busy`] or an error.
+    /// [`Busy`] where another thread has one. Else the mark, whose errors are those of
+    /// [`Arena::mark`]. The plan of the steward is as it was, where the answer is [`Busy`] or an
+    /// error.
     pub fn try_mark(&self, steward: &mut Steward) -> Result<Result<Certificate, MarkError>, Busy>
         requires { steward.old.limits ≡ self.now.limits }
         ensures best { IfOk result (λ made. IfOk made
@@ -167,12 +173,14 @@ impl<G: Gate, L: Log> Arena<G, L> {
         self.mark_within(&Tries, &AtHand, steward, Sight::All)
     }
 
-    /// What [`Arena::mark_some`] does, where no other thread has a lock. The thread that asks fills the rows ([`AtHand`]).
+    /// What [`Arena::mark_some`] does, where no other thread has a lock. The thread that asks fills
+    /// the rows ([`AtHand`]).
     ///
     /// # Errors
     ///
-    /// [`Busy`] where another thread has one. Else the mark, whose errors are those of [`Arena::mark_some`]. The plan of the steward is as
-    /// it was, where the answer is [`Busy`] or an error.
+    /// [`Busy`] where another thread has one. Else the mark, whose errors are those of
+    /// [`Arena::mark_some`]. The plan of the steward is as it was, where the answer is [`Busy`] or
+    /// an error.
     pub fn try_mark_some(
         &self,
         steward: &mut Steward,
@@ -232,7 +240,8 @@ impl<G: Gate, L: Log> Arena<G, L> {
         Ok(self.mark_lent(runner, steward, sight, &mut pool, guards.as_mut_slice()))
     }
 
-    // A mark of what is in sight of the pool and of all shards, which their locks lend, if no plan is open.
+    // A mark of what is in sight of the pool and of all shards, which their locks lend, if no plan
+    // is open.
     fn mark_lent<N: Runner>(
         &self,
         runner: &N,
@@ -263,8 +272,8 @@ impl<G: Gate, L: Log> Arena<G, L> {
         Ok(found)
     }
 
-    /// Carries out the next pair of the steward's plan, under the pool's lock and that of the shard which has the pair's
-    /// owned group.
+    /// Carries out the next pair of the steward's plan, under the pool's lock and that of the shard
+    /// which has the pair's owned group.
     ///
     /// # Errors
     ///
@@ -284,7 +293,8 @@ impl<G: Gate, L: Log> Arena<G, L> {
     ///
     /// # Errors
     ///
-    /// [`Busy`] where another thread has one: the pair stays next. Else the step, whose error is that of [`Arena::step`].
+    /// [`Busy`] where another thread has one: the pair stays next. Else the step, whose error is
+    /// that of [`Arena::step`].
     pub fn try_step(&self, steward: &mut Steward) -> Result<Result<Stepped, AllocError>, Busy>
         requires { steward.old.limits ≡ self.now.limits }
         ensures limits { steward.new.limits ≡ steward.old.limits }
@@ -325,8 +335,8 @@ impl<G: Gate, L: Log> Arena<G, L> {
         }
     }
 
-    /// Ends the steward's plan, whatever of it is left, and opens all groups, under all locks. It answers whether a plan
-    /// was open, and takes no memory.
+    /// Ends the steward's plan, whatever of it is left, and opens all groups, under all locks. It
+    /// answers whether a plan was open, and takes no memory.
     pub fn close<R: Wait>(&self, rt: &R, steward: &mut Steward) -> bool
         requires { steward.old.limits ≡ self.now.limits }
         ensures closed { result ≡ is_some steward.old.plan }
@@ -369,8 +379,9 @@ impl<G: Gate, L: Log> Arena<G, L> {
         Ok(true)
     }
 
-    /// How many pages there are and how many keys are live, counted under all locks. It takes no memory. No clause can name what
-    /// the locks guarded: that it is the sum of what `pages` and `live` of the pool and of each shard then say, the tests show.
+    /// How many pages there are and how many keys are live, counted under all locks. It takes no
+    /// memory. No clause can name what the locks guarded: that it is the sum of what `pages` and
+    /// `live` of the pool and of each shard then say, the tests show.
     pub fn totals<R: Wait>(&self, rt: &R) -> Totals {
         let Ok(totals) = self.totals_within(&Waits { rt });
         totals
@@ -419,7 +430,8 @@ impl<G: Gate, L: Log> Arena<G, L> {
         lock_all(patience, &self.shards)
     }
 
-    // Why no mark is made where there is no room for the guards of all locks: told under all locks, without memory.
+    // Why no mark is made where there is no room for the guards of all locks: told under all locks,
+    // without memory.
     fn why_no_mark<P: Patience>(&self, patience: &P, sight: Sight) -> Result<MarkError, P::Busy>
         ensures too_many { sight ≡ Sight.Sparsest → result ≢ Ok MarkError.TooMany }
     {
@@ -436,8 +448,9 @@ impl<G: Gate, L: Log> Arena<G, L> {
         })
     }
 
-    // Folds the pair in the shard that has its owned group: the one that its hint names, or else the
-    // first of all, under the locks of all. The pool's lock is held meanwhile, so no group moves.
+    // Folds the pair in the shard that has its owned group: the one that its hint names, or else
+    // the first of all, under the locks of all. The pool's lock is held meanwhile, so no group
+    // moves.
     fn fold<P: Patience>(
         &self,
         patience: &P,

@@ -8,8 +8,8 @@ use crate::finding::{Hinted, Nowhere};
 use crate::gate::Gate;
 use crate::hints::Place;
 use crate::patience::{Patience, Tries, Waits};
-use abandoned::Pool;
 use latch::{Ask, Busy};
+use pool::Pool;
 use shard::Shard;
 use span::{Log, SpanId};
 use std::convert::Infallible;
@@ -21,8 +21,8 @@ const MOST_MOVES: u32 = 8;
 
 /// A call on a key. `W` is what it may write into a room of the caller's.
 ///
-/// Whoever makes it knows nothing of its answer, so that it is the answer of a shard or of the pool,
-/// or that of a span which is known to be nowhere.
+/// Whoever makes it knows nothing of its answer, so that it is the answer of a shard or of the
+/// pool, or that of a span which is known to be nowhere.
 pub(crate) trait KeyCall<W> {
     /// What it answers.
     type Answer;
@@ -77,13 +77,14 @@ impl<L: Log, G: Gate, W, C: KeyCall<W>> Ask<Shard<L>, W> for InShard<'_, G, C> {
 }
 
 impl<G: Gate, L: Log> Arena<G, L> {
-    /// Makes the call wherever its span is. The first try is inlined into whoever calls it. The others, for
-    /// a span that is not where its hint says, are kept out of its way.
+    /// Makes the call wherever its span is. The first try is inlined into whoever calls it. The
+    /// others, for a span that is not where its hint says, are kept out of its way.
     ///
     /// # Errors
     ///
-    /// Busy, if another thread has the lock of the place that the hint names; if the span is not there,
-    /// that of the pool, or that of a shard and nobody else has the span; or if the span moved each time.
+    /// Busy, if another thread has the lock of the place that the hint names; if the span is not
+    /// there, that of the pool, or that of a shard and nobody else has the span; or if the span
+    /// moved each time.
     #[inline(always)]
     pub(crate) fn try_call<W, C: KeyCall<W>>(
         &self,
@@ -155,12 +156,14 @@ impl<G: Gate, L: Log> Arena<G, L> {
         Ok(call.in_pool(&mut *pool, room))
     }
 
-    /// The same for the session of this worker, whose shard does not have the span and is out of its
-    /// lock: once, since what that shard let go is in the pool first, and to ask all would meet that lock.
+    /// The same for the session of this worker, whose shard does not have the span and is out of
+    /// its lock: once, since what that shard let go is in the pool first, and to ask all would meet
+    /// that lock.
     ///
     /// # Errors
     ///
-    /// Busy, if another thread has the lock of the place that may have the span, or the span is not there.
+    /// Busy, if another thread has the lock of the place that may have the span, or the span is not
+    /// there.
     #[inline(never)]
     pub(crate) fn try_call_beside<W, C: KeyCall<W>>(
         &self,

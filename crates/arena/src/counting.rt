@@ -11,7 +11,8 @@ use crate::seat::Seat;
 use remote_queue::Inbox;
 use std::alloc::{AllocError, Global};
 
-// How many keys are left in each of the rings into a shard, whose ends are given. These ends then know them.
+// How many keys are left in each of the rings into a shard, whose ends are given. These ends then
+// know them.
 fn count_rings(seats: &mut [Seat], shard: usize, inboxes: &mut Vec<Inbox>, counts: &mut Vec<usize>)
     // There is room for a count of each ring.
     requires wide { vec_len inboxes.old ≡ length seats.old }
@@ -57,7 +58,8 @@ fn count_shard(alloc: Global, seats: &mut [Seat], shard: usize) -> Result<Vec<us
     Ok(counts)
 }
 
-// How many keys are left in each ring, by shard, then worker. The ends of the shards then know them.
+// How many keys are left in each ring, by shard, then worker. The ends of the shards then know
+// them.
 pub(crate) fn count_all(alloc: Global, seats: &mut [Seat]) -> Result<Vec<Vec<usize>>, AllocError>
     requires linked { AreLinked seats.old }
     requires few { length seats.old ≤ MOST_SHARDS }

@@ -16,8 +16,8 @@ use std::alloc::AllocError;
 /// What an arena leaves when its run is over.
 #[derive(Drop)]
 pub struct Finished {
-    /// The log of each span that the shards opened, wherever the span is: in a shard that has ended or has not, as a head
-    /// or a guest, or in the pool, with a page or without.
+    /// The log of each span that the shards opened, wherever the span is: in a shard that has ended
+    /// or has not, as a head or a guest, or in the pool, with a page or without.
     pub logs: Vec<SpanLog>,
     /// How many keys were settled from each ring, by its shard and then by its worker.
     pub counts: Vec<Vec<usize>>,
@@ -32,15 +32,17 @@ pub struct Unfinished<G: Gate> {
     pub seats: Vec<Seat>,
 }
 
-/// Takes the arena and its seats apart when no thread works on them any more: settles every ring, as [`Arena::settle`] does,
-/// and gives the logs of all spans, each with its greatest generation, and how many keys each ring had. The receipts are the
-/// caller's, a list for each worker; those of the settled keys go last in them. It owns all locks, so no other thread has
-/// one, and it waits for nobody.
+/// Takes the arena and its seats apart when no thread works on them any more: settles every ring,
+/// as [`Arena::settle`] does, and gives the logs of all spans, each with its greatest generation,
+/// and how many keys each ring had. The receipts are the caller's, a list for each worker; those of
+/// the settled keys go last in them. It owns all locks, so no other thread has one, and it waits
+/// for nobody.
 ///
 /// # Errors
 ///
-/// Arena and seats, with no key taken, where there is no memory for the counts, the receipts or the logs; or where a guard of a lock was
-/// forgotten, so that its shard is nowhere, which no call here does.
+/// Arena and seats, with no key taken, where there is no memory for the counts, the receipts or the
+/// logs; or where a guard of a lock was forgotten, so that its shard is nowhere, which no call here
+/// does.
 pub fn finish<G: Gate, K: Receipts>(
     mut arena: Arena<G>,
     mut seats: Vec<Seat>,
@@ -78,14 +80,16 @@ pub fn finish<G: Gate, K: Receipts>(
     }
 }
 
-/// Takes the logs of all spans out of an arena whose run is over, each with its greatest generation, and leaves it with no span: what
-/// [`finish`] does where its seats are not in one hand, or are not known to be the arena's own. No ring is settled: a key that was
-/// sent and not taken stays live in its span's log. Who has the arena to itself has all locks, and waits for nobody. Numbers, rings and
-/// locks stay, which is all that a clause sees of an arena.
+/// Takes the logs of all spans out of an arena whose run is over, each with its greatest
+/// generation, and leaves it with no span: what [`finish`] does where its seats are not in one
+/// hand, or are not known to be the arena's own. No ring is settled: a key that was sent and not
+/// taken stays live in its span's log. Who has the arena to itself has all locks, and waits for
+/// nobody. Numbers, rings and locks stay, which is all that a clause sees of an arena.
 ///
 /// # Errors
 ///
-/// `AllocError` where memory for the logs was refused, or where a guard of a lock was forgotten. Every span is then where it was.
+/// `AllocError` where memory for the logs was refused, or where a guard of a lock was forgotten.
+/// Every span is then where it was.
 pub fn take_logs<G: Gate>(arena: &mut Arena<G>) -> Result<Vec<SpanLog>, AllocError>
     ensures legal { IfOk result (λ logs. AreLegal logs.items) }
     ensures same { arena.new ≡ arena.old }
@@ -93,8 +97,8 @@ pub fn take_logs<G: Gate>(arena: &mut Arena<G>) -> Result<Vec<SpanLog>, AllocErr
     Ok(unlock(arena)?.into_logs())
 }
 
-// What is behind the locks of the arena, once every ring is settled, and how many keys each ring had. The arena has no span
-// afterwards. All memory is taken before the first key is.
+// What is behind the locks of the arena, once every ring is settled, and how many keys each ring
+// had. The arena has no span afterwards. All memory is taken before the first key is.
 fn settled<G: Gate, K: Receipts>(
     arena: &mut Arena<G>,
     seats: &mut [Seat],

@@ -11,8 +11,8 @@ use crate::gate::Gate;
 use crate::hints::Place;
 use crate::locks::LockedShard;
 use crate::patience::Tries;
-use abandoned::Pool;
 use latch::{Busy, LatchGuard};
+use pool::Pool;
 use span::{Log, SpanId};
 
 /// That a span is nowhere: it was not opened yet, or it was forgotten, so its keys find nothing.
@@ -53,7 +53,8 @@ impl<G: Gate, L: Log> Arena<G, L> {
     ///
     /// # Errors
     ///
-    /// Busy, if another thread has the pool's lock, or that of a shard and nobody else has the span.
+    /// Busy, if another thread has the pool's lock, or that of a shard and nobody else has the
+    /// span.
     pub(crate) fn locate(&self, id: SpanId) -> Result<Option<Nowhere>, Busy>
         ensures { IfOk result (λ found. IfSome found (λ nowhere. nowhere.id ≡ id)) }
     {
@@ -69,7 +70,8 @@ impl<G: Gate, L: Log> Arena<G, L> {
         Ok(self.locate_lent(id, &pool, shards.as_slice()))
     }
 
-    // Looks for the span in one shard after the other whose lock is to be had, and notes where it is.
+    // Looks for the span in one shard after the other whose lock is to be had, and notes where it
+    // is.
     fn is_in_a_shard(&self, id: SpanId) -> bool {
         for number in 0..self.limits.shards() {
             if self.is_in_shard(id, number) {

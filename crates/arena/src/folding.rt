@@ -1,4 +1,5 @@
-// Folds of pairs of a plan, each under the pool's lock and that of the shard which has the owned group.
+// Folds of pairs of a plan, each under the pool's lock and that of the shard which has the owned
+// group.
 ghost use Rattle.std.specs.Prelude.{◌≡◌, ◌↔◌, ◌<◌, ◌≤◌, All, IfOk, IfSome, IsTrue, None, Some, length, map, option_map, slice_index_or};
 ghost use Rattle.fold.specs.Folds.{Steps};
 ghost use Rattle.arena.specs.Locked.{HasGroup, latches_of, lent_by};
@@ -9,15 +10,15 @@ use crate::gate::Gate;
 use crate::hints::Place;
 use crate::locks::LockedShard;
 use crate::patience::Patience;
-use abandoned::Pool;
 use fold::{Step, fold_one};
 use marks::LendsShard;
+use pool::Pool;
 use shard::Shard;
 use span::{Log, SpanId};
 use std::alloc::AllocError;
 
-/// What came of a pair, or that memory was refused. Only this module makes one: in the shard that has
-/// the owned group, or if all shards are lent and none has it.
+/// What came of a pair, or that memory was refused. Only this module makes one: in the shard that
+/// has the owned group, or if all shards are lent and none has it.
 #[derive(Drop)]
 pub(crate) struct Folding {
     step: Result<Step, AllocError>,
@@ -54,8 +55,8 @@ impl<G: Gate, L: Log> Arena<G, L> {
         Ok(Some(self.fold_onto(pool, &mut *shard, number, abandoned, owned)))
     }
 
-    // Folds the pair in the shard that has the owned group, of all shards, which are lent. If none has
-    // it, the pair is absent.
+    // Folds the pair in the shard that has the owned group, of all shards, which are lent. If none
+    // has it, the pair is absent.
     pub(crate) fn fold_lent(
         &self,
         pool: &mut Pool<L>,
@@ -77,8 +78,8 @@ impl<G: Gate, L: Log> Arena<G, L> {
         }
     }
 
-    // Folds the pair in the shard of this number, which has the owned group, and notes that the spans
-    // that came are there.
+    // Folds the pair in the shard of this number, which has the owned group, and notes that the
+    // spans that came are there.
     fn fold_onto(
         &self,
         pool: &mut Pool<L>,
@@ -118,7 +119,8 @@ pub(crate) fn number_with<L: Log>(
 
 // Whether there is a shard that has the span.
 fn has<L: Log>(shard: &Option<LockedShard<'_, L>>, owned: SpanId) -> bool
-    ensures { IsTrue result ↔ HasGroup owned (option_map (λ locked. locked.guard.value.value) shard.now) }
+    ensures { IsTrue result ↔ HasGroup owned (option_map (λ locked. locked.guard.value.value)
+        shard.now) }
 {
     match shard {
         Some(shard) => shard.shard().has(owned),

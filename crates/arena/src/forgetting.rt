@@ -7,20 +7,22 @@ use crate::gate::Gate;
 use crate::locks::{LockedShard, forget_all};
 use crate::patience::{Patience, Tries, Waits};
 use crate::steward::Steward;
-use abandoned::Pool;
 use latch::{Busy, LatchGuard};
+use pool::Pool;
 use span::Counted;
 use std::sync::Wait;
 
 impl<G: Gate> Arena<G, Counted> {
-    /// Forgets the spans that can never be live again, with their generations, under all locks, and answers how many went: each guest of
-    /// the shards' groups in which no slot is live, and in the pool each such guest and all spans of groups in which no slot is live. They
-    /// take no put, so none of their keys can be live again: each finds nothing, as before. Nothing else that a caller sees
-    /// changes; that this is of what the locks guard no clause can name. It asks for memory only for a smaller table in the place of a
-    /// larger one, which stays if there is none.
+    /// Forgets the spans that can never be live again, with their generations, under all locks, and
+    /// answers how many went: each guest of the shards' groups in which no slot is live, and in the
+    /// pool each such guest and all spans of groups in which no slot is live. They take no put, so
+    /// none of their keys can be live again: each finds nothing, as before. Nothing else that a
+    /// caller sees changes; that this is of what the locks guard no clause can name. It asks for
+    /// memory only for a smaller table in the place of a larger one, which stays if there is none.
     ///
-    /// Only an arena whose logs are counted forgets, since an audit reads all logs. The receipt of a look-up, a set or a free of a key
-    /// whose span was forgotten says that nothing was found, after no change: its log is gone.
+    /// Only an arena whose logs are counted forgets, since an audit reads all logs. The receipt of
+    /// a look-up, a set or a free of a key whose span was forgotten says that nothing was found,
+    /// after no change: its log is gone.
     ///
     /// # Errors
     ///
@@ -37,7 +39,8 @@ impl<G: Gate> Arena<G, Counted> {
     ///
     /// # Errors
     ///
-    /// [`Busy`] where another thread has one. Else the forgetting, whose error is that of [`Arena::forget`].
+    /// [`Busy`] where another thread has one. Else the forgetting, whose error is that of
+    /// [`Arena::forget`].
     pub fn try_forget(&self, steward: &Steward) -> Result<Result<usize, PlanOpen>, Busy>
         requires { steward.now.limits ≡ self.now.limits }
         ensures plan_open { IfOk result

@@ -14,8 +14,8 @@ use shard::Shard;
 use span::{Key, Log};
 
 impl<G: Gate, L: Log> Arena<G, L> {
-    // Frees the first of the keys for the worker, and gives how many: under one lock those in a row that its own shard has, or the one
-    // whose span is elsewhere.
+    // Frees the first of the keys for the worker, and gives how many: under one lock those in a row
+    // that its own shard has, or the one whose span is elsewhere.
     pub(crate) fn free_first<P: CallsKeys, K: Receipts>(
         &self,
         patience: &P,
@@ -43,8 +43,8 @@ impl<G: Gate, L: Log> Arena<G, L> {
         Ok(1)
     }
 
-    // Frees the first of the keys, as far as the worker's own shard has their spans, under its lock, and gives how many these
-    // are. Where the first key's span is elsewhere it takes no lock.
+    // Frees the first of the keys, as far as the worker's own shard has their spans, under its
+    // lock, and gives how many these are. Where the first key's span is elsewhere it takes no lock.
     fn free_at_home<P: Patience, K: Receipts>(
         &self,
         patience: &P,

@@ -14,7 +14,8 @@ use std::sync::atomic::{AtomicIn, Rule};
 // How many hints of a shard's spans are kept for each page that the shard may have. A power of two.
 const HINTS_A_PAGE: usize = 4;
 
-// For how many pages of a shard hints are kept at most: 512 KB a shard, whatever number of pages it may have.
+// For how many pages of a shard hints are kept at most: 512 KB a shard, whatever number of pages it
+// may have.
 const MOST_HINTED_PAGES: usize = 16_384;
 
 // How many serials there are: the serial stands in the lower half of a hint's word.
@@ -49,8 +50,8 @@ impl Rule for OpenedCount {
     ghost invariant = { λ word. word ≤ 2 ^ 32 };
 }
 
-/// The rule of a hint's word, whoever writes it: in its upper half stands a code of the place, of which there are 67, or 0 where it
-/// says nothing.
+/// The rule of a hint's word, whoever writes it: in its upper half stands a code of the place, of
+/// which there are 67, or 0 where it says nothing.
 #[derive(Clone, Copy)]
 pub(crate) struct HintWord;
 
@@ -58,7 +59,8 @@ impl Rule for HintWord {
     ghost invariant = { λ word. word < 67 * 2 ^ 32 };
 }
 
-/// That a span was counted by its first put, so that others find its keys. Only this module makes one.
+/// That a span was counted by its first put, so that others find its keys. Only this module makes
+/// one.
 #[derive(Drop)]
 pub(crate) struct Announced {
     id: SpanId,
@@ -76,11 +78,13 @@ impl Announced {
     }
 }
 
-/// How many spans each shard has opened, and where some of them may be. The first is exact, since the first put of a span counts it
-/// before its key is handed out: a serial that was not counted is of no span. The second is a hint, in a table of fixed size for
-/// each shard, in which a serial shares its word with others. Another thread may move the span before the hint is followed, so who
-/// follows it looks whether the span is there; and where no word speaks of a serial, its span may be in the shard that opened it.
-/// A word says 'nowhere' only of a span that was forgotten, which never comes back ([`Nowhere`]).
+/// How many spans each shard has opened, and where some of them may be. The first is exact, since
+/// the first put of a span counts it before its key is handed out: a serial that was not counted is
+/// of no span. The second is a hint, in a table of fixed size for each shard, in which a serial
+/// shares its word with others. Another thread may move the span before the hint is followed, so
+/// who follows it looks whether the span is there; and where no word speaks of a serial, its span
+/// may be in the shard that opened it. A word says 'nowhere' only of a span that was forgotten,
+/// which never comes back ([`Nowhere`]).
 #[derive(Drop)]
 pub(crate) struct Hints {
     // By shard.
@@ -93,8 +97,9 @@ pub(crate) struct Hints {
 }
 
 impl Hints {
-    /// Those of that many shards, of that many pages each, which have opened no span. Of a shard of more than [`MOST_HINTED_PAGES`] pages
-    /// more spans share a word, since the table is made whole.
+    /// Those of that many shards, of that many pages each, which have opened no span. Of a shard of
+    /// more than [`MOST_HINTED_PAGES`] pages more spans share a word, since the table is made
+    /// whole.
     pub(crate) fn new(alloc: Global, shards: u32, page_limit: usize) -> Result<Hints, AllocError>
         requires few { shards ≤ MOST_SHARDS }
     {
@@ -112,7 +117,8 @@ impl Hints {
         })
     }
 
-    /// Where the span may be: two loads. It is nowhere where it was not opened, as one of a shard that is not of this arena.
+    /// Where the span may be: two loads. It is nowhere where it was not opened, as one of a shard
+    /// that is not of this arena.
     #[inline]
     pub(crate) fn place_of(&self, id: SpanId) -> Place
         ensures { IsPlace result }
@@ -130,8 +136,8 @@ impl Hints {
         }
     }
 
-    /// How many spans the shard of this number has opened, or 4,294,967,295 where that is more: no key has a greater serial. None where
-    /// there is no such shard.
+    /// How many spans the shard of this number has opened, or 4,294,967,295 where that is more: no
+    /// key has a greater serial. None where there is no such shard.
     pub(crate) fn opened_by(&self, shard: u32) -> u32 {
         match self.opened.get(shard as usize) {
             Some(opened) => opened.load(SeqCst).min(u64::from(MOST_SPANS)) as u32,
@@ -151,8 +157,8 @@ impl Hints {
         Announced { id }
     }
 
-    /// Says from now on that the span may be in this place, if that is not what is said. Of a span in the shard that opened it no word
-    /// speaks.
+    /// Says from now on that the span may be in this place, if that is not what is said. Of a span
+    /// in the shard that opened it no word speaks.
     pub(crate) fn note(&self, id: SpanId, place: Place)
         requires { IsSomewhere place }
     {

@@ -8,7 +8,7 @@ use crate::calling::KeyCall;
 use crate::finding::Nowhere;
 use crate::sections::{Looked, Outcome, free_in, free_pool, get_in, get_pool, set_in, set_pool};
 use crate::word::Word;
-use abandoned::Pool;
+use pool::Pool;
 use shard::Shard;
 use span::{Key, Log, SpanId};
 use std::alloc::AllocError;

@@ -1,6 +1,6 @@
-// The locks of all shards at one time. They are taken ascending, before the first shard is looked at
-// or changed, so all that is done under them stands at one time. An array keeps the guards, so that
-// they take no memory. Each guard names the latch that lends it.
+// The locks of all shards at one time. They are taken ascending, before the first shard is looked
+// at or changed, so all that is done under them stands at one time. An array keeps the guards, so
+// that they take no memory. Each guard names the latch that lends it.
 ghost use Rattle.std.specs.Prelude.{◌≡◌, ◌≤◌, IfOk, Some, length, map, option_map};
 ghost use Rattle.marks.specs.Closings.{reopened};
 ghost use Rattle.span.specs.declared.limits.TheConstants.{MOST_SHARDS};
@@ -68,7 +68,8 @@ pub(crate) fn lock_all<'a, L: Log, P: Patience>(
 /// Opens all groups of the shards.
 pub(crate) fn reopen_all<L: Log>(shards: &mut [Option<LockedShard<'_, L>>])
     ensures { map (option_map (λ shard. shard.guard.value.value)) shards.new
-        ≡ map (option_map reopened) (map (option_map (λ shard. shard.guard.value.value)) shards.old) }
+        ≡ map (option_map reopened) (map (option_map (λ shard. shard.guard.value.value))
+        shards.old) }
 {
     for shard in shards.iter_mut() {
         reopen_one(shard);

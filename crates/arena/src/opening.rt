@@ -12,9 +12,9 @@ use crate::hints::Hints;
 use crate::ring_table::RingTable;
 use crate::seat::Seat;
 use crate::steward::Steward;
-use abandoned::Pool;
 use latch::Latch;
 use marks::Limits;
+use pool::Pool;
 use remote_queue::{LinkError, Links, link};
 use shard::{Config, Shard};
 use span::{Kept, Log};
@@ -22,14 +22,16 @@ use std::alloc::{AllocError, Global};
 use std::mem::replace;
 
 impl<G: Gate> Arena<G, Kept> {
-    /// An arena of `shards` new shards and an empty pool, with a seat for each worker, by number, and its steward. A shard may
-    /// have `page_limit` pages of 4,096 bytes, and may open as many spans as there are serials; [`Arena::with_limits`] takes another
-    /// number. A ring holds `ring_capacity` keys, and a slot is given the generations from 1 to `gens`.
+    /// An arena of `shards` new shards and an empty pool, with a seat for each worker, by number,
+    /// and its steward. A shard may have `page_limit` pages of 4,096 bytes, and may open as many
+    /// spans as there are serials; [`Arena::with_limits`] takes another number. A ring holds
+    /// `ring_capacity` keys, and a slot is given the generations from 1 to `gens`.
     ///
     /// # Errors
     ///
-    /// `Config` exactly where a number is out of its range, which is 1 to 64 shards, 1 to 1,048,576 pages, 1 to 1,024 keys, and from 1
-    /// generation on; `OutOfMemory` only where each is within it.
+    /// `Config` exactly where a number is out of its range, which is 1 to 64 shards, 1 to 1,048,576
+    /// pages, 1 to 1,024 keys, and from 1 generation on; `OutOfMemory` only where each is within
+    /// it.
     pub fn open(
         alloc: Global,
         shards: u32,
@@ -62,8 +64,8 @@ impl<G: Gate> Arena<G, Kept> {
 }
 
 impl<G: Gate, L: Log> Arena<G, L> {
-    /// An arena of new shards, whose logs are kept or counted as its type says, with its seats and its steward: as
-    /// [`Arena::open`], and refused as that is.
+    /// An arena of new shards, whose logs are kept or counted as its type says, with its seats and
+    /// its steward: as [`Arena::open`], and refused as that is.
     pub fn open_with_log(
         alloc: Global,
         shards: u32,
@@ -97,8 +99,8 @@ impl<G: Gate, L: Log> Arena<G, L> {
         Ok(Arena::with_limits(alloc, limits, gate)?)
     }
 
-    /// An arena of new shards by all of its numbers, how many spans a shard may open among them, whose logs are kept or counted as
-    /// its type says, with its seats and its steward.
+    /// An arena of new shards by all of its numbers, how many spans a shard may open among them,
+    /// whose logs are kept or counted as its type says, with its seats and its steward.
     ///
     /// # Errors
     ///

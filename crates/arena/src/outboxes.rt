@@ -1,4 +1,5 @@
-// A worker's ends of its rings: how keys that wait for their block to be full are handed over in time.
+// A worker's ends of its rings: how keys that wait for their block to be full are handed over in
+// time.
 ghost use Rattle.std.specs.Prelude.{All, ◌≡◌, ℕ, ◌+◌, ◌<◌, ◌≤◌, ◌∷◌, ◌++◌, [], IfSome, IsOk, IsSome, MatchResult, None, OnErr, OnOk, Some, length, map, slice_get, slice_index_or, slice_set, vec_len};
 ghost use Rattle.arena.specs.Delays.{NoneWaits, delay_after, delay_begun};
 ghost use Rattle.arena.specs.Seats.{AreNoFewer, free_places};
@@ -8,10 +9,12 @@ ghost use Rattle.arena.specs.declared.outboxes.TheConstants.{MOST_DELAY};
 use remote_queue::{Inbox, Outbox, finish};
 use span::Key;
 
-/// How long a key waits at its seat for its block to be full, in calls of that seat: the 64th further call hands it over.
+/// How long a key waits at its seat for its block to be full, in calls of that seat: the 64th
+/// further call hands it over.
 pub const MOST_DELAY: u32 = 64;
 
-// Leaves the key for the shard that opened its span. Where the ring took none, all keys that wait are handed over.
+// Leaves the key for the shard that opened its span. Where the ring took none, all keys that wait
+// are handed over.
 #[inline(always)]
 pub(crate) fn leave_on(
     outboxes: &mut Vec<Outbox>,
@@ -180,7 +183,8 @@ fn hand_over_on(outboxes: &mut Vec<Outbox>)
     }
 }
 
-// How many keys were sent to a shard that its end has not taken. That end then knows them. The rings and what was sent stay.
+// How many keys were sent to a shard that its end has not taken. That end then knows them. The
+// rings and what was sent stay.
 pub(crate) fn finish_on(outboxes: &mut Vec<Outbox>, shard: usize, inbox: &mut Inbox) -> usize
     requires { slice_get (map (λ outbox. outbox.ring) outboxes.old.items) shard
         ≡ Some inbox.old.ring }

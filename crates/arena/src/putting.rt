@@ -15,8 +15,8 @@ use shard::{PutError, Shard};
 use span::{Class, Log};
 
 impl<G: Gate, L: Log> Arena<G, L> {
-    /// Puts the object of these words into a shard that is lent, as [`Shard::put_words`] does, and counts the
-    /// span if that is new, before its key is handed out.
+    /// Puts the object of these words into a shard that is lent, as [`Shard::put_words`] does, and
+    /// counts the span if that is new, before its key is handed out.
     ///
     /// # Errors
     ///

@@ -9,8 +9,8 @@ use crate::unkept::Unkept;
 use span::{Receipt, ReceiptList};
 use std::alloc::AllocError;
 
-/// Where the receipts of the keys go that are taken from rings, and freed: into a list, which keeps them for an audit, or nowhere,
-/// as [`Dropped`].
+/// Where the receipts of the keys go that are taken from rings, and freed: into a list, which keeps
+/// them for an audit, or nowhere, as [`Dropped`].
 ///
 /// Contracts see all receipts in both, so no other clause speaks of the choice.
 pub trait Receipts: Drop {
@@ -24,7 +24,8 @@ pub trait Receipts: Drop {
     ///
     /// # Errors
     ///
-    /// `AllocError` where memory runs out. The receipts are then as they were, and the room has not shrunk.
+    /// `AllocError` where memory runs out. The receipts are then as they were, and the room has not
+    /// shrunk.
     fn make_room(&mut self, more: usize) -> Result<(), AllocError>
         ensures told { told self.new ≡ told self.old }
         ensures room { room self.old ≤ room self.new }
@@ -53,7 +54,8 @@ impl Receipts for ReceiptList {
     }
 }
 
-/// Keeps no receipt, and takes no memory: for a service whose run is not audited. Proofs alone carry the receipts along.
+/// Keeps no receipt, and takes no memory: for a service whose run is not audited. Proofs alone
+/// carry the receipts along.
 #[derive(Drop)]
 pub struct Dropped {
     unkept: Unkept,

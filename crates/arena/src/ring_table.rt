@@ -7,8 +7,9 @@ use remote_queue::Links;
 use std::marker::Model;
 use std::mem::swap;
 
-// Lists of rings that only proofs read: it has no bytes, and its calls do nothing when they run. Nothing ties them to memory; that
-// ends are of rings of such a list is a fact of the type that has both (`Seat`).
+// Lists of rings that only proofs read: it has no bytes, and its calls do nothing when they run.
+// Nothing ties them to memory; that ends are of rings of such a list is a fact of the type that has
+// both (`Seat`).
 #[derive(Drop)]
 pub struct RingLists {
     pub(crate) ghost lists: { List (List Ring) },
@@ -58,7 +59,8 @@ impl RingLists {
     }
 }
 
-/// Which rings there are between the workers and the shards of an arena. Contracts alone see it: it has no bytes.
+/// Which rings there are between the workers and the shards of an arena. Contracts alone see it: it
+/// has no bytes.
 #[derive(Drop)]
 pub struct RingTable {
     rows: RingLists,

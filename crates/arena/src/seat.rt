@@ -25,8 +25,8 @@ use crate::sections::{Issued, Looked, Outcome};
 use crate::settling::{Frees, settle_rings};
 use crate::tending::{look_at_rings, tend_rings};
 use crate::word::Word;
-use abandoned::{AdoptError, ReceiveError};
 use marks::Limits;
+use pool::{AdoptError, ReceiveError};
 use remote_queue::{Inbox, Outbox};
 use shard::PutError;
 use span::{Class, Key, Log, Object, Receipt, SpanId};
@@ -42,12 +42,14 @@ pub use trying::Tended;
 // How many words an object has at most.
 const MOST_WORDS: usize = 16;
 
-/// A worker's place: it puts into the shard of its number, and its receipts carry that number and the section of the run that
-/// it is in. It has an end of the worker's ring to each shard, and of each worker's ring to its own shard.
+/// A worker's place: it puts into the shard of its number, and its receipts carry that number and
+/// the section of the run that it is in. It has an end of the worker's ring to each shard, and of
+/// each worker's ring to its own shard.
 ///
-/// A key that it leaves to another thread goes in a block with others, and is on its ring, where that thread sees it, at the
-/// latest when the seat tends its own rings, hands over, ends its shard, goes on to the next section or is let go, or makes the
-/// [`MOST_DELAY`]th further call: each `put`, `get`, `set`, `free`, `free_later`, `retire`, `trim` and `adopt` is one.
+/// A key that it leaves to another thread goes in a block with others, and is on its ring, where
+/// that thread sees it, at the latest when the seat tends its own rings, hands over, ends its
+/// shard, goes on to the next section or is let go, or makes the [`MOST_DELAY`]th further call:
+/// each `put`, `get`, `set`, `free`, `free_later`, `retire`, `trim` and `adopt` is one.
 #[derive(Drop)]
 pub struct Seat {
     worker: u32,
@@ -55,7 +57,8 @@ pub struct Seat {
     limits: Limits,
     // All rings of the arena, of which it has the ends of a row and of a column.
     table: RingTable,
-    // How many calls were made since the first key was left that may still wait. Where this is none, no key waits.
+    // How many calls were made since the first key was left that may still wait. Where this is
+    // none, no key waits.
     delay: Option<u32>,
     // By shard.
     outboxes: Vec<Outbox>,
@@ -151,8 +154,8 @@ impl Seat {
         self.section
     }
 
-    /// How many calls it has made since it left the first key that may still wait for its block to be full, fewer than
-    /// [`MOST_DELAY`]. Where this is `None`, no key waits.
+    /// How many calls it has made since it left the first key that may still wait for its block to
+    /// be full, fewer than [`MOST_DELAY`]. Where this is `None`, no key waits.
     pub fn delay(&self) -> Option<u32>
         ensures delay { result ≡ self.now.delay }
         ensures few { IfSome result (λ calls. calls < MOST_DELAY) }
@@ -161,8 +164,9 @@ impl Seat {
         self.delay
     }
 
-    /// From now on its receipts carry the next section, and the keys that wait are handed over. That all workers go on together,
-    /// at a barrier, is the callers' own affair. It waits for nobody and takes no memory.
+    /// From now on its receipts carry the next section, and the keys that wait are handed over.
+    /// That all workers go on together, at a barrier, is the callers' own affair. It waits for
+    /// nobody and takes no memory.
     pub fn next_section(&mut self)
         requires { self.old.section < 2 ^ 64 - 1 }
         ensures { HandsOver (record self.old { section = self.old.section + 1 }) self.new }
@@ -171,12 +175,13 @@ impl Seat {
         self.section += 1;
     }
 
-    /// Puts the object into the worker's shard, as [`Seat::try_put`] does, once no other thread has that
-    /// shard's lock, and gives the key and the receipt.
+    /// Puts the object into the worker's shard, as [`Seat::try_put`] does, once no other thread has
+    /// that shard's lock, and gives the key and the receipt.
     ///
     /// # Errors
     ///
-    /// As those of [`Shard::put_words`](shard::Shard::put_words) on the shard as it then is: `Ended`, `PagesSpent` and `OutOfMemory`.
+    /// As those of [`Shard::put_words`](shard::Shard::put_words) on the shard as it then is:
+    /// `Ended`, `PagesSpent` and `OutOfMemory`.
     pub fn put<G: Gate, L: Log, R: Wait>(
         &mut self,
         rt: &R,
@@ -193,8 +198,8 @@ impl Seat {
         Ok((put.key(), put.receipt(self.worker, self.section, value)))
     }
 
-    /// Looks the key up, as [`Seat::try_get`] does, once no other thread has a lock that it needs, and
-    /// gives what was found and the receipt.
+    /// Looks the key up, as [`Seat::try_get`] does, once no other thread has a lock that it needs,
+    /// and gives what was found and the receipt.
     pub fn get<G: Gate, L: Log, R: Wait>(
         &mut self,
         rt: &R,
@@ -213,13 +218,13 @@ impl Seat {
         (found, receipt)
     }
 
-    /// Sets the key's object to this one in place, as [`Seat::try_set`] does, once no other thread has a
-    /// lock that it needs, and gives whether it did so and the receipt.
+    /// Sets the key's object to this one in place, as [`Seat::try_set`] does, once no other thread
+    /// has a lock that it needs, and gives whether it did so and the receipt.
     ///
     /// # Errors
     ///
-    /// `AllocError` in place of a set that would be done, where the span's log could not grow. Nothing is set then, and there is
-    /// no receipt.
+    /// `AllocError` in place of a set that would be done, where the span's log could not grow.
+    /// Nothing is set then, and there is no receipt.
     pub fn set<G: Gate, L: Log, R: Wait>(
         &mut self,
         rt: &R,
@@ -240,8 +245,8 @@ impl Seat {
         ))
     }
 
-    /// Frees the key, as [`Seat::try_free`] does, once no other thread has a lock that it needs, and gives
-    /// whether it was live and the receipt.
+    /// Frees the key, as [`Seat::try_free`] does, once no other thread has a lock that it needs,
+    /// and gives whether it was live and the receipt.
     pub fn free<G: Gate, L: Log, R: Wait>(
         &mut self,
         rt: &R,
@@ -260,8 +265,8 @@ impl Seat {
         )
     }
 
-    /// Whether the shard that opened the key's span is one of the arena's, as [`Seat::free_later`] asks. The seat has then an end of
-    /// the ring to it.
+    /// Whether the shard that opened the key's span is one of the arena's, as [`Seat::free_later`]
+    /// asks. The seat has then an end of the ring to it.
     pub fn has_shard_of(&self, key: &Key) -> bool
         ensures shard { IsTrue result ↔ (key.now.span.shard < self.now.limits.shards) }
         ensures end { IsTrue result → key.now.span.shard < length self.now.outboxes }
@@ -269,15 +274,16 @@ impl Seat {
         key.span.shard < self.limits.shards()
     }
 
-    /// Leaves the key to the thread of the shard that opened its span, which frees it when it next tends its rings, or when
-    /// the arena ends, wherever the span then is. Keys go in blocks: until its block is full the key waits at the seat, for
-    /// fewer than [`MOST_DELAY`] further calls. It takes no lock and no memory, waits for nobody, and succeeds where a place of
-    /// the ring is known to be free.
+    /// Leaves the key to the thread of the shard that opened its span, which frees it when it next
+    /// tends its rings, or when the arena ends, wherever the span then is. Keys go in blocks: until
+    /// its block is full the key waits at the seat, for fewer than [`MOST_DELAY`] further calls. It
+    /// takes no lock and no memory, waits for nobody, and succeeds where a place of the ring is
+    /// known to be free.
     ///
     /// # Errors
     ///
-    /// The key, handed back, where the ring took none: each of its places was seen to hold a key, those of the block among
-    /// them. All keys that wait are then handed over.
+    /// The key, handed back, where the ring took none: each of its places was seen to hold a key,
+    /// those of the block among them. All keys that wait are then handed over.
     #[inline(always)]
     pub fn free_later(&mut self, key: Key) -> Result<(), Key>
         requires { key.span.shard < self.old.limits.shards }
@@ -303,22 +309,24 @@ impl Seat {
         leave_on(&mut self.outboxes, &mut self.delay, key)
     }
 
-    /// Hands over the keys that were left to shards' threads and wait for their block to be full, so that these threads can
-    /// see all of them. It takes no lock and no memory, and waits for nobody.
+    /// Hands over the keys that were left to shards' threads and wait for their block to be full,
+    /// so that these threads can see all of them. It takes no lock and no memory, and waits for
+    /// nobody.
     pub fn hand_over(&mut self)
         ensures { HandsOver self.old self.new }
     {
         hand_over_waiting(&mut self.outboxes, &mut self.delay);
     }
 
-    /// Hands over what the seat has left to others, looks how many keys have come in for its shard, and takes these, ring after
-    /// ring by worker, at most a ring's capacity from each, and frees each, as [`Seat::free`] does. Each leaves one receipt, in
-    /// the order in which they were taken. It gives how many there were.
+    /// Hands over what the seat has left to others, looks how many keys have come in for its shard,
+    /// and takes these, ring after ring by worker, at most a ring's capacity from each, and frees
+    /// each, as [`Seat::free`] does. Each leaves one receipt, in the order in which they were
+    /// taken. It gives how many there were.
     ///
     /// # Errors
     ///
-    /// `AllocError` where room for the receipts of the keys that were seen on the rings was refused. No key was taken then; what the
-    /// seat has left to others is handed over.
+    /// `AllocError` where room for the receipts of the keys that were seen on the rings was
+    /// refused. No key was taken then; what the seat has left to others is handed over.
     pub fn tend<G: Gate, L: Log, R: Wait, K: Receipts>(
         &mut self,
         rt: &R,
@@ -354,14 +362,15 @@ impl Seat {
         Ok(tended.count)
     }
 
-    /// The end of the worker's shard, under the pool's lock and the shard's: all its groups go to the pool. The keys that wait at
-    /// the seat are handed over first.
+    /// The end of the worker's shard, under the pool's lock and the shard's: all its groups go to
+    /// the pool. The keys that wait at the seat are handed over first.
     ///
     /// # Errors
     ///
-    /// As those of [`Pool::receive`](abandoned::Pool::receive) on pool and shard as they then are: `Ended`, `Doubled`, `PlanOpen`
-    /// where a group of the shard is closed, and `OutOfMemory`. Nothing has moved then. When each comes, that call's contract
-    /// says; no clause here can name what the locks guarded.
+    /// As those of [`Pool::receive`](pool::Pool::receive) on pool and shard as they then are:
+    /// `Ended`, `Doubled`, `PlanOpen` where a group of the shard is closed, and `OutOfMemory`.
+    /// Nothing has moved then. When each comes, that call's contract says; no clause here can name
+    /// what the locks guarded.
     pub fn end<G: Gate, L: Log, R: Wait>(
         &mut self,
         rt: &R,
@@ -374,10 +383,12 @@ impl Seat {
         ended
     }
 
-    /// Begins the worker's shard again, where it has ended, under the shard's lock, as [`Shard::begin`](shard::Shard::begin) does: it
-    /// takes puts and adopts as before, and issues no key twice. It answers whether it had ended; a shard that runs stays as it was.
-    /// Whether it had no clause here can say, since none names what the lock guarded. So a seat can go to a new thread once its shard
-    /// has ended: what waits on its rings waits for that thread. It takes no memory.
+    /// Begins the worker's shard again, where it has ended, under the shard's lock, as
+    /// [`Shard::begin`](shard::Shard::begin) does: it takes puts and adopts as before, and issues
+    /// no key twice. It answers whether it had ended; a shard that runs stays as it was. Whether it
+    /// had no clause here can say, since none names what the lock guarded. So a seat can go to a
+    /// new thread once its shard has ended: what waits on its rings waits for that thread. It takes
+    /// no memory.
     pub fn begin<G: Gate, L: Log, R: Wait>(&mut self, rt: &R, arena: &Arena<G, L>) -> bool
         requires { self.old.limits ≡ arena.now.limits }
         ensures seat { CountsCall self.old self.new }
@@ -386,15 +397,16 @@ impl Seat {
         had_ended
     }
 
-    /// Retires up to `most` groups of the worker's shard, under the pool's lock and the shard's: those with the fewest live keys,
-    /// of those that have one at least, go to the pool, and the shard goes on. It gives how many went, which is `most`, or all
-    /// that have a live key.
+    /// Retires up to `most` groups of the worker's shard, under the pool's lock and the shard's:
+    /// those with the fewest live keys, of those that have one at least, go to the pool, and the
+    /// shard goes on. It gives how many went, which is `most`, or all that have a live key.
     ///
     /// # Errors
     ///
-    /// As those of [`Pool::retire`](abandoned::Pool::retire) on pool and shard as they then are: `Ended`, `Doubled`, `PlanOpen`
-    /// where a group of the shard is closed, and `OutOfMemory`. Nothing has moved then. When each comes, and how many groups go,
-    /// that call's contract says; no clause here can name what the locks guarded.
+    /// As those of [`Pool::retire`](pool::Pool::retire) on pool and shard as they then are:
+    /// `Ended`, `Doubled`, `PlanOpen` where a group of the shard is closed, and `OutOfMemory`.
+    /// Nothing has moved then. When each comes, and how many groups go, that call's contract says;
+    /// no clause here can name what the locks guarded.
     pub fn retire<G: Gate, L: Log, R: Wait>(
         &mut self,
         rt: &R,
@@ -409,9 +421,9 @@ impl Seat {
         retired
     }
 
-    /// Gives back the page of each open group of the worker's shard in which no slot is live, under the shard's lock, and answers how
-    /// many went, as [`Shard::trim`](shard::Shard::trim) does; that this is of what the lock guarded no clause can name. It takes no
-    /// memory.
+    /// Gives back the page of each open group of the worker's shard in which no slot is live, under
+    /// the shard's lock, and answers how many went, as [`Shard::trim`](shard::Shard::trim) does;
+    /// that this is of what the lock guarded no clause can name. It takes no memory.
     pub fn trim<G: Gate, L: Log, R: Wait>(&mut self, rt: &R, arena: &Arena<G, L>) -> usize
         requires { self.old.limits ≡ arena.now.limits }
         ensures seat { CountsCall self.old self.new }
@@ -420,14 +432,15 @@ impl Seat {
         count
     }
 
-    /// The worker's shard adopts the pool's group of lowest head that has a page, under the pool's lock and the shard's,
-    /// and gives its head.
+    /// The worker's shard adopts the pool's group of lowest head that has a page, under the pool's
+    /// lock and the shard's, and gives its head.
     ///
     /// # Errors
     ///
-    /// As those of [`Pool::adopt`](abandoned::Pool::adopt) on pool and shard as they then are: `PagesSpent`, `Ended`, `Doubled`,
-    /// `PlanOpen`, `NothingToAdopt` and `OutOfMemory`. Nothing has moved then. When each comes, and which group, that call's
-    /// contract says; no clause here can name what the locks guarded.
+    /// As those of [`Pool::adopt`](pool::Pool::adopt) on pool and shard as they then are:
+    /// `PagesSpent`, `Ended`, `Doubled`, `PlanOpen`, `NothingToAdopt` and `OutOfMemory`. Nothing
+    /// has moved then. When each comes, and which group, that call's contract says; no clause here
+    /// can name what the locks guarded.
     pub fn adopt<G: Gate, L: Log, R: Wait>(
         &mut self,
         rt: &R,
@@ -609,7 +622,8 @@ impl Seat {
         Ok(adopted)
     }
 
-    // How many keys the worker sent to a shard that the shard's end has not taken. That end then knows them.
+    // How many keys the worker sent to a shard that the shard's end has not taken. That end then
+    // knows them.
     pub(crate) fn count_left(&mut self, shard: usize, inbox: &mut Inbox) -> usize
         requires { slice_get (map (λ outbox. outbox.ring) self.old.outboxes) shard
             ≡ Some inbox.old.ring }

@@ -1,25 +1,25 @@
 //! What is done inside a critical section: one call on a lent shard or pool.
 //!
-//! Each call here is one call of a shard or of the pool. Its answer says what that call answered, and how
-//! many changes stood in the span's log before it: with the caller's worker and section, that is
-//! what a receipt has, which an audit holds against the logs. Nobody else makes an answer, so whoever
-//! has one has asked a shard or the pool, or knows that the span is nowhere.
+//! Each call here is one call of a shard or of the pool. Its answer says what that call answered,
+//! and how many changes stood in the span's log before it: with the caller's worker and section,
+//! that is what a receipt has, which an audit holds against the logs. Nobody else makes an answer,
+//! so whoever has one has asked a shard or the pool, or knows that the span is nowhere.
 ghost use Rattle.std.specs.Prelude.{◌≡◌, ◌≤◌, ℕ, IfOk, IfSome, List, None, OnErr, false, if◌then◌else◌, is_some, length, option_map, take, true};
 ghost use Rattle.span.specs.Classes.{IsObject};
 ghost use Rattle.span.specs.PlainMap as plain;
 ghost use Rattle.shard.specs.Calls.{FindsObject, Frees, Gets, Sets, value_found};
 ghost use Rattle.shard.specs.Shown.{shown};
 ghost use Rattle.shard.specs.Sound.{IsSound};
-ghost use Rattle.abandoned.specs.Calls.{Frees as FreesPooled, Gets as GetsPooled, Sets as SetsPooled};
-ghost use Rattle.abandoned.specs.Shown.{shown as shown_by_pool};
-ghost use Rattle.abandoned.specs.Sound.{IsSound as IsSoundPool};
+ghost use Rattle.pool.specs.Calls.{Frees as FreesPooled, Gets as GetsPooled, Sets as SetsPooled};
+ghost use Rattle.pool.specs.Shown.{shown as shown_by_pool};
+ghost use Rattle.pool.specs.Sound.{IsSound as IsSoundPool};
 ghost use Rattle.arena.specs.Receipts.{IsFreeBy, free_receipt, get_receipt, put_receipt, set_receipt};
 ghost use Rattle.arena.specs.Told.{LooksUp, WritesFound, changes_at, free_told, is_done, set_told};
 
 use crate::finding::Nowhere;
 use crate::hints::Announced;
 use crate::word::{Word, write_words};
-use abandoned::Pool;
+use pool::Pool;
 use shard::{Found, Freed, Replaced, Shard};
 use span::{Call, Key, Log, Object, Receipt};
 use std::alloc::AllocError;
@@ -83,8 +83,8 @@ impl Issued {
     }
 }
 
-/// What a look-up answers. In a clause it is how many words the key's object has, if the key is live, and
-/// how many changes stand in its span's log.
+/// What a look-up answers. In a clause it is how many words the key's object has, if the key is
+/// live, and how many changes stand in its span's log.
 #[derive(Drop)]
 pub struct Looked {
     word_count: Option<usize>,
@@ -130,7 +130,8 @@ impl Looked {
         self.at
     }
 
-    /// The object whose words the look-up left in this room, which has place for any, if the key is live.
+    /// The object whose words the look-up left in this room, which has place for any, if the key is
+    /// live.
     pub fn object(&self, room: &[u128]) -> Option<Object>
         requires left { (before : List ℕ) × LooksUp (λ word. word) before self.now.0 room.now }
         requires long { 16 ≤ length room.now }
@@ -140,7 +141,8 @@ impl Looked {
         Some(first_words(count, room))
     }
 
-    /// The receipt of the look-up of the key, which found this object, by the worker in the section.
+    /// The receipt of the look-up of the key, which found this object, by the worker in the
+    /// section.
     pub fn receipt(&self, worker: u32, section: u64, key: &Key, found: &Option<Object>) -> Receipt
         ensures { result ≡ get_receipt worker section key.now found.now self.now.1 }
     {
@@ -162,8 +164,8 @@ fn first_words(count: usize, room: &[u128]) -> Object
     Object::from_words(&room[..count])
 }
 
-/// What a set or a free answers. In a clause it is whether it was done, and how many changes stood in its
-/// span's log before.
+/// What a set or a free answers. In a clause it is whether it was done, and how many changes stood
+/// in its span's log before.
 #[derive(Drop)]
 pub struct Outcome {
     done: bool,
@@ -220,7 +222,8 @@ impl Outcome {
     }
 
     /// The receipt of the free of the key by the worker in the section.
-    // Inlined, its fields go where they are read, and the room for an object is neither made nor copied.
+    // Inlined, its fields go where they are read, and the room for an object is neither made nor
+    // copied.
     #[inline(always)]
     pub fn free_receipt(&self, worker: u32, section: u64, key: &Key) -> Receipt
         ensures receipt { result ≡ free_receipt worker section key.now self.now.0 self.now.1 }
@@ -236,9 +239,9 @@ impl Outcome {
     }
 }
 
-/// Looks the key up in the shard, as [`Shard::get`] does, and writes the words of what it finds into the
-/// room, from its first place on, if there is room for all of them. The answer is `None` exactly if the
-/// shard does not have the span. It takes no memory.
+/// Looks the key up in the shard, as [`Shard::get`] does, and writes the words of what it finds
+/// into the room, from its first place on, if there is room for all of them. The answer is `None`
+/// exactly if the shard does not have the span. It takes no memory.
 #[inline(always)]
 pub fn get_in<L: Log, W: Word>(shard: &Shard<L>, key: &Key, room: &mut [W]) -> Option<Looked>
     ensures got { (what : Found) × Gets shard.now key.now what
@@ -294,13 +297,13 @@ fn written<W: Word>(found: Found<'_>, room: &mut [W]) -> Option<Looked>
     }
 }
 
-/// Sets the key's object to these words in the shard, in place, as [`Shard::set`] does. The answer is
-/// `None` exactly if the shard does not have the span.
+/// Sets the key's object to these words in the shard, in place, as [`Shard::set`] does. The answer
+/// is `None` exactly if the shard does not have the span.
 ///
 /// # Errors
 ///
-/// As that of [`Shard::set`]: `AllocError` in place of a set that would be done, if the span's log could
-/// not grow. The shard is then as it was.
+/// As that of [`Shard::set`]: `AllocError` in place of a set that would be done, if the span's log
+/// could not grow. The shard is then as it was.
 #[inline(always)]
 pub fn set_in<L: Log>(
     shard: &mut Shard<L>,
@@ -325,8 +328,8 @@ pub fn set_in<L: Log>(
 ///
 /// # Errors
 ///
-/// As that of [`Pool::set`]: `AllocError` in place of a set that would be done, if the span's log could
-/// not grow. The pool is then as it was.
+/// As that of [`Pool::set`]: `AllocError` in place of a set that would be done, if the span's log
+/// could not grow. The pool is then as it was.
 #[inline(never)]
 pub fn set_pool<L: Log>(
     pool: &mut Pool<L>,
@@ -349,8 +352,8 @@ pub fn set_pool<L: Log>(
     Ok(outcome_of_set(replaced))
 }
 
-/// Frees the key in the shard, as [`Shard::free`] does. The answer is `None` exactly if the shard does not
-/// have the span. It takes no memory.
+/// Frees the key in the shard, as [`Shard::free`] does. The answer is `None` exactly if the shard
+/// does not have the span. It takes no memory.
 #[inline(always)]
 pub fn free_in<L: Log>(shard: &mut Shard<L>, key: &Key) -> Option<Outcome>
     ensures freed { (what : Freed) × Frees shard.old key.now what shard.new

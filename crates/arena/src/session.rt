@@ -27,19 +27,23 @@ use span::{Class, Kept, Key, Log};
 use std::alloc::{AllocError, Global};
 use std::sync::Arc;
 
-/// A seat that keeps its worker's shard out of its lock, with a share of the arena: from [`Session::try_begin`] until it is paused
-/// ([`Session::pause`]) or let go, its calls on what is in that shard take no lock, and what each of them does to the shard is said exactly.
+/// A seat that keeps its worker's shard out of its lock, with a share of the arena: from
+/// [`Session::try_begin`] until it is paused ([`Session::pause`]) or let go, its calls on what is
+/// in that shard take no lock, and what each of them does to the shard is said exactly.
 ///
-/// Meanwhile whoever else wants the shard's lock waits, or is told that another thread has it: those who look up, set or free an object
-/// there, a mark, a close, a totalling, and a step whose owned group is there. A session waits for nobody: where a call needs a lock
-/// beside, it tries it, and answers [`Busy`] with nothing changed; who asked pauses, makes the call at the seat, and begins again. So two
-/// sessions never wait for each other. A call that waits for the lock, made by the session's own thread, would wait for ever.
+/// Meanwhile whoever else wants the shard's lock waits, or is told that another thread has it:
+/// those who look up, set or free an object there, a mark, a close, a totalling, and a step whose
+/// owned group is there. A session waits for nobody: where a call needs a lock beside, it tries it,
+/// and answers [`Busy`] with nothing changed; who asked pauses, makes the call at the seat, and
+/// begins again. So two sessions never wait for each other. A call that waits for the lock, made by
+/// the session's own thread, would wait for ever.
 pub struct Session<G: Gate, L: Log = Kept> {
     /// The arena.
     pub arena: Arc<Arena<G, L>, Global>,
     /// The seat.
     pub seat: Seat,
-    /// The seat's shard, out of its lock. It goes back with the session, whether that is paused or let go.
+    /// The seat's shard, out of its lock. It goes back with the session, whether that is paused or
+    /// let go.
     pub shard: Hold<Shard<L>>,
     ghost fits: { seat.limits ≡ (arc_value arena).limits },
     ghost its_own: { slice_get (arc_value arena).shards.items seat.worker ≡ Some shard.turn },
@@ -81,13 +85,15 @@ impl<G: Gate, L: Log> Session<G, L> {
         (arena, seat)
     }
 
-    /// Puts the object of these words, which are as many as the class has, into the shard, as [`Shard::put_words`] does.
+    /// Puts the object of these words, which are as many as the class has, into the shard, as
+    /// [`Shard::put_words`] does.
     ///
     /// # Errors
     ///
-    /// `Ended` exactly where the shard has ended, `PagesSpent` exactly where it has not, no open group of the class has a usable slot, and it
-    /// has as many groups as it may have pages, or has opened as many spans as it may; with `OutOfMemory` an allocation was refused.
-    /// The shard is then as it was.
+    /// `Ended` exactly where the shard has ended, `PagesSpent` exactly where it has not, no open
+    /// group of the class has a usable slot, and it has as many groups as it may have pages, or has
+    /// opened as many spans as it may; with `OutOfMemory` an allocation was refused. The shard is
+    /// then as it was.
     #[inline(always)]
     pub fn put(&mut self, class: Class, words: &[u128]) -> Result<Issued, PutError>
         requires { length words.now ≡ width_of class }
@@ -108,17 +114,19 @@ impl<G: Gate, L: Log> Session<G, L> {
         self.arena.put_in(&mut *self.shard.value, class, words)
     }
 
-    /// Looks the key up in the shard, as [`Shard::get`] does, and where that does not have the key's span, in the place that may, if its lock
-    /// is to be had. The words of what is found are written into `room`, from its first place on, where there is room for all of them.
+    /// Looks the key up in the shard, as [`Shard::get`] does, and where that does not have the
+    /// key's span, in the place that may, if its lock is to be had. The words of what is found are
+    /// written into `room`, from its first place on, where there is room for all of them.
     ///
     /// # Errors
     ///
-    /// [`Busy`] only where the shard does not have the key's span, and another thread has the lock of the place that may, or the span is not
-    /// there either. Nothing is written then.
+    /// [`Busy`] only where the shard does not have the key's span, and another thread has the lock
+    /// of the place that may, or the span is not there either. Nothing is written then.
     #[inline(always)]
     pub fn try_get<W: Word>(&mut self, key: &Key, room: &mut [W]) -> Result<Looked, Busy>
         ensures told { (what : Found) × Gets self.old.shard.value.value key.now what
-            × LooksUpOwn W.word (changes_at what) ((shown self.old.shard.value.value).value_of key.now)
+            × LooksUpOwn W.word (changes_at what) ((shown self.old.shard.value.value).value_of
+            key.now)
             room.old result room.new }
         ensures shard { self.new.shard ≡ self.old.shard }
         ensures seat { OnOk result (CountsCall self.old.seat self.new.seat) }
@@ -131,13 +139,14 @@ impl<G: Gate, L: Log> Session<G, L> {
         Ok(got)
     }
 
-    /// Sets the key's object to these words in place, in the shard, as [`Shard::set`] does, and where that does not have the key's span, in
-    /// the place that may, if its lock is to be had. Words that are not as many as the key's object has are not set.
+    /// Sets the key's object to these words in place, in the shard, as [`Shard::set`] does, and
+    /// where that does not have the key's span, in the place that may, if its lock is to be had.
+    /// Words that are not as many as the key's object has are not set.
     ///
     /// # Errors
     ///
-    /// [`Busy`] as that of [`Session::try_get`]. Else `AllocError` in place of a set that would be done, where the span's log could not
-    /// grow. Nothing is set then.
+    /// [`Busy`] as that of [`Session::try_get`]. Else `AllocError` in place of a set that would be
+    /// done, where the span's log could not grow. Nothing is set then.
     pub fn try_set(
         &mut self,
         key: &Key,
@@ -164,8 +173,8 @@ impl<G: Gate, L: Log> Session<G, L> {
         Ok(set)
     }
 
-    /// Frees the key in the shard, as [`Shard::free`] does, and where that does not have the key's span, in the place that may, if its lock
-    /// is to be had. It takes no memory.
+    /// Frees the key in the shard, as [`Shard::free`] does, and where that does not have the key's
+    /// span, in the place that may, if its lock is to be had. It takes no memory.
     ///
     /// # Errors
     ///
@@ -232,7 +241,8 @@ impl<G: Gate, L: Log> Drop for Session<G, L> {
     }
 }
 
-// A look-up of the worker's session in the shard that it keeps, or else in the place that may have the span.
+// A look-up of the worker's session in the shard that it keeps, or else in the place that may have
+// the span.
 #[inline(always)]
 fn look_up<G: Gate, L: Log, W: Word>(
     arena: &Arena<G, L>,

@@ -41,7 +41,8 @@ impl<'a, G: Gate, L: Log, R: Wait> Frees for UnderLocks<'a, G, L, R> {
 }
 
 impl<G: Gate, L: Log> Arena<G, L> {
-    /// Whether a seat of each worker is there, in order, as [`Arena::settle`] and [`finish`](crate::finish) ask of its seats.
+    /// Whether a seat of each worker is there, in order, as [`Arena::settle`] and
+    /// [`finish`](crate::finish) ask of its seats.
     pub fn has_all(&self, seats: &[Seat]) -> bool
         ensures { IsTrue result
             ↔ ((length seats.now ≡ self.now.limits.shards) × AreInOrder seats.now) }
@@ -49,9 +50,10 @@ impl<G: Gate, L: Log> Arena<G, L> {
         seats.len() == self.limits.shards() as usize && are_in_order(seats)
     }
 
-    /// Settles every ring, by shard, then worker, when all seats are in one hand: takes each key that was sent and not yet
-    /// taken, and frees it as [`Seat::free`] does. Each leaves one receipt, in the order in which it was sent, last in the list
-    /// of the worker of the ring's shard, with the greatest section of the seats. It gives how many keys each ring had, by
+    /// Settles every ring, by shard, then worker, when all seats are in one hand: takes each key
+    /// that was sent and not yet taken, and frees it as [`Seat::free`] does. Each leaves one
+    /// receipt, in the order in which it was sent, last in the list of the worker of the ring's
+    /// shard, with the greatest section of the seats. It gives how many keys each ring had, by
     /// shard, then worker.
     ///
     /// # Errors
@@ -105,7 +107,8 @@ fn are_in_order(seats: &[Seat]) -> bool
     true
 }
 
-// What the type of a seat keeps, said of each: it has the ends of its row and its column of the rings.
+// What the type of a seat keeps, said of each: it has the ends of its row and its column of the
+// rings.
 pub(crate) fn know_rings(seats: &[Seat])
     ensures { All HasItsRings seats.now }
 {
@@ -114,7 +117,8 @@ pub(crate) fn know_rings(seats: &[Seat])
     }
 }
 
-// Counts what is left in the rings, and makes room for a receipt of each key. Keys and receipts stay as they are.
+// Counts what is left in the rings, and makes room for a receipt of each key. Keys and receipts
+// stay as they are.
 pub(crate) fn make_room<K: Receipts>(
     alloc: Global,
     seats: &mut [Seat],
@@ -140,8 +144,8 @@ pub(crate) fn make_room<K: Receipts>(
     Ok(counts)
 }
 
-// Takes all that is known to be left in the rings of each shard, and frees it. Each receipt goes last in the list of the shard's
-// worker.
+// Takes all that is known to be left in the rings of each shard, and frees it. Each receipt goes
+// last in the list of the shard's worker.
 pub(crate) fn settle_seats<F: Frees, K: Receipts>(
     by: &mut F,
     seats: &mut [Seat],

@@ -8,15 +8,15 @@ ghost use Rattle.mesh_graph.specs.declared.build.TheConstants.{MOST_GROUPS};
 use crate::arena::Arena;
 use crate::gate::Gate;
 use crate::locks::{LockedShard, reopen_all};
-use abandoned::Pool;
 use latch::LatchGuard;
 use marks::{CurrentPlan, Limits};
+use pool::Pool;
 use span::{Log, SpanId};
 use std::alloc::{AllocError, Global};
 use std::marker::Model;
 
-/// The keeper of an arena's open plan of folds, in room for 4,096 pairs that is made with the arena. It is lent to each
-/// mark, step and close, so that no two of these meet.
+/// The keeper of an arena's open plan of folds, in room for 4,096 pairs that is made with the
+/// arena. It is lent to each mark, step and close, so that no two of these meet.
 #[derive(Drop)]
 pub struct Steward {
     pub(crate) limits: Limits,

@@ -25,9 +25,9 @@ pub(crate) fn look_at_rings(inboxes: &mut Vec<Inbox>, most: usize) -> usize
     count
 }
 
-// Takes the keys that are known from each of the rings, at most that many, one ring after the other, and frees each. A key is taken
-// only once it is freed, so that a call which does not wait leaves off at the first one that needs a lock which another thread has,
-// and says so.
+// Takes the keys that are known from each of the rings, at most that many, one ring after the
+// other, and frees each. A key is taken only once it is freed, so that a call which does not wait
+// leaves off at the first one that needs a lock which another thread has, and says so.
 pub(crate) fn tend_rings<G: Gate, L: Log, P: CallsKeys, K: Receipts>(
     patience: &P,
     arena: &Arena<G, L>,
@@ -66,7 +66,8 @@ pub(crate) fn tend_rings<G: Gate, L: Log, P: CallsKeys, K: Receipts>(
     }
 }
 
-// How many keys are taken from a ring: those that are known, at most that many, and none where the call has left off.
+// How many keys are taken from a ring: those that are known, at most that many, and none where the
+// call has left off.
 fn keys_to_take(inbox: &Inbox, most: usize, is_busy: bool) -> usize
     ensures { result ≤ known_count most inbox.now }
 {
@@ -113,8 +114,9 @@ fn tend_ring<G: Gate, L: Log, P: CallsKeys, K: Receipts>(
     }
 }
 
-// Frees the next of the known keys, at most that many, and takes each: those in a row that are at home, or the one whose span is elsewhere.
-// They are drawn from the ring in blocks, so that it does not pay for each of them, and the next ones have their places meanwhile.
+// Frees the next of the known keys, at most that many, and takes each: those in a row that are at
+// home, or the one whose span is elsewhere. They are drawn from the ring in blocks, so that it does
+// not pay for each of them, and the next ones have their places meanwhile.
 fn tend_some<G: Gate, L: Log, P: CallsKeys, K: Receipts>(
     patience: &P,
     arena: &Arena<G, L>,

@@ -1,5 +1,5 @@
-// Receipts as a list that only proofs read: it has no bytes, and its calls do nothing when they run. It is made as the history of
-// a log whose changes are only counted.
+// Receipts as a list that only proofs read: it has no bytes, and its calls do nothing when they
+// run. It is made as the history of a log whose changes are only counted.
 ghost use Rattle.std.specs.Prelude.{◌≡◌, List, [], ◌∷◌, ◌++◌};
 ghost use Rattle.std.specs.Borrow.{ftrue};
 ghost use Rattle.span.specs.declared.receipt.Receipt.{Receipt};

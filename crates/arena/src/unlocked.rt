@@ -10,15 +10,15 @@ use crate::arena::Arena;
 use crate::gate::Gate;
 use crate::sections::{free_in, free_pool};
 use crate::settling::Frees;
-use abandoned::Pool;
 use latch::Latch;
+use pool::Pool;
 use shard::{Config, Found, Shard};
 use span::{Call, Kept, Key, Receipt, SpanLog};
 use std::alloc::{AllocError, Global};
 use std::mem::replace;
 
-// The pool and the shards of an arena, and a list with room for the logs of all their spans. A free opens no span, so the room
-// stays enough.
+// The pool and the shards of an arena, and a list with room for the logs of all their spans. A free
+// opens no span, so the room stays enough.
 #[derive(Drop)]
 pub(crate) struct Unlocked {
     pool: Pool<Kept>,
@@ -67,8 +67,8 @@ impl Unlocked {
     }
 }
 
-// Takes what is behind the locks of the arena, which its caller has to itself, and which has no span afterwards. Memory is taken before
-// the first of them leaves.
+// Takes what is behind the locks of the arena, which its caller has to itself, and which has no
+// span afterwards. Memory is taken before the first of them leaves.
 pub(crate) fn unlock<G: Gate>(arena: &Arena<G>) -> Result<Unlocked, AllocError> {
     // There are 64 shards at most.
     let _ = arena.limits.shards();
@@ -83,9 +83,9 @@ pub(crate) fn unlock<G: Gate>(arena: &Arena<G>) -> Result<Unlocked, AllocError> 
     Ok(Unlocked { pool, shards, logs })
 }
 
-// Takes the shards, in whose place stand others with no span, and makes a list with room for the logs of their spans; with room
-// for that many more of either. Each shard is held while those after it are asked, and leaves when there is room for all: the last
-// one first.
+// Takes the shards, in whose place stand others with no span, and makes a list with room for the
+// logs of their spans; with room for that many more of either. Each shard is held while those after
+// it are asked, and leaves when there is room for all: the last one first.
 fn unlocked_shards(
     alloc: Global,
     shards: &[Latch<Shard<Kept>>],

@@ -8,17 +8,18 @@ use crate::calling::{CallsKeys, KeyCall};
 use crate::finding::Nowhere;
 use crate::gate::Gate;
 use crate::patience::{Tries, Waits};
-use abandoned::Pool;
 use latch::Busy;
+use pool::Pool;
 use shard::Shard;
 use span::{Key, Log, SpanId};
 use std::sync::Wait;
 
-/// Where a walk over the live keys of an arena stands: at this slot of the span that this shard opened as its `serial`th. All keys
-/// before that are behind it. All zeros are the beginning.
+/// Where a walk over the live keys of an arena stands: at this slot of the span that this shard
+/// opened as its `serial`th. All keys before that are behind it. All zeros are the beginning.
 ///
-/// Keys come by the ids of their spans, and then by slots, wherever the spans are by then. A walk meets no key twice, and each key
-/// that is live from its beginning to its end; a key that is put or freed meanwhile it may meet or not.
+/// Keys come by the ids of their spans, and then by slots, wherever the spans are by then. A walk
+/// meets no key twice, and each key that is live from its beginning to its end; a key that is put
+/// or freed meanwhile it may meet or not.
 #[derive(Clone, Copy, PartialEq, Eq, Debug, Default)]
 pub struct Walk {
     /// The shard that opened the span.
@@ -30,9 +31,10 @@ pub struct Walk {
 }
 
 impl Walk {
-    /// The next live key, behind which the walk then stands, or `None` where the walk has come to its end. It takes one lock at a
-    /// time, of whoever has the span that it looks at, and no memory. A call looks at one span after another that was opened, up to
-    /// the first that has a live slot.
+    /// The next live key, behind which the walk then stands, or `None` where the walk has come to
+    /// its end. It takes one lock at a time, of whoever has the span that it looks at, and no
+    /// memory. A call looks at one span after another that was opened, up to the first that has a
+    /// live slot.
     pub fn next<G: Gate, L: Log, R: Wait>(&mut self, rt: &R, arena: &Arena<G, L>) -> Option<Key>
         ensures ahead { IfSome result (IsAhead self.old) }
         ensures passed { IfSome result (λ key. self.new ≡ walk_after key) }
@@ -46,7 +48,8 @@ impl Walk {
     ///
     /// # Errors
     ///
-    /// [`Busy`] where another thread has one. The walk then stands at the span in question, so that the next call goes on from there.
+    /// [`Busy`] where another thread has one. The walk then stands at the span in question, so that
+    /// the next call goes on from there.
     pub fn try_next<G: Gate, L: Log>(&mut self, arena: &Arena<G, L>) -> Result<Option<Key>, Busy>
         ensures ahead { IfOk result (λ next. IfSome next (IsAhead self.old)) }
         ensures passed { IfOk result (λ next. IfSome next (λ key. self.new ≡ walk_after key)) }

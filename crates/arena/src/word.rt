@@ -20,7 +20,8 @@ impl Word for u128 {
     }
 }
 
-/// Writes the words into the room, from its first place on. There is room for all of them. One word is by far the most frequent.
+/// Writes the words into the room, from its first place on. There is room for all of them. One word
+/// is by far the most frequent.
 #[inline(always)]
 pub(crate) fn write_words<W: Word>(room: &mut [W], words: &[u128])
     requires { length words.now ≤ length room.old }

@@ -7,8 +7,8 @@ use Rattle.span.specs.declared.id.SpanId.{SpanId}
 use Rattle.span.specs.State.{SpanState}
 use Rattle.shard.specs.Sound.{IsSound as IsSoundShard}
 use Rattle.shard.specs.State.{ShardState}
-use Rattle.abandoned.specs.Sound.{IsSound as IsSoundPool}
-use Rattle.abandoned.specs.State.{PoolState}
+use Rattle.pool.specs.Sound.{IsSound as IsSoundPool}
+use Rattle.pool.specs.State.{PoolState}
 use Rattle.arena_core.specs.Sound.{HasSoundGroups, IsSoundAt}
 use Rattle.arena_core.specs.State.{CoreState, all_spans, opened_by, opened_of, with_pool, with_shard}
 use Rattle.arena_core.proofs.Groups.{IsCall, IsMove, IsPoolCall, own, strays, strays-each, strays-none}

@@ -19,14 +19,14 @@ use Rattle.shard.specs.declared.shard.Freed.{Freed}
 use Rattle.shard.specs.declared.shard.Freed.TheVariants as freed
 use Rattle.shard.specs.declared.shard.replacing.Replaced.{Replaced}
 use Rattle.shard.specs.declared.shard.replacing.Replaced.TheVariants as replaced
-use Rattle.abandoned.specs.Calls.{Adopts, HasNothingToAdopt, IsDoubled, IsInPool, Receives, Sets as SetsPooled}
-use Rattle.abandoned.specs.Shown.{shown as shown_by_pool}
-use Rattle.abandoned.specs.Sound.{IsSound as IsSoundPool}
-use Rattle.abandoned.specs.State.{PoolState}
-use Rattle.abandoned.specs.declared.error.AdoptError.{AdoptError}
-use Rattle.abandoned.specs.declared.error.AdoptError.TheVariants as adopt_error
-use Rattle.abandoned.specs.declared.error.ReceiveError.{ReceiveError}
-use Rattle.abandoned.specs.declared.error.ReceiveError.TheVariants as receive_error
+use Rattle.pool.specs.Calls.{Adopts, HasNothingToAdopt, IsDoubled, IsInPool, Receives, Sets as SetsPooled}
+use Rattle.pool.specs.Shown.{shown as shown_by_pool}
+use Rattle.pool.specs.Sound.{IsSound as IsSoundPool}
+use Rattle.pool.specs.State.{PoolState}
+use Rattle.pool.specs.declared.error.AdoptError.{AdoptError}
+use Rattle.pool.specs.declared.error.AdoptError.TheVariants as adopt_error
+use Rattle.pool.specs.declared.error.ReceiveError.{ReceiveError}
+use Rattle.pool.specs.declared.error.ReceiveError.TheVariants as receive_error
 use Rattle.arena_core.specs.declared.event.Event.TheVariants.{Put, Set, Free, End, Retire, Trim, Adopt}
 use Rattle.arena_core.specs.declared.machine.Core.TheInside.{Inside}
 use Rattle.arena_core.specs.declared.reply.Refusal.{Refusal}
@@ -42,7 +42,7 @@ use Rattle.marks.specs.Numbers.{Limits}
 use Rattle.arena_core.specs.Step.{CoreStep, HasClosed}
 use Rattle.arena_core.proofs.Fields.{IsRead, shard-read, state_of-with_both_at, state_of-with_shard_at, with_both_at, with_shard_at}
 use Rattle.arena_core.proofs.Moves.{CoreStep-adopt_refused, CoreStep-end_refused, CoreStep-retire_refused}
-use Rattle.abandoned.specs.Retires.{HasRetired, Retires}
+use Rattle.pool.specs.Retires.{HasRetired, Retires}
 use Rattle.shard.specs.Trims.{Trims}
 use Rattle.arena_core.proofs.Moved.{has_span-Frees, has_span-Sets, value-no_other}
 use Rattle.arena_core.proofs.PlanSteps.{IsSoundStep, IsSoundStep-Adopts, IsSoundStep-Frees, IsSoundStep-Puts, IsSoundStep-Receives, IsSoundStep-Retires, IsSoundStep-Trims, IsSoundStep-Sets, IsSoundStep-SetsPooled, IsSoundStep-set_refused}

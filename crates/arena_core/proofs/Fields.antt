@@ -8,7 +8,7 @@ use Rattle.std.specs.Slice.{IsItemAt}
 use Rattle.std.specs.Vec.{with_item}
 use Rattle.span.specs.declared.limits.TheConstants.{MOST_PAGES, MOST_SHARDS}
 use Rattle.shard.specs.State.{ShardState}
-use Rattle.abandoned.specs.State.{PoolState}
+use Rattle.pool.specs.State.{PoolState}
 use Rattle.arena_core.specs.declared.machine.Core.TheInside.{Inside}
 use Rattle.arena_core.specs.Kept.{state_of}
 use Rattle.arena_core.specs.Moved.{WhereaboutsState}

@@ -15,8 +15,8 @@ use Rattle.shard.specs.declared.shard.Freed.{Freed}
 use Rattle.shard.specs.declared.shard.Freed.TheVariants as freed
 use Rattle.shard.specs.declared.shard.replacing.Replaced.{Replaced}
 use Rattle.shard.specs.declared.shard.replacing.Replaced.TheVariants as replaced
-use Rattle.abandoned.specs.Calls.{Receives}
-use Rattle.abandoned.specs.State.{PoolState}
+use Rattle.pool.specs.Calls.{Receives}
+use Rattle.pool.specs.State.{PoolState}
 use Rattle.arena_core.specs.declared.machine.Core.TheInside.{Inside}
 use Rattle.arena_core.specs.Kept.{IsKept, state_of}
 use Rattle.arena_core.specs.Moved.{Entries, KnowsMoved, Notes, WhereaboutsState}
@@ -30,7 +30,7 @@ use Rattle.marks.proofs.Flagged.{with_flags}
 use Rattle.arena_core.proofs.Groups.{IsCall-ChangesSpan, IsCall-Puts}
 use Rattle.arena_core.proofs.MarkSteps.{with_step_at}
 use Rattle.arena_core.proofs.Noted.{Comes, KnowsMoved-map, KnowsMoved-noted, KnowsMoved-set, has_span-flagged, kept-IsCall, kept-emptied, kept-part}
-use Rattle.abandoned.specs.Retires.{Retires}
+use Rattle.pool.specs.Retires.{Retires}
 use Rattle.shard.specs.Trims.{Trims}
 use Rattle.arena_core.proofs.Trimmed.{IsCall-Trims}
 use Rattle.arena_core.proofs.OneSpan.{ChangesSpan-Frees, ChangesSpan-Sets}

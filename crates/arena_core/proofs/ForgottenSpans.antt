@@ -17,9 +17,9 @@ use Rattle.groups.proofs.Lists.{in_either}
 use Rattle.shard.specs.Group.{GroupState}
 use Rattle.shard.specs.State.{ShardState}
 use Rattle.shard.proofs.Forgotten.{IsSound-without_dead}
-use Rattle.abandoned.specs.Forgets.{gone_from, unpaged_in}
-use Rattle.abandoned.specs.State.{PoolState, PooledState}
-use Rattle.abandoned.proofs.ForgottenPool.{IsSound-left, sum-paged}
+use Rattle.pool.specs.Forgets.{gone_from, unpaged_in}
+use Rattle.pool.specs.State.{PoolState, PooledState}
+use Rattle.pool.proofs.ForgottenPool.{IsSound-left, sum-paged}
 use Rattle.marks.proofs.Flagged.{map_back}
 use Rattle.arena_core.specs.Forgets.{dead_owned, dead_spans, with_forgotten, without_dead_groups, without_dead_guests}
 use Rattle.arena_core.specs.Kept.{IsKept, state_of}

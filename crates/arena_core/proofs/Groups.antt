@@ -20,8 +20,8 @@ use Rattle.shard.specs.Moves.{TakesIn, with_room}
 use Rattle.groups.specs.Whole.{WholeState, spans_moved, whole_of}
 use Rattle.shard.specs.State.{ShardState}
 use Rattle.groups.proofs.Standing.{spans_of-with_span}
-use Rattle.abandoned.specs.Calls.{Adopts, Receives, TakesAll, TakesIn as TakesInPool, with_rooms}
-use Rattle.abandoned.specs.State.{PoolState, PooledState}
+use Rattle.pool.specs.Calls.{Adopts, Receives, TakesAll, TakesIn as TakesInPool, with_rooms}
+use Rattle.pool.specs.State.{PoolState, PooledState}
 use Rattle.fold.proofs.Sums.{sum_by-Lifts}
 use Rattle.arena_core.proofs.Lists.{flat-insert, flat-set, sum_by-set_at}
 use Rattle.arena_core.proofs.OneSpan.{ChangesPooled, ChangesSpan}

@@ -11,8 +11,8 @@ use Rattle.groups.specs.Group.{spans_in}
 use Rattle.groups.proofs.ForgottenShown.{value_in-none_live}
 use Rattle.groups.proofs.Logged.{logged_by, same_plain_map}
 use Rattle.shard.proofs.ShownLogs.{shown-logged}
-use Rattle.abandoned.specs.Shown.{shown as shown_by_pool}
-use Rattle.abandoned.proofs.ShownLogs.{shown-logged as shown_by_pool-logged}
+use Rattle.pool.specs.Shown.{shown as shown_by_pool}
+use Rattle.pool.proofs.ShownLogs.{shown-logged as shown_by_pool-logged}
 use Rattle.arena_core.specs.Rings.{pending_at}
 use Rattle.arena_core.specs.Sound.{HasSoundGroups}
 use Rattle.arena_core.specs.State.{CoreState, all_spans, issued_forgotten, shown}

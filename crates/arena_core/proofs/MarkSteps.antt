@@ -15,8 +15,8 @@ use Rattle.shard.proofs.HeadsHere.{same_group}
 use Rattle.shard.specs.Sound.{IsSound as IsSoundShard}
 use Rattle.shard.specs.State.{ShardState}
 use Rattle.groups.proofs.Lists.{same_some, set-same}
-use Rattle.abandoned.specs.Sound.{IsSound as IsSoundPool}
-use Rattle.abandoned.specs.State.{PoolState}
+use Rattle.pool.specs.Sound.{IsSound as IsSoundPool}
+use Rattle.pool.specs.State.{PoolState}
 use Rattle.fold.specs.Folds.{Steps}
 use Rattle.fold.specs.declared.step.Step.{Step as Outcome}
 use Rattle.certificate.specs.declared.certificate.Certificate.{Certificate}

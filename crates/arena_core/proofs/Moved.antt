@@ -17,7 +17,7 @@ use Rattle.shard.specs.declared.shard.Freed.TheVariants as freed
 use Rattle.shard.specs.declared.shard.replacing.Replaced.{Replaced}
 use Rattle.shard.specs.declared.shard.replacing.Replaced.TheVariants as replaced
 use Rattle.groups.proofs.Lists.{count-none, find-none, same_some}
-use Rattle.abandoned.specs.Shown.{shown as shown_by_pool}
+use Rattle.pool.specs.Shown.{shown as shown_by_pool}
 use Rattle.arena_core.specs.Moved.{Entries, KnowsMoved, StandsIn, StandsInNoOther, named}
 use Rattle.arena_core.specs.Sound.{HasSoundGroups}
 use Rattle.arena_core.specs.State.{CoreState, has_span, shard_with, shown, shown_at}

@@ -11,14 +11,14 @@ use Rattle.shard.specs.Group.{GroupState}
 use Rattle.shard.specs.Sound.{IsSound as IsSoundShard}
 use Rattle.shard.specs.State.{ShardState}
 use Rattle.page.specs.Words.{Words}
-use Rattle.abandoned.specs.Calls.{Adopts, HasNothingToAdopt, IsDoubled, IsInPool, Receives}
-use Rattle.abandoned.specs.Sound.{IsSound as IsSoundPool}
-use Rattle.abandoned.specs.State.{PoolState, PooledState, paged_groups}
-use Rattle.abandoned.specs.declared.error.AdoptError.{AdoptError}
-use Rattle.abandoned.specs.declared.error.AdoptError.TheVariants as adopt_error
-use Rattle.abandoned.specs.declared.error.ReceiveError.{ReceiveError}
-use Rattle.abandoned.specs.declared.error.ReceiveError.TheVariants as receive_error
-use Rattle.abandoned.specs.Retires.{HasRetired, Retires}
+use Rattle.pool.specs.Calls.{Adopts, HasNothingToAdopt, IsDoubled, IsInPool, Receives}
+use Rattle.pool.specs.Sound.{IsSound as IsSoundPool}
+use Rattle.pool.specs.State.{PoolState, PooledState, paged_groups}
+use Rattle.pool.specs.declared.error.AdoptError.{AdoptError}
+use Rattle.pool.specs.declared.error.AdoptError.TheVariants as adopt_error
+use Rattle.pool.specs.declared.error.ReceiveError.{ReceiveError}
+use Rattle.pool.specs.declared.error.ReceiveError.TheVariants as receive_error
+use Rattle.pool.specs.Retires.{HasRetired, Retires}
 use Rattle.arena_core.specs.declared.event.Event.TheVariants.{End, Retire, Adopt}
 use Rattle.arena_core.specs.declared.reply.Refusal.{Refusal}
 use Rattle.arena_core.specs.declared.reply.Refusal.TheVariants as refusal

@@ -19,8 +19,8 @@ use Rattle.shard.specs.State.{ShardState}
 use Rattle.groups.specs.FirstLive.{rank_or_end}
 use Rattle.groups.proofs.FirstLive.{IsFirstLive-span, has-none}
 use Rattle.groups.proofs.Lists.{found_at, same_some}
-use Rattle.abandoned.specs.Shown.{shown as shown_by_pool}
-use Rattle.abandoned.specs.State.{PoolState}
+use Rattle.pool.specs.Shown.{shown as shown_by_pool}
+use Rattle.pool.specs.State.{PoolState}
 use Rattle.arena_core.specs.Moved.{Entries, KnowsMoved, named}
 use Rattle.arena_core.specs.NextLive.{HasNoneIn, IsFirstStanding}
 use Rattle.arena_core.specs.Sound.{HasSoundGroups}

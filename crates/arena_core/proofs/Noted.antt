@@ -16,8 +16,8 @@ use Rattle.shard.specs.State.{ShardState}
 use Rattle.groups.specs.declared.brief.Brief.{Brief}
 use Rattle.shard.proofs.HeadsHere.{same_group}
 use Rattle.groups.proofs.Lists.{cases-set, found_at, get-insert, get-set, same_some}
-use Rattle.abandoned.specs.Calls.{Adopts}
-use Rattle.abandoned.specs.State.{PoolState}
+use Rattle.pool.specs.Calls.{Adopts}
+use Rattle.pool.specs.State.{PoolState}
 use Rattle.fold.specs.Folds.{Folds, Steps}
 use Rattle.fold.specs.declared.step.Step.{Step as Outcome}
 use Rattle.fold.specs.declared.step.Step.TheVariants.{Absent, Clash, Emptied, Folded}

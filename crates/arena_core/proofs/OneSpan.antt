@@ -19,11 +19,11 @@ use Rattle.groups.specs.Group.{spans_of, with_span}
 use Rattle.groups.specs.Pages.{set_group, with_object}
 use Rattle.groups.specs.Spans.{with_free, with_set}
 use Rattle.groups.proofs.Standing.{spans_of-with_span}
-use Rattle.abandoned.specs.Calls.{Frees as FreesPooled, Sets as SetsPooled}
-use Rattle.abandoned.specs.Sound.{IsSound as IsSoundPool}
-use Rattle.abandoned.specs.State.{PoolState, PooledState}
-use Rattle.abandoned.proofs.Freed.{groups-Leaves}
-use Rattle.abandoned.proofs.Released.{has_page_if_held}
+use Rattle.pool.specs.Calls.{Frees as FreesPooled, Sets as SetsPooled}
+use Rattle.pool.specs.Sound.{IsSound as IsSoundPool}
+use Rattle.pool.specs.State.{PoolState, PooledState}
+use Rattle.pool.proofs.Freed.{groups-Leaves}
+use Rattle.pool.proofs.Released.{has_page_if_held}
 
 -- no slot more than the other set has
 abbrev pub IsWithin : SlotSet → SlotSet → Type 0

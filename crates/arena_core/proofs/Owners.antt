@@ -11,8 +11,8 @@ use Rattle.shard.specs.Shown.{shown as shown_by}
 use Rattle.groups.specs.Shown.{issued_by, value_by}
 use Rattle.shard.specs.State.{ShardState}
 use Rattle.groups.proofs.Lists.{find-none}
-use Rattle.abandoned.specs.Shown.{shown as shown_by_pool}
-use Rattle.abandoned.specs.State.{PoolState}
+use Rattle.pool.specs.Shown.{shown as shown_by_pool}
+use Rattle.pool.specs.State.{PoolState}
 use Rattle.groups.specs.Group.{spans_in}
 use Rattle.arena_core.proofs.Codes.{code_of_words, code_of_words-injective}
 use Rattle.arena_core.specs.State.{CoreState, has_span, issued_forgotten, shard_with, shown, shown_at}

@@ -10,7 +10,7 @@ use Rattle.shard.specs.Group.{GroupState}
 use Rattle.groups.specs.Group.{IsHeadOf}
 use Rattle.shard.specs.State.{ShardState}
 use Rattle.groups.proofs.Lists.{cases-set, same_some}
-use Rattle.abandoned.specs.State.{PoolState, PooledState}
+use Rattle.pool.specs.State.{PoolState, PooledState}
 use Rattle.groups.proofs.Removed.{after-remove}
 use Rattle.arena_core.specs.Plan.{IsCarriedOut, IsEmptyInPool, IsGuest, IsOwned, IsAbandoned, IsUnderWay, IsWaiting}
 use Rattle.marks.specs.Plans.{is_planned, with_next_done, OpenPlan}

@@ -23,8 +23,8 @@ use Rattle.groups.proofs.Lists.{after-insert, after-set, same_some}
 use Rattle.groups.proofs.Standing.{page-with_span, spans_of-with_span}
 use Rattle.page.specs.Words.{Words}
 use Rattle.groups.specs.Pages.{put_group}
-use Rattle.abandoned.specs.Calls.{Receives, TakesAll, TakesIn, with_rooms}
-use Rattle.abandoned.specs.State.{PoolState, PooledState}
+use Rattle.pool.specs.Calls.{Receives, TakesAll, TakesIn, with_rooms}
+use Rattle.pool.specs.State.{PoolState, PooledState}
 use Rattle.arena_core.specs.Plan.{IsCarriedOut, IsOwned, IsAbandoned, IsUnderWay, IsWaiting}
 use Rattle.marks.specs.Plans.{plans_onto, OpenPlan}
 use Rattle.arena_core.specs.State.{CoreState}

@@ -16,7 +16,7 @@ use Rattle.shard.proofs.Classes.{class_from_width}
 use Rattle.shard.specs.Group.{GroupState}
 use Rattle.groups.specs.Group.{occupied, paged_in, summary}
 use Rattle.shard.specs.State.{ShardState}
-use Rattle.abandoned.specs.State.{PooledState}
+use Rattle.pool.specs.State.{PooledState}
 use Rattle.mesh_graph.specs.Groups.{Groups, any_compatible}
 use Rattle.mesh_graph.specs.Sparsest.{AreSparsest}
 use Rattle.mesh_graph.proofs.Sparsest.{All-sparsest}

@@ -21,10 +21,10 @@ use Rattle.shard.specs.declared.shard.Freed.TheVariants as freed
 use Rattle.shard.specs.declared.shard.replacing.Replaced.{Replaced}
 use Rattle.shard.specs.declared.shard.replacing.Replaced.TheVariants as replaced
 use Rattle.groups.proofs.Lists.{cases-insert, cases-set}
-use Rattle.abandoned.specs.Calls.{Adopts, Frees as FreesPooled, Receives, Sets as SetsPooled}
-use Rattle.abandoned.specs.Shown.{shown as shown_by_pool}
-use Rattle.abandoned.specs.Sound.{IsSound as IsSoundPool}
-use Rattle.abandoned.specs.State.{PoolState}
+use Rattle.pool.specs.Calls.{Adopts, Frees as FreesPooled, Receives, Sets as SetsPooled}
+use Rattle.pool.specs.Shown.{shown as shown_by_pool}
+use Rattle.pool.specs.Sound.{IsSound as IsSoundPool}
+use Rattle.pool.specs.State.{PoolState}
 use Rattle.marks.specs.Plans.{AreClosedAsPlanned, is_planned, plans_onto, OpenPlan}
 use Rattle.arena_core.specs.Plan.{IsOwned, IsUnderWay, HasSoundPlan}
 use Rattle.arena_core.specs.Plain.{ErasedStep}
@@ -41,7 +41,7 @@ use Rattle.arena_core.proofs.Lists.{each-set}
 use Rattle.arena_core.proofs.PlanKept.{IsFewer-with_span, IsUnderWay-kept, KeepsAllClosed, KeepsAllClosed-same, KeepsAllClosed-set, KeepsClosed-ChangesSpan, KeepsClosed-Puts, KeepsPooled, KeepsPooled-ChangesPooled, KeepsPooled-Receives, KeepsPooled-same, has_plan-Receives, plans_onto-pair}
 use Rattle.arena_core.proofs.OneSpan.{ChangesPooled, ChangesPooled-Frees, ChangesPooled-Sets, ChangesSpan, ChangesSpan-Frees, ChangesSpan-Sets}
 use Rattle.arena_core.proofs.Moves.{IsStep-Adopts, IsStep-Receives, IsStep-Retires, unclosed}
-use Rattle.abandoned.specs.Retires.{HasRetired, Retires}
+use Rattle.pool.specs.Retires.{HasRetired, Retires}
 use Rattle.arena_core.proofs.Retired.{HasGone-Retires}
 use Rattle.arena_core.proofs.Trimmed.{AreClosedAsPlanned-Trims, IsStep-Trims, KeepsClosed-Trims}
 use Rattle.shard.specs.Trims.{Trims}

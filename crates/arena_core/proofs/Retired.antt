@@ -8,9 +8,9 @@ use Rattle.groups.proofs.GroupSpans.{taken_out}
 use Rattle.groups.proofs.Removed.{before-remove}
 use Rattle.shard.specs.Group.{GroupState}
 use Rattle.shard.specs.State.{ShardState}
-use Rattle.abandoned.specs.Calls.{with_rooms}
-use Rattle.abandoned.specs.Retires.{MovesSparse, MovesSparsest, Retires}
-use Rattle.abandoned.specs.State.{PoolState}
+use Rattle.pool.specs.Calls.{with_rooms}
+use Rattle.pool.specs.Retires.{MovesSparse, MovesSparsest, Retires}
+use Rattle.pool.specs.State.{PoolState}
 use Rattle.arena_core.proofs.Groups.{IsMove, sum_moved, sum_pooled-TakesIn}
 use Rattle.arena_core.proofs.PlanKept.{HasStill, HasStill-TakesIn, has_plan-TakesIn}
 use Rattle.arena_core.proofs.Spans.{sum_in, sum_pooled}

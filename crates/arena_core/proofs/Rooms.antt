@@ -11,10 +11,10 @@ use Rattle.shard.specs.Moves.{with_guests}
 use Rattle.shard.specs.Sound.{IsSound as IsSoundShard}
 use Rattle.shard.specs.State.{ShardState}
 use Rattle.shard.proofs.HeadsHere.{same_group}
-use Rattle.abandoned.specs.Calls.{Adopts, IsHeadOfLowest}
-use Rattle.abandoned.specs.Sound.{IsSound as IsSoundPool}
-use Rattle.abandoned.specs.State.{PoolState, PooledState}
-use Rattle.abandoned.proofs.Adopted.{one_head, one_lowest}
+use Rattle.pool.specs.Calls.{Adopts, IsHeadOfLowest}
+use Rattle.pool.specs.Sound.{IsSound as IsSoundPool}
+use Rattle.pool.specs.State.{PoolState, PooledState}
+use Rattle.pool.proofs.Adopted.{one_head, one_lowest}
 use Rattle.fold.specs.Folds.{Folds, MayFold, Steps}
 use Rattle.fold.specs.declared.step.Step.{Step as Outcome}
 use Rattle.fold.specs.declared.step.Step.TheVariants.{Absent, Clash, Emptied, Folded}

@@ -13,8 +13,8 @@ use Rattle.groups.specs.Shown.{span_named}
 use Rattle.shard.specs.State.{ShardState}
 use Rattle.groups.specs.Group.{spans_in}
 use Rattle.groups.proofs.Logged.{same_plain_map}
-use Rattle.abandoned.specs.Shown.{shown as shown_by_pool}
-use Rattle.abandoned.specs.State.{PoolState}
+use Rattle.pool.specs.Shown.{shown as shown_by_pool}
+use Rattle.pool.specs.State.{PoolState}
 use Rattle.arena_core.specs.Rings.{pending_at}
 use Rattle.arena_core.specs.State.{CoreState, has_span, issued_forgotten, shard_with, shown, shown_at, with_pool, with_shard}
 use Rattle.arena_core.proofs.Lists.{count_by-found, count_by-missed, find-counted, sum_by-set_at}

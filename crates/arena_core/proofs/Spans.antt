@@ -10,7 +10,7 @@ use Rattle.span.proofs.Ids.{same_id_from_test, test_from_same_id}
 use Rattle.shard.specs.State.{ShardState}
 use Rattle.groups.specs.Group.{spans_in}
 use Rattle.groups.proofs.Lists.{count-append, count-none, find-none}
-use Rattle.abandoned.specs.State.{PoolState}
+use Rattle.pool.specs.State.{PoolState}
 use Rattle.arena_core.specs.State.{CoreState, all_spans, has_span, shard_spans, shard_with, with_pool, with_shard}
 use Rattle.arena_core.proofs.Lists.{count_by-found, count_by-missed, find-counted, sum_by-flat_map, sum_by-set_at}
 

@@ -11,8 +11,8 @@ use Rattle.shard.specs.Sound.{IsSound as IsSoundShard}
 use Rattle.shard.specs.Group.{GroupState}
 use Rattle.shard.specs.State.{ShardState}
 use Rattle.groups.proofs.Logged.{same_plain_map}
-use Rattle.abandoned.specs.State.{PoolState}
-use Rattle.abandoned.proofs.Started.{IsSound-new}
+use Rattle.pool.specs.State.{PoolState}
+use Rattle.pool.proofs.Started.{IsSound-new}
 use Rattle.arena_core.specs.Rings.{RingState, new_rings}
 use Rattle.arena_core.specs.Sound.{HasSoundGroups, IsSound, IsSoundAt}
 use Rattle.marks.specs.Numbers.{AreWithin, Limits}

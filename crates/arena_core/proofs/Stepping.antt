@@ -14,9 +14,9 @@ use Rattle.shard.specs.Sound.{IsSound as IsSoundShard}
 use Rattle.shard.specs.State.{ShardState}
 use Rattle.shard.proofs.HeadsHere.{same_group}
 use Rattle.groups.proofs.Lists.{same_some}
-use Rattle.abandoned.specs.Sound.{IsSound as IsSoundPool}
-use Rattle.abandoned.specs.State.{PoolState, PooledState}
-use Rattle.abandoned.proofs.Adopted.{one_head}
+use Rattle.pool.specs.Sound.{IsSound as IsSoundPool}
+use Rattle.pool.specs.State.{PoolState, PooledState}
+use Rattle.pool.proofs.Adopted.{one_head}
 use Rattle.fold.specs.Folds as fold
 use Rattle.fold.specs.Folds.{Folds, Steps}
 use Rattle.fold.proofs.Sums.{gens-Folds, length_paged-Folds, length_shard_pages-Folds, number-Folds, opened-Folds, page_limit-Folds, span_limit-Folds, sum_by-Folds}

@@ -23,10 +23,10 @@ use Rattle.groups.proofs.GroupSpans.{elsewhere-times}
 use Rattle.groups.proofs.Lists.{set-same}
 use Rattle.groups.proofs.ShownGroups.{span_named-elsewhere, span_named-here}
 use Rattle.span.specs.State.{SpanState}
-use Rattle.abandoned.specs.Calls.{Frees as FreesPooled, HasDoubled, IsDoubled, IsInPool, MayOpen, Sets as SetsPooled}
-use Rattle.abandoned.specs.Shown.{shown as shown_by_pool}
-use Rattle.abandoned.specs.Sound.{IsSound as IsSoundPool}
-use Rattle.abandoned.specs.State.{PoolState, PooledState}
+use Rattle.pool.specs.Calls.{Frees as FreesPooled, HasDoubled, IsDoubled, IsInPool, MayOpen, Sets as SetsPooled}
+use Rattle.pool.specs.Shown.{shown as shown_by_pool}
+use Rattle.pool.specs.Sound.{IsSound as IsSoundPool}
+use Rattle.pool.specs.State.{PoolState, PooledState}
 use Rattle.arena_core.specs.declared.event.Event.{Event}
 use Rattle.arena_core.specs.declared.event.Event.TheVariants.{Put, Set, Free}
 use Rattle.arena_core.specs.declared.reply.Reply.{Reply}

@@ -4,8 +4,8 @@ use Rattle.std.specs.List.{flat_map}
 use Rattle.span.specs.State.{SpanState}
 use Rattle.groups.specs.Dead.{dead_guests, without_dead}
 use Rattle.shard.specs.State.{ShardState}
-use Rattle.abandoned.specs.Forgets.{gone_from, left_in}
-use Rattle.abandoned.specs.State.{PoolState}
+use Rattle.pool.specs.Forgets.{gone_from, left_in}
+use Rattle.pool.specs.State.{PoolState}
 use Rattle.arena_core.specs.State.{CoreState}
 
 -- the guests of the shards in which no slot is live, in order
@@ -20,15 +20,21 @@ dead_spans shards pool = dead_owned shards ++ gone_from pool.groups
 abbrev pub without_dead_guests : ShardState → ShardState
 without_dead_guests shard = record shard { groups = map without_dead shard.groups }
 
--- the pool without its groups with no page, and without the guests of the others in which no slot is live
+-- the pool without its groups with no page, and without the guests of the others in which no slot
+-- is live
 abbrev pub without_dead_groups : PoolState → PoolState
 without_dead_groups pool = record pool { groups = left_in pool.groups }
 
 -- the core without all of them, in which they are forgotten
 abbrev pub with_forgotten : CoreState → CoreState
-with_forgotten core = record core { shards = map without_dead_guests core.shards; pool = without_dead_groups core.pool; forgotten = core.forgotten ++ dead_spans core.shards core.pool }
+with_forgotten core = record core {
+  shards = map without_dead_guests core.shards;
+  pool = without_dead_groups core.pool;
+  forgotten = core.forgotten ++ dead_spans core.shards core.pool;
+}
 
--- while no plan is open, the spans that can never be live again are forgotten, that many, and all else stays
+-- while no plan is open, the spans that can never be live again are forgotten, that many, and all
+-- else stays
 pub record Forgets (old : CoreState) (count : ℕ) (new : CoreState) : Type 0 where
   pub no_plan : old.plan ≡ None
   pub after : new ≡ with_forgotten old

@@ -2,10 +2,10 @@
 use Rattle.std.specs.Prelude.{Option, Some, None}
 use Rattle.shard.specs.declared.error.PutError.{PutError}
 use Rattle.shard.specs.declared.error.PutError.TheVariants as shard
-use Rattle.abandoned.specs.declared.error.AdoptError.{AdoptError}
-use Rattle.abandoned.specs.declared.error.AdoptError.TheVariants as adopt
-use Rattle.abandoned.specs.declared.error.ReceiveError.{ReceiveError}
-use Rattle.abandoned.specs.declared.error.ReceiveError.TheVariants as receive
+use Rattle.pool.specs.declared.error.AdoptError.{AdoptError}
+use Rattle.pool.specs.declared.error.AdoptError.TheVariants as adopt
+use Rattle.pool.specs.declared.error.ReceiveError.{ReceiveError}
+use Rattle.pool.specs.declared.error.ReceiveError.TheVariants as receive
 use Rattle.marks.specs.declared.error.MarkError.{MarkError}
 use Rattle.marks.specs.declared.error.MarkError.TheVariants as mark
 use Rattle.arena_core.specs.declared.reply.Refusal.{Refusal}

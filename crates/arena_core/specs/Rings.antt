@@ -41,16 +41,20 @@ pending_at rings worker shard = keys_of (ring_at rings worker shard)
 
 -- the rings with another one from this worker to this shard
 abbrev pub with_ring_at : List (List RingState) → ℕ → ℕ → RingState → List (List RingState)
-with_ring_at rings worker shard ring = slice_set rings shard (slice_set (slice_index_or rings shard []) worker ring)
+with_ring_at rings worker shard ring = slice_set rings shard
+    (slice_set (slice_index_or rings shard []) worker ring)
 
--- the key goes last on the ring from this worker to the shard that opened its span, which has room for it
-pub record Sends (old : List (List RingState)) (worker : ℕ) (key : Key) (new : List (List RingState)) : Type 0 where
+-- the key goes last on the ring from this worker to the shard that opened its span, which has room
+-- for it
+pub record Sends (old : List (List RingState)) (worker : ℕ) (key : Key)
+    (new : List (List RingState)) : Type 0 where
   pub ring : RingState
   pub here : ring_at old worker key.span.shard ≡ Some ring
   pub room : length ring.keys < ring.capacity
   pub after : new ≡ with_ring_at old worker key.span.shard (with_keys ring (ring.keys ++ key ∷ []))
 
--- why a ring takes no key: it holds as many keys as it may, or it has room, and memory for its keys was refused
+-- why a ring takes no key: it holds as many keys as it may, or it has room, and memory for its keys
+-- was refused
 abbrev pub CannotEnter : Refusal → RingState → Type 0
 CannotEnter RingFull ring = length ring.keys ≡ ring.capacity
 CannotEnter OutOfMemory ring = length ring.keys < ring.capacity
@@ -59,10 +63,13 @@ CannotEnter refusal ring = ⊥
 -- why a key is not sent: its ring takes none, or there is no such ring
 abbrev pub CannotSend : Refusal → List (List RingState) → ℕ → ℕ → Type 0
 CannotSend Config rings worker shard = ring_at rings worker shard ≡ None
-CannotSend refusal rings worker shard = (ring : RingState) × (ring_at rings worker shard ≡ Some ring) × CannotEnter refusal ring
+CannotSend refusal rings worker shard = (ring : RingState)
+    × (ring_at rings worker shard ≡ Some ring) × CannotEnter refusal ring
 
 -- the oldest key leaves the ring from this worker to this shard, if one waits there
 abbrev pub Takes : List (List RingState) → ℕ → ℕ → Option Key → List (List RingState) → Type 0
-Takes old worker shard None new = (ring : RingState) × (ring_at old worker shard ≡ Some ring) × (ring.keys ≡ []) × (new ≡ old)
-Takes old worker shard (Some key) new = (ring : RingState) × (rest : List Key) × (ring_at old worker shard ≡ Some ring) × (ring.keys ≡ key ∷ rest)
+Takes old worker shard None new = (ring : RingState) × (ring_at old worker shard ≡ Some ring)
+    × (ring.keys ≡ []) × (new ≡ old)
+Takes old worker shard (Some key) new = (ring : RingState) × (rest : List Key)
+    × (ring_at old worker shard ≡ Some ring) × (ring.keys ≡ key ∷ rest)
     × (new ≡ with_ring_at old worker shard (with_keys ring rest))

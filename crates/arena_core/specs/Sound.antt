@@ -7,7 +7,7 @@ use Rattle.span.specs.Log.{IsLegal, live_slots}
 use Rattle.span.specs.State.{SpanState}
 use Rattle.shard.specs.Sound.{IsSound as IsSoundShard}
 use Rattle.shard.specs.State.{ShardState}
-use Rattle.abandoned.specs.Sound.{IsSound as IsSoundPool}
+use Rattle.pool.specs.Sound.{IsSound as IsSoundPool}
 use Rattle.arena_core.specs.Plan.{HasSoundPlan}
 use Rattle.arena_core.specs.Rings.{RingState, ring_at}
 use Rattle.marks.specs.Numbers.{Limits, AreWithin}
@@ -26,26 +26,36 @@ pub record IsSoundAt (limits : Limits) (number : ℕ) (shard : ShardState) : Typ
   pub gens_is : shard.gens ≡ limits.gens
   pub sound : IsSoundShard shard
 
--- the numbers are within their ranges, the shards are those of the numbers, and each of them and the pool are sound
+-- the numbers are within their ranges, the shards are those of the numbers, and each of them and
+-- the pool are sound
 pub record HasSoundGroups (core : CoreState) : Type 0 where
   pub within : AreWithin core.limits
   pub count : length core.shards ≡ core.limits.shards
-  pub shards : (number : ℕ) (shard : ShardState) → slice_get core.shards number ≡ Some shard → IsSoundAt core.limits number shard
+  pub shards : (number : ℕ) (shard : ShardState) → slice_get core.shards number ≡ Some shard
+      → IsSoundAt core.limits number shard
   pub pool : IsSoundPool core.pool
   -- each slot of each span is given generations up to the core's greatest
-  pub gens : (place : ℕ) (span : SpanState) → slice_get (all_spans core) place ≡ Some span → span.gens ≡ core.limits.gens
-  -- each opened span stands in exactly one group, of one shard or of the pool, or was forgotten once, and no other span stands anywhere
-  pub once : (id : SpanId) → count_by (λ span. same_span span.id id) (all_spans core) ≡ (if nat_lt id.serial (opened_by core.shards id.shard) then 1 else 0)
+  pub gens : (place : ℕ) (span : SpanState) → slice_get (all_spans core) place ≡ Some span
+      → span.gens ≡ core.limits.gens
+  -- each opened span stands in exactly one group, of one shard or of the pool, or was forgotten
+  -- once, and no other span stands anywhere
+  pub once : (id : SpanId) → count_by (λ span. same_span span.id id) (all_spans core)
+      ≡ (if nat_lt id.serial (opened_by core.shards id.shard) then 1 else 0)
   -- nothing of a span that was forgotten is live
-  pub forgotten : (place : ℕ) (span : SpanState) → slice_get core.forgotten place ≡ Some span → IsForgotten span
+  pub forgotten : (place : ℕ) (span : SpanState) → slice_get core.forgotten place ≡ Some span
+      → IsForgotten span
 
--- there is one ring from each worker to each shard, of the core's capacity, and it holds no more keys than that
+-- there is one ring from each worker to each shard, of the core's capacity, and it holds no more
+-- keys than that
 pub record AreRings (limits : Limits) (rings : List (List RingState)) : Type 0 where
   pub shards : length rings ≡ limits.shards
-  pub workers : (shard : ℕ) (row : List RingState) → slice_get rings shard ≡ Some row → length row ≡ limits.shards
-  pub each : (worker shard : ℕ) (ring : RingState) → ring_at rings worker shard ≡ Some ring → (ring.capacity ≡ limits.ring_capacity) × (length ring.keys ≤ limits.ring_capacity)
+  pub workers : (shard : ℕ) (row : List RingState) → slice_get rings shard ≡ Some row
+      → length row ≡ limits.shards
+  pub each : (worker shard : ℕ) (ring : RingState) → ring_at rings worker shard ≡ Some ring
+      → (ring.capacity ≡ limits.ring_capacity) × (length ring.keys ≤ limits.ring_capacity)
 
--- the groups are sound, the closed ones are those that the open plan plans, and the rings are those of the numbers
+-- the groups are sound, the closed ones are those that the open plan plans, and the rings are those
+-- of the numbers
 pub record IsSound (core : CoreState) : Type 0 where
   pub groups : HasSoundGroups core
   pub plan : HasSoundPlan core

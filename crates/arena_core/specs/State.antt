@@ -9,14 +9,15 @@ use Rattle.shard.specs.Shown.{shown as shown_by}
 use Rattle.groups.specs.Shown.{issued_by, span_named}
 use Rattle.shard.specs.State.{ShardState}
 use Rattle.groups.specs.Group.{live_in, paged_in, spans_in}
-use Rattle.abandoned.specs.Shown.{shown as shown_by_pool}
-use Rattle.abandoned.specs.State.{PoolState, paged_groups}
+use Rattle.pool.specs.Shown.{shown as shown_by_pool}
+use Rattle.pool.specs.State.{PoolState, paged_groups}
 use Rattle.marks.specs.Numbers.{Limits}
 use Rattle.marks.specs.Plans.{OpenPlan}
 use Rattle.arena_core.specs.Rings.{RingState, new_rings, pending_at}
 
--- a core: the numbers of the product, the shards by their numbers, the pool of the groups whose shards have ended, the open plan, if there is one, the rings of
--- keys that wait to be freed, by shard, then by worker, and the spans that were forgotten, of which no memory is kept
+-- a core: the numbers of the product, the shards by their numbers, the pool of the groups whose
+-- shards have ended, the open plan, if there is one, the rings of keys that wait to be freed, by
+-- shard, then by worker, and the spans that were forgotten, of which no memory is kept
 pub record CoreState : Type 0 where
   pub limits : Limits
   pub shards : List ShardState
@@ -44,11 +45,13 @@ new_shard page_limit span_limit gens number = record {
 abbrev pub new_pool : PoolState
 new_pool = record { groups = []; group_room = 0; span_room = 0; has_plan = false }
 
--- a core of new shards, one for each number, an empty pool, no plan, and empty rings, in which nothing was forgotten
+-- a core of new shards, one for each number, an empty pool, no plan, and empty rings, in which
+-- nothing was forgotten
 abbrev pub new_core : Limits → CoreState
 new_core limits = record {
   limits = limits;
-  shards = map (new_shard limits.page_limit limits.span_limit limits.gens) (range_with_len 0 limits.shards);
+  shards = map (new_shard limits.page_limit limits.span_limit limits.gens)
+      (range_with_len 0 limits.shards);
   pool = new_pool;
   plan = None;
   rings = new_rings limits.shards limits.ring_capacity;
@@ -105,17 +108,20 @@ shown_at pool (Some shard) = shown_by shard
 abbrev pub issued_forgotten : CoreState → Key → Bool
 issued_forgotten core key = issued_by key (span_named core.forgotten key.span)
 
--- the plain map that the core shows: each key is that of the shard that has its span, or else of the pool, keys of forgotten spans stay issued, and the rings hold what is pending
+-- the plain map that the core shows: each key is that of the shard that has its span, or else of
+-- the pool, keys of forgotten spans stay issued, and the rings hold what is pending
 abbrev pub shown : CoreState → PlainMap
 shown core = record {
-  is_issued = λ key. issued_forgotten core key || (shown_at core.pool (shard_with core.shards key.span)).is_issued key;
+  is_issued = λ key. issued_forgotten core key || (shown_at core.pool
+      (shard_with core.shards key.span)).is_issued key;
   value_of = λ key. (shown_at core.pool (shard_with core.shards key.span)).value_of key;
   pending = λ worker shard. pending_at core.rings worker shard;
 }
 
 -- how many groups of the shards and of the pool have a page
 abbrev pub pages : CoreState → ℕ
-pages core = sum_by (λ shard. length (paged_in shard.groups)) core.shards + length (paged_groups core.pool)
+pages core = sum_by (λ shard. length (paged_in shard.groups)) core.shards
+    + length (paged_groups core.pool)
 
 -- how many keys are live in the shard
 abbrev pub shard_keys : ShardState → ℕ
@@ -127,7 +133,8 @@ live_keys core = sum_by shard_keys core.shards + live_in core.pool.groups
 
 -- these keys are those that have a value in the map, each once
 abbrev pub AreLive : List Key → PlainMap → Type 0
-AreLive keys plain = (key : Key) → count_by (same_key key) keys ≡ (if is_some (plain.value_of key) then 1 else 0)
+AreLive keys plain = (key : Key) → count_by (same_key key) keys
+    ≡ (if is_some (plain.value_of key) then 1 else 0)
 
 -- that many keys have a value in the map
 abbrev pub HasKeys : PlainMap → ℕ → Type 0

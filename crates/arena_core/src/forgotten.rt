@@ -1,5 +1,5 @@
-// The spans that a core forgot, as a list that only proofs read: it has no bytes, and its calls do nothing when they run. It is
-// made as the history of a log whose changes are only counted.
+// The spans that a core forgot, as a list that only proofs read: it has no bytes, and its calls do
+// nothing when they run. It is made as the history of a log whose changes are only counted.
 //
 // `new` and `with` are proved by hand, and no other function makes such a list.
 ghost use Rattle.std.specs.Prelude.{◌≡◌, List, [], ◌++◌};
@@ -7,7 +7,7 @@ ghost use Rattle.std.specs.Borrow.{ftrue};
 ghost use Rattle.span.specs.State.{SpanState};
 ghost use Rattle.arena_core.specs.Forgets.{dead_spans};
 
-use abandoned::Pool;
+use pool::Pool;
 use shard::Shard;
 use span::Counted;
 use std::marker::Model;
@@ -34,7 +34,8 @@ impl Forgotten {
         Forgotten {}
     }
 
-    /// The spans that were forgotten before, and those of the shards and of the pool that can never be live again.
+    /// The spans that were forgotten before, and those of the shards and of the pool that can never
+    /// be live again.
     #[inline(always)]
     pub(crate) fn with(
         before: &Forgotten,

@@ -1,4 +1,5 @@
-// The core: all shards as one value that takes events. What it does with each kind of them stands in the files below.
+// The core: all shards as one value that takes events. What it does with each kind of them stands
+// in the files below.
 ghost use Rattle.std.specs.Prelude.{◌≡◌, ◌↔◌, ◌<◌, ◌≤◌, ℕ, IfOk, IfSome, OnOk, OnErr, IsErrOf, IsOkUnless, map, option_map};
 ghost use Rattle.std.specs.List.{range_with_len};
 ghost use Rattle.shard.specs.Sound.{IsSound as IsSoundShard};
@@ -16,9 +17,9 @@ use crate::forgotten::Forgotten;
 use crate::reply::{Refusal, Reply};
 use crate::rings::Rings;
 use crate::whereabouts::Whereabouts;
-use abandoned::Pool;
 use marks::{CurrentPlan, Limits, Totals};
 use mesh_graph::{AtHand, Runner};
+use pool::Pool;
 use shard::Shard;
 use span::{Kept, Log, Object};
 use std::alloc::{AllocError, Global};
@@ -32,12 +33,14 @@ mod plans;
 mod setting;
 mod walk;
 
-/// All shards, the pool and the rings of deferred frees as one value, which takes events one after another and answers replies.
+/// All shards, the pool and the rings of deferred frees as one value, which takes events one after
+/// another and answers replies.
 ///
-/// A put costs what the shard's own put costs. A look-up, a set and a free ask the shard that opened the span first, which has
-/// it until it ends or retires it: they then cost what that shard's own call costs. A span that it does not have is asked
-/// for in the shard that took it in last, and then in the pool: where neither has it, it stands nowhere. So none is asked
-/// twice, and a key of a span that was never opened costs three look-ups at most.
+/// A put costs what the shard's own put costs. A look-up, a set and a free ask the shard that
+/// opened the span first, which has it until it ends or retires it: they then cost what that
+/// shard's own call costs. A span that it does not have is asked for in the shard that took it in
+/// last, and then in the pool: where neither has it, it stands nowhere. So none is asked twice, and
+/// a key of a span that was never opened costs three look-ups at most.
 #[derive(Drop)]
 pub struct Core<L: Log = Kept> {
     alloc: Global,
@@ -69,9 +72,10 @@ impl<L: Log> Model for Core<L> {
 }
 
 impl Core<Kept> {
-    /// A core of `shards` new shards, numbered from 0 on, and an empty pool. A shard may have `page_limit` pages of
-    /// 4,096 bytes, and may open as many spans as there are serials; [`Core::with_limits`] takes another number. A slot is given
-    /// the generations from 1 to `gens`. From each of as many workers as shards there is a ring to each shard, which holds
+    /// A core of `shards` new shards, numbered from 0 on, and an empty pool. A shard may have
+    /// `page_limit` pages of 4,096 bytes, and may open as many spans as there are serials;
+    /// [`Core::with_limits`] takes another number. A slot is given the generations from 1 to
+    /// `gens`. From each of as many workers as shards there is a ring to each shard, which holds
     /// `ring_capacity` keys of deferred frees; its room is made with its first key.
     ///
     /// [`CoreError::Config`] comes exactly where a number is out of its range, which is 1 to 64
@@ -98,7 +102,8 @@ impl Core<Kept> {
 }
 
 impl<L: Log> Core<L> {
-    /// A core of new shards, whose logs are kept or counted as its type says: as [`Core::new`], and refused as that is.
+    /// A core of new shards, whose logs are kept or counted as its type says: as [`Core::new`], and
+    /// refused as that is.
     pub fn with_log(
         alloc: Global,
         shards: u32,
@@ -121,10 +126,11 @@ impl<L: Log> Core<L> {
         Core::with_limits(alloc, limits)
     }
 
-    /// A core of new shards by all of its numbers, how many spans a shard may open among them, whose logs are kept or counted as
-    /// its type says.
+    /// A core of new shards by all of its numbers, how many spans a shard may open among them,
+    /// whose logs are kept or counted as its type says.
     ///
-    /// It is refused with [`CoreError::OutOfMemory`] alone, since each number of [`Limits`] is within its range.
+    /// It is refused with [`CoreError::OutOfMemory`] alone, since each number of [`Limits`] is
+    /// within its range.
     pub fn with_limits(alloc: Global, limits: Limits) -> Result<Core<L>, CoreError>
         ensures ok { IfOk result (λ core. core ≡ new_core limits) }
         ensures only { IsOkUnless result CoreError.OutOfMemory }
@@ -152,33 +158,41 @@ impl<L: Log> Core<L> {
         })
     }
 
-    /// Takes the event and answers it. The replies to puts, look-ups, sets, frees, deferred frees and settlings are those of
-    /// a plain map of keys; ends, begins, retirements, trims, adoptions, marks, steps and closes leave the map that the core shows as it is.
+    /// Takes the event and answers it. The replies to puts, look-ups, sets, frees, deferred frees
+    /// and settlings are those of a plain map of keys; ends, begins, retirements, trims, adoptions,
+    /// marks, steps and closes leave the map that the core shows as it is.
     ///
-    /// A refused event changes nothing. Of several causes that hold, the first of these is answered:
+    /// A refused event changes nothing. Of several causes that hold, the first of these is
+    /// answered:
     ///
-    /// | Refusal | Put | Set | End | Begin | Retire | Trim | Adopt | Mark | Step |
-    /// |---|---|---|---|---|---|---|---|---|---|
-    /// | [`Refusal::PagesSpent`] | the shard needs a new span, and has as many groups as it may have pages, or has opened as many spans as it may | | | | | | the shard has as many groups as it may have pages | | |
-    /// | [`Refusal::Ended`] | the shard has ended | | the shard has ended | | the shard has ended | | the shard has ended | | |
-    /// | [`Refusal::Running`] | | | | the shard has not ended | | | | | |
-    /// | [`Refusal::PlanOpen`] | | | the shard has a closed group | | the shard has a closed group | | a plan is open | a plan is open | |
-    /// | [`Refusal::TooMany`] | | | | | | | | a side has more than 4,096 groups | |
-    /// | [`Refusal::NothingToAdopt`] | | | | | | | no group of the pool has a page | | |
-    /// | [`Refusal::Config`] | there is no such shard | | there is no such shard | there is no such shard | there is no such shard | there is no such shard | there is no such shard | | |
-    /// | [`Refusal::OutOfMemory`] | an allocation was refused | an allocation was refused | an allocation was refused | | an allocation was refused | | an allocation was refused | an allocation was refused | an allocation was refused; the pair stays next |
+    /// - [`Refusal::PagesSpent`]: the shard of a put needs a new span, and has as many groups as it
+    ///   may have pages, or has opened as many spans as it may; the shard of an adoption has as
+    ///   many groups as it may have pages.
+    /// - [`Refusal::Ended`]: the shard of a put, an end, a retirement or an adoption has ended.
+    /// - [`Refusal::Running`]: the shard of a begin has not ended.
+    /// - [`Refusal::PlanOpen`]: the shard of an end or a retirement has a closed group; at an
+    ///   adoption or a mark a plan is open.
+    /// - [`Refusal::TooMany`]: a side of a mark has more than 4,096 groups.
+    /// - [`Refusal::NothingToAdopt`]: at an adoption no group of the pool has a page.
+    /// - [`Refusal::Config`]: there is no such shard (put, end, begin, retirement, trim, adoption).
+    /// - [`Refusal::OutOfMemory`]: an allocation was refused (put, set, end, retirement, adoption,
+    ///   mark, step); the pair of a step stays next.
     ///
-    /// A look-up, a free and a close are never refused, and take no memory. A set is refused only in place of a yes. A begin and a
-    /// settling take no memory either. Of a deferred free, [`Refusal::RingFull`] comes exactly where its ring holds as many keys as
-    /// it may, [`Refusal::Config`] exactly where there is no such worker or shard, and [`Refusal::OutOfMemory`] only where neither
-    /// holds. The first key of a ring takes the memory for all that the ring holds, and no later one takes any.
+    /// A look-up, a free and a close are never refused, and take no memory. A set is refused only
+    /// in place of a yes. A begin and a settling take no memory either. Of a deferred free,
+    /// [`Refusal::RingFull`] comes exactly where its ring holds as many keys as it may,
+    /// [`Refusal::Config`] exactly where there is no such worker or shard, and
+    /// [`Refusal::OutOfMemory`] only where neither holds. The first key of a ring takes the memory
+    /// for all that the ring holds, and no later one takes any.
     ///
-    /// A mark that is not refused plans as many folds as can be, and shows it: no plan of what stands has more pairs. A mark of some
-    /// ([`Event::MarkSome`]) sees at most 4,096 groups of each side, those with the fewest live slots, and no plan of these has more pairs;
-    /// it is refused as a mark is, but never with [`Refusal::TooMany`]. Until the plan is closed, the groups that it folds onto take no
-    /// put, and each step carries out its next pair.
-    // Inlined, it makes no event and no reply that its caller takes apart at once. Both have the room of the largest object,
-    // and a call passes them through memory, which costs several times the shard's own look-up.
+    /// A mark that is not refused plans as many folds as can be, and shows it: no plan of what
+    /// stands has more pairs. A mark of some ([`Event::MarkSome`]) sees at most 4,096 groups of
+    /// each side, those with the fewest live slots, and no plan of these has more pairs; it is
+    /// refused as a mark is, but never with [`Refusal::TooMany`]. Until the plan is closed, the
+    /// groups that it folds onto take no put, and each step carries out its next pair.
+    // Inlined, it makes no event and no reply that its caller takes apart at once. Both have the
+    // room of the largest object, and a call passes them through memory, which costs several times
+    // the shard's own look-up.
     #[inline(always)]
     pub fn step(&mut self, event: Event) -> Reply
         ensures exact { CoreStep self.old event result self.new }
@@ -188,8 +202,9 @@ impl<L: Log> Core<L> {
         self.step_by(&AtHand, event)
     }
 
-    /// What [`Core::step`] does. The runner fills the rows of a mark's graph, as by threads ([`ByThreads`](mesh_graph::ByThreads)), in at
-    /// most as many pieces as the core has shards. The reply does not depend on it.
+    /// What [`Core::step`] does. The runner fills the rows of a mark's graph, as by threads
+    /// ([`ByThreads`](mesh_graph::ByThreads)), in at most as many pieces as the core has shards.
+    /// The reply does not depend on it.
     #[inline(always)]
     pub fn step_by<R: Runner>(&mut self, runner: &R, event: Event) -> Reply
         requires { R.ready runner.now }

@@ -3,10 +3,10 @@ ghost use Rattle.std.specs.Prelude.{◌≡◌, ◌≢◌, Some};
 ghost use Rattle.arena_core.specs.Refusals.{refusal_of, refusal_of_adoption, refusal_of_end, refusal_of_mark};
 ghost use Rattle.arena_core.specs.declared.reply.Refusal.TheVariants as cause;
 
-use abandoned::{AdoptError, ReceiveError};
 use certificate::Certificate;
 use fold::Step;
 use marks::MarkError;
+use pool::{AdoptError, ReceiveError};
 use shard::PutError;
 use span::{Key, Object, SpanId};
 use std::alloc::AllocError;
@@ -19,26 +19,29 @@ pub enum Reply {
     Issued(Key),
     /// The object that a look-up found, or that the key is not live.
     Found(Option<Object>),
-    /// Whether a set found its key live with an object of the class of the new one, and replaced it.
+    /// Whether a set found its key live with an object of the class of the new one, and replaced
+    /// it.
     Replaced(bool),
     /// Whether a free found its key live, and freed it.
     Freed(bool),
     /// The key waits to be freed.
     Sent,
-    /// The key that had waited longest on the ring, which is freed where it was still live, or that none waited.
+    /// The key that had waited longest on the ring, which is freed where it was still live, or that
+    /// none waited.
     Settled(Option<Key>),
     /// The shard has ended, and its groups are the pool's.
     ShardEnded,
     /// The shard runs again, and no key that it issues was issued before.
     ShardBegun,
-    /// How many groups of the shard have gone to the pool: as many as were asked for, or all that have a live key.
+    /// How many groups of the shard have gone to the pool: as many as were asked for, or all that
+    /// have a live key.
     Retired(usize),
     /// How many pages the shard has given back.
     Trimmed(usize),
     /// The head of the group that the shard has adopted.
     Adopted(SpanId),
-    /// What the mark saw, a plan of it that has the most pairs, and the short set that shows it: all of it can be written.
-    /// The plan is open.
+    /// What the mark saw, a plan of it that has the most pairs, and the short set that shows it:
+    /// all of it can be written. The plan is open.
     Marked(Certificate),
     /// The pair that was next, its abandoned group first, and what came of it.
     Stepped(SpanId, SpanId, Step),
@@ -58,8 +61,8 @@ pub enum Refusal {
     /// Memory ran out, and no other cause holds: the event may be tried again.
     #[error("out of memory: free some and try again")]
     OutOfMemory,
-    /// A put or an adoption needs a further group, and the shard has as many as it may have pages; or a put needs a new span,
-    /// and the shard has opened as many as it may.
+    /// A put or an adoption needs a further group, and the shard has as many as it may have pages;
+    /// or a put needs a new span, and the shard has opened as many as it may.
     #[error("the shard may have no further page: free keys, or ask another shard")]
     PagesSpent,
     /// The shard has ended.
@@ -68,8 +71,8 @@ pub enum Refusal {
     /// The shard has not ended, so it can't begin again.
     #[error("the shard has not ended: end it before it begins again")]
     Running,
-    /// A plan is open: a mark and an adoption wait for its close, and so do the end and the retirements of a shard that has a
-    /// closed group.
+    /// A plan is open: a mark and an adoption wait for its close, and so do the end and the
+    /// retirements of a shard that has a closed group.
     #[error("a plan is open: close it first")]
     PlanOpen,
     /// A mark would see more than 4,096 groups on a side.
@@ -106,7 +109,8 @@ impl From<PutError> for Refusal {
     }
 }
 
-/// Why an end or a retirement is refused, by why the pool does not receive what the shard has. No span stands twice in a core.
+/// Why an end or a retirement is refused, by why the pool does not receive what the shard has. No
+/// span stands twice in a core.
 pub fn end_refusal(error: ReceiveError) -> Refusal
     requires { error ≢ ReceiveError.Doubled }
     ensures { refusal_of_end error ≡ Some result }

@@ -1,8 +1,9 @@
 // The keys that wait to be freed, in rings that come with their first key.
 //
-// Most cores never leave a key for later, and one of 64 shards has 4,096 rings. So a list of inboxes or of rings goes only as
-// far as a key was left for one of them, and what is behind its end shows as rings in which no key waits. A ring takes its
-// whole room with its first key, and no memory after that.
+// Most cores never leave a key for later, and one of 64 shards has 4,096 rings. So a list of
+// inboxes or of rings goes only as far as a key was left for one of them, and what is behind its
+// end shows as rings in which no key waits. A ring takes its whole room with its first key, and no
+// memory after that.
 ghost use Rattle.std.specs.Prelude.{◌≡◌, ◌⊎◌, ◌+◌, ◌<◌, ◌≤◌, ◌++◌, ◌∷◌, [], None, IfErr, OnErr, OnOk, MatchOption, MatchResult, length, replicate, slice_get, vec_len};
 ghost use Rattle.arena_core.specs.Filled.{CannotReach, CannotSendIn, SendsIn, TakesIn, filled};
 ghost use Rattle.arena_core.specs.Rings.{CannotEnter, CannotSend, Sends, Takes, new_ring, new_rings, ring_at};
@@ -42,7 +43,8 @@ impl Ring {
         }
     }
 
-    // Puts the key last, where there is room. The first key takes the memory for all that the ring holds.
+    // Puts the key last, where there is room. The first key takes the memory for all that the ring
+    // holds.
     fn send(&mut self, key: Key) -> Result<(), Refusal>
         ensures { MatchResult result
             (λ _. (length self.old.keys < self.old.capacity)
@@ -198,14 +200,15 @@ impl Model for Rings {
 
     ghost Value = { List (List RingState) };
 
-    ghost view = { λ r. filled r.shards (replicate r.shards (new_ring r.capacity)) r.inboxes.items };
+    ghost view = { λ r. filled r.shards (replicate r.shards (new_ring r.capacity))
+        r.inboxes.items };
 
     ghost invariant = { λ r. (vec_len r.inboxes ≤ r.shards) × (1 ≤ r.capacity) };
 }
 
 impl Rings {
-    /// Empty rings, one from each of that many workers to each of as many shards. It takes no memory: a ring is made when the
-    /// first key is put on it.
+    /// Empty rings, one from each of that many workers to each of as many shards. It takes no
+    /// memory: a ring is made when the first key is put on it.
     pub fn new(alloc: Global, shards: u32, capacity: usize) -> Rings
         requires { 1 ≤ capacity }
         ensures { result ≡ new_rings shards capacity }
@@ -220,9 +223,9 @@ impl Rings {
 
     /// Puts the key last on the ring from this worker to the shard that opened the key's span.
     ///
-    /// [`Refusal::RingFull`] comes exactly where the ring holds as many keys as it may, and [`Refusal::Config`] exactly
-    /// where there is no such ring. [`Refusal::OutOfMemory`] comes only where the ring has room. A ring that has taken a key
-    /// takes no memory any more.
+    /// [`Refusal::RingFull`] comes exactly where the ring holds as many keys as it may, and
+    /// [`Refusal::Config`] exactly where there is no such ring. [`Refusal::OutOfMemory`] comes only
+    /// where the ring has room. A ring that has taken a key takes no memory any more.
     pub fn send(&mut self, worker: u32, key: Key) -> Result<(), Refusal>
         ensures { MatchResult result
             (λ _. Sends self.old worker key self.new)
@@ -241,7 +244,8 @@ impl Rings {
         self.inboxes[shard as usize].send(worker, key)
     }
 
-    /// Takes the oldest key from the ring from this worker to this shard, if one waits there. It takes no memory.
+    /// Takes the oldest key from the ring from this worker to this shard, if one waits there. It
+    /// takes no memory.
     ///
     /// [`Refusal::Config`] comes exactly where there is no such ring.
     #[inline(always)]

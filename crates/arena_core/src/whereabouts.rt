@@ -13,11 +13,13 @@ use std::alloc::{AllocError, Global};
 use std::collections::HashMap;
 use std::marker::Model;
 
-/// For spans that a shard took in which did not open them, the number of the one that took each in last.
+/// For spans that a shard took in which did not open them, the number of the one that took each in
+/// last.
 ///
-/// A span that stands in a shard which did not open it stands in the one that is named here: the core notes each span that
-/// a shard takes in. It need not note that one leaves, so a span that is named here may be in the pool, or forgotten, until [`Whereabouts::forget`]
-/// looks. A span that comes back to the shard which opened it is named no more.
+/// A span that stands in a shard which did not open it stands in the one that is named here: the
+/// core notes each span that a shard takes in. It need not note that one leaves, so a span that is
+/// named here may be in the pool, or forgotten, until [`Whereabouts::forget`] looks. A span that
+/// comes back to the shard which opened it is named no more.
 ///
 /// An entry goes into room that was made before, so that nothing is noted by halves.
 #[derive(Drop)]
@@ -85,8 +87,8 @@ impl Whereabouts {
         }
     }
 
-    /// Notes that the spans of the head's group, from the place `first` on, are in the shard of this number. Room for them
-    /// was made.
+    /// Notes that the spans of the head's group, from the place `first` on, are in the shard of
+    /// this number. Room for them was made.
     pub fn note<L: Log>(&mut self, number: u8, shard: &Shard<L>, head: SpanId, first: usize)
         requires sound { IsSound shard.now }
         requires room { HasAtMost shard.now.groups head first self.old.room }
@@ -102,8 +104,9 @@ impl Whereabouts {
         }
     }
 
-    /// Names no more those spans that do not stand in the shard that is named, and gives memory back where a quarter of it would do.
-    /// It asks for memory only for that smaller table, and keeps the larger one if there is none.
+    /// Names no more those spans that do not stand in the shard that is named, and gives memory
+    /// back where a quarter of it would do. It asks for memory only for that smaller table, and
+    /// keeps the larger one if there is none.
     pub fn forget<L: Log>(&mut self, shards: &Vec<Shard<L>>)
         ensures { KeepsStanding shards.now.items self.old.entries self.new.entries }
     {
@@ -150,7 +153,8 @@ fn id_of(number: u64) -> Option<SpanId>
     SpanId::new(shard, serial)
 }
 
-// Gives memory back where a quarter of the room in the table would do for its entries. Twice as much stays.
+// Gives memory back where a quarter of the room in the table would do for its entries. Twice as
+// much stays.
 fn give_back(entries: &mut HashMap<u64, u8>)
     ensures { (number : ℕ)
         → hash.get nat_eq entries.new number ≡ hash.get nat_eq entries.old number }

@@ -1,4 +1,5 @@
--- What a change does to its slot, as the walk over a log keeps it. No public clause cites this module.
+-- What a change does to its slot, as the walk over a log keeps it. No public clause cites this
+-- module.
 use Rattle.std.specs.Prelude.{◌≡◌, ℕ, ◌<◌, Option, Some, None, List, slice_index_or}
 use Rattle.std.specs.Option.{option_map}
 use Rattle.std.specs.FinMap as map
@@ -31,8 +32,10 @@ generation_of held = held.generation
 
 -- the list has the generation that each slot holds after the changes
 abbrev pub AreAfter : List Change → List (Option ℕ) → Type 0
-AreAfter changes held = (slot : ℕ) → slot < SLOTS → slice_index_or held slot None ≡ option_map generation_of (map.get (replay changes) slot)
+AreAfter changes held = (slot : ℕ) → slot < SLOTS → slice_index_or held slot None
+    ≡ option_map generation_of (map.get (replay changes) slot)
 
 -- the list has how many puts of each slot the changes have
 abbrev pub AreIssued : List Change → List ℕ → Type 0
-AreIssued changes issued = (slot : ℕ) → slot < SLOTS → slice_index_or issued slot 0 ≡ puts_of slot changes
+AreIssued changes issued = (slot : ℕ) → slot < SLOTS
+    → slice_index_or issued slot 0 ≡ puts_of slot changes

@@ -30,15 +30,18 @@ changes_after receipt = if makes_change receipt then receipt.at + 1 else receipt
 abbrev pub IsAt : List (List Receipt) → ℕ → ℕ → Receipt → Type 0
 IsAt lists worker index receipt = slice_get (slice_index_or lists worker []) index ≡ Some receipt
 
--- the changes of a span: those of the first log that is the span's, and none where there is no such log
+-- the changes of a span: those of the first log that is the span's, and none where there is no such
+-- log
 abbrev pub log_of : List SpanLog → SpanId → List Change
 log_of [] span = []
-log_of (log ∷ logs) span = if same_span log.span span then kept_changes log.log else log_of logs span
+log_of (log ∷ logs) span = if same_span log.span span then kept_changes log.log else
+    log_of logs span
 
 -- the value that a key has after the changes, if any
 abbrev pub value_after : List Change → Key → Option Value
 value_after changes key = value_in changes key.slot key.generation
 
--- a key with this value, if any, can be set to the new one: it has a value, and the new one is of its class, since it has as many words
+-- a key with this value, if any, can be set to the new one: it has a value, and the new one is of
+-- its class, since it has as many words
 abbrev pub CanBeSet : Option Value → Value → Type 0
 CanBeSet value new = IsSomeAnd value (λ old. length old ≡ length new)

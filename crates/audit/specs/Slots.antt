@@ -1,4 +1,5 @@
--- A log's changes by slot, among which the last one of a slot is found by halving. No public clause cites this module.
+-- A log's changes by slot, among which the last one of a slot is found by halving. No public clause
+-- cites this module.
 use Rattle.std.specs.Prelude.{◌≡◌, ℕ, ◌+◌, ◌*◌, ◌<◌, ◌≤◌, Some, List, length, slice_get}
 use Rattle.std.specs.List.Sorted.{IsNonDecreasingBy, IsPermutation}
 use Rattle.span.specs.declared.change.Change.{Change}
@@ -21,14 +22,17 @@ change_rank change = slot_rank change.slot (place_of change)
 
 -- the change at this place of the log has this slot
 abbrev pub IsOf : List Change → SlotChange → Type 0
-IsOf changes found = (change : Change) × (slice_get changes (place_of found) ≡ Some change) × (slot_of change ≡ found.slot)
+IsOf changes found = (change : Change) × (slice_get changes (place_of found) ≡ Some change)
+    × (slot_of change ≡ found.slot)
 
 -- each change of the log, and nothing else; a place is below 2^64
 pub record HasChanges (changes : List Change) (found : List SlotChange) : Type 0 where
   pub each : (place : ℕ) (change : Change) → slice_get changes place ≡ Some change
-      → (k : ℕ) × (x : SlotChange) × (slice_get found k ≡ Some x) × (place_of x ≡ place) × (x.slot ≡ slot_of change)
+      → (k : ℕ) × (x : SlotChange) × (slice_get found k ≡ Some x) × (place_of x ≡ place)
+      × (x.slot ≡ slot_of change)
   pub only : (k : ℕ) (x : SlotChange) → slice_get found k ≡ Some x → IsOf changes x
-  pub small : (k : ℕ) (x : SlotChange) → slice_get found k ≡ Some x → place_of x < 18446744073709551616
+  pub small : (k : ℕ) (x : SlotChange) → slice_get found k ≡ Some x
+      → place_of x < 18446744073709551616
 
 -- the changes of the log, by slot, and those of a slot in their order
 pub record IsBySlot (changes : List Change) (found : List SlotChange) : Type 0 where
@@ -37,7 +41,9 @@ pub record IsBySlot (changes : List Change) (found : List SlotChange) : Type 0 w
 
 -- for each log its changes
 abbrev pub HaveChanges : List SpanLog → List (List SlotChange) → Type 0
-HaveChanges logs lists = (j : ℕ) (log : SpanLog) (found : List SlotChange) → slice_get logs j ≡ Some log → slice_get lists j ≡ Some found → HasChanges (kept_changes log.log) found
+HaveChanges logs lists = (j : ℕ) (log : SpanLog) (found : List SlotChange)
+    → slice_get logs j ≡ Some log → slice_get lists j ≡ Some found
+    → HasChanges (kept_changes log.log) found
 
 -- the same changes, in order
 pub record IsSortedFrom (old new : List SlotChange) : Type 0 where
@@ -52,11 +58,14 @@ pub record IsSplitAt (found : List SlotChange) (rank n : ℕ) : Type 0 where
 
 -- for each log its changes by slot
 abbrev pub AreBySlot : List SpanLog → List (List SlotChange) → Type 0
-AreBySlot logs orders = (j : ℕ) (log : SpanLog) (found : List SlotChange) → slice_get logs j ≡ Some log → slice_get orders j ≡ Some found → IsBySlot (kept_changes log.log) found
+AreBySlot logs orders = (j : ℕ) (log : SpanLog) (found : List SlotChange)
+    → slice_get logs j ≡ Some log → slice_get orders j ≡ Some found
+    → IsBySlot (kept_changes log.log) found
 
 -- no change of the slot stands from the one place up to the other
 abbrev pub IsQuiet : List Change → ℕ → ℕ → ℕ → Type 0
-IsQuiet changes slot from to = (q : ℕ) (change : Change) → from ≤ q → q < to → slice_get changes q ≡ Some change → slot_of change ≡ slot → ⊥
+IsQuiet changes slot from to = (q : ℕ) (change : Change) → from ≤ q → q < to
+    → slice_get changes q ≡ Some change → slot_of change ≡ slot → ⊥
 
 -- the last change of the slot before a place
 pub record IsLast (changes : List Change) (slot at place : ℕ) : Type 0 where

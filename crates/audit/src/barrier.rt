@@ -50,9 +50,9 @@ pub fn stand_between(
     true
 }
 
-/// Whether each call stands after those on its span in the sections of lower number. The sections of
-/// the changes tell: a call may be in none before that of the change before it, and in none after
-/// that of the change at its place.
+/// Whether each call stands after those on its span in the sections of lower number. The sections
+/// of the changes tell: a call may be in none before that of the change before it, and in none
+/// after that of the change at its place.
 pub fn sections_are_in_order(
     logs: &[SpanLog],
     table: &LogPlaces,

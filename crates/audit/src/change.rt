@@ -42,8 +42,8 @@ fn log_with_change(logs: &[SpanLog], table: &LogPlaces, receipt: &ReceiptView<'_
     }
 }
 
-// Enters a receipt, where it makes a change. Whether it is the only one so far that makes the change
-// of its place.
+// Enters a receipt, where it makes a change. Whether it is the only one so far that makes the
+// change of its place.
 fn enter(
     logs: &[SpanLog],
     table: &LogPlaces,

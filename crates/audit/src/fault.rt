@@ -93,7 +93,8 @@ fn first_fault(
 /// # Errors
 ///
 /// `Fault` where the receipts do not agree with the logs, with the first part that fails, and
-/// `OutOfMemory` where a table of the audit could not be allocated, or a log has more than 2^48 changes.
+/// `OutOfMemory` where a table of the audit could not be allocated, or a log has more than 2^48
+/// changes.
 pub fn audit(alloc: Global, logs: &[SpanLog], receipts: &[ReceiptList]) -> Result<(), AuditError>
     ensures agreed { OnOk result (Agreement logs.now (map kept_receipts receipts.now)) }
     ensures histories { OnOk result (HaveHistories (map kept_receipts receipts.now)) }

@@ -4,18 +4,21 @@ use bitmap::SLOTS;
 use span::Key;
 use std::alloc::{AllocError, Global};
 
-/// A log of at most so many changes has no table: halving finds a change there in nine steps, and the table would take more than the log.
+/// A log of at most so many changes has no table: halving finds a change there in nine steps, and
+/// the table would take more than the log.
 const SHORT: usize = 512;
 
-/// For each log of more than 512 changes and each slot, how many of the log's changes by slot stand before those of the slot: a kilobyte such
-/// a log. Guesses are made of it, and no answer rests on it.
+/// For each log of more than 512 changes and each slot, how many of the log's changes by slot stand
+/// before those of the slot: a kilobyte such a log. Guesses are made of it, and no answer rests on
+/// it.
 #[derive(Drop)]
 pub struct Firsts {
     // By log, and then by slot. What four bytes can't hold is cut: the guess is then wrong.
     firsts: Vec<Vec<u32>>,
 }
 
-// Where the changes of each slot begin, of the log with these changes by slot; nothing of a short one.
+// Where the changes of each slot begin, of the log with these changes by slot; nothing of a short
+// one.
 fn firsts_of(alloc: Global, order: &[SlotChange]) -> Result<Vec<u32>, AllocError> {
     if order.len() <= SHORT {
         return Ok(Vec::new(alloc));
@@ -43,8 +46,9 @@ impl Firsts {
         Ok(Firsts { firsts })
     }
 
-    /// How many of the log's changes by slot stand up to the put of the key: in a legal log each earlier key of the slot has a
-    /// put and a free. Sets are not counted, so the guess falls short where there are some. Of a short log it is past the end.
+    /// How many of the log's changes by slot stand up to the put of the key: in a legal log each
+    /// earlier key of the slot has a put and a free. Sets are not counted, so the guess falls short
+    /// where there are some. Of a short log it is past the end.
     pub fn guess(&self, log: usize, key: &Key) -> usize {
         let Some(firsts) = self.firsts.get(log) else {
             return usize::MAX;

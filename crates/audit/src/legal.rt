@@ -40,8 +40,8 @@ fn is_of(here: Option<u32>, generation: u32) -> bool
     }
 }
 
-// Whether the change may follow the changes before it, where it and they are of one class: what a slot holds then has as many
-// words as what a set puts in its place.
+// Whether the change may follow the changes before it, where it and they are of one class: what a
+// slot holds then has as many words as what a set puts in its place.
 fn may_follow(
     held: &[Option<u32>; SLOTS],
     issued: &[u32; SLOTS],

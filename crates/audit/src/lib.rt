@@ -1,7 +1,7 @@
 //! The audit of a run: whether what its calls answered agrees with the logs of its spans.
 //!
-//! A worker keeps a [`Receipt`](span::Receipt) of each of its calls. When the run is over, [`audit`]
-//! holds the receipts, one [list](span::ReceiptList) a worker, against the logs.
+//! A worker keeps a [`Receipt`](span::Receipt) of each of its calls. When the run is over,
+//! [`audit`] holds the receipts, one [list](span::ReceiptList) a worker, against the logs.
 //!
 //! ```text
 //!   log of 0.0       Put 0 gen 1 = 5        Free 0 gen 1
@@ -12,8 +12,8 @@
 //! ```
 //!
 //! A receipt says in `at` how many changes stood in the log before its call. So each change must
-//! have the receipt of the call that made it, each answer must be that of the changes before it, and
-//! the places must not fall where a worker, or a section of the run, came after another.
+//! have the receipt of the call that made it, each answer must be that of the changes before it,
+//! and the places must not fall where a worker, or a section of the run, came after another.
 //!
 //! The public fact of the crate is what then follows: the calls on each span have one order, in
 //! which each is answered as by a plain map of keys that one thread uses, and which respects the

@@ -20,7 +20,8 @@ pub struct LogPlace {
 pub struct LogPlaces {
     // By the ranks of the spans.
     by_rank: Vec<LogPlace>,
-    // By shard, where the first span of the shard stands among them. Guesses are made of it, and no answer rests on it.
+    // By shard, where the first span of the shard stands among them. Guesses are made of it, and no
+    // answer rests on it.
     firsts: Vec<usize>,
 }
 

@@ -30,7 +30,8 @@ fn place_of(logs: &[SpanLog], table: &LogPlaces, span: SpanId) -> usize
     }
 }
 
-// Whether the call has a lower section than the one before it. `near` is as in [`ReceiptList::view_near`].
+// Whether the call has a lower section than the one before it. `near` is as in
+// [`ReceiptList::view_near`].
 fn goes_back(list: &ReceiptList, i: usize, near: &mut usize) -> bool
     requires { i < length (kept_receipts list.now) }
     ensures { IsTrue result ↔ GoesBack (kept_receipts list.now) i }
@@ -42,7 +43,8 @@ fn goes_back(list: &ReceiptList, i: usize, near: &mut usize) -> bool
     list.view_near(i, near).section < before
 }
 
-// Whether the calls of one worker stand in the order of its list. The table then has what its calls left.
+// Whether the calls of one worker stand in the order of its list. The table then has what its calls
+// left.
 fn is_in_order(
     left: &mut Vec<u128>,
     logs: &[SpanLog],
@@ -87,7 +89,8 @@ fn clear(left: &mut Vec<u128>, logs: &[SpanLog], table: &LogPlaces, list: &Recei
     }
 }
 
-/// Whether the calls of one worker stand in the order of its list. A call on a span that has no log leaves no change.
+/// Whether the calls of one worker stand in the order of its list. A call on a span that has no log
+/// leaves no change.
 pub fn list_is_in_order(
     alloc: Global,
     logs: &[SpanLog],

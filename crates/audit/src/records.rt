@@ -5,8 +5,8 @@ use crate::row::Sections;
 use crate::slot::SlotChange;
 use span::SpanLog;
 
-/// The logs, and the tables that were made of them and of the receipts: what the calls of each worker are held against, whichever
-/// thread does so.
+/// The logs, and the tables that were made of them and of the receipts: what the calls of each
+/// worker are held against, whichever thread does so.
 #[derive(Clone, Copy)]
 pub struct Records<'a> {
     pub logs: &'a [SpanLog],

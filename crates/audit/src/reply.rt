@@ -84,8 +84,8 @@ fn is_answered(call: CallView<'_>, value: Option<&[u128]>) -> bool
     }
 }
 
-// Whether the call was answered as the changes before the place say. What a put answers is its own key, so its value is not looked
-// for.
+// Whether the call was answered as the changes before the place say. What a put answers is its own
+// key, so its value is not looked for.
 fn is_answered_after(
     log: &Kept,
     order: &[SlotChange],
@@ -106,7 +106,8 @@ fn is_answered_after(
     }
 }
 
-// Whether the call stands at a place of its span's log and was answered as the changes before it say.
+// Whether the call stands at a place of its span's log and was answered as the changes before it
+// say.
 fn is_right_reply(
     logs: &[SpanLog],
     table: &LogPlaces,

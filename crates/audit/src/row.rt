@@ -1,4 +1,5 @@
-// The sections of a log's changes, while receipts tell them. It stands apart, since tables are said of it.
+// The sections of a log's changes, while receipts tell them. It stands apart, since tables are said
+// of it.
 ghost use Rattle.std.specs.Prelude.{◌≡◌, length};
 
 /// The sections of the changes of a log, as far as receipts told them. A change takes 9 bytes.

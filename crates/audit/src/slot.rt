@@ -16,10 +16,12 @@ use std::thread::Threads;
 // At most that many threads sort.
 const SORTERS: usize = 16;
 
-/// At most that many changes of a log are sorted: more than any memory holds, since each takes 8 bytes.
+/// At most that many changes of a log are sorted: more than any memory holds, since each takes 8
+/// bytes.
 const MOST_PLACES: usize = 1 << 48;
 
-/// Where a change stands: its slot, and its place in the log, below [`MOST_PLACES`]. It takes 8 bytes.
+/// Where a change stands: its slot, and its place in the log, below [`MOST_PLACES`]. It takes 8
+/// bytes.
 #[derive(Clone, Copy)]
 pub struct SlotChange {
     pub slot: u8,
@@ -201,7 +203,8 @@ fn is_split_at(found: &[SlotChange], rank: u128, n: usize) -> bool
     true
 }
 
-// How many of the changes by slot stand before the rank. The guess, or one more, is tried before a search.
+// How many of the changes by slot stand before the rank. The guess, or one more, is tried before a
+// search.
 fn count_before(found: &[SlotChange], rank: u128, guess: usize) -> usize
     requires { IsNonDecreasingBy change_rank found.now }
     ensures { IsSplitAt found.now rank result }
@@ -216,8 +219,8 @@ fn count_before(found: &[SlotChange], rank: u128, guess: usize) -> usize
     found.partition_point(|change| slot_rank(change.slot, change.place()) < rank)
 }
 
-/// The place of the last change of the slot before the place, if there is one. `guess` is how many of the changes by slot may
-/// stand up to it: a right guess spares a search.
+/// The place of the last change of the slot before the place, if there is one. `guess` is how many
+/// of the changes by slot may stand up to it: a right guess spares a search.
 pub fn last_before(found: &[SlotChange], slot: u8, at: usize, guess: usize) -> Option<usize>
     requires { IsNonDecreasingBy change_rank found.now }
     ensures { (changes : List Change) → IsBySlot changes found.now → at ≤ length changes

@@ -10,8 +10,8 @@ use crate::walks::{Reached, Walks, turn_round};
 use mesh_graph::Graph;
 use std::alloc::{AllocError, Global};
 
-/// Turns round, in one phase, walks along shortest layers that share no group. Where no walk comes to
-/// a free owned place, it answers which owned places walks reach, and changes nothing.
+/// Turns round, in one phase, walks along shortest layers that share no group. Where no walk comes
+/// to a free owned place, it answers which owned places walks reach, and changes nothing.
 pub(crate) fn turn_phase(
     alloc: Global,
     graph: &Graph,
@@ -124,9 +124,9 @@ fn layers_of(
     Ok(layers)
 }
 
-/// A partner of `group` that is not used, and that is free or whose mate lies in the next layer. The
-/// partners before the group's cursor were looked at in this phase, and need no second look: what was
-/// used stays so, and layers don't change.
+/// A partner of `group` that is not used, and that is free or whose mate lies in the next layer.
+/// The partners before the group's cursor were looked at in this phase, and need no second look:
+/// what was used stays so, and layers don't change.
 fn next_step(
     graph: &Graph,
     mates: &Mates,
@@ -172,8 +172,8 @@ fn is_next(layer: Option<usize>, other: Option<usize>) -> bool {
     }
 }
 
-/// Turns round a walk along the layers from a place left out, where one is left. What the path has is written over: it is lent so
-/// that few calls take memory.
+/// Turns round a walk along the layers from a place left out, where one is left. What the path has
+/// is written over: it is lent so that few calls take memory.
 fn turn_from(
     graph: &Graph,
     mates: &mut Mates,

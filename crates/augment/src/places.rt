@@ -5,8 +5,8 @@ ghost use Rattle.mesh_graph.specs.declared.build.TheConstants.{MOST_GROUPS};
 
 use std::alloc::{AllocError, Global};
 
-/// Which owned places were passed. Beside that there is a bit for each place that was not, 64 to a word, so that those that
-/// were need no second look.
+/// Which owned places were passed. Beside that there is a bit for each place that was not, 64 to a
+/// word, so that those that were need no second look.
 #[derive(Drop)]
 pub(crate) struct Places {
     pub passed: Vec<bool>,

@@ -11,10 +11,10 @@ use mesh_graph::Graph;
 use span::SpanId;
 use std::alloc::{AllocError, Global};
 
-/// A plan with the most pairs (found by Hopcroft and Karp's phases), and the short set that shows it
-/// (Hall's theorem), both by ascending abandoned ids. The short set is the least that holds each
-/// abandoned group left out and, for each partner of a member, the group planned onto it. The error means
-/// that memory ran out.
+/// A plan with the most pairs (found by Hopcroft and Karp's phases), and the short set that shows
+/// it (Hall's theorem), both by ascending abandoned ids. The short set is the least that holds each
+/// abandoned group left out and, for each partner of a member, the group planned onto it. The error
+/// means that memory ran out.
 pub fn plan(alloc: Global, graph: &Graph) -> Result<(Plan, Short), AllocError>
     ensures best { IfOk result (λ found. IsBestPlanOf graph.now found.0) }
     ensures short { IfOk result (λ found. IsShortOf graph.now found.0 found.1) }
@@ -26,8 +26,8 @@ pub fn plan(alloc: Global, graph: &Graph) -> Result<(Plan, Short), AllocError>
     Ok((plan, short))
 }
 
-/// The same, and how many phases found it, the last one, which finds no more, among them. The error means
-/// that memory ran out.
+/// The same, and how many phases found it, the last one, which finds no more, among them. The error
+/// means that memory ran out.
 pub fn plan_counted(alloc: Global, graph: &Graph) -> Result<(Plan, Short, usize), AllocError>
     ensures best { IfOk result (λ found. IsBestPlanOf graph.now found.0) }
     ensures short { IfOk result (λ found. IsShortOf graph.now found.0 found.1) }

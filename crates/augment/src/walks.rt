@@ -66,7 +66,8 @@ impl Walks {
         requires owned { length mates.now.planned.items ≡ length graph.now.owned }
         ensures search { IfOk result (λ walks. IsSearch graph.now mates.now.onto.items
             walks.entries.items walks.reached.passed.items 0) }
-        ensures owned { IfOk result (λ walks. length walks.reached.passed.items ≡ length graph.now.owned) }
+        ensures owned { IfOk result (λ walks. length walks.reached.passed.items
+            ≡ length graph.now.owned) }
     {
         let mut entries = Vec::new(alloc);
         for (group, mate) in mates.onto.iter().enumerate() {
@@ -78,8 +79,8 @@ impl Walks {
         Ok(Walks { entries, reached })
     }
 
-    /// Adds what the entry `at` reaches. Where an owned place that is compatible with it is free, it
-    /// answers that one instead.
+    /// Adds what the entry `at` reaches. Where an owned place that is compatible with it is free,
+    /// it answers that one instead.
     pub(crate) fn reach_from(
         &mut self,
         graph: &Graph,
@@ -96,7 +97,8 @@ impl Walks {
 
         // It has gone past the entry.
         ensures searched { IfOk result (λ found. IfNone found
-            (IsSearch graph.now mates.now.onto.items self.new.entries.items self.new.reached.passed.items
+            (IsSearch graph.now mates.now.onto.items self.new.entries.items
+            self.new.reached.passed.items
             (at + 1))) }
 
         // Or it has come to a free place.

@@ -11,4 +11,5 @@ pub record NumbersState : Type 0 where
 
 -- such a state is stored as the pair of its fields
 abbrev pub numbers_code : Coded NumbersState
-numbers_code = code_by (SlotSet × ℕ) (coded× (set.code coded_ℕ) coded_ℕ) (λ s. (s.numbers, s.room)) (λ p. record { numbers = p.0; room = p.1 }) (λ _. refl)
+numbers_code = code_by (SlotSet × ℕ) (coded× (set.code coded_ℕ) coded_ℕ) (λ s. (s.numbers, s.room))
+    (λ p. record { numbers = p.0; room = p.1 }) (λ _. refl)

@@ -1,4 +1,5 @@
--- Numbers by parts of 256, and the set of the parts that have one. No public clause cites this module.
+-- Numbers by parts of 256, and the set of the parts that have one. No public clause cites this
+-- module.
 use Rattle.std.specs.Prelude.{◌≡◌, ℕ, ◌*◌, ◌+◌, ◌≤◌, ◌/◌, ◌%◌, Bool, true, false, List, ◌∷◌, length, vec_len}
 use Rattle.std.specs.List.{slice_index_or}
 use Rattle.std.specs.FinSet as set
@@ -28,11 +29,13 @@ pub record IsLowestIn (numbers : SlotSet) (part n : ℕ) : Type 0 where
 -- a part is in the second set exactly where a number of it is in the first
 pub record IsSummary (numbers filled : SlotSet) : Type 0 where
   pub has : (n : ℕ) → set.contains numbers n ≡ true → set.contains filled (n / SLOTS) ≡ true
-  pub some : (part : ℕ) → set.contains filled part ≡ true → (n : ℕ) × (n / SLOTS ≡ part) × (set.contains numbers n ≡ true)
+  pub some : (part : ℕ) → set.contains filled part ≡ true → (n : ℕ) × (n / SLOTS ≡ part)
+      × (set.contains numbers n ≡ true)
 
 -- what contracts see of the fields: the first part stands apart from the others
 abbrev pub state_of : Inside → NumbersState
-state_of s = record { numbers = numbers_in (s.low ∷ s.high.items); room = SLOTS + SLOTS * vec_len s.high }
+state_of s =
+    record { numbers = numbers_in (s.low ∷ s.high.items); room = SLOTS + SLOTS * vec_len s.high }
 
 -- what a set of numbers keeps
 pub record IsKept (s : Inside) : Type 0 where

@@ -18,11 +18,13 @@ use std::marker::Model;
 /// How many numbers a [`NumberSet`] has at most.
 pub const MOST_NUMBERS: usize = 1 << 24;
 
-/// A set of numbers below its room, whose least is found in four steps at most. The first 256 take no memory of their own; for
-/// each further 256 it takes 32 bytes, which come with [`NumberSet::reserve`] alone.
+/// A set of numbers below its room, whose least is found in four steps at most. The first 256 take
+/// no memory of their own; for each further 256 it takes 32 bytes, which come with
+/// [`NumberSet::reserve`] alone.
 ///
-/// Numbers go by parts of 256, each part a [`Bits256`]. Above them stand a set of the parts that have a number, by parts too,
-/// and a set of the parts of that which have one (a hierarchical bitmap, as `hibitset` has).
+/// Numbers go by parts of 256, each part a [`Bits256`]. Above them stand a set of the parts that
+/// have a number, by parts too, and a set of the parts of that which have one (a hierarchical
+/// bitmap, as `hibitset` has).
 #[derive(Drop)]
 pub struct NumberSet {
     // The numbers below 256.
@@ -163,8 +165,8 @@ impl NumberSet {
         }
     }
 
-    /// Moves the numbers from this one on up by one, so that the set does not have this one. It takes a step for each 64 that
-    /// the set has room for, and no memory.
+    /// Moves the numbers from this one on up by one, so that the set does not have this one. It
+    /// takes a step for each 64 that the set has room for, and no memory.
     pub fn shift_up(&mut self, number: usize)
         requires within { number < self.old.room }
         requires room { (n : ℕ) → set.contains self.old.numbers n ≡ true → n + 1 < self.old.room }
@@ -183,8 +185,8 @@ impl NumberSet {
         self.remove(number);
     }
 
-    /// Takes the number out, and moves those above it down by one. It takes a step for each 64 that the set has room for,
-    /// and no memory.
+    /// Takes the number out, and moves those above it down by one. It takes a step for each 64 that
+    /// the set has room for, and no memory.
     pub fn shift_down(&mut self, number: usize)
         ensures below { (n : ℕ) → n < number
             → set.contains self.new.numbers n ≡ set.contains self.old.numbers n }
@@ -199,10 +201,12 @@ impl NumberSet {
         self.top = summary_of(&self.filled);
     }
 
-    /// Has the numbers below the count then, and no others. It takes a step for each 256 that it has room for, and no memory.
+    /// Has the numbers below the count then, and no others. It takes a step for each 256 that it
+    /// has room for, and no memory.
     pub fn fill(&mut self, count: usize)
         requires { count ≤ self.old.room }
-        ensures numbers { (number : ℕ) → set.contains self.new.numbers number ≡ nat_lt number count }
+        ensures numbers { (number : ℕ) → set.contains self.new.numbers number
+            ≡ nat_lt number count }
         ensures room { self.new.room ≡ self.old.room }
     {
         let more = count.saturating_sub(SLOTS);

@@ -102,8 +102,8 @@ pub(crate) fn below(limit: usize) -> Bits256
     slots
 }
 
-/// The slots of the part, of which those from the limit on are one higher. Where all are, slot 0 comes
-/// from slot 255 of the part before.
+/// The slots of the part, of which those from the limit on are one higher. Where all are, slot 0
+/// comes from slot 255 of the part before.
 pub(crate) fn spread(part: &Bits256, limit: usize, before: &Bits256) -> Bits256
     ensures below { (slot : ℕ) → slot < 256 → slot < limit
         → set.contains result slot ≡ set.contains part.now slot }
@@ -147,7 +147,8 @@ pub(crate) fn gather(part: &Bits256, limit: usize, after: &Bits256) -> Bits256
 pub(crate) fn spread_all(parts: &mut Vec<Bits256>, limit: usize, before: Bits256)
     requires { vec_len parts.old ≤ MOST_PARTS }
     ensures below { (q : ℕ) → q < limit → q < 256 * vec_len parts.old
-        → set.contains (numbers_in parts.new.items) q ≡ set.contains (numbers_in parts.old.items) q }
+        → set.contains (numbers_in parts.new.items) q
+        ≡ set.contains (numbers_in parts.old.items) q }
     ensures above { (q : ℕ) → limit ≤ q → q + 1 < 256 * vec_len parts.old
         → set.contains (numbers_in parts.new.items) (q + 1)
         ≡ set.contains (numbers_in parts.old.items) q }
@@ -167,7 +168,8 @@ pub(crate) fn spread_all(parts: &mut Vec<Bits256>, limit: usize, before: Bits256
 pub(crate) fn gather_all(parts: &mut Vec<Bits256>, limit: usize)
     requires { vec_len parts.old ≤ MOST_PARTS }
     ensures below { (q : ℕ) → q < limit
-        → set.contains (numbers_in parts.new.items) q ≡ set.contains (numbers_in parts.old.items) q }
+        → set.contains (numbers_in parts.new.items) q
+        ≡ set.contains (numbers_in parts.old.items) q }
     ensures above { (q : ℕ) → limit ≤ q → set.contains (numbers_in parts.new.items) q
         ≡ set.contains (numbers_in parts.old.items) (q + 1) }
     ensures len { vec_len parts.new ≡ vec_len parts.old }

@@ -23,11 +23,14 @@ ids_in (Short ids) = ids.now
 
 -- no id of the groups stands twice
 abbrev pub AreOnce : List Entry → List SpanId → Type 0
-AreOnce entries ids = (i j : ℕ) (d : SpanId) → i < j → j < length ids → has_id entries (slice_index_or ids i d) ≡ true → same_span (slice_index_or ids i d) (slice_index_or ids j d) ≡ false
+AreOnce entries ids = (i j : ℕ) (d : SpanId) → i < j → j < length ids
+    → has_id entries (slice_index_or ids i d) ≡ true
+    → same_span (slice_index_or ids i d) (slice_index_or ids j d) ≡ false
 
 -- the bits of the groups whose ids stand among these
 abbrev pub HasSeen : List Entry → List SpanId → List ℕ → Type 0
-HasSeen entries ids words = (place : ℕ) (d : Entry) → place < length entries → has_bit words place ≡ list_any (λ id. same_span (slice_index_or entries place d).id id) ids
+HasSeen entries ids words = (place : ℕ) (d : Entry) → place < length entries
+    → has_bit words place ≡ list_any (λ id. same_span (slice_index_or entries place d).id id) ids
 
 -- whether a group with the id is compatible with the group y
 abbrev pub fits_with : List Entry → SpanId → Entry → Bool
@@ -39,7 +42,8 @@ fits_any abandoned ids y = list_any (λ id. fits_with abandoned id y) ids
 
 -- the bits of the groups that are compatible with a group of one of the ids
 abbrev pub HasFitting : List Entry → List SpanId → List Entry → List ℕ → Type 0
-HasFitting abandoned ids owned words = (place : ℕ) (d : Entry) → place < length owned → has_bit words place ≡ fits_any abandoned ids (slice_index_or owned place d)
+HasFitting abandoned ids owned words = (place : ℕ) (d : Entry) → place < length owned
+    → has_bit words place ≡ fits_any abandoned ids (slice_index_or owned place d)
 
 -- whether the group has the id and is of the class
 abbrev pub is_member : Class → SpanId → Entry → Bool

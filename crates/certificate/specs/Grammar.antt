@@ -51,12 +51,14 @@ spans_in Three = MOST_SPANS
 -- two numbers as an id
 abbrev pub id_of_numbers : Version → Option ℕ → Option ℕ → Result Id Cause
 id_of_numbers version (Some shard) (Some serial) =
-    if nat_lt shard MOST_SHARDS && nat_lt serial (spans_in version) then Ok (shard, serial) else Err Limit
+    if nat_lt shard MOST_SHARDS && nat_lt serial (spans_in version) then Ok (shard, serial) else
+    Err Limit
 id_of_numbers version (Some shard) None = Err Form
 id_of_numbers version None serial = Err Form
 
 abbrev pub id_of_parts : Version → List (List ℕ) → Result Id Cause
-id_of_parts version (shard ∷ serial ∷ []) = id_of_numbers version (number_in shard) (number_in serial)
+id_of_parts version (shard ∷ serial ∷ []) = id_of_numbers version (number_in shard)
+    (number_in serial)
 id_of_parts version _ = Err Form
 
 -- a word as an id: a shard, a full stop (46) and a serial
@@ -66,7 +68,8 @@ id_in version word = id_of_parts version (parts_of 46 word)
 -- a number as a class, by the bytes of a slot
 abbrev pub class_of_number : Option ℕ → Result Class Cause
 class_of_number None = Err Form
-class_of_number (Some n) = if nat_eq n 16 then Ok C16 else if nat_eq n 64 then Ok C64 else if nat_eq n 256 then Ok C256 else Err Limit
+class_of_number (Some n) = if nat_eq n 16 then Ok C16 else if nat_eq n 64 then Ok C64 else
+    if nat_eq n 256 then Ok C256 else Err Limit
 
 -- a word as a class
 abbrev pub class_in : List ℕ → Result Class Cause
@@ -78,7 +81,8 @@ is_on_page class slots = list_all (λ slot. nat_lt slot (slots_in class)) (ascen
 
 -- a word as a set of slots that a page of the class has
 abbrev pub set_in : Class → List ℕ → Result SlotSet Cause
-set_in class word = if is_set_text word && is_on_page class (slots_of_text word) then Ok (slots_of_text word) else Err Set
+set_in class word = if is_set_text word && is_on_page class (slots_of_text word) then
+    Ok (slots_of_text word) else Err Set
 
 -- two words; the form of both is asked before the range of either
 abbrev pub both : {A B : Type 0} → Result A Cause → Result B Cause → Result (A × B) Cause
@@ -110,7 +114,8 @@ pub record Listed : Type 0 where
 
 -- a group's id and class, and the word of its set
 abbrev pub entry_of : Result Id Cause → Result Class Cause → List ℕ → Result Listed Cause
-entry_of id class set = both id class >>= (λ named. set_in named.1 set >>= (λ slots. Ok (record { id = named.0; class = named.1; occupied = slots })))
+entry_of id class set = both id class >>= (λ named. set_in named.1 set >>=
+    (λ slots. Ok (record { id = named.0; class = named.1; occupied = slots })))
 
 -- a group: its id, its class and its set; in version 1 it has no class, and is of 16 bytes a slot
 abbrev pub entry_of_words : Version → List (List ℕ) → Result Listed Cause
@@ -124,7 +129,8 @@ entry_in version line = entry_of_words version (parts_of 32 line)
 
 -- a fold: an abandoned id and an owned one
 abbrev pub pair_of_words : Version → List (List ℕ) → Result (Id × Id) Cause
-pair_of_words version (abandoned ∷ owned ∷ []) = both (id_in version abandoned) (id_in version owned)
+pair_of_words version (abandoned ∷ owned ∷ []) = both (id_in version abandoned)
+    (id_in version owned)
 pair_of_words version _ = Err Form
 
 abbrev pub pair_in : Version → List ℕ → Result (Id × Id) Cause
@@ -136,7 +142,8 @@ count_of_number None = Err Form
 count_of_number (Some n) = if nat_le n MOST_GROUPS then Ok n else Err Limit
 
 abbrev pub count_of_words : List ℕ → List (List ℕ) → Result ℕ Cause
-count_of_words title (word ∷ number ∷ []) = if bytes_eq word title then count_of_number (number_in number) else Err Form
+count_of_words title (word ∷ number ∷ []) = if bytes_eq word title then
+    count_of_number (number_in number) else Err Form
 count_of_words title _ = Err Form
 
 -- a title and a count
@@ -156,7 +163,8 @@ at_line at (Err cause) = Err (BadCertificate (at + 1) cause)
 
 -- the line at the place, where it stands whole
 abbrev pub whole_line : List (List ℕ) → ℕ → Result (List ℕ) Cause
-whole_line parts at = if nat_lt (at + 1) (length parts) then Ok (slice_index_or parts at []) else Err Cut
+whole_line parts at = if nat_lt (at + 1) (length parts) then Ok (slice_index_or parts at []) else
+    Err Cut
 
 -- what the line at the place says
 abbrev pub line_in : {X : Type 0} → (List ℕ → Result X Cause) → List (List ℕ) → ℕ → Result X Cause
@@ -168,22 +176,28 @@ order_of None id = Ok tt
 order_of (Some last) id = if comes_before last id then Ok tt else Err Order
 
 -- an item of a list: its form first, and then its order
-abbrev pub item_in : {X : Type 0} → (List ℕ → Result X Cause) → (X → Id) → Option Id → List ℕ → Result X Cause
+abbrev pub item_in : {X : Type 0} → (List ℕ → Result X Cause) → (X → Id) → Option Id → List ℕ
+    → Result X Cause
 item_in parse id_of last line = parse line >>= (λ x. order_of last (id_of x) >>= (λ fine. Ok x))
 
 -- that many items from the place on, by ascending ids
-abbrev pub items_in : {X : Type 0} → (List ℕ → Result X Cause) → (X → Id) → List (List ℕ) → Option Id → ℕ → ℕ → Result (List X) ReadError
+abbrev pub items_in : {X : Type 0} → (List ℕ → Result X Cause) → (X → Id) → List (List ℕ)
+    → Option Id → ℕ → ℕ → Result (List X) ReadError
 items_in parse id_of parts last at zero = Ok []
 items_in parse id_of parts last at (suc n) =
-    at_line at (line_in (item_in parse id_of last) parts at) >>= (λ x. items_in parse id_of parts (Some (id_of x)) (at + 1) n >>= (λ more. Ok (x ∷ more)))
+    at_line at (line_in (item_in parse id_of last) parts at) >>=
+    (λ x. items_in parse id_of parts (Some (id_of x)) (at + 1) n >>= (λ more. Ok (x ∷ more)))
 
 -- a title with a count, and that many items
-unfoldable pub list_in : {X : Type 0} → List ℕ → (List ℕ → Result X Cause) → (X → Id) → List (List ℕ) → ℕ → Result (List X) ReadError
-list_in title parse id_of parts at = at_line at (line_in (count_in title) parts at) >>= items_in parse id_of parts None (at + 1)
+unfoldable pub list_in : {X : Type 0} → List ℕ → (List ℕ → Result X Cause) → (X → Id)
+    → List (List ℕ) → ℕ → Result (List X) ReadError
+list_in title parse id_of parts at = at_line at (line_in (count_in title) parts at) >>= items_in
+    parse id_of parts None (at + 1)
 
 -- nothing follows: the part at the place is the last one, and is empty
 abbrev pub end_in : List (List ℕ) → ℕ → Result (Unit {0}) Cause
-end_in parts at = if nat_eq (length parts) (at + 1) && nat_eq (length (slice_index_or parts at [])) 0 then Ok tt else Err Tail
+end_in parts at = if nat_eq (length parts) (at + 1)
+    && nat_eq (length (slice_index_or parts at [])) 0 then Ok tt else Err Tail
 
 -- ---- certificates
 
@@ -216,12 +230,14 @@ is_wanted Three o = names_large o
 
 -- the last line, of a text whose version is wanted or not
 abbrev pub last_in : Bool → List ℕ → Result (Unit {0}) Cause
-last_in wanted line = fixed_in (codes "end") line >>= (λ fine. if wanted then Ok tt else Err cause.Version)
+last_in wanted line = fixed_in (codes "end") line >>=
+    (λ fine. if wanted then Ok tt else Err cause.Version)
 
 -- the last line at the place, and nothing behind it
 abbrev pub closing_in : Bool → List (List ℕ) → ℕ → Result (Unit {0}) ReadError
 closing_in wanted parts at =
-    at_line at (line_in (last_in wanted) parts at) >>= (λ ended. at_line (at + 1) (end_in parts (at + 1)))
+    at_line at (line_in (last_in wanted) parts at) >>=
+    (λ ended. at_line (at + 1) (end_in parts (at + 1)))
 
 -- what the lists say, if the text ends at the place
 abbrev pub ending_in : Version → Outline → List (List ℕ) → ℕ → Result Outline ReadError
@@ -232,13 +248,18 @@ abbrev pub body_in : Version → List (List ℕ) → Result Outline ReadError
 body_in version parts = do
   abandoned ← list_in (codes "abandoned") (entry_in version) (λ x. x.id) parts 1
   owned ← list_in (codes "owned") (entry_in version) (λ x. x.id) parts (2 + length abandoned)
-  folds ← list_in (codes "folds") (pair_in version) (λ p. p.0) parts (3 + length abandoned + length owned)
-  short ← list_in (codes "short") (id_in version) (λ id. id) parts (4 + length abandoned + length owned + length folds)
-  ending_in version (record { abandoned = abandoned; owned = owned; folds = folds; short = short }) parts (5 + length abandoned + length owned + length folds + length short)
+  folds ← list_in (codes "folds") (pair_in version) (λ p. p.0) parts (3 + length abandoned
+      + length owned)
+  short ← list_in (codes "short") (id_in version) (λ id. id) parts (4 + length abandoned
+      + length owned + length folds)
+  ending_in version (record { abandoned = abandoned; owned = owned; folds = folds; short = short })
+      parts (5 + length abandoned + length owned + length folds + length short)
 
--- what the text says, where it is a certificate, or else its first line at fault and that line's first cause
+-- what the text says, where it is a certificate, or else its first line at fault and that line's
+-- first cause
 unfoldable pub certificate_in : List ℕ → Result Outline ReadError
-certificate_in text = at_line 0 (line_in version_in (parts_of 10 text) 0) >>= (λ version. body_in version (parts_of 10 text))
+certificate_in text = at_line 0 (line_in version_in (parts_of 10 text) 0) >>=
+    (λ version. body_in version (parts_of 10 text))
 
 -- ---- what is read
 
@@ -253,7 +274,13 @@ pair_parts p = (id_parts p.0, id_parts p.1)
 
 -- a certificate's outline
 abbrev pub outline_of : Certificate → Outline
-outline_of c = record { abandoned = map entry_parts c.snapshot.abandoned; owned = map entry_parts c.snapshot.owned; folds = map pair_parts c.plan; short = map id_parts c.short }
+outline_of c =
+    record {
+      abandoned = map entry_parts c.snapshot.abandoned;
+      owned = map entry_parts c.snapshot.owned;
+      folds = map pair_parts c.plan;
+      short = map id_parts c.short;
+    }
 
 -- an id comes after the last one of its list, where there is one
 abbrev pub ComesAfter : Option SpanId → SpanId → Type 0

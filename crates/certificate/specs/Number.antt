@@ -6,7 +6,8 @@ use Rattle.std.specs.Str.Parse.{digits_value}
 
 -- one digit or more, with no sign and no leading zero (48)
 abbrev pub is_numeral : List ℕ → Bool
-is_numeral word = nat_lt 0 (length word) && ((length word == 1 || not (slice_index word 0 == 48)) && list_all is_ascii_digit word)
+is_numeral word = nat_lt 0 (length word) && ((length word == 1 || not (slice_index word 0 == 48))
+    && list_all is_ascii_digit word)
 
 -- the number that a word is, of any length
 abbrev pub number_in : List ℕ → Option ℕ

@@ -21,10 +21,12 @@ IsBestPlanOf s pairs = IsBest same_span (sides_of s) pairs
 abbrev pub partners_of : Groups → List SpanId → List SpanId
 partners_of s short = partners (sides_of s) short
 
--- the least set that holds each abandoned group left out and, for each partner of a member, the group planned onto it
+-- the least set that holds each abandoned group left out and, for each partner of a member, the
+-- group planned onto it
 abbrev pub IsShortOf : Groups → List (SpanId × SpanId) → List SpanId → Type 0
 IsShortOf s pairs short = IsShort same_span (sides_of s) pairs short
 
--- a plan, and a set of abandoned groups with as many pairs and members together as abandoned groups and partners
+-- a plan, and a set of abandoned groups with as many pairs and members together as abandoned groups
+-- and partners
 abbrev pub IsCertificateOf : Groups → List (SpanId × SpanId) → List SpanId → Type 0
 IsCertificateOf s pairs short = IsCertificate same_span (sides_of s) pairs short

@@ -23,7 +23,8 @@ class_text C256 = codes "256"
 
 -- a group: its id, its class and its set
 abbrev pub entry_line : Entry → List ℕ
-entry_line x = id_text x.id ++ (codes " " ++ (class_text x.class ++ (codes " " ++ (set_text x.occupied ++ codes "\n"))))
+entry_line x = id_text x.id ++ (codes " " ++ (class_text x.class
+    ++ (codes " " ++ (set_text x.occupied ++ codes "\n"))))
 
 -- a group in version 1: its id and its set
 abbrev pub classless_line : Entry → List ℕ
@@ -52,7 +53,8 @@ lines_text line (x ∷ xs) = line x ++ lines_text line xs
 
 -- a title with how many lines follow, and these
 abbrev pub list_text : {X : Type 0} → List ℕ → (X → List ℕ) → List X → List ℕ
-list_text title line xs = title ++ (codes " " ++ (decimal (length xs) ++ (codes "\n" ++ lines_text line xs)))
+list_text title line xs = title ++ (codes " " ++ (decimal (length xs)
+    ++ (codes "\n" ++ lines_text line xs)))
 
 -- the text of a certificate below the first line of the version, with such a line for each group
 abbrev pub text_with : Version → (Entry → List ℕ) → Certificate → List ℕ
@@ -63,7 +65,8 @@ text_with version line c =
     ++ (list_text (codes "short") id_line c.short
     ++ codes "end\n")))))
 
--- the text of a certificate: of version 3 if a serial is above those of version 2, else of version 2
+-- the text of a certificate: of version 3 if a serial is above those of version 2, else of version
+-- 2
 unfoldable pub certificate_text : Certificate → List ℕ
 certificate_text c = text_with (version_of (outline_of c)) entry_line c
 
@@ -81,7 +84,8 @@ pub record IsClassless (c : Certificate) : Type 0 where
 abbrev pub IsTextOf : Certificate → List ℕ → Type 0
 IsTextOf c text = (text ≡ certificate_text c) ⊎ ((text ≡ classless_text c) × IsClassless c)
 
--- at most 4,096 lines a list, the groups have slots of their class, and the ids of the folds and of the short set ascend
+-- at most 4,096 lines a list, the groups have slots of their class, and the ids of the folds and of
+-- the short set ascend
 pub record IsWritable (c : Certificate) : Type 0 where
   pub abandoned : length c.snapshot.abandoned ≤ MOST_GROUPS
   pub owned : length c.snapshot.owned ≤ MOST_GROUPS

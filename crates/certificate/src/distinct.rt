@@ -60,7 +60,8 @@ fn id_at(ids: &[SpanId], k: usize) -> SpanId
     ids[k]
 }
 
-/// Whether no id of these groups stands twice in the list. It looks at so many groups at a time as a set has places.
+/// Whether no id of these groups stands twice in the list. It looks at so many groups at a time as
+/// a set has places.
 pub(crate) fn are_once(entries: &[Entry], list: &IdList<'_>) -> bool
     requires { IsAscending (ids entries.now) }
     ensures { IsTrue result ↔ AreOnce entries.now (ids_in list.now) }
@@ -91,7 +92,8 @@ fn few_are_once(entries: &[Entry], list: &IdList<'_>) -> bool
     true
 }
 
-/// Puts the place of the group with the id in, if there is one. Whether it is not one that was seen before.
+/// Puts the place of the group with the id in, if there is one. Whether it is not one that was seen
+/// before.
 fn is_new(seen: &mut PlaceSet, entries: &[Entry], id: SpanId) -> bool
     requires ascending { IsAscending (ids entries.now) }
     requires few { length entries.now ≤ MOST_GROUPS }

@@ -1,12 +1,12 @@
 //! Plans of folds, and the certificates that no plan has more pairs.
 //!
-//! A [`Plan`] pairs abandoned groups with owned groups that they may be folded onto, no group twice.
-//! Beside it stands a [`Short`] set: abandoned groups that have so few partners between them that as
-//! many of them must be left out as the plan leaves out. [`check`] believes nothing: it tests the
-//! sets of a [`Snapshot`](mesh_graph::Snapshot) pair by pair. With whoever found the plan it shares
-//! the test of two sets, and no graph and no rows (as the certifying algorithms of LEDA do). Rows are
-//! for [`partners`] alone, which lists those of a short set for a report and is not asked by `check`.
-//! A [`Runner`](mesh_graph::Runner) fills these rows, at hand or by threads.
+//! A [`Plan`] pairs abandoned groups with owned groups that they may be folded onto, no group
+//! twice. Beside it stands a [`Short`] set: abandoned groups that have so few partners between them
+//! that as many of them must be left out as the plan leaves out. [`check`] believes nothing: it
+//! tests the sets of a [`Snapshot`](mesh_graph::Snapshot) pair by pair. With whoever found the plan
+//! it shares the test of two sets, and no graph and no rows (as the certifying algorithms of LEDA
+//! do). Rows are for [`partners`] alone, which lists those of a short set for a report and is not
+//! asked by `check`. A [`Runner`](mesh_graph::Runner) fills these rows, at hand or by threads.
 //!
 //! ```text
 //!   abandoned           owned                 plan: 0.0 onto 3.0
@@ -16,8 +16,8 @@
 //! ```
 //!
 //! The public fact of the crate is that where `check` says yes, no plan of the snapshot has more
-//! pairs. That is the deficiency form of Hall's theorem: of the short set at most as many groups are
-//! planned as it has partners, so every plan leaves out all the others.
+//! pairs. That is the deficiency form of Hall's theorem: of the short set at most as many groups
+//! are planned as it has partners, so every plan leaves out all the others.
 //!
 //! A [`Certificate`] has snapshot, plan and short set together. [`write()`] gives it as text, and
 //! [`read`] reads that text again, and texts of version 1, which name no classes; of a text that is

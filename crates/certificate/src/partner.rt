@@ -1,5 +1,5 @@
-// The partners of a short set: found by the rows of its members' slots, class by class, and counted by tests of two sets for the
-// checker.
+// The partners of a short set: found by the rows of its members' slots, class by class, and counted
+// by tests of two sets for the checker.
 ghost use Rattle.std.specs.Prelude.{◌≡◌, ◌==◌, ◌<◌, ◌≤◌, ◌+◌, ◌*◌, ◌^◌, ◌&&◌, ◌||◌, ◌∷◌, [], ◌++◌, ℕ, List, None, length, map, not, slice_index, slice_index_or, IfOk, OnOk};
 ghost use Rattle.bitmap.specs.Slots.{has_bit};
 ghost use Rattle.std.specs.List.{count_by, filter, flat_map, list_any};
@@ -47,7 +47,8 @@ pub fn partners<R: Runner>(
     Ok(found)
 }
 
-/// In how many pieces the runner fills the rows of the owned groups over the members of a short set.
+/// In how many pieces the runner fills the rows of the owned groups over the members of a short
+/// set.
 fn pieces_of<R: Runner>(runner: &R, snapshot: &Snapshot, short: &Short, pieces: usize) -> usize
     requires { 1 ≤ pieces }
     ensures { 1 ≤ result }
@@ -56,8 +57,9 @@ fn pieces_of<R: Runner>(runner: &R, snapshot: &Snapshot, short: &Short, pieces: 
     runner.pieces(steps, pieces)
 }
 
-/// How many partners the abandoned groups with these ids have. It tests two sets at a time and takes no memory, and the checker
-/// counts by it, so that nobody who believes a verdict has to believe rows.
+/// How many partners the abandoned groups with these ids have. It tests two sets at a time and
+/// takes no memory, and the checker counts by it, so that nobody who believes a verdict has to
+/// believe rows.
 pub fn partner_count(snapshot: &Snapshot, short: &[SpanId]) -> usize
     ensures count { result ≡ length (partners_of snapshot.now short.now) }
     ensures in_range { result < 2 ^ 63 }
@@ -120,7 +122,8 @@ fn rows_of<R: Runner>(
     requires ascending { IsAscending (ids abandoned.now) }
     requires pieces { 1 ≤ pieces }
     requires ready { R.ready runner.now }
-    ensures { IfOk result (λ rows. sets_in rows ≡ flat_map (sets_of abandoned.now class) chosen.now) }
+    ensures { IfOk result (λ rows. sets_in rows ≡ flat_map (sets_of abandoned.now class)
+        chosen.now) }
 {
     let planes = planes_of(alloc, abandoned, chosen, class)?;
     if planes.len() == 0 {
@@ -174,8 +177,8 @@ fn is_of(entry: &Entry, class: Class) -> bool
     entry.class.words() == class.words()
 }
 
-/// The ids of the owned groups that share no slot with some member of their class. It looks at so many at a time as a set has
-/// places.
+/// The ids of the owned groups that share no slot with some member of their class. It looks at so
+/// many at a time as a set has places.
 fn partners_among<R: Runner>(
     runner: &R,
     alloc: Global,
@@ -307,7 +310,8 @@ fn of_class(alloc: Global, groups: &[Entry], class: Class) -> Result<Vec<Entry>,
     Ok(own)
 }
 
-/// The rows of the groups over the sets, one after another: bit j of a row says that set j shares no slot with the group's.
+/// The rows of the groups over the sets, one after another: bit j of a row says that set j shares
+/// no slot with the group's.
 fn rows_over<R: Runner>(
     runner: &R,
     alloc: Global,
@@ -317,7 +321,8 @@ fn rows_over<R: Runner>(
 ) -> Result<Vec<u64>, AllocError>
     requires pieces { 1 ≤ pieces }
     requires ready { R.ready runner.now }
-    ensures { IfOk result (λ rows. HaveRows groups.now sets.now None (length groups.now) rows.items) }
+    ensures { IfOk result (λ rows. HaveRows groups.now sets.now None (length groups.now)
+        rows.items) }
 {
     let mut rows = empty_rows(alloc, sets, groups.len())?;
     runner.fill(groups, sets, &None, pieces, &mut rows);
@@ -335,7 +340,8 @@ fn empty_rows(alloc: Global, sets: &SlotRows, groups: usize) -> Result<Vec<u64>,
     vec![in alloc; 0; words]
 }
 
-/// Puts in the places of the owned groups of the class whose row has a bit. There is a row for each of the class alone.
+/// Puts in the places of the owned groups of the class whose row has a bit. There is a row for each
+/// of the class alone.
 fn add_places(fitting: &mut PlaceSet, rows: &[u64], sets: &SlotRows, class: Class, owned: &[Entry])
     requires few { length owned.now ≤ MOST_GROUPS }
     requires rows { HaveRows (filter (is_of_class class) owned.now) sets.now None
@@ -377,8 +383,8 @@ fn has_any_bit(row: &[u64]) -> bool
     row.iter().any(|word| *word != 0)
 }
 
-/// How many of the owned groups are compatible with some abandoned group of these ids. It looks at so many at a time as a set has
-/// places.
+/// How many of the owned groups are compatible with some abandoned group of these ids. It looks at
+/// so many at a time as a set has places.
 fn count_among(abandoned: &[Entry], chosen: &[SpanId], owned: &[Entry]) -> usize
     requires { IsAscending (ids abandoned.now) }
     ensures count { result ≡ count_by (λ y. fits_any abandoned.now chosen.now y) owned.now }
@@ -408,7 +414,8 @@ fn count_few(abandoned: &[Entry], chosen: &[SpanId], owned: &[Entry]) -> usize
     fitting.count_below(owned.len())
 }
 
-/// Puts in the places of the owned groups that are compatible with the abandoned group with the id, if there is one.
+/// Puts in the places of the owned groups that are compatible with the abandoned group with the id,
+/// if there is one.
 fn add_fitting(fitting: &mut PlaceSet, abandoned: &[Entry], id: SpanId, owned: &[Entry])
     requires ascending { IsAscending (ids abandoned.now) }
     requires few { length owned.now ≤ MOST_GROUPS }

@@ -9,8 +9,8 @@ use mesh_graph::MOST_GROUPS;
 /// Words for the places that a set has.
 const WORDS: usize = MOST_GROUPS / 64;
 
-/// A set of places below [`MOST_GROUPS`]: a bit for each, in 512 bytes of its own. The checker asks it whether a group was met
-/// before, where a walk over the earlier ones would cost their square.
+/// A set of places below [`MOST_GROUPS`]: a bit for each, in 512 bytes of its own. The checker asks
+/// it whether a group was met before, where a walk over the earlier ones would cost their square.
 #[derive(Drop)]
 pub(crate) struct PlaceSet {
     words: [u64; WORDS],

@@ -32,7 +32,9 @@ valued name = record (new_rule name) { long = Some name; value_names = 1 }
 
 -- `run [TRACE] [--serial] [--replies] [--certificate FILE]`
 abbrev pub run_app : App
-run_app = with_rule (with_rule (with_rule (with_rule (new_app (codes "run")) (positional (codes "TRACE"))) (flag (codes "serial"))) (flag (codes "replies"))) (valued (codes "certificate"))
+run_app = with_rule (with_rule (with_rule (with_rule (new_app (codes "run"))
+    (positional (codes "TRACE"))) (flag (codes "serial"))) (flag (codes "replies")))
+    (valued (codes "certificate"))
 
 -- `check FILE`
 abbrev pub check_app : App
@@ -40,7 +42,9 @@ check_app = with_rule (new_app (codes "check")) (needed (codes "FILE"))
 
 -- a command is required, there is a version, and the words have no name of the program before them
 abbrev pub bare_program : App
-bare_program = let a = new_app (codes "meshrun") in record a { top = record a.top { no_binary_name = true; has_version = true; subcommand_required = true } }
+bare_program = let a = new_app (codes "meshrun") in record a {
+  top = record a.top { no_binary_name = true; has_version = true; subcommand_required = true };
+}
 
 -- the program's commands are `run` and `check`, beside the parser's own `help`
 abbrev pub program_app : App
@@ -66,8 +70,10 @@ bytes_of text = option_map (λ t. t.now) text
 
 -- the job is `run` with these values of its arguments
 abbrev pub IsRunJob : List Row → Job → Type 0
-IsRunJob rows (Run trace serial replies certificate) = (bytes_of trace ≡ first_of (codes "TRACE") rows) × IsFlag (one_of (codes "serial") rows) serial
-    × IsFlag (one_of (codes "replies") rows) replies × (bytes_of certificate ≡ first_of (codes "certificate") rows)
+IsRunJob rows (Run trace serial replies certificate) =
+    (bytes_of trace ≡ first_of (codes "TRACE") rows) × IsFlag (one_of (codes "serial") rows) serial
+    × IsFlag (one_of (codes "replies") rows) replies
+    × (bytes_of certificate ≡ first_of (codes "certificate") rows)
 IsRunJob rows (Check file) = ⊥
 
 -- the job is `check` with this value of its argument
@@ -77,11 +83,13 @@ IsCheckJob rows (Check file) = first_of (codes "FILE") rows ≡ Some file.now
 
 -- the job is the command that was entered, with its values
 abbrev pub IsJob : Option (Text × List Row) → Job → Type 0
-IsJob entered job = (rows : List Row) × (((entered ≡ Some (codes "run", rows)) × IsRunJob rows job) ⊎ ((entered ≡ Some (codes "check", rows)) × IsCheckJob rows job))
+IsJob entered job = (rows : List Row) × (((entered ≡ Some (codes "run", rows)) × IsRunJob rows job)
+    ⊎ ((entered ≡ Some (codes "check", rows)) × IsCheckJob rows job))
 
 -- a command was entered, and `check` has its file
 abbrev pub NamesJob : Option (Text × List Row) → Type 0
-NamesJob entered = (rows : List Row) × ((entered ≡ Some (codes "run", rows)) ⊎ ((entered ≡ Some (codes "check", rows)) × (is_some (first_of (codes "FILE") rows) ≡ true)))
+NamesJob entered = (rows : List Row) × ((entered ≡ Some (codes "run", rows))
+    ⊎ ((entered ≡ Some (codes "check", rows)) × (is_some (first_of (codes "FILE") rows) ≡ true)))
 
 -- the words name the job: they enter its command, with its values
 abbrev pub IsJobOf : List Text → Job → Type 0
@@ -103,4 +111,5 @@ fault_from error = if is_memory (kind_of error) then OutOfMemory else Words erro
 -- memory ran out, or the error is of a kind that the words have
 abbrev pub IsFaultIn : List Text → JobError → Type 0
 IsFaultIn words OutOfMemory = ⊤
-IsFaultIn words (Words error) = (is_memory (kind_of error) ≡ false) × IsAmong (kind_of error) (kinds_of words)
+IsFaultIn words (Words error) = (is_memory (kind_of error) ≡ false)
+    × IsAmong (kind_of error) (kinds_of words)

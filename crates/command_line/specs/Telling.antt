@@ -57,9 +57,11 @@ abbrev pub is_want_of_memory : io_kind.ErrorKind → Bool
 is_want_of_memory io_kinds.OutOfMemory = true
 is_want_of_memory _ = false
 
--- the program's fault where what has this name could not be read: what the system said of it, or, where it says so or there is none for the name, that memory ran out
+-- the program's fault where what has this name could not be read: what the system said of it, or,
+-- where it says so or there is none for the name, that memory ran out
 abbrev pub IsUnread : List ℕ → Error → Fault → Type 0
-IsUnread name error (fault.Io file said) = (is_want_of_memory (error_kind error) ≡ false) × (string_bytes file ≡ name) × (said ≡ error)
+IsUnread name error (fault.Io file said) = (is_want_of_memory (error_kind error) ≡ false)
+    × (string_bytes file ≡ name) × (said ≡ error)
 IsUnread name error fault.OutOfMemory = ⊤
 IsUnread name error _ = ⊥
 
@@ -102,16 +104,19 @@ audit_message c = codes "audit: " ++ audit_causes.word_of c ++ codes "\n"
 abbrev pub file_message : List ℕ → List ℕ → List ℕ
 file_message name said = codes "io: " ++ name ++ codes ": " ++ said ++ codes "\n"
 
--- the text is what is said of the fault; of a file the system has its own words; what is said of words is the parser's own
+-- the text is what is said of the fault; of a file the system has its own words; what is said of
+-- words is the parser's own
 abbrev pub IsMessage : Fault → List ℕ → Type 0
 IsMessage (fault.BadTrace line c) text = text ≡ line_message line (word_of c)
-IsMessage (fault.BadCertificate line c) text = text ≡ line_message line (certificate_causes.word_of c)
+IsMessage (fault.BadCertificate line c) text = text
+    ≡ line_message line (certificate_causes.word_of c)
 IsMessage (fault.Words error) text = ⊤
 IsMessage fault.OutOfMemory text = text ≡ codes "memory\n"
 IsMessage fault.Doubled text = text ≡ codes "doubled\n"
 IsMessage (fault.Audit c) text = text ≡ audit_message c
 IsMessage fault.SinkFailed text = text ≡ codes "io: standard output\n"
-IsMessage (fault.Io file error) text = (said : List ℕ) × (text ≡ file_message (string_bytes file) said)
+IsMessage (fault.Io file error) text = (said : List ℕ)
+    × (text ≡ file_message (string_bytes file) said)
 
 -- what is said of the fault went in whole
 abbrev pub TakesMessage : Fault → Option (List ℕ) → Option (List ℕ) → Type 0

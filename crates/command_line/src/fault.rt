@@ -43,8 +43,8 @@ pub enum Fault {
     /// The words of the command line name no job, or they ask for help or for the version.
     #[error(transparent)]
     Words(clap::Error),
-    /// The file, standard input or the command line could not be read, or the file for the certificate could not be written. `error` is what the
-    /// system said.
+    /// The file, standard input or the command line could not be read, or the file for the
+    /// certificate could not be written. `error` is what the system said.
     #[error("{file} could not be read or written: {error}")]
     Io {
         file: String,
@@ -55,8 +55,8 @@ pub enum Fault {
 impl Fault {
     ghost use Rattle.command_line.specs.Telling.{asks_for_help, status_of};
 
-    /// What it comes to that what has this name could not be read: `OutOfMemory` where the system says that, or where there is no memory for
-    /// the name, and else `Io`.
+    /// What it comes to that what has this name could not be read: `OutOfMemory` where the system
+    /// says that, or where there is no memory for the name, and else `Io`.
     pub fn unread(alloc: Global, file: &str, error: io::Error) -> Fault
         ensures { IsUnread file.now error result }
     {
@@ -79,9 +79,10 @@ impl Fault {
         }
     }
 
-    /// The status with which the program ends: 0 where help or the version was asked for, 1 where the text is no
-    /// trace or no certificate, 2 where the words name no job, 3 where memory ran out, 4 where a run by
-    /// threads was not as it ought to be, and 5 where a read or a write failed.
+    /// The status with which the program ends: 0 where help or the version was asked for, 1 where
+    /// the text is no trace or no certificate, 2 where the words name no job, 3 where memory ran
+    /// out, 4 where a run by threads was not as it ought to be, and 5 where a read or a write
+    /// failed.
     pub fn status(&self) -> u8
         ensures { result ≡ status_of self.now }
     {

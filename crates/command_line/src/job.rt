@@ -18,9 +18,11 @@ use help::{CHECK_HELP, PROGRAM_HELP, RUN_HELP, VERSION};
 /// What the program is asked to do.
 #[derive(Clone, Copy)]
 pub enum Job<'a> {
-    /// `run [TRACE] [--serial] [--replies] [--certificate FILE]`: replay a trace and write its report.
+    /// `run [TRACE] [--serial] [--replies] [--certificate FILE]`: replay a trace and write its
+    /// report.
     Run {
-        /// The file of the trace. Where there is none, or it is `-`, the trace is read from standard input.
+        /// The file of the trace. Where there is none, or it is `-`, the trace is read from
+        /// standard input.
         trace: Option<&'a str>,
         /// The calls are carried out one after another, in the order of their lines.
         serial: bool,
@@ -42,8 +44,8 @@ pub enum JobError {
     /// Memory ran out.
     #[error("memory ran out")]
     OutOfMemory,
-    /// The words are not those of a job, or they ask for help or for the version. The text says which, and how the
-    /// program is called.
+    /// The words are not those of a job, or they ask for help or for the version. The text says
+    /// which, and how the program is called.
     #[error(transparent)]
     Words(clap::Error),
 }
@@ -193,9 +195,10 @@ fn job_of<'a>(matches: &ArgMatches<'a>) -> Job<'a>
 impl<'a> Job<'a> {
     /// Reads the words after the program's own name.
     ///
-    /// `Words` comes where they are neither `run [TRACE] [--serial] [--replies] [--certificate FILE]`
-    /// nor `check FILE`, or where they ask for help by `--help`, `-h` or `help`, or for the version by `--version` or `-V`; and `OutOfMemory` where
-    /// memory ran out.
+    /// `Words` comes where they are neither
+    /// `run [TRACE] [--serial] [--replies] [--certificate FILE]` nor `check FILE`, or where they
+    /// ask for help by `--help`, `-h` or `help`, or for the version by `--version` or `-V`; and
+    /// `OutOfMemory` where memory ran out.
     pub fn from_words(alloc: Global, words: &'a [&'a str]) -> Result<Job<'a>, JobError>
         ensures named { IfOk result (IsJobOf (texts words.entry.now)) }
         ensures accepted { OnOk result (kinds_of (texts words.entry.now) ≡ []) }

@@ -17,13 +17,14 @@ pub struct StoreFailed(pub io::Error);
 ///
 /// The count fits 64 bits: whoever hands in a store knows that one more failure still does.
 pub trait Store {
-    // The bytes of the file with this path, where it tells them. Each path stands for a file of its own.
+    // The bytes of the file with this path, where it tells them. Each path stands for a file of its
+    // own.
     ghost held: { Self → List ℕ → Option (List ℕ) };
 
     ghost failures: { Self → ℕ };
 
-    /// Makes the bytes the whole of the file with this path. After `StoreFailed` nothing is known of that file. All others
-    /// stay as they are.
+    /// Makes the bytes the whole of the file with this path. After `StoreFailed` nothing is known
+    /// of that file. All others stay as they are.
     fn write(&mut self, path: &str, bytes: &[u8]) -> Result<(), StoreFailed>
         requires room { failures self.old < 2 ^ 64 - 1 }
         ensures written { OnOk result (Tells (held self.new path.now) bytes.now) }
@@ -65,8 +66,9 @@ impl<'a, R: Files> Store for Disk<'a, R> {
     }
 }
 
-/// Writes the certificate to the file that is named for it. Where none is named, or there is no certificate, nothing is
-/// written. `StoreFailed` comes exactly where that write failed, and then all other files are as they were.
+/// Writes the certificate to the file that is named for it. Where none is named, or there is no
+/// certificate, nothing is written. `StoreFailed` comes exactly where that write failed, and then
+/// all other files are as they were.
 pub fn save<D: Store>(
     store: &mut D,
     path: Option<&str>,

@@ -99,9 +99,9 @@ fn message(alloc: Global, fault: &Fault) -> Result<Vec<u8>, AllocError>
 
 /// Tells the fault, and answers the status with which the program ends.
 ///
-/// Help and the version that were asked for go to `out`, and all else to `err`; the other sink stays as it is.
-/// After `OutOfMemory` both sinks are as they were, and after `SinkFailed` the one that was written
-/// to has taken a prefix of the message.
+/// Help and the version that were asked for go to `out`, and all else to `err`; the other sink
+/// stays as it is. After `OutOfMemory` both sinks are as they were, and after `SinkFailed` the one
+/// that was written to has taken a prefix of the message.
 pub fn tell<O: Sink, E: Sink>(
     alloc: Global,
     fault: &Fault,

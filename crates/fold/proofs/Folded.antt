@@ -19,14 +19,14 @@ use Rattle.shard.proofs.Classes.{cases_class}
 use Rattle.shard.proofs.HeadsHere.{head_among-here}
 use Rattle.groups.proofs.Logged.{logged, nothing_pending}
 use Rattle.shard.proofs.ShownLogs.{shown-logged as shown-logged_shard}
-use Rattle.abandoned.specs.Calls.{Lifts}
-use Rattle.abandoned.specs.Shown.{shown, together}
-use Rattle.abandoned.specs.Sound.{IsSound}
-use Rattle.abandoned.specs.State.{PoolState, PooledState}
-use Rattle.abandoned.proofs.Adopted.{one_head}
-use Rattle.abandoned.proofs.ShownLogs.{shown-logged}
+use Rattle.pool.specs.Calls.{Lifts}
+use Rattle.pool.specs.Shown.{shown, together}
+use Rattle.pool.specs.Sound.{IsSound}
+use Rattle.pool.specs.State.{PoolState, PooledState}
+use Rattle.pool.proofs.Adopted.{one_head}
+use Rattle.pool.proofs.ShownLogs.{shown-logged}
 use Rattle.groups.proofs.EmptySets.{empty_or_not}
-use Rattle.abandoned.proofs.Together.{spans_in-Lifts, together-moved}
+use Rattle.pool.proofs.Together.{spans_in-Lifts, together-moved}
 use Rattle.fold.specs.Folds.{Folds, MayFold}
 use Rattle.fold.proofs.Heads.{none_or_head}
 use Rattle.fold.proofs.Sums.{spans_in-Grafts}

@@ -9,10 +9,10 @@ use Rattle.groups.specs.Spans.{union_of}
 use Rattle.shard.specs.Sound.{IsSound as IsSoundShard}
 use Rattle.shard.specs.State.{ShardState}
 use Rattle.shard.proofs.HeadsHere.{same_group}
-use Rattle.abandoned.specs.Calls.{WouldDouble}
-use Rattle.abandoned.specs.Sound.{IsSound}
-use Rattle.abandoned.specs.State.{PoolState, PooledState}
-use Rattle.abandoned.proofs.Adopted.{one_head}
+use Rattle.pool.specs.Calls.{WouldDouble}
+use Rattle.pool.specs.Sound.{IsSound}
+use Rattle.pool.specs.State.{PoolState, PooledState}
+use Rattle.pool.proofs.Adopted.{one_head}
 use Rattle.fold.specs.Folds.{IsAbsent, IsClash, IsEmptied, MayFold}
 
 module _ (pool : PoolState) (sound : IsSound pool) (shard : ShardState) (sound_shard : IsSoundShard shard) (a b : SpanId) (index place : ℕ)

@@ -14,10 +14,10 @@ use Rattle.groups.proofs.Lists.{count-set, split_at}
 use Rattle.shard.specs.Group.{GroupState}
 use Rattle.shard.proofs.HeadsHere.{same_group}
 use Rattle.shard.proofs.MovedGroups.{AreBetween}
-use Rattle.abandoned.specs.Calls.{Lifts}
-use Rattle.abandoned.specs.State.{PoolState, PooledState, paged_groups}
+use Rattle.pool.specs.Calls.{Lifts}
+use Rattle.pool.specs.State.{PoolState, PooledState, paged_groups}
 use Rattle.groups.proofs.Removed.{count-remove}
-use Rattle.abandoned.proofs.Together.{spans_in-Lifts}
+use Rattle.pool.proofs.Together.{spans_in-Lifts}
 use Rattle.fold.specs.Folds.{Folds}
 use Rattle.shard.specs.Closes.{HasPagedHead}
 

@@ -2,32 +2,34 @@
 ghost use Rattle.std.specs.Prelude.{◌≡◌, ◌≢◌, ◌+◌, IfErr, IfOk, OnErr, OnOk, Ok, length};
 ghost use Rattle.shard.specs.Shown.{shown as shown_by_shard};
 ghost use Rattle.shard.specs.Sound.{IsSound as IsSoundShard};
-ghost use Rattle.abandoned.specs.Shown.{shown, together};
-ghost use Rattle.abandoned.specs.Sound.{IsSound};
-ghost use Rattle.abandoned.specs.State.{paged_groups};
+ghost use Rattle.pool.specs.Shown.{shown, together};
+ghost use Rattle.pool.specs.Sound.{IsSound};
+ghost use Rattle.pool.specs.State.{paged_groups};
 ghost use Rattle.fold.specs.Folds.{Folds, HasSpans, MayFold, Steps};
 ghost use Rattle.shard.specs.Closes.{HasPagedHead};
 ghost use Rattle.groups.specs.Group.{paged_in};
 
 use crate::step::Step;
-use abandoned::Pool;
+use pool::Pool;
 use shard::Shard;
 use span::{Log, SpanId};
 use std::alloc::AllocError;
 
-/// Folds the pool's group of head `a` onto the shard's group of head `b`, where that can be, and tells what came of
-/// it. By a fold the spans of `a` become the last guests of `b`, their live objects stand at the same slots of the page
-/// of `b`, and the page of `a` goes, or is that of `b` where this had none. Each key keeps its object.
+/// Folds the pool's group of head `a` onto the shard's group of head `b`, where that can be, and
+/// tells what came of it. By a fold the spans of `a` become the last guests of `b`, their live
+/// objects stand at the same slots of the page of `b`, and the page of `a` goes, or is that of `b`
+/// where this had none. Each key keeps its object.
 ///
-/// The answer is the first of these that holds, exactly: [`Step::Absent`] where `a` heads no group of the pool, or `b`
-/// no group of the shard, or a span of `a`'s group is in the shard already, or one that it may yet open; [`Step::Emptied`]
-/// where `a`'s group has no page; [`Step::Clash`] where the groups are of two classes, or a slot is live in both; and
-/// else [`Step::Folded`], which alone changes anything.
+/// The answer is the first of these that holds, exactly: [`Step::Absent`] where `a` heads no group
+/// of the pool, or `b` no group of the shard, or a span of `a`'s group is in the shard already, or
+/// one that it may yet open; [`Step::Emptied`] where `a`'s group has no page; [`Step::Clash`] where
+/// the groups are of two classes, or a slot is live in both; and else [`Step::Folded`], which alone
+/// changes anything.
 ///
 /// # Errors
 ///
-/// `AllocError` where the groups could be folded and memory is refused. Pool and shard are then as they were; each
-/// allocation comes before the first change.
+/// `AllocError` where the groups could be folded and memory is refused. Pool and shard are then as
+/// they were; each allocation comes before the first change.
 pub fn fold_one<L: Log>(
     pool: &mut Pool<L>,
     shard: &mut Shard<L>,
@@ -61,7 +63,8 @@ pub fn fold_one<L: Log>(
     Ok(Step::Folded)
 }
 
-// How many spans a fold of the two groups moves, memory aside, or what it comes to where it changes nothing.
+// How many spans a fold of the two groups moves, memory aside, or what it comes to where it changes
+// nothing.
 fn spans_to_fold<L: Log>(
     pool: &Pool<L>,
     shard: &Shard<L>,

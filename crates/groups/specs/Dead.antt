@@ -35,4 +35,5 @@ dead_guests groups = flat_map (λ group. dead_among group.guests) groups
 
 -- each of the spans has an entry
 abbrev pub AreEntered : Entries → List SpanState → Type 0
-AreEntered entries spans = (place : ℕ) (span : SpanState) → slice_get spans place ≡ Some span → is_some (map.get entries (rank span.id)) ≡ true
+AreEntered entries spans = (place : ℕ) (span : SpanState) → slice_get spans place ≡ Some span
+    → is_some (map.get entries (rank span.id)) ≡ true

@@ -20,12 +20,15 @@ pub record DirectoryState : Type 0 where
 
 -- a directory is stored as the pair of its fields
 abbrev pub directory_code : Coded Place → Coded DirectoryState
-directory_code place = code_by (Entries × ℕ) (coded× (map.code coded_ℕ place) coded_ℕ) (λ d. (d.entries, d.room)) (λ p. record { entries = p.0; room = p.1 }) (λ _. refl)
+directory_code place = code_by (Entries × ℕ) (coded× (map.code coded_ℕ place) coded_ℕ)
+    (λ d. (d.entries, d.room)) (λ p. record { entries = p.0; room = p.1 }) (λ _. refl)
 
 -- with the spans entered, one after another, as guests of the head from this place on
 abbrev pub entered : Entries → List SpanState → SpanId → ℕ → Entries
 entered entries [] head place = entries
-entered entries (span ∷ spans) head place = entered (map.insert entries (rank span.id) (record { head = head; place = place })) spans head (suc place)
+entered entries (span ∷ spans) head place = entered
+    (map.insert entries (rank span.id) (record { head = head; place = place })) spans head
+    (suc place)
 
 -- without the entries of the spans
 abbrev pub struck : Entries → List SpanState → Entries
@@ -33,7 +36,8 @@ struck entries [] = entries
 struck entries (span ∷ spans) = struck (map.remove entries (rank span.id)) spans
 
 -- a guest of this rank stands there: a head stands at place 0, and its guests follow
-pub record IsGuestAt {G : Type 0} (head_of : G → SpanId) (guests_of : G → List SpanState) (groups : List G) (number : ℕ) (at : Place) : Type 0 where
+pub record IsGuestAt {G : Type 0} (head_of : G → SpanId) (guests_of : G
+    → List SpanState) (groups : List G) (number : ℕ) (at : Place) : Type 0 where
   pub index : ℕ
   pub place : ℕ
   pub group : G
@@ -45,11 +49,15 @@ pub record IsGuestAt {G : Type 0} (head_of : G → SpanId) (guests_of : G → Li
   pub place_is : at.place ≡ suc place
 
 -- the entries say of each guest of the groups where it stands, and of no other span
-pub record IsDirectory {G : Type 0} (head_of : G → SpanId) (guests_of : G → List SpanState) (groups : List G) (entries : Entries) : Type 0 where
-  pub known : (index place : ℕ) (group : G) (guest : SpanState) → slice_get groups index ≡ Some group → slice_get (guests_of group) place ≡ Some guest
+pub record IsDirectory {G : Type 0} (head_of : G → SpanId) (guests_of : G
+    → List SpanState) (groups : List G) (entries : Entries) : Type 0 where
+  pub known : (index place : ℕ) (group : G) (guest : SpanState)
+      → slice_get groups index ≡ Some group → slice_get (guests_of group) place ≡ Some guest
       → map.get entries (rank guest.id) ≡ Some (record { head = head_of group; place = suc place })
-  pub only : (number : ℕ) (at : Place) → map.get entries number ≡ Some at → IsGuestAt head_of guests_of groups number at
+  pub only : (number : ℕ) (at : Place) → map.get entries number ≡ Some at
+      → IsGuestAt head_of guests_of groups number at
 
 -- the entries say where each guest of the groups stands
 abbrev pub KnowsGuests : {Closed : Type 0} → List (Group Closed) → Entries → Type 0
-KnowsGuests groups entries = IsDirectory (λ group. group.head.id) (λ group. group.guests) groups entries
+KnowsGuests groups entries = IsDirectory (λ group. group.head.id) (λ group. group.guests) groups
+    entries

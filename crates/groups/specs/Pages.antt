@@ -21,8 +21,18 @@ with_object page class slot object = Some (set_object (words_of page) class slot
 
 -- the group after a put of an object of the class at the slot: the head has it, and the page
 abbrev pub put_group : {Closed : Type 0} → Group Closed → Class → ℕ → Value → Group Closed
-put_group group class slot value = record group { head = with_put group.head slot value; page = with_object group.page class slot value }
+put_group group class slot value =
+    record group {
+      head = with_put group.head slot value;
+      page = with_object group.page class slot value;
+    }
 
--- the group after the slot, which is live at the generation in the span at the place, is set to the value: the span has it, and the page
-abbrev pub set_group : {Closed : Type 0} → Group Closed → ℕ → SpanState → ℕ → ℕ → Value → Group Closed
-set_group group place span slot generation value = record (with_span group place (with_set_at span slot generation value)) { page = with_object group.page span.class slot value }
+-- the group after the slot, which is live at the generation in the span at the place, is set to the
+-- value: the span has it, and the page
+abbrev pub set_group : {Closed : Type 0} → Group Closed → ℕ → SpanState → ℕ → ℕ → Value
+    → Group Closed
+set_group group place span slot generation value =
+    record (with_span group place (with_set_at span slot generation value)) {
+      page =
+          with_object group.page span.class slot value;
+    }

@@ -21,11 +21,11 @@ pub struct Place {
     pub place: usize,
 }
 
-/// For the guests of an owner's groups, where they stand, so that a look-up of a guest walks neither
-/// groups nor guests.
+/// For the guests of an owner's groups, where they stand, so that a look-up of a guest walks
+/// neither groups nor guests.
 ///
-/// A head needs no entry: groups stand by ascending head. An entry goes into reserved room, so that no
-/// group that comes or goes takes memory for its guests.
+/// A head needs no entry: groups stand by ascending head. An entry goes into reserved room, so that
+/// no group that comes or goes takes memory for its guests.
 #[derive(Drop)]
 pub struct Directory {
     // By the rank of the guest.
@@ -117,7 +117,8 @@ impl Directory {
         }
     }
 
-    /// Strikes the entries of those spans in which no slot is live, which takes no memory and leaves the reserved room.
+    /// Strikes the entries of those spans in which no slot is live, which takes no memory and
+    /// leaves the reserved room.
     pub fn strike_dead<L: Log>(&mut self, guests: &[Span<L>])
         ensures { self.new ≡ record self.old {
           entries = struck self.old.entries (dead_among guests.now);
@@ -131,15 +132,16 @@ impl Directory {
         }
     }
 
-    /// Gives memory back where a quarter of the room in the table would do for the entries and those that room is reserved for.
+    /// Gives memory back where a quarter of the room in the table would do for the entries and
+    /// those that room is reserved for.
     pub fn give_back(&mut self)
         ensures { self.new ≡ self.old }
     {
         give_back(&mut self.places, self.room);
     }
 
-    /// Writes into the entries of the guests, each of which has one, that they are the guests of the head, in this order.
-    /// It takes neither memory nor reserved room.
+    /// Writes into the entries of the guests, each of which has one, that they are the guests of
+    /// the head, in this order. It takes neither memory nor reserved room.
     pub fn move_all<L: Log>(&mut self, guests: &[Span<L>], head: SpanId)
         requires { AreEntered self.old.entries guests.now }
         ensures { self.new ≡ record self.old {
@@ -197,8 +199,9 @@ fn write_over(places: &mut HashMap<u64, Place>, guest: u64, place: Place)
     }
 }
 
-// Gives memory back where a quarter of the room in the table would do for the entries and those that room is reserved
-// for. Twice as much stays, so that entries that come and go move the table only where it has halved or doubled.
+// Gives memory back where a quarter of the room in the table would do for the entries and those
+// that room is reserved for. Twice as much stays, so that entries that come and go move the table
+// only where it has halved or doubled.
 fn give_back(places: &mut HashMap<u64, Place>, room: usize)
     requires { room ≤ hash.spare places.old }
     ensures same { (number : ℕ)

@@ -18,8 +18,8 @@ use std::alloc::{AllocError, Global};
 use std::marker::Model;
 use std::mem::swap;
 
-/// A head and its guests, which are on one page: no slot is live in two of them (the idea is that of
-/// Mesh). The slots that are live in one of them are kept beside them.
+/// A head and its guests, which are on one page: no slot is live in two of them (the idea is that
+/// of Mesh). The slots that are live in one of them are kept beside them.
 #[derive(Drop)]
 pub struct Spans<L: Log = Kept> {
     head: Span<L>,
@@ -32,7 +32,8 @@ pub struct Spans<L: Log = Kept> {
 pub struct Placed {
     /// The key that the head gave out.
     pub key: Key,
-    /// Whether no usable slot is left, as far as that is known: of objects of 16 bytes it always is.
+    /// Whether no usable slot is left, as far as that is known: of objects of 16 bytes it always
+    /// is.
     pub is_full: bool,
 }
 
@@ -102,8 +103,9 @@ impl<L: Log> Spans<L> {
         Ok(())
     }
 
-    /// Takes the other spans in as its last guests. If its own list has no room for them, all its guests move to the list that
-    /// is given, which has, and that is given its own list, with none. No slot is live on both sides. It takes no memory.
+    /// Takes the other spans in as its last guests. If its own list has no room for them, all its
+    /// guests move to the list that is given, which has, and that is given its own list, with none.
+    /// No slot is live on both sides. It takes no memory.
     pub fn take_guests(&mut self, spans: Spans<L>, room: &mut Vec<Span<L>>)
         requires apart { AreDisjoint (union_of (all_spans self.old)) (union_of (all_spans spans)) }
         requires none { room.old.items ≡ [] }
@@ -132,7 +134,8 @@ impl<L: Log> Spans<L> {
         self.head.class()
     }
 
-    /// The group as a plan sees it: the id and the class of its head, and the slots that are live in one of its spans.
+    /// The group as a plan sees it: the id and the class of its head, and the slots that are live
+    /// in one of its spans.
     pub fn entry(&self) -> Entry
         ensures { result ≡ record {
           id = self.now.head.id;
@@ -168,12 +171,14 @@ impl<L: Log> Spans<L> {
         }
     }
 
-    /// Puts an object of the head's class, given by its words, at the lowest slot of the page that is live in no span, and not
-    /// worn in the head, which gives out the key. `None` where there is no such slot. The spans are then as they were.
+    /// Puts an object of the head's class, given by its words, at the lowest slot of the page that
+    /// is live in no span, and not worn in the head, which gives out the key. `None` where there is
+    /// no such slot. The spans are then as they were.
     ///
     /// # Errors
     ///
-    /// `AllocError` where there is such a slot, and the head's log could not grow. The spans are then as they were.
+    /// `AllocError` where there is such a slot, and the head's log could not grow. The spans are
+    /// then as they were.
     #[inline(always)]
     pub fn put(&mut self, words: &[u128]) -> Result<Option<Placed>, AllocError>
         requires { length words.now ≡ width_of self.old.head.class }
@@ -206,7 +211,8 @@ impl<L: Log> Spans<L> {
         }))
     }
 
-    /// Whether a put of an object of the head's class has a slot: one that is live in no span, and not worn in the head.
+    /// Whether a put of an object of the head's class has a slot: one that is live in no span, and
+    /// not worn in the head.
     pub fn has_usable(&self) -> bool
         ensures { IsTrue result
             ↔ (HasAllBelow (taken self.now) (slots_in self.now.head.class) → ⊥) }
@@ -214,8 +220,9 @@ impl<L: Log> Spans<L> {
         self.lowest_usable().is_some()
     }
 
-    // The lowest slot that the head may be put at: it is live in no span, and not worn in the head. Each slot of a set is
-    // one of class `C16`, the most frequent, of which alone it is told whether there is another.
+    // The lowest slot that the head may be put at: it is live in no span, and not worn in the head.
+    // Each slot of a set is one of class `C16`, the most frequent, of which alone it is told
+    // whether there is another.
     #[inline(always)]
     fn lowest_usable(&self) -> Option<Vacancy>
         ensures lowest { MatchOption result
@@ -245,12 +252,14 @@ impl<L: Log> Spans<L> {
         }
     }
 
-    /// Sets the object of the slot in the span at the place to these words, where the slot is live there at the generation
-    /// and its object has as many, and says whether it was. The words of the page are the caller's to write.
+    /// Sets the object of the slot in the span at the place to these words, where the slot is live
+    /// there at the generation and its object has as many, and says whether it was. The words of
+    /// the page are the caller's to write.
     ///
     /// # Errors
     ///
-    /// `AllocError` in place of `true`, where the span's log could not grow. The spans are then as they were.
+    /// `AllocError` in place of `true`, where the span's log could not grow. The spans are then as
+    /// they were.
     pub fn set(
         &mut self,
         place: usize,
@@ -315,7 +324,8 @@ impl<L: Log> Spans<L> {
         Ok(done)
     }
 
-    /// Frees the slot in the span at the place, where it is live there at the generation. It takes no memory.
+    /// Frees the slot in the span at the place, where it is live there at the generation. It takes
+    /// no memory.
     #[inline(always)]
     pub fn free(&mut self, place: usize, slot: u8, generation: u32) -> bool
         requires { place < length (all_spans self.old) }
@@ -370,7 +380,8 @@ impl<L: Log> Spans<L> {
 }
 
 impl Spans<Kept> {
-    /// Moves the log of each of them, the head's first, to the end of a list with room for them. It takes no memory.
+    /// Moves the log of each of them, the head's first, to the end of a list with room for them. It
+    /// takes no memory.
     pub fn into_logs(self, logs: &mut Vec<SpanLog>)
         requires room { length (all_spans self) ≤ room_for_logs logs.old }
         ensures logs { map span_of_log logs.new.items ≡ map span_of_log logs.old.items
@@ -386,8 +397,9 @@ impl Spans<Kept> {
 }
 
 impl Spans<Counted> {
-    /// Drops the guests in which no slot is live, and keeps the others in order. A guest takes no put, so none of their slots
-    /// can be live again; with kept logs they stay, since an audit reads all. It takes no memory.
+    /// Drops the guests in which no slot is live, and keeps the others in order. A guest takes no
+    /// put, so none of their slots can be live again; with kept logs they stay, since an audit
+    /// reads all. It takes no memory.
     pub fn forget_guests(&mut self)
         ensures { self.new ≡ record self.old { guests = live_among self.old.guests } }
     {
@@ -412,8 +424,8 @@ fn push_log(logs: &mut Vec<SpanLog>, span: Span<Kept>)
     logs.push_reserved(span.into_log());
 }
 
-// Moves the head and the others after the guests. If their list has no room left, all move into the one that has, and the lists
-// change places, so that the one with room has none afterwards.
+// Moves the head and the others after the guests. If their list has no room left, all move into the
+// one that has, and the lists change places, so that the one with room has none afterwards.
 fn append_all<L: Log>(
     guests: &mut Vec<Span<L>>,
     room: &mut Vec<Span<L>>,

@@ -7,10 +7,11 @@ use page::Page;
 use span::{Kept, Log, SpanId};
 use std::marker::Model;
 
-/// A group on its way from one owner to another: its spans, and the words of its page, if it has one.
+/// A group on its way from one owner to another: its spans, and the words of its page, if it has
+/// one.
 ///
-/// It keeps that the spans are sound on the words: no span stands twice, the word at each live slot is
-/// the one that its log says, and without a page no slot is live.
+/// It keeps that the spans are sound on the words: no span stands twice, the word at each live slot
+/// is the one that its log says, and without a page no slot is live.
 #[derive(Drop)]
 pub struct Whole<L: Log = Kept> {
     spans: Spans<L>,

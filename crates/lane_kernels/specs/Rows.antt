@@ -23,7 +23,8 @@ padded words = (words + 15) / 16 * 16
 pub record HaveSlots (sets : List SlotSet) (first count : ℕ) (rows : List ℕ) : Type 0 where
   pub size : length rows ≡ padded (width_of (length sets)) * count
   pub bits : (k j : ℕ) (d : SlotSet) → k < count → j < length sets
-      → has_bit (row_at (padded (width_of (length sets))) rows k) j ≡ contains (slice_index_or sets j d) (first + k)
+      → has_bit (row_at (padded (width_of (length sets))) rows k) j
+      ≡ contains (slice_index_or sets j d) (first + k)
 
 -- a row for each slot
 abbrev pub AreSlotRows : List SlotSet → List ℕ → Type 0
@@ -32,7 +33,8 @@ AreSlotRows sets rows = HaveSlots sets 0 SLOTS rows
 -- the same where the sets stand in columns: bit j of row k says whether column j has slot first + k
 pub record AreBitRows (p q r s : List ℕ) (first n : ℕ) (rows : List ℕ) : Type 0 where
   pub size : length rows ≡ padded (width_of (length p)) * n
-  pub bits : (k j : ℕ) → k < n → j < length p → has_bit (row_at (padded (width_of (length p))) rows k) j ≡ has_bit (column p q r s j) (first + k)
+  pub bits : (k j : ℕ) → k < n → j < length p → has_bit
+      (row_at (padded (width_of (length p))) rows k) j ≡ has_bit (column p q r s j) (first + k)
 
 -- a row with a bit for each of the sets, and no other
 pub record IsFullRow (sets : List SlotSet) (row : List ℕ) : Type 0 where
@@ -43,16 +45,20 @@ pub record IsFullRow (sets : List SlotSet) (row : List ℕ) : Type 0 where
 -- a number for each 64 sets, of which each has so many slots at least
 pub record AreFewest (sets : List SlotSet) (fewest : List ℕ) : Type 0 where
   pub width : length fewest ≡ width_of (length sets)
-  pub each : (j : ℕ) (d : SlotSet) → j < length sets → slice_index fewest (j / 64) ≤ len (slice_index_or sets j d)
+  pub each : (j : ℕ) (d : SlotSet) → j < length sets
+      → slice_index fewest (j / 64) ≤ len (slice_index_or sets j d)
 
 -- whether bit j is in no row of these slots
 abbrev pub survives : ℕ → List ℕ → ℕ → List ℕ → Bool
 survives width rows j slots = list_all (λ slot. not (has_bit (row_at width rows slot) j)) slots
 
--- bit b of the word at place k of its row is 0 in the row of each slot of a word, where the row of bit 0 begins at 0
+-- bit b of the word at place k of its row is 0 in the row of each slot of a word, where the row of
+-- bit 0 begins at 0
 abbrev pub IsClear : ℕ → List ℕ → ℕ → ℕ → ℕ → Type 0
-IsClear word rows width k b = (q : ℕ) → q < 64 → bit_at word q ≡ 1 → bit_at (slice_index rows (k + width * q)) b ≡ 0
+IsClear word rows width k b = (q : ℕ) → q < 64 → bit_at word q ≡ 1
+    → bit_at (slice_index rows (k + width * q)) b ≡ 0
 
 -- the same for each of the first n slots that the words have
 abbrev pub IsClearIn : List ℕ → List ℕ → ℕ → ℕ → ℕ → ℕ → Type 0
-IsClearIn words rows width k b n = (q : ℕ) → q < n → has_bit words q ≡ true → bit_at (slice_index rows (k + width * q)) b ≡ 0
+IsClearIn words rows width k b n = (q : ℕ) → q < n → has_bit words q ≡ true
+    → bit_at (slice_index rows (k + width * q)) b ≡ 0

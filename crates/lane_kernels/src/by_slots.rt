@@ -76,7 +76,8 @@ fn fill_bits(plane: &[u64], bit: usize, row: &mut [u64])
     }
 }
 
-// How many words a row takes up among the rows of slots: blocks of sixteen words, the last one filled up.
+// How many words a row takes up among the rows of slots: blocks of sixteen words, the last one
+// filled up.
 pub(crate) fn padded(words: usize) -> usize
     requires { words < 2 ^ 60 }
     ensures { result ≡ padded words }
@@ -84,7 +85,8 @@ pub(crate) fn padded(words: usize) -> usize
     (words + 15) / 16 * 16
 }
 
-// Sixteen words of the row of a bit. Those of the lowest bit's row begin at `first`, and each further row's are `width` words on.
+// Sixteen words of the row of a bit. Those of the lowest bit's row begin at `first`, and each
+// further row's are `width` words on.
 fn block_at(rows: &[u64], width: usize, bit: usize, first: usize) -> Simd<u64, 16>
     requires { first + width * bit + 16 ≤ length rows.now }
     ensures { result ≡ chunk (first + width * bit) 16 rows.now }
@@ -92,7 +94,8 @@ fn block_at(rows: &[u64], width: usize, bit: usize, first: usize) -> Simd<u64, 1
     Simd::<u64, 16>::from_slice(&rows[first + width * bit..])
 }
 
-// These sixteen words, and the bits that the row of some bit of a word has in its sixteen, as `block_at` has them.
+// These sixteen words, and the bits that the row of some bit of a word has in its sixteen, as
+// `block_at` has them.
 fn add_rows(
     block: Simd<u64, 16>,
     word: u64,
@@ -137,7 +140,8 @@ fn take_off(block: &[u64; 16], at: usize, row: &mut [u64])
     ensures len { length row.new ≡ length row.old }
     ensures block { (i b : ℕ) → i < 16 → b < 64 → at + i < length row.old
         → (bit_at (slice_index row.new (at + i)) b == 1)
-        ≡ ((bit_at (slice_index row.old (at + i)) b == 1) && not (bit_at (slice_index block.now i) b == 1)) }
+        ≡ ((bit_at (slice_index row.old (at + i)) b == 1)
+        && not (bit_at (slice_index block.now i) b == 1)) }
     ensures before { (w : ℕ) → w < at → slice_index row.new w ≡ slice_index row.old w }
     ensures after { (w : ℕ) → at + 16 ≤ w → slice_index row.new w ≡ slice_index row.old w }
 {
@@ -146,7 +150,8 @@ fn take_off(block: &[u64; 16], at: usize, row: &mut [u64])
     }
 }
 
-// Takes off the rows of all slots that the set has, a block at a time, which stays in registers while the slots go by.
+// Takes off the rows of all slots that the set has, a block at a time, which stays in registers
+// while the slots go by.
 pub(crate) fn take_off_all(set: &Bits256, rows: &[u64], row: &mut [u64])
     requires { length rows.now ≡ padded (length row.old) * 256 }
     ensures len { length row.new ≡ length row.old }

@@ -90,7 +90,8 @@ fn next_word(set: &[u64; 4], p: &[u64], q: &[u64], r: &[u64], s: &[u64], at: usi
     }
 }
 
-// As [`fill_row`], where each of the 64 columns of a word has at least as many slots as `fewest` says of that word.
+// As [`fill_row`], where each of the 64 columns of a word has at least as many slots as `fewest`
+// says of that word.
 pub(crate) fn fill_row_by_counts(
     set: &[u64; 4],
     count: usize,
@@ -121,8 +122,9 @@ pub(crate) fn fill_row_by_counts(
     }
 }
 
-// The bits of the next 64 columns, or of those that are left, where each of these has at least `fewest` slots. Where that is more than
-// the set leaves free, each of them shares a slot with the set.
+// The bits of the next 64 columns, or of those that are left, where each of these has at least
+// `fewest` slots. Where that is more than the set leaves free, each of them shares a slot with the
+// set.
 fn next_word_by_counts(
     set: &[u64; 4],
     count: usize,

@@ -1,7 +1,7 @@
 //! Many sets side by side, and what is told of all of them at once.
 //!
-//! [`Planes`] keeps a list of sets as four rows of words with a column for each set, so that a kernel takes many
-//! sets at once with no gather: 64 columns make one word of a row of bits.
+//! [`Planes`] keeps a list of sets as four rows of words with a column for each set, so that a
+//! kernel takes many sets at once with no gather: 64 columns make one word of a row of bits.
 //!
 //! ```text
 //!            set 0   set 1   set 2   ..
@@ -11,8 +11,9 @@
 //!  fourth   └──────┴───────┴───────┴──     slots 192 to 255
 //! ```
 //!
-//! [`SlotRows`] keeps such a list by slots, a row of bits for each of the 256: bit j of the row of slot s says whether set j has s.
-//! Which sets are disjoint from a given one is then told by its slots alone: by all bits but those in the rows of its slots.
+//! [`SlotRows`] keeps such a list by slots, a row of bits for each of the 256: bit j of the row of
+//! slot s says whether set j has s. Which sets are disjoint from a given one is then told by its
+//! slots alone: by all bits but those in the rows of its slots.
 //!
 //! ```text
 //!              set 0 {1}   set 1 {0}   set 2 {}
@@ -22,8 +23,8 @@
 //!                  1           .          1
 //! ```
 //!
-//! Contracts see both as the list of the sets. The public fact is that each kernel gives what its plain definition gives, for
-//! any number of sets.
+//! Contracts see both as the list of the sets. The public fact is that each kernel gives what its
+//! plain definition gives, for any number of sets.
 //!
 //! # Examples
 //!

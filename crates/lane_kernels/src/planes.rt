@@ -13,7 +13,8 @@ use bitmap::Bits256;
 use std::alloc::{AllocError, Global};
 use std::marker::Model;
 
-/// A list of sets, kept as four rows of words with one column for each set: row k has the slots from 64 k on.
+/// A list of sets, kept as four rows of words with one column for each set: row k has the slots
+/// from 64 k on.
 #[derive(Drop)]
 pub struct Planes {
     first: Vec<u64>,
@@ -81,15 +82,17 @@ impl Planes {
         self.first.len()
     }
 
-    /// How many words a row has that has a bit for each set: one for each 64 sets, begun ones included.
+    /// How many words a row has that has a bit for each set: one for each 64 sets, begun ones
+    /// included.
     pub fn row_words(&self) -> usize
         ensures { result ≡ (length self.now + 63) / 64 }
     {
         (self.first.len() + 63) / 64
     }
 
-    /// Writes a bit for each set, which says whether the set is disjoint from the given one: bit j % 64 of word j / 64 is that
-    /// of set j. The bits from the number of sets on are cleared. The row has [`row_words`](Planes::row_words) words.
+    /// Writes a bit for each set, which says whether the set is disjoint from the given one: bit j
+    /// % 64 of word j / 64 is that of set j. The bits from the number of sets on are cleared. The
+    /// row has [`row_words`](Planes::row_words) words.
     pub fn disjoint_row(&self, set: &Bits256, row: &mut [u64])
         requires { length row.old ≡ (length self.now + 63) / 64 }
         ensures len { length row.new ≡ length row.old }
@@ -105,7 +108,8 @@ impl Planes {
         );
     }
 
-    // As [`Planes::disjoint_row`], where each of the 64 sets of a word has at least as many slots as `fewest` says of that word.
+    // As [`Planes::disjoint_row`], where each of the 64 sets of a word has at least as many slots
+    // as `fewest` says of that word.
     pub(crate) fn disjoint_row_by_counts(&self, set: &Bits256, fewest: &[usize], row: &mut [u64])
         requires row { length row.old ≡ (length self.now + 63) / 64 }
         requires fewest { AreFewest self.now fewest.now }
@@ -139,22 +143,26 @@ impl Planes {
         self.all
     }
 
-    /// How many words the row of a slot takes up among the rows of slots: those of a row, filled up to blocks of sixteen.
+    /// How many words the row of a slot takes up among the rows of slots: those of a row, filled up
+    /// to blocks of sixteen.
     pub fn slot_words(&self) -> usize
         ensures { result ≡ padded (width_of (length self.now)) }
     {
         padded((self.first.len() + 63) / 64)
     }
 
-    /// Room for the rows of all 256 slots, one after another, without a bit. The error means that memory ran out.
+    /// Room for the rows of all 256 slots, one after another, without a bit. The error means that
+    /// memory ran out.
     pub fn empty_slot_rows(&self, alloc: Global) -> Result<Vec<u64>, AllocError>
-        ensures { IfOk result (λ rows. length rows.items ≡ padded (width_of (length self.now)) * SLOTS) }
+        ensures { IfOk result (λ rows. length rows.items ≡ padded (width_of (length self.now))
+            * SLOTS) }
     {
         empty_rows(alloc, &self.first)
     }
 
-    /// Writes the rows of so many slots from `first` on, one after another, each of [`slot_words`](Planes::slot_words) words: bit
-    /// j % 64 of word j / 64 of a slot's row says whether set j has the slot.
+    /// Writes the rows of so many slots from `first` on, one after another, each of
+    /// [`slot_words`](Planes::slot_words) words: bit j % 64 of word j / 64 of a slot's row says
+    /// whether set j has the slot.
     pub fn fill_slots(&self, first: usize, count: usize, rows: &mut [u64])
         requires slots { first + count ≤ SLOTS }
         requires rows { length rows.old ≡ padded (width_of (length self.now)) * count }

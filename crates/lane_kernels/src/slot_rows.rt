@@ -11,15 +11,18 @@ use bitmap::{Bits256, SLOTS};
 use std::alloc::{AllocError, Global};
 use std::marker::Model;
 
-/// Up to how many slots of a set their rows take fewer steps than the words of all sets side by side.
+/// Up to how many slots of a set their rows take fewer steps than the words of all sets side by
+/// side.
 pub const MOST_BY_SLOTS: u32 = 190;
 
-/// From how many rows on it is less to lay the sets out by slots than to go by their words for each.
+/// From how many rows on it is less to lay the sets out by slots than to go by their words for
+/// each.
 pub const LEAST_BY_SLOTS: usize = 200;
 
-/// A list of sets as a row of bits for each of the 256 slots: bit j of the row of slot s says whether set j has s. A set is
-/// disjoint from those that are in none of its slots' rows, so what is told of it and all the others takes a step for each of its
-/// slots and each 64 sets, and not for each set. Where few rows are asked for, the sets' words alone are kept, and answer the same.
+/// A list of sets as a row of bits for each of the 256 slots: bit j of the row of slot s says
+/// whether set j has s. A set is disjoint from those that are in none of its slots' rows, so what
+/// is told of it and all the others takes a step for each of its slots and each 64 sets, and not
+/// for each set. Where few rows are asked for, the sets' words alone are kept, and answer the same.
 #[derive(Drop)]
 pub struct SlotRows {
     planes: Planes,
@@ -50,9 +53,9 @@ impl Model for SlotRows {
 }
 
 impl SlotRows {
-    /// The rows of these sets, of which so many will be asked for: 32 bytes a set; from [`LEAST_BY_SLOTS`] on, for each 1,024 sets,
-    /// begun ones included, 128 bytes more for each slot; beside them 4 bytes a set while they are made. The error means that memory
-    /// ran out.
+    /// The rows of these sets, of which so many will be asked for: 32 bytes a set; from
+    /// [`LEAST_BY_SLOTS`] on, for each 1,024 sets, begun ones included, 128 bytes more for each
+    /// slot; beside them 4 bytes a set while they are made. The error means that memory ran out.
     pub fn of(alloc: Global, planes: Planes, asked: usize) -> Result<SlotRows, AllocError>
         ensures { IfOk result (λ rows. rows ≡ planes) }
     {
@@ -101,9 +104,9 @@ impl SlotRows {
         self.planes.row_words()
     }
 
-    /// Writes the row that [`Planes::disjoint_row`] writes. Where there are no rows by slots, or the set has more slots than
-    /// [`MOST_BY_SLOTS`], it goes by the sets' words, and passes over those 64 sets of which each has so many slots that it must
-    /// share one of the 256.
+    /// Writes the row that [`Planes::disjoint_row`] writes. Where there are no rows by slots, or
+    /// the set has more slots than [`MOST_BY_SLOTS`], it goes by the sets' words, and passes over
+    /// those 64 sets of which each has so many slots that it must share one of the 256.
     pub fn disjoint_row(&self, set: &Bits256, row: &mut [u64])
         requires { length row.old ≡ (length self.now + 63) / 64 }
         ensures len { length row.new ≡ length row.old }
@@ -117,7 +120,8 @@ impl SlotRows {
         }
     }
 
-    /// Whether some set is disjoint from the given one. What the row has is written over: it is lent so that no call takes memory.
+    /// Whether some set is disjoint from the given one. What the row has is written over: it is
+    /// lent so that no call takes memory.
     pub fn has_disjoint(&self, set: &Bits256, row: &mut [u64]) -> bool
         requires { length row.old ≡ (length self.now + 63) / 64 }
         ensures len { length row.new ≡ length row.old }

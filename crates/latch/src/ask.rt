@@ -1,8 +1,9 @@
 // A call on what a latch keeps.
 ghost use Rattle.std.specs.Prelude.{List};
 
-/// A call on the value of a [`Latch`](crate::Latch), which is done with the value when it returns: [`Latch::try_ask`](crate::Latch::try_ask)
-/// makes it where the value is. `W` is what it may write into a room of the caller's.
+/// A call on the value of a [`Latch`](crate::Latch), which is done with the value when it returns:
+/// [`Latch::try_ask`](crate::Latch::try_ask) makes it where the value is. `W` is what it may write
+/// into a room of the caller's.
 pub trait Ask<T, W> {
     /// What it answers.
     type Answer;

@@ -14,19 +14,22 @@ use std::sync::Wait;
 use std::thread::yield_now;
 use thiserror::Error;
 
-// The table has 256 bytes of words, and uses the one in the middle, so that two latches share no cache line.
+// The table has 256 bytes of words, and uses the one in the middle, so that two latches share no
+// cache line.
 const WORDS: usize = 32;
 
 const WORD: usize = 16;
 
-// It has 9 slots of 16 bytes, and uses the one in the middle, so that no other thread writes to its cache line: what an allocator lays beside
-// a slot that stands alone may be anybody's.
+// It has 9 slots of 16 bytes, and uses the one in the middle, so that no other thread writes to its
+// cache line: what an allocator lays beside a slot that stands alone may be anybody's.
 const SLOT: usize = 4;
 
-// How often a call looks at a latch that another thread has, before it answers that, or lets others run.
+// How often a call looks at a latch that another thread has, before it answers that, or lets others
+// run.
 const LOOKS: u32 = 50;
 
-/// Another thread has the value, and had it at each of 50 looks. Nothing has changed: try again later.
+/// Another thread has the value, and had it at each of 50 looks. Nothing has changed: try again
+/// later.
 #[derive(Clone, Copy, PartialEq, Eq, Debug, Error)]
 #[error("another thread has it: try again later")]
 pub struct Busy;
@@ -54,7 +57,8 @@ impl<T> Play<Option<Box<T>>, ()> for Giving {
     ghost then = { gave };
 }
 
-/// A value that threads take turns at, in a box of its own. In a clause it is the name of its table.
+/// A value that threads take turns at, in a box of its own. In a clause it is the name of its
+/// table.
 #[derive(Drop)]
 pub struct Latch<T: Drop> {
     table: Table<Option<Box<T>>, (), (), Keeping, Global>,
@@ -72,8 +76,8 @@ impl<T: Drop> Model for Latch<T> {
     ghost view = { λ latch. latch.table.shared.table_id };
 }
 
-/// The right to give the value back. It has no bytes, and nobody can let it go: it is used up where the value is given back. In a clause it
-/// is the name of its latch's table.
+/// The right to give the value back. It has no bytes, and nobody can let it go: it is used up where
+/// the value is given back. In a clause it is the name of its latch's table.
 pub struct Turn<T> {
     seat: Seat<Option<Box<T>>, ()>,
     ghost empty: { seat.me.1 ≡ (4, None) ∷ [] },
@@ -94,7 +98,8 @@ impl<T: Drop> Latch<T> {
     ///
     /// # Errors
     ///
-    /// `AllocError` where memory for the box, or for the 256 bytes of words and the 144 of slots beside it, was refused.
+    /// `AllocError` where memory for the box, or for the 256 bytes of words and the 144 of slots
+    /// beside it, was refused.
     pub fn new(alloc: Global, value: T) -> Result<Latch<T>, AllocError> {
         let Ok(boxed) = Box::new(alloc, value) else {
             return Err(AllocError);
@@ -107,7 +112,8 @@ impl<T: Drop> Latch<T> {
         }
     }
 
-    /// The guard, which lends the value until it is dropped. It takes no memory, and looks 50 times at most.
+    /// The guard, which lends the value until it is dropped. It takes no memory, and looks 50 times
+    /// at most.
     ///
     /// # Errors
     ///
@@ -121,10 +127,12 @@ impl<T: Drop> Latch<T> {
         Ok(LatchGuard::new(self, turn, value))
     }
 
-    /// Makes the call on the value where it is, and lets others at it again. It takes no memory, and looks 50 times at most.
+    /// Makes the call on the value where it is, and lets others at it again. It takes no memory,
+    /// and looks 50 times at most.
     ///
-    /// A [`LatchGuard`] takes the value out of its slot and puts it back, which writes to one more cache line: where threads take turns at a
-    /// latch, that line goes from processor to processor, too.
+    /// A [`LatchGuard`] takes the value out of its slot and puts it back, which writes to one more
+    /// cache line: where threads take turns at a latch, that line goes from processor to processor,
+    /// too.
     ///
     /// # Errors
     ///
@@ -140,7 +148,8 @@ impl<T: Drop> Latch<T> {
         Ok(answer)
     }
 
-    /// The value itself, out of the latch until [`Latch::give_back`]. It takes no memory, and looks 50 times at most.
+    /// The value itself, out of the latch until [`Latch::give_back`]. It takes no memory, and looks
+    /// 50 times at most.
     ///
     /// # Errors
     ///
@@ -162,14 +171,16 @@ impl<T: Drop> Latch<T> {
     fn seat(&self) -> Result<Seat<Option<Box<T>>, ()>, Busy>
         ensures { IfOk result (λ seat. (seat.table_id ≡ self.now) × HasSlot seat.me.1) }
     {
-        // No other thread has it, mostly. A look before the swap would have the line of the word come twice from another processor.
+        // No other thread has it, mostly. A look before the swap would have the line of the word
+        // come twice from another processor.
         match self.take() {
             Some(seat) => Ok(seat),
             None => self.look_again(),
         }
     }
 
-    // The same after the first look: a load goes before each swap, which would take the word's line from who gives the value back.
+    // The same after the first look: a load goes before each swap, which would take the word's line
+    // from who gives the value back.
     #[inline(never)]
     fn look_again(&self) -> Result<Seat<Option<Box<T>>, ()>, Busy>
         ensures { IfOk result (λ seat. (seat.table_id ≡ self.now) × HasSlot seat.me.1) }
@@ -194,8 +205,8 @@ impl<T: Drop> Latch<T> {
         self.give(turn, value);
     }
 
-    /// The guard, once no other thread has the value: between two tries it lets other threads run. It takes no memory. That its turn
-    /// comes is not promised.
+    /// The guard, once no other thread has the value: between two tries it lets other threads run.
+    /// It takes no memory. That its turn comes is not promised.
     pub fn lock<R: Wait>(&self, rt: &R) -> LatchGuard<'_, T>
         ensures { result.latch.now ≡ self.now }
     {

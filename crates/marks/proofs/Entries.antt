@@ -7,7 +7,7 @@ use Rattle.std.proofs.lemmas.List.Sums.{sum_by-cons}
 use Rattle.shard.specs.State.{ShardState}
 use Rattle.shard.proofs.Entries.{entries_in}
 use Rattle.groups.specs.Group.{paged_in, summary}
-use Rattle.abandoned.specs.State.{PoolState, paged_groups}
+use Rattle.pool.specs.State.{PoolState, paged_groups}
 use Rattle.marks.specs.Seen.{AreTooMany, owned_entries}
 use Rattle.mesh_graph.specs.declared.build.TheConstants.{MOST_GROUPS}
 

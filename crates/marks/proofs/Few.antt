@@ -6,7 +6,7 @@ use Rattle.std.proofs.lemmas.List.Elements.{recursion_from_All}
 use Rattle.span.specs.declared.id.SpanId.{SpanId}
 use Rattle.span.specs.Ids.{same_span}
 use Rattle.shard.specs.State.{ShardState}
-use Rattle.abandoned.specs.State.{PoolState}
+use Rattle.pool.specs.State.{PoolState}
 use Rattle.span.specs.declared.entry.Entry.{Entry}
 use Rattle.mesh_graph.specs.Groups.{Groups, IsAscending, ids}
 use Rattle.certificate.specs.declared.certificate.Certificate.{Certificate}

@@ -20,8 +20,8 @@ use Rattle.groups.specs.Sound.{AreSoundGroups}
 use Rattle.groups.specs.Spans.{AreSpansOf, IsSpanOf, union_of}
 use Rattle.shard.specs.Group.{GroupState}
 use Rattle.shard.specs.State.{ShardState}
-use Rattle.abandoned.specs.Sound.{IsSound as IsSoundPool}
-use Rattle.abandoned.specs.State.{PoolState, PooledState, paged_groups}
+use Rattle.pool.specs.Sound.{IsSound as IsSoundPool}
+use Rattle.pool.specs.State.{PoolState, PooledState, paged_groups}
 use Rattle.mesh_graph.specs.Groups.{Groups}
 use Rattle.mesh_graph.proofs.Sparsest.{All-sparsest}
 use Rattle.certificate.specs.Text.{FitsClass}

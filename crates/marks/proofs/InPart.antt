@@ -2,7 +2,7 @@
 use Rattle.std.proofs.Common.{◌<◌, ◌≤◌, List, inl, inr, length}
 use Rattle.std.proofs.lemmas.Bool.{cases_lt}
 use Rattle.shard.specs.State.{ShardState}
-use Rattle.abandoned.specs.State.{PoolState}
+use Rattle.pool.specs.State.{PoolState}
 use Rattle.span.specs.declared.entry.Entry.{Entry}
 use Rattle.mesh_graph.specs.Groups.{Groups, IsAscending, ids}
 use Rattle.mesh_graph.specs.Sparsest.{AreSparsest}

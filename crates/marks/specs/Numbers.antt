@@ -2,7 +2,8 @@
 use Rattle.std.specs.Prelude.{ℕ, ◌-◌, ◌^◌, ◌≤◌}
 use Rattle.span.specs.declared.limits.TheConstants.{MOST_PAGES, MOST_RING_KEYS, MOST_SHARDS, MOST_SPANS}
 
--- the numbers of the product: how many shards, how many pages a shard may have, how many spans it may open in its life, how many entries a ring holds, and the greatest generation
+-- the numbers of the product: how many shards, how many pages a shard may have, how many spans it
+-- may open in its life, how many entries a ring holds, and the greatest generation
 pub record Limits : Type 0 where
   pub shards : ℕ
   pub page_limit : ℕ
@@ -10,9 +11,16 @@ pub record Limits : Type 0 where
   pub ring_capacity : ℕ
   pub gens : ℕ
 
--- the numbers of the product, in the order in which a caller gives them: a shard may open as many spans as there are serials
+-- the numbers of the product, in the order in which a caller gives them: a shard may open as many
+-- spans as there are serials
 abbrev pub limits_of : ℕ → ℕ → ℕ → ℕ → Limits
-limits_of shards page_limit ring_capacity gens = record { shards = shards; page_limit = page_limit; span_limit = MOST_SPANS; ring_capacity = ring_capacity; gens = gens }
+limits_of shards page_limit ring_capacity gens = record {
+  shards = shards;
+  page_limit = page_limit;
+  span_limit = MOST_SPANS;
+  ring_capacity = ring_capacity;
+  gens = gens;
+}
 
 -- the same numbers, with another number of spans that a shard may open
 abbrev pub with_span_limit : Limits → ℕ → Limits

@@ -5,7 +5,8 @@ use Rattle.span.specs.declared.id.SpanId.{SpanId}
 use Rattle.span.specs.Ids.{same_span}
 use Rattle.shard.specs.Group.{GroupState}
 
--- an open plan of folds: its pairs, each an abandoned group and the owned group that it is to be folded onto, by their heads, and how many of them, from the first on, are done with
+-- an open plan of folds: its pairs, each an abandoned group and the owned group that it is to be
+-- folded onto, by their heads, and how many of them, from the first on, are done with
 pub record OpenPlan : Type 0 where
   pub pairs : List (SpanId × SpanId)
   pub done : ℕ
@@ -35,4 +36,5 @@ is_planned (Some plan) head = plans_onto plan.pairs head
 
 -- the closed groups are those onto which the plan folds
 abbrev pub AreClosedAsPlanned : Option OpenPlan → List GroupState → Type 0
-AreClosedAsPlanned plan groups = (index : ℕ) (group : GroupState) → slice_get groups index ≡ Some group → group.closed ≡ is_planned plan group.head.id
+AreClosedAsPlanned plan groups = (index : ℕ) (group : GroupState)
+    → slice_get groups index ≡ Some group → group.closed ≡ is_planned plan group.head.id

@@ -6,7 +6,7 @@ use Rattle.span.specs.Ids.{same_span}
 use Rattle.shard.specs.Sound.{IsSound as IsSoundShard}
 use Rattle.shard.specs.State.{ShardState}
 use Rattle.groups.specs.Group.{paged_in, summary}
-use Rattle.abandoned.specs.State.{PoolState, paged_groups}
+use Rattle.pool.specs.State.{PoolState, paged_groups}
 use Rattle.span.specs.declared.entry.Entry.{Entry}
 use Rattle.mesh_graph.specs.Groups.{Groups, IsAscending, ids}
 use Rattle.mesh_graph.specs.Sparsest.{AreSparsest}
@@ -30,8 +30,10 @@ pub record IsSeen (pool : PoolState) (shards : List ShardState) (groups : Groups
   pub abandoned_ascending : IsAscending (ids groups.abandoned)
   pub owned_ascending : IsAscending (ids groups.owned)
 
--- of the groups that have a page on each side the 4,096 with the fewest live slots, or all where there are no more, each once, by ascending head
-pub record IsSeenInPart (pool : PoolState) (shards : List ShardState) (groups : Groups) : Type 0 where
+-- of the groups that have a page on each side the 4,096 with the fewest live slots, or all where
+-- there are no more, each once, by ascending head
+pub record IsSeenInPart (pool : PoolState) (shards : List ShardState) (groups : Groups) :
+    Type 0 where
   pub abandoned : AreSparsest MOST_GROUPS (abandoned_entries pool) groups.abandoned
   pub owned : AreSparsest MOST_GROUPS (owned_entries shards) groups.owned
   pub abandoned_ascending : IsAscending (ids groups.abandoned)
@@ -44,14 +46,18 @@ pub record AreDistinct (pool : PoolState) (shards : List ShardState) : Type 0 wh
 
 -- each of the shards is sound; so one that has ended has no group
 abbrev pub AreSound : List ShardState → Type 0
-AreSound shards = (number : ℕ) (shard : ShardState) → slice_get shards number ≡ Some shard → IsSoundShard shard
+AreSound shards = (number : ℕ) (shard : ShardState) → slice_get shards number ≡ Some shard
+    → IsSoundShard shard
 
 -- a side has more groups with a page than a plan may have
 abbrev pub AreTooMany : PoolState → List ShardState → Type 0
-AreTooMany pool shards = (MOST_GROUPS < length (abandoned_entries pool)) ⊎ (MOST_GROUPS < length (owned_entries shards))
+AreTooMany pool shards = (MOST_GROUPS < length (abandoned_entries pool))
+    ⊎ (MOST_GROUPS < length (owned_entries shards))
 
--- a snapshot of the pool and the shards, a plan of it with the most pairs, and the short set that shows this; the whole can be written as a text
-pub record IsLargest (pool : PoolState) (shards : List ShardState) (found : Certificate) : Type 0 where
+-- a snapshot of the pool and the shards, a plan of it with the most pairs, and the short set that
+-- shows this; the whole can be written as a text
+pub record IsLargest (pool : PoolState) (shards : List ShardState) (found : Certificate) :
+    Type 0 where
   pub seen : IsSeen pool shards found.snapshot
   pub best : IsBestPlanOf found.snapshot found.plan
   pub short : IsShortOf found.snapshot found.plan found.short
@@ -59,7 +65,8 @@ pub record IsLargest (pool : PoolState) (shards : List ShardState) (found : Cert
   pub writable : IsWritable found
 
 -- the same of a snapshot of the groups with the fewest live slots
-pub record IsLargestInPart (pool : PoolState) (shards : List ShardState) (found : Certificate) : Type 0 where
+pub record IsLargestInPart (pool : PoolState) (shards : List ShardState) (found : Certificate) :
+    Type 0 where
   pub seen : IsSeenInPart pool shards found.snapshot
   pub best : IsBestPlanOf found.snapshot found.plan
   pub short : IsShortOf found.snapshot found.plan found.short

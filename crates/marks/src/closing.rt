@@ -13,8 +13,8 @@ use crate::lends_shard::LendsShard;
 use shard::Shard;
 use span::{Log, SpanId};
 
-/// Closes each owned group that has a page and onto which a pair folds, in the shard that has it, so that it takes no put.
-/// It takes no memory.
+/// Closes each owned group that has a page and onto which a pair folds, in the shard that has it,
+/// so that it takes no put. It takes no memory.
 pub(crate) fn close_planned<H: LendsShard>(shards: &mut [H], pairs: &[(SpanId, SpanId)])
     requires { IsDistinct same_span (ids (owned_entries (map H.lent shards.old))) }
     ensures { map H.lent shards.new ≡ map (closing pairs.now) (map H.lent shards.old) }
@@ -33,8 +33,8 @@ pub fn reopen_all<L: Log>(shards: &mut [Shard<L>])
     }
 }
 
-// Closes the group onto which the pair folds, after those of other pairs. A shard that did not end has the groups that it
-// opened, so the one of the head's number is asked before the others.
+// Closes the group onto which the pair folds, after those of other pairs. A shard that did not end
+// has the groups that it opened, so the one of the head's number is asked before the others.
 fn close_one<H: LendsShard>(shards: &mut [H], pair: (SpanId, SpanId))
     ensures { (first : List ShardState) (done : List (SpanId × SpanId)) → IsOnce first pair.1
         → map H.lent shards.old ≡ map (closing done) first
@@ -50,7 +50,8 @@ fn close_one<H: LendsShard>(shards: &mut [H], pair: (SpanId, SpanId))
     }
 }
 
-// Closes the group of the head in the shard at the place, if there is one, and says whether it has the group, with a page.
+// Closes the group of the head in the shard at the place, if there is one, and says whether it has
+// the group, with a page.
 fn close_at<H: LendsShard>(shards: &mut [H], place: usize, head: SpanId) -> bool
     ensures { ClosesAt (map H.lent shards.old) place head result (map H.lent shards.new) }
 {

@@ -8,9 +8,9 @@ use span::SpanId;
 use std::alloc::{AllocError, Global};
 use std::marker::Model;
 
-/// The open plan of folds, if there is one: its pairs, each an abandoned group and the owned group that it is to be
-/// folded onto, and how many of them are done with. It keeps the room for 4,096 pairs, so that a plan is opened without
-/// memory.
+/// The open plan of folds, if there is one: its pairs, each an abandoned group and the owned group
+/// that it is to be folded onto, and how many of them are done with. It keeps the room for 4,096
+/// pairs, so that a plan is opened without memory.
 #[derive(Drop)]
 pub struct CurrentPlan {
     pairs: Vec<(SpanId, SpanId)>,
@@ -53,8 +53,8 @@ impl CurrentPlan {
         self.is_open
     }
 
-    /// The pair that comes next. There is none where no plan is open, and none where all pairs of the plan are done
-    /// with; `is_open` tells which.
+    /// The pair that comes next. There is none where no plan is open, and none where all pairs of
+    /// the plan are done with; `is_open` tells which.
     #[inline]
     pub fn next(&self) -> Option<(SpanId, SpanId)>
         ensures { result ≡ next_pair self.now }

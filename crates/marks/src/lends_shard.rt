@@ -7,8 +7,8 @@ ghost use Rattle.shard.specs.State.{ShardState};
 use shard::Shard;
 use span::{Log, SpanId};
 
-/// A value that lends a shard: the shard itself, or, as in `arena`, the guard of a lock that holds one. A mark of shards behind locks
-/// is so the same code as one of shards alone.
+/// A value that lends a shard: the shard itself, or, as in `arena`, the guard of a lock that holds
+/// one. A mark of shards behind locks is so the same code as one of shards alone.
 pub trait LendsShard {
     /// How the spans of the shard keep their logs.
     type Log: Log;
@@ -20,8 +20,8 @@ pub trait LendsShard {
     fn shard(&self) -> &Shard<Self::Log>
         ensures { result.now ≡ lent self.now };
 
-    /// Closes the group of the head where it has a page, and says whether the shard has such a group, as [`Shard::close`] does.
-    /// It takes no memory.
+    /// Closes the group of the head where it has a page, and says whether the shard has such a
+    /// group, as [`Shard::close`] does. It takes no memory.
     fn close(&mut self, head: SpanId) -> bool
         ensures closes { Closes (lent self.old) head result (lent self.new) }
         ensures sound { IsSound (lent self.new) };

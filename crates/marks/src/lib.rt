@@ -1,19 +1,22 @@
-//! Marks of a pool and of shards that are lent: what a mark sees, the largest plan of it, and the groups that it closes.
+//! Marks of a pool and of shards that are lent: what a mark sees, the largest plan of it, and the
+//! groups that it closes.
 //!
-//! A core has its shards and its pool in one value, an arena has each behind a lock of its own. What both are asked in the
-//! same words stands here, once: the numbers that they are opened with ([`Limits`]), how much they keep ([`Totals`]), the
-//! mark ([`mark_in`]), that of more groups than a plan may have ([`mark_some_in`]), and the plan that they open ([`CurrentPlan`]).
+//! A core has its shards and its pool in one value, an arena has each behind a lock of its own.
+//! What both are asked in the same words stands here, once: the numbers that they are opened with
+//! ([`Limits`]), how much they keep ([`Totals`]), the mark ([`mark_in`]), that of more groups than
+//! a plan may have ([`mark_some_in`]), and the plan that they open ([`CurrentPlan`]).
 //!
 //! ```text
 //!   pool    ──► groups that have a page ──┐
-//!                                         ├─► Snapshot ──► Graph ──► plan, short set ──► Certificate
-//!   shards  ──► groups that have a page ──┘                           │
-//!     ▲                                                               ├─► CurrentPlan::begin, next, advance, end
+//!                                         ├─► Snapshot ──► Graph ──► plan, short set
+//!   shards  ──► groups that have a page ──┘                           │  └──► Certificate
+//!     ▲                                                               ├─► CurrentPlan
 //!     └──────────── the groups that are folded onto are closed ◄──────┘
 //! ```
 //!
-//! [`mark_in`] takes a list of anything that lends a shard ([`LendsShard`]): shards, or the guards of locks that hold them. What is
-//! said of it is said of the shards that are lent, so that one piece of code and one contract serve with locks and without.
+//! [`mark_in`] takes a list of anything that lends a shard ([`LendsShard`]): shards, or the guards
+//! of locks that hold them. What is said of it is said of the shards that are lent, so that one
+//! piece of code and one contract serve with locks and without.
 //!
 //! # Examples
 //!

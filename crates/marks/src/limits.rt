@@ -6,8 +6,8 @@ ghost use Rattle.span.specs.declared.limits.TheConstants.{MOST_SPANS};
 use span::{MOST_PAGES, MOST_RING_KEYS, MOST_SHARDS, MOST_SPANS};
 use std::marker::Model;
 
-/// The numbers of a core or an arena, each within its range. The seats and the steward of an arena bear them too, so that a call
-/// that is lent two of these can ask that they fit.
+/// The numbers of a core or an arena, each within its range. The seats and the steward of an arena
+/// bear them too, so that a call that is lent two of these can ask that they fit.
 #[derive(Clone, Copy, PartialEq, Eq, Debug)]
 pub struct Limits {
     shards: u32,
@@ -40,8 +40,8 @@ impl Model for Limits {
 }
 
 impl Limits {
-    /// The numbers, or `None` exactly where one is out of its range. A shard may open as many spans as there are serials;
-    /// [`Limits::with_span_limit`] gives another number.
+    /// The numbers, or `None` exactly where one is out of its range. A shard may open as many spans
+    /// as there are serials; [`Limits::with_span_limit`] gives another number.
     pub fn new(shards: u32, page_limit: usize, ring_capacity: usize, gens: u32) -> Option<Limits>
         ensures in_range { IsSome result
             ↔ AreWithin (limits_of shards page_limit ring_capacity gens) }
@@ -65,8 +65,8 @@ impl Limits {
         }
     }
 
-    /// The same numbers, but that a shard may open `span_limit` spans in its life, or `None` exactly where that is not 1 to
-    /// [`MOST_SPANS`].
+    /// The same numbers, but that a shard may open `span_limit` spans in its life, or `None`
+    /// exactly where that is not 1 to [`MOST_SPANS`].
     pub fn with_span_limit(self, span_limit: u32) -> Option<Limits>
         ensures in_range { IsSome result ↔ ((1 ≤ span_limit) × (span_limit ≤ MOST_SPANS)) }
         ensures parts { IfSome result (λ limits. limits ≡ with_span_limit self span_limit) }

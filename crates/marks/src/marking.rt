@@ -3,7 +3,7 @@ ghost use Rattle.std.specs.Prelude.{◌≡◌, ◌≢◌, ◌↔◌, ◌+◌, �
 ghost use Rattle.std.specs.List.{All};
 ghost use Rattle.shard.specs.Sound.{IsSound as IsSoundShard};
 ghost use Rattle.groups.specs.Group.{paged_in, summary};
-ghost use Rattle.abandoned.specs.Sound.{IsSound as IsSoundPool};
+ghost use Rattle.pool.specs.Sound.{IsSound as IsSoundPool};
 ghost use Rattle.certificate.specs.Plans.{IsBestPlanOf, IsCertificateOf, IsShortOf};
 ghost use Rattle.certificate.specs.Text.{FitsClass, IsWritable};
 ghost use Rattle.marks.specs.Closings.{closing};
@@ -14,23 +14,25 @@ ghost use Rattle.mesh_graph.specs.declared.build.TheConstants.{MOST_GROUPS};
 use crate::closing::close_planned;
 use crate::error::MarkError;
 use crate::lends_shard::LendsShard;
-use abandoned::Pool;
 use augment::plan;
 use certificate::{Certificate, Plan, Short};
 use mesh_graph::{BuildError, Doubled, Entry, Graph, MOST_GROUPS, Runner, Snapshot};
+use pool::Pool;
 use std::alloc::{AllocError, Global};
 
-/// A mark of the pool and the shards that are lent: it takes a snapshot of every group of the pool and of the shards that
-/// has a page, makes a plan of as many folds as can be, tells the pool that a plan is open, and closes the
-/// groups onto which the plan folds, so that they take no put. It gives the snapshot, the plan and the short set that
-/// shows the plan best. The runner fills the rows of its graph, in as many pieces as there are shards where it goes by pieces; what
-/// the mark gives does not depend on it.
+/// A mark of the pool and the shards that are lent: it takes a snapshot of every group of the pool
+/// and of the shards that has a page, makes a plan of as many folds as can be, tells the pool that
+/// a plan is open, and closes the groups onto which the plan folds, so that they take no put. It
+/// gives the snapshot, the plan and the short set that shows the plan best. The runner fills the
+/// rows of its graph, in as many pieces as there are shards where it goes by pieces; what the mark
+/// gives does not depend on it.
 ///
 /// # Errors
 ///
-/// The first of these that holds: `PlanOpen` where a plan is open; `TooMany` where a side has more than 4,096 groups with a
-/// page, of which [`mark_some_in`] sees a part; `Doubled` where two of those of a side have the same head, which takes memory to
-/// tell. `OutOfMemory` where an allocation was refused and neither of the first two holds. All allocations stand before the
+/// The first of these that holds: `PlanOpen` where a plan is open; `TooMany` where a side has more
+/// than 4,096 groups with a page, of which [`mark_some_in`] sees a part; `Doubled` where two of
+/// those of a side have the same head, which takes memory to tell. `OutOfMemory` where an
+/// allocation was refused and neither of the first two holds. All allocations stand before the
 /// first change.
 pub fn mark_in<R: Runner, H: LendsShard>(
     runner: &R,
@@ -65,14 +67,15 @@ pub fn mark_in<R: Runner, H: LendsShard>(
     mark_some_in(runner, alloc, pool, shards)
 }
 
-/// A mark that sees of each side the 4,096 groups with a page that have the fewest live slots, or all where there are no more, and does
-/// with these what [`mark_in`] does. So a plan of it folds as many of them as can be, and after it more can be folded by a further mark.
+/// A mark that sees of each side the 4,096 groups with a page that have the fewest live slots, or
+/// all where there are no more, and does with these what [`mark_in`] does. So a plan of it folds as
+/// many of them as can be, and after it more can be folded by a further mark.
 ///
 /// # Errors
 ///
-/// The first of these that holds: `PlanOpen` where a plan is open; `Doubled` where two groups of a side that have a page have the same
-/// head, which takes memory to tell. `OutOfMemory` where an allocation was refused and no plan is open. All allocations stand before
-/// the first change.
+/// The first of these that holds: `PlanOpen` where a plan is open; `Doubled` where two groups of a
+/// side that have a page have the same head, which takes memory to tell. `OutOfMemory` where an
+/// allocation was refused and no plan is open. All allocations stand before the first change.
 pub fn mark_some_in<R: Runner, H: LendsShard>(
     runner: &R,
     alloc: Global,
@@ -111,7 +114,8 @@ pub fn mark_some_in<R: Runner, H: LendsShard>(
     Ok(found)
 }
 
-/// Whether a side has more than 4,096 groups that have a page: the pool, or all shards together. It takes no memory.
+/// Whether a side has more than 4,096 groups that have a page: the pool, or all shards together. It
+/// takes no memory.
 pub fn has_too_many<H: LendsShard>(pool: &Pool<H::Log>, shards: &[H]) -> bool
     ensures { IsTrue result ↔ AreTooMany pool.now (map H.lent shards.now) }
 {
@@ -206,7 +210,8 @@ pub(crate) fn list_owned<H: LendsShard>(
     Ok(entries)
 }
 
-// Appends the groups of the shard that have a page, where it has not ended. One that has ended has none.
+// Appends the groups of the shard that have a page, where it has not ended. One that has ended has
+// none.
 fn push_groups<H: LendsShard>(entries: &mut Vec<Entry>, lender: &H) -> Result<(), AllocError>
     ensures items { IfOk result (λ _. entries.new.items ≡ entries.old.items ++ map summary
         (paged_in (H.lent lender.now).groups)) }
@@ -226,7 +231,8 @@ fn push_groups<H: LendsShard>(entries: &mut Vec<Entry>, lender: &H) -> Result<()
 
 // How many pages the shards have, or the greatest number where there are more.
 fn owned_pages<H: LendsShard>(shards: &[H]) -> usize
-    ensures { result ≡ min (sum_by (λ shard. length (paged_in shard.groups)) (map H.lent shards.now))
+    ensures { result ≡ min (sum_by (λ shard. length (paged_in shard.groups))
+        (map H.lent shards.now))
         (2 ^ 64 - 1) }
 {
     let mut pages: usize = 0;

@@ -31,7 +31,8 @@ AreMasks owned masks = (class : Class) → IsMask class owned (mask_in masks cla
 
 -- each group of the one side has the class of each of the other
 abbrev pub AreOfOneClass : List Entry → List Entry → Type 0
-AreOfOneClass abandoned owned = (i j : ℕ) (x y : Entry) → slice_get abandoned i ≡ Some x → slice_get owned j ≡ Some y → width_of x.class ≡ width_of y.class
+AreOfOneClass abandoned owned = (i j : ℕ) (x y : Entry) → slice_get abandoned i ≡ Some x
+    → slice_get owned j ≡ Some y → width_of x.class ≡ width_of y.class
 
 -- whether bit j stays where the bits of a class are kept; without masks all stay
 abbrev pub is_kept : Option Masks → Class → ℕ → Bool

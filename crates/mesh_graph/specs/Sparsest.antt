@@ -9,7 +9,8 @@ use Rattle.span.specs.declared.entry.Entry.{Entry}
 abbrev pub occupied_count : Entry → ℕ
 occupied_count entry = set.len entry.occupied
 
--- so many of the groups, or all where there are no more; none of them has more live slots than one that is left out
+-- so many of the groups, or all where there are no more; none of them has more live slots than one
+-- that is left out
 pub record AreSparsest (most : ℕ) (entries chosen : List Entry) : Type 0 where
   pub left_out : List Entry
   pub each : IsPermutation entries (chosen ++ left_out)

@@ -39,8 +39,9 @@ impl From<AllocError> for BuildError {
 }
 
 impl<'a> Graph<'a> {
-    /// The graph of a snapshot, which is lent to it. The runner fills its rows, in so many `pieces` at most.
-    /// `TooMany` comes exactly where a side has more than 4,096 groups, and `OutOfMemory` where the rows could not grow.
+    /// The graph of a snapshot, which is lent to it. The runner fills its rows, in so many `pieces`
+    /// at most. `TooMany` comes exactly where a side has more than 4,096 groups, and `OutOfMemory`
+    /// where the rows could not grow.
     pub fn build<R: Runner>(
         runner: &R,
         alloc: Global,
@@ -69,9 +70,10 @@ impl<'a> Graph<'a> {
     }
 }
 
-/// How many steps the rows of the groups take over so many sets: one for each slot of a group and 64 sets. A group with more slots than
-/// [`MOST_BY_SLOTS`] counts as one with that number, since its row goes by words. No clause says the number: it decides how many
-/// threads fill rows, and no row depends on it.
+/// How many steps the rows of the groups take over so many sets: one for each slot of a group and
+/// 64 sets. A group with more slots than [`MOST_BY_SLOTS`] counts as one with that number, since
+/// its row goes by words. No clause says the number: it decides how many threads fill rows, and no
+/// row depends on it.
 pub fn steps_over(groups: &[Entry], sets: usize) -> usize {
     let mut slots = 0usize;
     for entry in groups {
@@ -100,8 +102,8 @@ fn planes_of(alloc: Global, groups: &[Entry]) -> Result<Planes, AllocError>
     Ok(planes)
 }
 
-/// The sets by slots, of which so many rows will be asked for. If that is enough for them to be laid out by slots, the runner
-/// fills the rows of the slots, by `pieces` if it goes by pieces.
+/// The sets by slots, of which so many rows will be asked for. If that is enough for them to be
+/// laid out by slots, the runner fills the rows of the slots, by `pieces` if it goes by pieces.
 pub fn sets_by_slots<R: Runner>(
     runner: &R,
     alloc: Global,
@@ -146,11 +148,13 @@ pub(crate) fn write_rows(run: &[Entry], sets: &SlotRows, masks: &Option<Masks>, 
 // Writes row `i` of rows that stand one after another.
 fn write_row_at(entry: &Entry, sets: &SlotRows, masks: &Option<Masks>, i: usize, rows: &mut [u64])
     requires masks { AreAsWide masks.now (width_of (length sets.now)) }
-    requires within { width_of (length sets.now) * i + width_of (length sets.now) ≤ length rows.old }
+    requires within { width_of (length sets.now) * i + width_of (length sets.now)
+        ≤ length rows.old }
     ensures len { length rows.new ≡ length rows.old }
     ensures earlier { take (width_of (length sets.now) * i) rows.new
         ≡ take (width_of (length sets.now) * i) rows.old }
-    ensures wide { length (row_at (width_of (length sets.now)) rows.new i) ≡ width_of (length sets.now) }
+    ensures wide { length (row_at (width_of (length sets.now)) rows.new i)
+        ≡ width_of (length sets.now) }
     ensures bits { (j : ℕ) → has_bit (row_at (width_of (length sets.now)) rows.new i) j
         ≡ row_bit sets.now masks.now entry.now j }
 {

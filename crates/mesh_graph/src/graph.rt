@@ -82,7 +82,8 @@ impl<'a> Graph<'a> {
         row_of(&self.rows, (self.owned() + 63) / 64, i)
     }
 
-    /// Whether the abandoned group at the first place is compatible with the owned one at the second.
+    /// Whether the abandoned group at the first place is compatible with the owned one at the
+    /// second.
     pub fn has(&self, i: usize, j: usize) -> bool
         requires abandoned { i < length self.now.abandoned }
         requires owned { j < length self.now.owned }
@@ -105,8 +106,8 @@ impl<'a> Graph<'a> {
         next_bit(self.row(i), from)
     }
 
-    /// The least owned place from `from` on that is compatible with the abandoned one at `i` and whose bit is set in `among`, which
-    /// has as many words as a row.
+    /// The least owned place from `from` on that is compatible with the abandoned one at `i` and
+    /// whose bit is set in `among`, which has as many words as a row.
     pub fn next_partner_among(&self, i: usize, from: usize, among: &[u64]) -> Option<usize>
         requires abandoned { i < length self.now.abandoned }
         requires words { length among.now ≡ (length self.now.owned + 63) / 64 }
@@ -169,8 +170,8 @@ fn are_apart(words: &[u64], among: &[u64], at: usize) -> bool
     shared.reduce_or() == 0
 }
 
-// Where to go on from `start`, past words that share no bit with those of `among`: eight at a time, since a row has hardly a bit where
-// few groups fit.
+// Where to go on from `start`, past words that share no bit with those of `among`: eight at a time,
+// since a row has hardly a bit where few groups fit.
 fn past_apart(words: &[u64], among: &[u64], start: usize) -> usize
     requires start { start ≤ length words.now }
     requires same { length among.now ≡ length words.now }

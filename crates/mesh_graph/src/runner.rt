@@ -14,7 +14,8 @@ use rayon::prelude::*;
 use span::Entry;
 use std::thread::Threads;
 
-/// From how many steps on threads are worth their beginning. A step is a slot of a group and 64 groups of the other side.
+/// From how many steps on threads are worth their beginning. A step is a slot of a group and 64
+/// groups of the other side.
 pub const LEAST_BY_THREADS: usize = 1 << 23;
 
 /// Who fills the rows of a graph, whose bits do not depend on it: [`AtHand`] or [`ByThreads`].
@@ -22,13 +23,14 @@ pub trait Runner {
     /// What it needs to go on: that its threads may share what they are lent.
     ghost ready: { Self → Type 0 };
 
-    /// In how many pieces it fills rows that take so many steps together, where its caller asks for so many pieces.
+    /// In how many pieces it fills rows that take so many steps together, where its caller asks for
+    /// so many pieces.
     fn pieces(&self, steps: usize, pieces: usize) -> usize
         requires { 1 ≤ pieces }
         ensures { 1 ≤ result };
 
-    /// Fills the rows of all slots, one after another, in so many runs of neighbours if it goes by runs: bit j of a slot's row says
-    /// whether set j has the slot.
+    /// Fills the rows of all slots, one after another, in so many runs of neighbours if it goes by
+    /// runs: bit j of a slot's row says whether set j has the slot.
     fn fill_slots(&self, planes: &Planes, pieces: usize, rows: &mut [u64])
         requires ready { ready self.now }
         requires pieces { 1 ≤ pieces }
@@ -36,7 +38,8 @@ pub trait Runner {
         ensures len { length rows.new ≡ length rows.old }
         ensures rows { AreSlotRows planes.now rows.new };
 
-    /// Fills the rows of the groups, one after another, in so many runs of neighbours if it goes by runs.
+    /// Fills the rows of the groups, one after another, in so many runs of neighbours if it goes by
+    /// runs.
     fn fill(
         &self,
         abandoned: &[Entry],
@@ -80,8 +83,9 @@ impl Runner for AtHand {
     }
 }
 
-/// Fills the rows by threads, a piece on each, which begin and end within the call. On cores that others use such a thread may wait
-/// for milliseconds before it begins, so rows that take fewer steps are filled at hand.
+/// Fills the rows by threads, a piece on each, which begin and end within the call. On cores that
+/// others use such a thread may wait for milliseconds before it begins, so rows that take fewer
+/// steps are filled at hand.
 #[derive(Drop)]
 pub struct ByThreads<'a, R: Threads + Sync> {
     rt: &'a R,
@@ -189,10 +193,12 @@ fn fill_runs<R: Threads + Sync>(
         rows,
         sets.row_words() * run,
         |start: usize, part: &mut [u64]|
-            requires { IsRun (width_of (length sets.now)) (length abandoned.now) start (length part.old)
+            requires { IsRun (width_of (length sets.now)) (length abandoned.now) start
+                (length part.old)
                 × AreAsWide masks.now (width_of (length sets.now)) }
             ensures { (length part.new ≡ length part.old)
-                × AreRowsOfRun abandoned.entry.now sets.entry.now masks.entry.now start (length part.old) part.new }
+                × AreRowsOfRun abandoned.entry.now sets.entry.now masks.entry.now start
+                (length part.old) part.new }
         { write_run(abandoned, sets, masks, start, part) },
     );
 }
@@ -205,7 +211,8 @@ fn write_run(
     start: usize,
     part: &mut [u64],
 )
-    requires run { IsRun (width_of (length sets.now)) (length abandoned.now) start (length part.old) }
+    requires run { IsRun (width_of (length sets.now)) (length abandoned.now) start
+        (length part.old) }
     requires masks { AreAsWide masks.now (width_of (length sets.now)) }
     ensures len { length part.new ≡ length part.old }
     ensures rows { AreRowsOfRun abandoned.now sets.now masks.now start (length part.old) part.new }

@@ -1,14 +1,15 @@
 //! Replays traces, and checks certificates of plans, for files.
 //!
-//! `meshrun run [TRACE] [--serial] [--replies] [--certificate FILE]` replays the trace of a file, or of its standard input
-//! where none is named or it is `-`, and `meshrun check FILE` checks a certificate. It ends with status 0 where the report was written,
-//! the certificate is accepted, or help or the version was asked for; 1 where the text is no trace or no certificate, or the certificate
-//! is rejected; 2 where the words name no job, 3 where memory ran out, 4 where receipts and logs of a run by threads don't
-//! agree, and 5 where a read or a write failed.
+//! `meshrun run [TRACE] [--serial] [--replies] [--certificate FILE]` replays the trace of a file,
+//! or of its standard input where none is named or it is `-`, and `meshrun check FILE` checks a
+//! certificate. It ends with status 0 where the report was written, the certificate is accepted, or
+//! help or the version was asked for; 1 where the text is no trace or no certificate, or the
+//! certificate is rejected; 2 where the words name no job, 3 where memory ran out, 4 where receipts
+//! and logs of a run by threads don't agree, and 5 where a read or a write failed.
 //!
-//! What its words mean, and what is said of a fault, stands in `command_line`, and all that it does is done by `trace_runner` and
-//! `thread_runner`; here files and words are read, which have no model. The tests stand in
-//! `runner_tests`.
+//! What its words mean, and what is said of a fault, stands in `command_line`, and all that it does
+//! is done by `trace_runner` and `thread_runner`; here files and words are read, which have no
+//! model. The tests stand in `runner_tests`.
 #![tactic(auto)]
 
 ghost use Rattle.std.specs.Prelude.{◌≡◌, ◌<◌, ◌≤◌, ◌+◌, ◌-◌, ◌^◌, ℕ, List, IfErr, IfOk, OnOk};
@@ -67,8 +68,8 @@ fn source_text(
     }
 }
 
-/// Replays the trace, one call after another or by threads, and writes its report to `out`. `cert` is then the text of the
-/// certificate of the last mark that planned, or empty where none did.
+/// Replays the trace, one call after another or by threads, and writes its report to `out`. `cert`
+/// is then the text of the certificate of the last mark that planned, or empty where none did.
 fn replay<R: Threads + Wait + Sync + AllocGlobal, S: Sink>(
     rt: &R,
     text: &[u8],
@@ -132,7 +133,8 @@ fn run_trace<R: Threads + Wait + Sync + Files + Input + AllocGlobal, S: Sink, D:
     }
 }
 
-/// Checks the certificate of the file, or of standard input where it is `-`, writes the verdict to `out`, and answers whether it is accepted.
+/// Checks the certificate of the file, or of standard input where it is `-`, writes the verdict to
+/// `out`, and answers whether it is accepted.
 fn check_file<R: Files + Input + AllocGlobal, S: Sink>(
     rt: &R,
     path: &str,
@@ -158,8 +160,8 @@ fn verdict_status(accepted: bool) -> u8
     if accepted { 0 } else { 1 }
 }
 
-/// Does the job: writes to `out`, and to `store` where a file is named for the certificate, and answers the status with
-/// which the program ends: 1 where a certificate is rejected, and else 0.
+/// Does the job: writes to `out`, and to `store` where a file is named for the certificate, and
+/// answers the status with which the program ends: 1 where a certificate is rejected, and else 0.
 fn do_job<R: Threads + Wait + Sync + Files + Input + AllocGlobal, S: Sink, D: Store>(
     rt: &R,
     job: Job<'_>,

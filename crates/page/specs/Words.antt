@@ -21,7 +21,8 @@ pub record Words : Type 0 where
 pub same_words : (a b : Words) → a.items ≡ b.items → a ≡ b
 same_words a b items i = record {
   items = items i;
-  whole = is_prop→PathP (λ i. length (items i) ≡ SLOTS) (λ i. Coded-set coded_ℕ _ _) a.whole b.whole i;
+  whole = is_prop→PathP (λ i. length (items i) ≡ SLOTS) (λ i. Coded-set coded_ℕ _ _) a.whole b.whole
+      i;
 }
 
 -- words are stored as their list
@@ -30,22 +31,28 @@ words_code = coded_via (coded_list coded_ℕ) (λ words. words.items) same_words
 
 -- the object at a slot of the class: as many words as the class has
 unfoldable pub object_in : Words → Class → ℕ → List ℕ
-object_in words class slot = map (λ k. slice_index words.items (width_of class * slot + k)) (range_with_len 0 (width_of class))
+object_in words class slot = map (λ k. slice_index words.items (width_of class * slot + k))
+    (range_with_len 0 (width_of class))
 
 -- the words with another object at a slot of the class
 unfoldable pub set_object : Words → Class → ℕ → List ℕ → Words
 set_object words class slot object = record {
-  items = map (λ j. if j / width_of class == slot then slice_index object (j % width_of class) else slice_index words.items j) (range_with_len 0 SLOTS);
-  whole = length-map-range_with_len (λ j. if j / width_of class == slot then slice_index object (j % width_of class) else slice_index words.items j) 0 SLOTS;
+  items = map (λ j. if j / width_of class == slot then slice_index object (j % width_of class) else
+      slice_index words.items j) (range_with_len 0 SLOTS);
+  whole = length-map-range_with_len (λ j. if j / width_of class
+      == slot then slice_index object (j % width_of class) else slice_index words.items j) 0 SLOTS;
 }
 
 -- the words of a new page, which are all 0
 unfoldable pub blank_page : Words
 blank_page = record { items = replicate SLOTS 0; whole = length-replicate {A = ℕ} SLOTS 0 }
 
--- the words after the objects of another page at the slots of the class were copied to the same slots
+-- the words after the objects of another page at the slots of the class were copied to the same
+-- slots
 unfoldable pub copied : Words → Class → SlotSet → Words → Words
 copied words class slots others = record {
-  items = map (λ j. if set.contains slots (j / width_of class) then slice_index others.items j else slice_index words.items j) (range_with_len 0 SLOTS);
-  whole = length-map-range_with_len (λ j. if set.contains slots (j / width_of class) then slice_index others.items j else slice_index words.items j) 0 SLOTS;
+  items = map (λ j. if set.contains slots (j / width_of class) then slice_index others.items j else
+      slice_index words.items j) (range_with_len 0 SLOTS);
+  whole = length-map-range_with_len (λ j. if set.contains slots (j / width_of class) then
+      slice_index others.items j else slice_index words.items j) 0 SLOTS;
 }

@@ -1,9 +1,10 @@
 //! A page: 256 words, which are 256 slots of one, 64 of four or 16 of sixteen.
 //!
-//! A [`Page`] is one allocation of 4,096 bytes, and who has the page has its words: a group owns its page, moves with it
-//! from owner to owner without a word copied, and drops it, so that it goes back to the allocator (no contract can say
-//! so). A page is 256 words whatever lies on it: a call on a slot names the class of its objects. Several spans may lie on
-//! one page: so two half empty pages become one, and the keys of both stay good (Mesh, PLDI 2019). Which span owns a slot is
+//! A [`Page`] is one allocation of 4,096 bytes, and who has the page has its words: a group owns
+//! its page, moves with it from owner to owner without a word copied, and drops it, so that it goes
+//! back to the allocator (no contract can say so). A page is 256 words whatever lies on it: a call
+//! on a slot names the class of its objects. Several spans may lie on one page: so two half empty
+//! pages become one, and the keys of both stay good (Mesh, PLDI 2019). Which span owns a slot is
 //! nothing that a page knows.
 //!
 //! # Examples

@@ -10,7 +10,8 @@ use span::Class;
 use std::alloc::{AllocError, Global};
 use std::marker::Model;
 
-/// 256 words, which are 256 slots of one, 64 of four or 16 of sixteen, in an allocation of their own: 4,096 bytes.
+/// 256 words, which are 256 slots of one, 64 of four or 16 of sixteen, in an allocation of their
+/// own: 4,096 bytes.
 #[derive(Drop)]
 pub struct Page {
     words: Vec<u128>,
@@ -71,8 +72,8 @@ impl Page {
         self.words[first..first + object.len()].copy_from_slice(object);
     }
 
-    /// Moves the words to a block that it asks for now, and gives the old one back. A source of pages that hands out its lowest free
-    /// block first can so empty its upper end.
+    /// Moves the words to a block that it asks for now, and gives the old one back. A source of
+    /// pages that hands out its lowest free block first can so empty its upper end.
     ///
     /// # Errors
     ///

@@ -1,5 +1,6 @@
-//! Certificates that are read, accepted and written again. Where an allocation is refused, what was refused is asked again.
-//! Which texts are rejected, and what is said of those that are no certificates, is tested with the program.
+//! Certificates that are read, accepted and written again. Where an allocation is refused, what was
+//! refused is asked again. Which texts are rejected, and what is said of those that are no
+//! certificates, is tested with the program.
 ghost use Rattle.std.specs.Prelude.{IfOk};
 ghost use Rattle.certificate.specs.Text.{IsWritable};
 
@@ -121,7 +122,8 @@ fn partner_count(alloc: Global, snapshot: &Snapshot, short: &Short) -> Option<us
     Some(found.ok()?.len())
 }
 
-// How many pairs, members of the short set and partners of those the certificate has, if it is accepted.
+// How many pairs, members of the short set and partners of those the certificate has, if it is
+// accepted.
 fn sizes(alloc: Global, certificate: &Certificate) -> Option<(usize, usize, usize)> {
     let Certificate {
         snapshot,

@@ -1,4 +1,5 @@
-//! A small graph, and graphs at their limits. Where an allocation is refused, what was refused is asked again.
+//! A small graph, and graphs at their limits. Where an allocation is refused, what was refused is
+//! asked again.
 ghost use Rattle.std.specs.Prelude.{◌≤◌};
 
 use bitmap::Bits256;
@@ -55,7 +56,8 @@ fn build_by_threads<'a, R: Threads + Sync>(
     }
 }
 
-// Groups that fit and groups that clash. The abandoned ones are of the first class, and the last owned one of the second.
+// Groups that fit and groups that clash. The abandoned ones are of the first class, and the last
+// owned one of the second.
 fn small(alloc: Global, class: Class, last: Class) -> Option<Snapshot> {
     let abandoned = [entry(0, 1, class, &[1])?, entry(0, 0, class, &[0])?];
     let owned = [
@@ -218,7 +220,8 @@ fn have_same_rows(snapshot: &Snapshot, one: &Graph, other: &Graph) -> bool {
     one.abandoned() == other.abandoned()
 }
 
-// Whether the rows that threads fill in pieces, of so many groups a side, are those of one piece, and of pairwise tests.
+// Whether the rows that threads fill in pieces, of so many groups a side, are those of one piece,
+// and of pairwise tests.
 fn are_of_one_piece<R: Threads + Sync>(
     rt: &R,
     alloc: Global,

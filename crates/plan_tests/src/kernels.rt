@@ -1,5 +1,6 @@
-//! Rows of three sets, worked out by hand, and of up to 130 and some 1,000, beside plain tests, by planes and by slots; counts and
-//! unions. Where an allocation is refused, what was refused is asked again.
+//! Rows of three sets, worked out by hand, and of up to 130 and some 1,000, beside plain tests, by
+//! planes and by slots; counts and unions. Where an allocation is refused, what was refused is
+//! asked again.
 ghost use Rattle.std.specs.Prelude.{◌≡◌, length, IfSome};
 
 use bitmap::Bits256;
@@ -151,7 +152,8 @@ fn empty_sets(alloc: Global, count: u32) -> Option<Planes> {
     Some(planes)
 }
 
-// Both words of the row of 65 empty sets for the full one, where all bits of the words were set before.
+// Both words of the row of 65 empty sets for the full one, where all bits of the words were set
+// before.
 fn of_empty_sets(alloc: Global) -> Option<[u64; 2]> {
     let mut row = [u64::MAX; 2];
     let planes = empty_sets(alloc, 65)?;
@@ -200,7 +202,8 @@ fn is_plain_row(row: &[u64], count: u32, given: &Bits256) -> bool {
     first >= count
 }
 
-// Whether the rows of so many sets are the plain one: by planes, by slots, and where too few are asked for to lay out slots.
+// Whether the rows of so many sets are the plain one: by planes, by slots, and where too few are
+// asked for to lay out slots.
 fn are_plain(alloc: Global, count: u32) -> Option<(bool, bool, bool)> {
     let given = set_of(&[3, 200]);
     let by_planes = row_by_planes(alloc, &many(alloc, count)?, &given)?;

@@ -1,5 +1,5 @@
-//! The partners of a short set by threads are those at hand, and those that pairwise tests give. Where an allocation is refused,
-//! what was refused is asked again.
+//! The partners of a short set by threads are those at hand, and those that pairwise tests give.
+//! Where an allocation is refused, what was refused is asked again.
 ghost use Rattle.std.specs.Prelude.{◌≤◌};
 
 use bitmap::Bits256;
@@ -9,7 +9,8 @@ use span::{Class, SpanId};
 use std::alloc::Global;
 use std::thread::Threads;
 
-// How many groups a side has, how many neighbouring slots each abandoned one has, and whether the groups are of three classes.
+// How many groups a side has, how many neighbouring slots each abandoned one has, and whether the
+// groups are of three classes.
 #[derive(Clone, Copy)]
 struct Sides {
     abandoned: u32,
@@ -130,7 +131,8 @@ fn are_pairwise(snapshot: &Snapshot, short: &Short, found: &[SpanId]) -> bool {
     next == found.len() && next > 0 && next < snapshot.owned().len()
 }
 
-// Whether the partners that threads list in so many pieces are those at hand, and those of pairwise tests.
+// Whether the partners that threads list in so many pieces are those at hand, and those of pairwise
+// tests.
 fn are_same<R: Threads + Sync>(rt: &R, alloc: Global, sides: Sides, pieces: usize) -> Option<bool>
     requires { 1 ≤ pieces }
 {
@@ -142,7 +144,8 @@ fn are_same<R: Threads + Sync>(rt: &R, alloc: Global, sides: Sides, pieces: usiz
     Some(are_pairwise && at_hand.as_slice() == by_threads.as_slice())
 }
 
-// Sets of up to 190 slots go by the rows of slots, and sets of more by words; so do all if few groups are owned.
+// Sets of up to 190 slots go by the rows of slots, and sets of more by words; so do all if few
+// groups are owned.
 fn some_sides(owned: u32, slots: u32, are_mixed: bool) -> Sides {
     Sides {
         abandoned: 150,

@@ -6,10 +6,12 @@ use mesh_graph::{AtHand, BuildError, Entry, Graph, Snapshot};
 use span::{Class, SpanId};
 use std::alloc::{AllocError, Global};
 
-// Two owned groups with which an abandoned one is compatible, or one that is told twice, by their serials.
+// Two owned groups with which an abandoned one is compatible, or one that is told twice, by their
+// serials.
 type Partners = (u8, u8);
 
-// Snapshots in which owned group j has slot j alone, and abandoned group i all slots but those of its partners.
+// Snapshots in which owned group j has slot j alone, and abandoned group i all slots but those of
+// its partners.
 #[derive(Clone, Copy)]
 enum Made {
     Chain,
@@ -26,8 +28,8 @@ fn in_chain(i: u8) -> Partners {
     }
 }
 
-// A pass in ascending order plans each even group onto the place that the next odd group needs, so a second phase has
-// 128 short walks to turn round.
+// A pass in ascending order plans each even group onto the place that the next odd group needs, so
+// a second phase has 128 short walks to turn round.
 fn even_and_odd(i: u8) -> Partners {
     if i % 2 == 0 {
         (i, i | 1)
@@ -36,8 +38,9 @@ fn even_and_odd(i: u8) -> Partners {
     }
 }
 
-// A pass in ascending order leaves 4, 6, 7 and 8 out. Three of them have walks of two pairs that share no group. A walk
-// from one of them that leaves the shortest layers takes the places of another, which then needs a phase more.
+// A pass in ascending order leaves 4, 6, 7 and 8 out. Three of them have walks of two pairs that
+// share no group. A walk from one of them that leaves the shortest layers takes the places of
+// another, which then needs a phase more.
 fn crossing(i: u8) -> Partners {
     match i {
         0 => (1, 5),
@@ -52,8 +55,8 @@ fn crossing(i: u8) -> Partners {
     }
 }
 
-// Chains of two groups, of three, and so on up to thirteen. A pass in ascending order plans each but
-// the last of a chain, whose walk turns all of its pairs round. So each length takes a phase.
+// Chains of two groups, of three, and so on up to thirteen. A pass in ascending order plans each
+// but the last of a chain, whose walk turns all of its pairs round. So each length takes a phase.
 fn in_chains(i: u8) -> Partners {
     let mut first = 0u8;
     for length in 2..14u8 {
@@ -150,7 +153,8 @@ fn plan_counted_again(alloc: Global, graph: &Graph) -> Result<(Plan, Short, usiz
     }
 }
 
-// How many pairs and members of the short set a plan has and how many phases found it, where the checker accepts it.
+// How many pairs and members of the short set a plan has and how many phases found it, where the
+// checker accepts it.
 fn counted(alloc: Global, made: Made, last: u8) -> Option<(usize, usize, usize)> {
     let snapshot = snapshot_again(alloc, made, last)?;
     let graph = build_again(alloc, &snapshot).ok()?;

@@ -1,10 +1,10 @@
 //! Calls of an arena's seats and of its steward.
 use crate::refusing::{Rounds, Script, Subject};
-use abandoned::{AdoptError, ReceiveError};
 use arena::{Arena, NoGate, Seat, Stepped, Steward};
 use certificate::Certificate;
 use marks::MarkError;
 use mesh_graph::AtHand;
+use pool::{AdoptError, ReceiveError};
 use shard::PutError;
 use span::{Class, Key, Object, ReceiptList, SpanId};
 use std::alloc::Global;
@@ -393,7 +393,8 @@ fn add_later(calls: &mut Vec<Call>) -> Option<()> {
     add(calls, Call::Tend { seat: 1 })
 }
 
-// A set of the key at that slot of the shard's first span, to an object of its class and to one of another.
+// A set of the key at that slot of the shard's first span, to an object of its class and to one of
+// another.
 fn add_sets(calls: &mut Vec<Call>, seat: usize, shard: u32, slot: u8) -> Option<()> {
     let key = key(shard, 0, slot)?;
     let (value, other) = (Object::c16(77), Object::of(Class::C64, &[77; 4]));
@@ -420,8 +421,9 @@ fn add_last_frees(calls: &mut Vec<Call>) -> Option<()> {
     Some(())
 }
 
-// Puts over more than a page, frees, sets, deferred frees, ends, a fold of a group, a retirement, an adoption, a fold of a group with a
-// guest, a trim, and at last a free of every key that may be live.
+// Puts over more than a page, frees, sets, deferred frees, ends, a fold of a group, a retirement,
+// an adoption, a fold of a group with a guest, a trim, and at last a free of every key that may be
+// live.
 fn calls_of(alloc: Global) -> Option<Vec<Call>> {
     let mut calls = Vec::new(alloc);
     add_puts(&mut calls, 0, 4)?;

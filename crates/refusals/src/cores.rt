@@ -145,7 +145,8 @@ fn add_frees(events: &mut Vec<Event>, shard: u32, slots: &[u8]) -> Result<(), Al
     Ok(())
 }
 
-// Sets of the keys at the first two slots of that span: once to an object of its class, and once to one of another.
+// Sets of the keys at the first two slots of that span: once to an object of its class, and once to
+// one of another.
 fn add_sets(
     events: &mut Vec<Event>,
     shard: u32,
@@ -164,7 +165,8 @@ fn add_sets(
     Ok(())
 }
 
-// Deferred frees of keys of shard 1 by worker 2, as many as its ring takes and one more, and their settling.
+// Deferred frees of keys of shard 1 by worker 2, as many as its ring takes and one more, and their
+// settling.
 fn add_later(events: &mut Vec<Event>) -> Result<(), AllocError> {
     for slot in 3..8u8 {
         if let Some(key) = key(1, 0, slot) {
@@ -209,8 +211,8 @@ fn add_last_frees(events: &mut Vec<Event>) -> Result<(), AllocError> {
     Ok(())
 }
 
-// Puts of each class, over more than a page, frees, sets wherever the key is, ends, a retirement, folds of groups with guests, an
-// adoption of one, trims, and a group that no fold is for.
+// Puts of each class, over more than a page, frees, sets wherever the key is, ends, a retirement,
+// folds of groups with guests, an adoption of one, trims, and a group that no fold is for.
 fn events_of(alloc: Global) -> Result<Vec<Event>, AllocError> {
     let mut events = Vec::new(alloc);
     add_puts(&mut events, 0, Class::C16, 4)?;

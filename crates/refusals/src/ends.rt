@@ -9,7 +9,8 @@ use span::{Log, Object, ReceiptList};
 use std::alloc::Global;
 use std::sync::Wait;
 
-// The first of two seats puts an object, and the second leaves its key to the first one's thread. Says whether it came to that.
+// The first of two seats puts an object, and the second leaves its key to the first one's thread.
+// Says whether it came to that.
 fn leaves_one<R: Wait>(
     rt: &R,
     arena: &Arena<NoGate>,
@@ -81,7 +82,8 @@ fn round_of_audit(
     }
 }
 
-// An arena ends, and its growth of that number is refused. Once none is, the audit of what it leaves is refused each of its own.
+// An arena ends, and its growth of that number is refused. Once none is, the audit of what it
+// leaves is refused each of its own.
 fn round<R: Wait>(rt: &R, alloc: Global, growth: u32, audits: &mut Rounds) -> Option<Round> {
     let Ok((arena, mut seats, _)) = Arena::open(alloc, 2, 4, 4, 9, NoGate) else {
         return None;

@@ -1,9 +1,9 @@
 //! That a forgetting forgets whatever growth is refused, and keeps nothing of what it forgets.
 use crate::refusing::{Fault, MOST, Round, Rounds, refuse, standing, was_refused};
-use abandoned::Pool;
 use arena::{Arena, NoGate, Seat, Steward};
 use arena_core::Core;
 use fold::{Step, fold_one};
+use pool::Pool;
 use shard::Shard;
 use span::{Counted, MOST_SPANS, Object, SpanId};
 use std::alloc::Global;

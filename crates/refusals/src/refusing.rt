@@ -2,7 +2,8 @@
 use std::alloc::Global;
 use std::sync::Wait;
 
-/// What a test asks of the library that refuses: no memory has so many bytes, so it is refused where the library isn't loaded.
+/// What a test asks of the library that refuses: no memory has so many bytes, so it is refused
+/// where the library isn't loaded.
 const COMMAND: usize = 1 << 62;
 
 /// With so many bytes more it asks whether those stand at most.
@@ -107,7 +108,8 @@ impl Rounds {
     }
 }
 
-/// Takes calls, so that what it answers with memory can be held against what it answers where a growth was refused.
+/// Takes calls, so that what it answers with memory can be held against what it answers where a
+/// growth was refused.
 pub(crate) trait Subject: Sized + Drop {
     /// What it is asked.
     type Call: Copy;
@@ -123,11 +125,12 @@ pub(crate) trait Subject: Sized + Drop {
     /// What is answered where memory is wanted.
     fn out_of_memory() -> Self::Told;
 
-    /// Whether the call may answer as if nothing had been refused, since it asks for room at once and, where that is refused, goes on
-    /// growth by growth.
+    /// Whether the call may answer as if nothing had been refused, since it asks for room at once
+    /// and, where that is refused, goes on growth by growth.
     fn may_do_without(call: Self::Call) -> bool;
 
-    /// Whether both have the same pages and live keys, and find the same under the keys that are told.
+    /// Whether both have the same pages and live keys, and find the same under the keys that are
+    /// told.
     fn is_like<R: Wait>(&mut self, rt: &R, twin: &mut Self, told: &[Self::Told]) -> bool;
 }
 
@@ -172,8 +175,8 @@ impl<S: Subject> Script<S> {
         }
     }
 
-    /// The call at that place, whose growth of that number is refused, beside a twin that isn't asked; then it is made again, and
-    /// so are all calls after it.
+    /// The call at that place, whose growth of that number is refused, beside a twin that isn't
+    /// asked; then it is made again, and so are all calls after it.
     fn round<R: Wait>(
         &self,
         rt: &R,
@@ -204,7 +207,8 @@ impl<S: Subject> Script<S> {
         self.goes_on(rt, subject, place)
     }
 
-    /// A round in which a growth was refused: what it comes to when the calls from that place on are made.
+    /// A round in which a growth was refused: what it comes to when the calls from that place on
+    /// are made.
     fn goes_on<R: Wait>(&self, rt: &R, subject: &mut S, place: usize) -> Round {
         if self.is_answered(rt, subject, place, self.calls.len()) {
             Round::Refused
@@ -233,7 +237,8 @@ impl<S: Subject> Script<S> {
         Some(subject)
     }
 
-    /// Refuses each growth of each call, until something is not as it ought to be. None where it could not begin or go on.
+    /// Refuses each growth of each call, until something is not as it ought to be. None where it
+    /// could not begin or go on.
     pub(crate) fn rounds<R: Wait>(&self, rt: &R, alloc: Global) -> Option<Rounds> {
         let mut rounds = Rounds::none();
         let mut subject = S::fresh(rt, alloc)?;

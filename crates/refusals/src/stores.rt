@@ -1,7 +1,7 @@
 //! Shards, a pool and single folds.
 use crate::refusing::{Rounds, Script, Subject};
-use abandoned::{AdoptError, Pool, ReceiveError};
 use fold::{Step, fold_one};
+use pool::{AdoptError, Pool, ReceiveError};
 use shard::{Found, Freed, PutError, Replaced, Shard};
 use span::{Class, Entry, Key, Object, SpanId};
 use std::alloc::{AllocError, Global};
@@ -270,8 +270,8 @@ fn add_sets(calls: &mut Vec<Call>, shard: u32, slot: u8) -> Option<()> {
     add(calls, Call::Set { key, value: other })
 }
 
-// Puts over more than a page, of which few stay live: in shard 0 the slots 3 to 5, in shard 1 the slots 10 to 15 and two of a second
-// span, and in shard 2 the slot 2.
+// Puts over more than a page, of which few stay live: in shard 0 the slots 3 to 5, in shard 1 the
+// slots 10 to 15 and two of a second span, and in shard 2 the slot 2.
 fn add_first_puts(calls: &mut Vec<Call>) -> Option<()> {
     add_puts(calls, 0, 6)?;
     add_frees(calls, 0, 0, 2)?;
@@ -281,9 +281,9 @@ fn add_first_puts(calls: &mut Vec<Call>) -> Option<()> {
     add_frees(calls, 2, 0, 1)
 }
 
-// Sets in a shard, in the pool and of a guest, ends, a retirement, an adoption, folds of groups alone and with guests, pages in other
-// blocks, and lists of the pool's groups. (A shard's list is collected, which asks for its room at once and, where that is refused, goes on growth
-// by growth.)
+// Sets in a shard, in the pool and of a guest, ends, a retirement, an adoption, folds of groups
+// alone and with guests, pages in other blocks, and lists of the pool's groups. (A shard's list is
+// collected, which asks for its room at once and, where that is refused, goes on growth by growth.)
 fn calls_of(alloc: Global) -> Option<Vec<Call>> {
     let mut calls = Vec::new(alloc);
     let (first, second, third) = (SpanId::new(0, 0)?, SpanId::new(1, 0)?, SpanId::new(2, 0)?);

@@ -12,16 +12,31 @@ use Rattle.remote_queue.specs.Rings.{Sending, Taking}
 -- the sender's end of a ring, with the keys that wait to be handed over
 abbrev pub sending : Producer Key Global KeysInRange → List Key → Sending
 sending producer waiting = record {
-  ring = record { capacity = producer.capacity; words = producer.end.words; slots = producer.end.slots; names = producer.end.names; heap = producer.end.heap };
+  ring =
+      record {
+        capacity = producer.capacity;
+        words = producer.end.words;
+        slots = producer.end.slots;
+        names = producer.end.names;
+        heap = producer.end.heap;
+      };
   sent = sent producer ++ waiting;
   free = known_free producer - length waiting;
   waiting = length waiting;
 }
 
--- the taker's end of a ring, with the block of keys that it drew last, of which those from one place to another are not taken yet
+-- the taker's end of a ring, with the block of keys that it drew last, of which those from one
+-- place to another are not taken yet
 abbrev pub taking : Consumer Key Global KeysInRange → List Key → ℕ → ℕ → Taking
 taking consumer block next end = record {
-  ring = record { capacity = consumer.capacity; words = consumer.end.words; slots = consumer.end.slots; names = consumer.end.names; heap = consumer.end.heap };
+  ring =
+      record {
+        capacity = consumer.capacity;
+        words = consumer.end.words;
+        slots = consumer.end.slots;
+        names = consumer.end.names;
+        heap = consumer.end.heap;
+      };
   taken = without_last (end - next) (received consumer);
   known = drawn_keys next end block ++ known_items consumer;
   drawn = end - next;

@@ -14,14 +14,16 @@ pub record Ring : Type 0 where
   pub names : Names
   pub heap : Global
 
--- a sender's end: its ring, every key that was sent, oldest first, how many places are known to be free, and how many of the keys sent last wait to be handed over
+-- a sender's end: its ring, every key that was sent, oldest first, how many places are known to be
+-- free, and how many of the keys sent last wait to be handed over
 pub record Sending : Type 0 where
   pub ring : Ring
   pub sent : List Key
   pub free : ℕ
   pub waiting : ℕ
 
--- a taker's end: its ring, every key that was taken, oldest first, the keys that the next takes are known to give, and how many of these are drawn from the ring, so that their places are free
+-- a taker's end: its ring, every key that was taken, oldest first, the keys that the next takes are
+-- known to give, and how many of these are drawn from the ring, so that their places are free
 pub record Taking : Type 0 where
   pub ring : Ring
   pub taken : List Key
@@ -30,7 +32,8 @@ pub record Taking : Type 0 where
 
 -- every number of the key lies within its limits
 abbrev pub IsInRange : Key → Type 0
-IsInRange key = (key.span.shard < MOST_SHARDS) × (key.span.serial < MOST_SPANS) × (1 ≤ key.generation)
+IsInRange key = (key.span.shard < MOST_SHARDS) × (key.span.serial < MOST_SPANS)
+    × (1 ≤ key.generation)
 
 -- numbers of workers, of shards and of keys in a ring that there may be
 pub record AreWithinLimits (workers shards capacity : ℕ) : Type 0 where
@@ -65,9 +68,11 @@ abbrev pub AreLong : {T : Type 0} → ℕ → List (List T) → Type 0
 AreLong n [] = Unit {0}
 AreLong n (row ∷ rows) = (length row ≡ n) × AreLong n rows
 
--- senders' ends of rings of that capacity by which nothing was sent, so that no key waits, with all places of their rings free
+-- senders' ends of rings of that capacity by which nothing was sent, so that no key waits, with all
+-- places of their rings free
 abbrev pub AreFreshOutboxes : ℕ → List Sending → Type 0
-AreFreshOutboxes capacity = All (λ outbox. (outbox.sent ≡ []) × (outbox.free ≡ capacity) × (outbox.waiting ≡ 0) × (outbox.ring.capacity ≡ capacity))
+AreFreshOutboxes capacity = All (λ outbox. (outbox.sent ≡ []) × (outbox.free ≡ capacity)
+    × (outbox.waiting ≡ 0) × (outbox.ring.capacity ≡ capacity))
 
 -- takers' ends by which nothing was taken
 abbrev pub AreFreshInboxes : List Taking → Type 0

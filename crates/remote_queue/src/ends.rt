@@ -23,14 +23,16 @@ impl Protocol<Key> for KeysInRange {
 /// How many keys are handed over or drawn at once, where the ring holds as many.
 const BLOCK: usize = 64;
 
-/// How many keys a taker's end may know: those of a full ring, and the block that it drew from it before.
+/// How many keys a taker's end may know: those of a full ring, and the block that it drew from it
+/// before.
 pub const MOST_KNOWN_KEYS: usize = MOST_RING_KEYS + BLOCK;
 
-/// A worker's end of its ring to one shard. Keys are handed over in blocks, so that not each of them crosses to the other
-/// processor by itself.
+/// A worker's end of its ring to one shard. Keys are handed over in blocks, so that not each of
+/// them crosses to the other processor by itself.
 pub struct Outbox {
     producer: Producer<Key, Global, KeysInRange>,
-    // The keys sent last, which wait until a block is full, or until they are handed over. Each has its place in the ring.
+    // The keys sent last, which wait until a block is full, or until they are handed over. Each has
+    // its place in the ring.
     waiting: Vec<Key>,
     // For how many keys more there are places, before it looks again.
     places: usize,
@@ -59,12 +61,13 @@ impl Drop for Outbox {
     }
 }
 
-/// A shard's end of its ring from one worker. Keys are drawn from the ring in blocks, so that not each of them hands its place
-/// back to the other processor by itself.
+/// A shard's end of its ring from one worker. Keys are drawn from the ring in blocks, so that not
+/// each of them hands its place back to the other processor by itself.
 #[derive(Drop)]
 pub struct Inbox {
     consumer: Consumer<Key, Global, KeysInRange>,
-    // The keys that were drawn last: those from `next` up to `end` are not taken yet. It is empty until the first are drawn.
+    // The keys that were drawn last: those from `next` up to `end` are not taken yet. It is empty
+    // until the first are drawn.
     block: Vec<Key>,
     next: usize,
     end: usize,
@@ -122,7 +125,8 @@ fn any_key() -> Key {
     }
 }
 
-// Hands the waiting keys over with one store. The ring has a place for each of them. It stands apart, since most keys wait.
+// Hands the waiting keys over with one store. The ring has a place for each of them. It stands
+// apart, since most keys wait.
 #[inline(never)]
 fn hand_over_by(producer: &mut Producer<Key, Global, KeysInRange>, waiting: &mut Vec<Key>)
     requires { vec_len waiting.old ≤ known_free producer.old }
@@ -139,7 +143,8 @@ fn hand_over_by(producer: &mut Producer<Key, Global, KeysInRange>, waiting: &mut
     }
 }
 
-// Looks how many places of the ring are free beside those of the keys that wait, and hands these over where there is none.
+// Looks how many places of the ring are free beside those of the keys that wait, and hands these
+// over where there is none.
 #[inline]
 fn look_for_places(
     producer: &mut Producer<Key, Global, KeysInRange>,
@@ -190,7 +195,8 @@ fn push_by(
     }
 }
 
-// Sends the key, where no place is known to be free: it looks for one first. It stands apart, since mostly one is known.
+// Sends the key, where no place is known to be free: it looks for one first. It stands apart, since
+// mostly one is known.
 #[inline(never)]
 fn send_after_look(
     producer: &mut Producer<Key, Global, KeysInRange>,
@@ -221,8 +227,9 @@ fn send_after_look(
     Ok(())
 }
 
-// Sends the key: it waits with others until they fill a block. Where it is refused, none waits any more.
-// Inlined, as what calls it, the key stays in registers: what is handed back would go through memory.
+// Sends the key: it waits with others until they fill a block. Where it is refused, none waits any
+// more. Inlined, as what calls it, the key stays in registers: what is handed back would go through
+// memory.
 #[inline(always)]
 fn send_by(
     producer: &mut Producer<Key, Global, KeysInRange>,
@@ -253,14 +260,14 @@ fn send_by(
 }
 
 impl Outbox {
-    /// Sends the key, in a block with others: the taker's end sees it once the block is full, or is handed over by
-    /// [`Outbox::hand_over`] or [`finish`], or a key is refused. It waits for nobody and takes no memory, and succeeds where a
-    /// place of the ring is known to be free.
+    /// Sends the key, in a block with others: the taker's end sees it once the block is full, or is
+    /// handed over by [`Outbox::hand_over`] or [`finish`], or a key is refused. It waits for nobody
+    /// and takes no memory, and succeeds where a place of the ring is known to be free.
     ///
     /// # Errors
     ///
-    /// The key, handed back, where the ring took none: each of its places was seen to hold a key, those sent in this block
-    /// among them. All keys that were sent are then handed over.
+    /// The key, handed back, where the ring took none: each of its places was seen to hold a key,
+    /// those sent in this block among them. All keys that were sent are then handed over.
     #[inline(always)]
     pub fn send(&mut self, key: Key) -> Result<(), Key>
         ensures ring { self.new.ring ≡ self.old.ring }
@@ -275,8 +282,8 @@ impl Outbox {
         send_by(&mut self.producer, &mut self.waiting, &mut self.places, key)
     }
 
-    /// Hands over the keys that wait for their block to be full, so that the taker's end can see all that were sent. It waits
-    /// for nobody and takes no memory.
+    /// Hands over the keys that wait for their block to be full, so that the taker's end can see
+    /// all that were sent. It waits for nobody and takes no memory.
     pub fn hand_over(&mut self)
         ensures ring { self.new.ring ≡ self.old.ring }
         ensures sent { self.new.sent ≡ self.old.sent }
@@ -297,7 +304,8 @@ fn fill_up(block: &mut Vec<Key>)
     }
 }
 
-// Draws keys from the ring into the first places of the block, at most that many, and gives how many there were.
+// Draws keys from the ring into the first places of the block, at most that many, and gives how
+// many there were.
 fn draw_into(
     consumer: &mut Consumer<Key, Global, KeysInRange>,
     block: &mut [Key],
@@ -317,8 +325,8 @@ fn draw_into(
 }
 
 impl Inbox {
-    /// Takes the oldest key, or `None` where none is seen. It waits for nobody and takes no memory, and answers a key where
-    /// one is known.
+    /// Takes the oldest key, or `None` where none is seen. It waits for nobody and takes no memory,
+    /// and answers a key where one is known.
     pub fn take(&mut self) -> Option<Key>
         ensures ring { self.new.ring ≡ self.old.ring }
         ensures taken { MatchOption result
@@ -335,9 +343,9 @@ impl Inbox {
         Some(self.take_known())
     }
 
-    /// Draws a block of the oldest keys that are seen from the ring, at most that many, where none is drawn: their places are free
-    /// for further keys, and they are the next to be taken. It waits for nobody and takes no memory, and draws one at least where
-    /// one is known.
+    /// Draws a block of the oldest keys that are seen from the ring, at most that many, where none
+    /// is drawn: their places are free for further keys, and they are the next to be taken. It
+    /// waits for nobody and takes no memory, and draws one at least where one is known.
     pub fn draw(&mut self, most: usize)
         ensures ring { self.new.ring ≡ self.old.ring }
         ensures taken { self.new.taken ≡ self.old.taken }
@@ -372,8 +380,8 @@ impl Inbox {
         self.next += count;
     }
 
-    /// How many keys it has drawn from its ring, or sees there, all of which it then knows: that many takes answer. It waits for
-    /// nobody and takes no memory.
+    /// How many keys it has drawn from its ring, or sees there, all of which it then knows: that
+    /// many takes answer. It waits for nobody and takes no memory.
     pub fn look(&mut self) -> usize
         ensures ring { self.new.ring ≡ self.old.ring }
         ensures taken { self.new.taken ≡ self.old.taken }
@@ -409,9 +417,10 @@ impl Inbox {
     }
 }
 
-/// How many keys were sent by the one end of a ring and not yet taken by the other, at most [`MOST_KNOWN_KEYS`]. That many takes then answer
-/// these keys, in the order in which they were sent, and the keys taken are then the keys sent. Those that waited for their block
-/// to be full are handed over. It waits for nobody and takes no memory.
+/// How many keys were sent by the one end of a ring and not yet taken by the other, at most
+/// [`MOST_KNOWN_KEYS`]. That many takes then answer these keys, in the order in which they were
+/// sent, and the keys taken are then the keys sent. Those that waited for their block to be full
+/// are handed over. It waits for nobody and takes no memory.
 pub fn finish(outbox: &mut Outbox, inbox: &mut Inbox) -> usize
     requires { outbox.old.ring ≡ inbox.old.ring }
     ensures left { result ≡ length inbox.new.known }

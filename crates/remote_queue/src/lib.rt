@@ -1,8 +1,9 @@
 //! Deferred frees: a wait-free ring from each worker to each shard.
 //!
-//! A worker sends keys to a shard by its [`Outbox`], and the shard's thread takes them by its [`Inbox`]. Neither end
-//! waits, and neither takes memory: [`link`] makes each ring (of `rtrb`) with room for all the keys that it holds. Keys go on a ring
-//! in blocks, and a taker may draw them from it so ([`Inbox::draw`]): their places are free then, and each is taken once it is done
+//! A worker sends keys to a shard by its [`Outbox`], and the shard's thread takes them by its
+//! [`Inbox`]. Neither end waits, and neither takes memory: [`link`] makes each ring (of `rtrb`)
+//! with room for all the keys that it holds. Keys go on a ring in blocks, and a taker may draw them
+//! from it so ([`Inbox::draw`]): their places are free then, and each is taken once it is done
 //! with.
 //!
 //! ```text
@@ -13,9 +14,10 @@
 //!                      ▼ a column: the inboxes of shard 0
 //! ```
 //!
-//! While the ends are in different hands, each knows its own side: what was sent, or what was taken. Once both are in one
-//! hand, [`finish`] says how many keys are left: that many takes then answer, and the keys taken are the keys sent, in order.
-//! (That frees by other threads are kept apart from the owner's and collected later is an idea of mimalloc.)
+//! While the ends are in different hands, each knows its own side: what was sent, or what was
+//! taken. Once both are in one hand, [`finish`] says how many keys are left: that many takes then
+//! answer, and the keys taken are the keys sent, in order. (That frees by other threads are kept
+//! apart from the owner's and collected later is an idea of mimalloc.)
 //!
 //! # Examples
 //!

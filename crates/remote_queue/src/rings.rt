@@ -17,13 +17,14 @@ pub struct Links {
     pub inboxes: Vec<Vec<Inbox>>,
 }
 
-/// A new ring for each worker and shard, each with room for `capacity` keys: by worker its ends to each shard, and by shard its
-/// ends from each worker. The end of a worker to a shard, and that of the shard from the worker, are of one ring.
+/// A new ring for each worker and shard, each with room for `capacity` keys: by worker its ends to
+/// each shard, and by shard its ends from each worker. The end of a worker to a shard, and that of
+/// the shard from the worker, are of one ring.
 ///
 /// # Errors
 ///
-/// `Config` exactly where a number is out of its range, which is 1 to 64 workers, 1 to 64 shards, and 1 to 1,024 keys; `OutOfMemory`
-/// only where each is within it.
+/// `Config` exactly where a number is out of its range, which is 1 to 64 workers, 1 to 64 shards,
+/// and 1 to 1,024 keys; `OutOfMemory` only where each is within it.
 pub fn link(
     alloc: Global,
     workers: usize,

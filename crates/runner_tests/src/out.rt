@@ -36,7 +36,8 @@ impl Write for Drip {
     }
 }
 
-/// Whether that many bytes of the text are taken, where the write after them fails, and the failure is told, once.
+/// Whether that many bytes of the text are taken, where the write after them fails, and the failure
+/// is told, once.
 fn takes_front(alloc: Global, taken: usize, gives_zero: bool) -> bool {
     let mut out = Out::new(Drip {
         bytes: Vec::new(alloc),

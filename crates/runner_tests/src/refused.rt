@@ -58,7 +58,8 @@ fn before(alloc: Global) -> Result<Vec<u8>, AllocError> {
     }
 }
 
-// Replays the text. Where an allocation is refused, nothing is written and the certificate stays, and the same call is made again.
+// Replays the text. Where an allocation is refused, nothing is written and the certificate stays,
+// and the same call is made again.
 fn replay_again(
     rt: &(impl AllocGlobal + Abort),
     text: &[u8],
@@ -86,7 +87,8 @@ fn replay_again(
     replay_serial(&AtHand, rt.alloc(), text, true, out, cert)
 }
 
-/// Whether the text has this report and this certificate, at once or where an allocation was refused.
+/// Whether the text has this report and this certificate, at once or where an allocation was
+/// refused.
 fn is_replayed(
     rt: &(impl AllocGlobal + Abort),
     text: &[u8],
@@ -133,7 +135,8 @@ fn a_refused_growth_of_an_adoption_leaves_nothing(rt: HostRuntime) -> Result<(),
     is_replayed(&rt, ADOPTION, ADOPTION_REPORT, ADOPTION_CERTIFICATE)
 }
 
-// Checks the certificate. Where an allocation is refused, nothing is written, and the same call is made again.
+// Checks the certificate. Where an allocation is refused, nothing is written, and the same call is
+// made again.
 fn check_again(
     rt: &(impl AllocGlobal + Abort),
     text: &[u8],

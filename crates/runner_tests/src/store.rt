@@ -80,7 +80,8 @@ fn nothing_to_save(rt: HostRuntime) {
     );
 }
 
-// The text of the file of the certificate on the disk, after a longer one and then a shorter one were saved.
+// The text of the file of the certificate on the disk, after a longer one and then a shorter one
+// were saved.
 fn saved_twice(rt: &HostRuntime, path: &str) -> io::Result<Vec<u8>> {
     let mut disk = Disk::new(rt);
     let longer = save(&mut disk, Some(path), b"longer");

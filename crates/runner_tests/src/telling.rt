@@ -1,4 +1,5 @@
-//! Faults, with the messages and the statuses that they end with, where `examples/` can't show them.
+//! Faults, with the messages and the statuses that they end with, where `examples/` can't show
+//! them.
 use command_line::{Fault, TellError, tell};
 use std::alloc::Global;
 use std::test::Fail;

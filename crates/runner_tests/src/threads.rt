@@ -15,7 +15,8 @@ const TWO_PUTS: &[u8] = b"mesh 1\nshards 2\npages 4\nring 4\ngens 9\n0 put a 1\n
 const TWO_PUTS_REPORT: &[u8] =
     b"6 key 0.0/0/1\n7 key 1.0/0/1\nend pages 2 live 2 calls 2\naudit ok\n";
 
-/// A plan whose step is taken beside thread 2, or else after it. The thread frees the key that is to be folded.
+/// A plan whose step is taken beside thread 2, or else after it. The thread frees the key that is
+/// to be folded.
 const STEP_BESIDE_A_FREE: &[u8] =
     b"mesh 1\nshards 3\npages 4\nring 4\ngens 9\n0 put a 1\n0 end\n1 fill b 2 10\n1 sweep b 0 1\nmark\n2 put c 3\n2 free a\n";
 
@@ -38,7 +39,8 @@ impl Visit {
         }
     }
 
-    /// Waits, where this is the shard's first call, for the other's to be inside too, for some seconds of a processor.
+    /// Waits, where this is the shard's first call, for the other's to be inside too, for some
+    /// seconds of a processor.
     fn meet(&self, other: &Visit) {
         if self.inside.swap(true, Ordering::SeqCst) {
             return;

@@ -1,10 +1,10 @@
 //! The lines to begin with of `docs/CALLING.md`. What a test owns is let go at each exit, so the
 //! lines with most exits stand in functions that are lent it.
-use abandoned::Pool;
 use arena_core::{Core, Event, Reply};
 use bitmap::Bits256;
 use certificate::check;
 use mesh_graph::{AtHand, Entry, Graph, Snapshot};
+use pool::Pool;
 use shard::{Found, Freed, Shard};
 use span::{Class, Key, Object, SpanId};
 use std::process::Abort;

@@ -1,4 +1,5 @@
--- The window of spans of which a shard notes where the heads stand. No public clause cites this module.
+-- The window of spans of which a shard notes where the heads stand. No public clause cites this
+-- module.
 use Rattle.std.specs.Prelude.{◌+◌, ◌-◌, ◌*◌, ℕ, List, Option, length, max, slice_get, refl}
 use Rattle.std.specs.Coded.{Coded, code_by, coded×, coded_list, coded_ℕ}
 use Rattle.shard.specs.declared.head_indexes.TheConstants.{FEWEST}
@@ -10,7 +11,8 @@ pub record HeadWindow : Type 0 where
 
 -- a window is stored as the pair of its fields
 abbrev pub window_code : Coded HeadWindow
-window_code = code_by (ℕ × List ℕ) (coded× coded_ℕ (coded_list coded_ℕ)) (λ w. (w.base, w.entries)) (λ p. record { base = p.0; entries = p.1 }) (λ _. refl)
+window_code = code_by (ℕ × List ℕ) (coded× coded_ℕ (coded_list coded_ℕ)) (λ w. (w.base, w.entries))
+    (λ p. record { base = p.0; entries = p.1 }) (λ _. refl)
 
 -- the entry of a serial that is not below the base
 abbrev pub entry_of : HeadWindow → ℕ → Option ℕ

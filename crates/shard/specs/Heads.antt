@@ -12,21 +12,26 @@ IsNoted number base id = (id.shard ≡ number) × (base ≤ id.serial)
 
 -- for each such head, below the index, its index is noted under its serial
 abbrev pub KnowsBelow : ℕ → List GroupState → HeadWindow → ℕ → Type 0
-KnowsBelow number groups window below = (index : ℕ) (group : GroupState) → index < below → slice_get groups index ≡ Some group → IsNoted number window.base group.head.id
+KnowsBelow number groups window below = (index : ℕ) (group : GroupState) → index < below
+    → slice_get groups index ≡ Some group → IsNoted number window.base group.head.id
     → entry_of window group.head.id.serial ≡ Some index
 
 -- for each such head its index is noted under its serial
 abbrev pub KnowsHeads : ℕ → List GroupState → HeadWindow → Type 0
-KnowsHeads number groups window = (index : ℕ) (group : GroupState) → slice_get groups index ≡ Some group → IsNoted number window.base group.head.id
+KnowsHeads number groups window = (index : ℕ) (group : GroupState)
+    → slice_get groups index ≡ Some group → IsNoted number window.base group.head.id
     → entry_of window group.head.id.serial ≡ Some index
 
 -- the serial of each such head is below the end of the window
 abbrev pub FitHeads : ℕ → List GroupState → HeadWindow → Type 0
-FitHeads number groups window = (index : ℕ) (group : GroupState) → slice_get groups index ≡ Some group → IsNoted number window.base group.head.id
+FitHeads number groups window = (index : ℕ) (group : GroupState)
+    → slice_get groups index ≡ Some group → IsNoted number window.base group.head.id
     → group.head.id.serial < end_of window
 
--- the heads may be noted from the index on: those below are, there is room for the others, and groups stand by ascending head
-pub record AreReady (number : ℕ) (groups : List GroupState) (window : HeadWindow) (from : ℕ) : Type 0 where
+-- the heads may be noted from the index on: those below are, there is room for the others, and
+-- groups stand by ascending head
+pub record AreReady (number : ℕ) (groups : List GroupState) (window : HeadWindow) (from : ℕ) :
+    Type 0 where
   pub ascend : Ascend groups
   pub few : length groups ≤ MOST_PAGES
   pub fit : FitHeads number groups window

@@ -14,11 +14,13 @@ IsNotAfter a b = (a.live < b.live) ⊎ ((a.live ≡ b.live) × (rank a.head ≤ 
 
 -- each stands in order with every later one
 abbrev pub AreInOrder : List LiveGroup → Type 0
-AreInOrder told = (low high : ℕ) (a b : LiveGroup) → low < high → slice_get told low ≡ Some a → slice_get told high ≡ Some b → IsNotAfter a b
+AreInOrder told = (low high : ℕ) (a b : LiveGroup) → low < high → slice_get told low ≡ Some a
+    → slice_get told high ≡ Some b → IsNotAfter a b
 
 -- so does each of the first with every one of the others
 abbrev pub AreBefore : List LiveGroup → List LiveGroup → Type 0
-AreBefore told rest = (low high : ℕ) (a b : LiveGroup) → slice_get told low ≡ Some a → slice_get rest high ≡ Some b → IsNotAfter a b
+AreBefore told rest = (low high : ℕ) (a b : LiveGroup) → slice_get told low ≡ Some a
+    → slice_get rest high ≡ Some b → IsNotAfter a b
 
 -- there are as many as asked for, or no others
 abbrev pub IsCut : ℕ → List LiveGroup → List LiveGroup → Type 0

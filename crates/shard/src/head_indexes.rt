@@ -15,20 +15,22 @@ const HEADS: u32 = 4_194_304;
 /// How many guests of a group have an entry.
 const GUESTS: usize = 1024;
 
-/// For each of the last spans that the shard opened, the index of its group, if it is the head of one here. So a look-up of such a
-/// head takes one step, however many groups have left. It has four bytes a span. The first serial that has an entry rises as
-/// the shard opens spans, so that the memory goes with the groups that are here and not with the spans that ever were. The
-/// index of a span that is no head here is of no account.
+/// For each of the last spans that the shard opened, the index of its group, if it is the head of
+/// one here. So a look-up of such a head takes one step, however many groups have left. It has four
+/// bytes a span. The first serial that has an entry rises as the shard opens spans, so that the
+/// memory goes with the groups that are here and not with the spans that ever were. The index of a
+/// span that is no head here is of no account.
 ///
-/// Of a guest it is noted how many guests stand before it, and the serial of its head, so that no group that comes or goes changes
-/// what is noted of the guests of others. Whoever asks must look whether the guest stands there: what is noted of one that has left
-/// is of no account.
+/// Of a guest it is noted how many guests stand before it, and the serial of its head, so that no
+/// group that comes or goes changes what is noted of the guests of others. Whoever asks must look
+/// whether the guest stands there: what is noted of one that has left is of no account.
 #[derive(Drop)]
 pub struct HeadIndexes {
     base: usize,
     // By serial, from the base on.
     indexes: Vec<u32>,
-    // The same of guests, as far as any have come: the place above, and the lowest bits of the head's serial.
+    // The same of guests, as far as any have come: the place above, and the lowest bits of the
+    // head's serial.
     guests: Vec<u32>,
 }
 
@@ -62,8 +64,8 @@ impl HeadIndexes {
         self.base
     }
 
-    /// Makes room for the serials below the count, where it has less. Where they are more than there are entries for so many
-    /// groups, the base rises, and half as many are left.
+    /// Makes room for the serials below the count, where it has less. Where they are more than
+    /// there are entries for so many groups, the base rises, and half as many are left.
     ///
     /// # Errors
     ///
@@ -96,7 +98,8 @@ impl HeadIndexes {
         grow(&mut self.guests, self.indexes.len())
     }
 
-    // Has the base rise. The entries from there on stay, and as many as have gone are of no account.
+    // Has the base rise. The entries from there on stay, and as many as have gone are of no
+    // account.
     fn rise(&mut self, base: usize)
         requires { self.old.base ≤ base }
         ensures base { self.new.base ≡ base }
@@ -128,8 +131,9 @@ impl HeadIndexes {
         Some(self.indexes[at] as usize)
     }
 
-    /// Where the guest of this serial stands, if it is one, and what is noted of it still holds: the index of its group, and how many
-    /// guests stand before it. Where nothing is noted, the index is past all groups.
+    /// Where the guest of this serial stands, if it is one, and what is noted of it still holds:
+    /// the index of its group, and how many guests stand before it. Where nothing is noted, the
+    /// index is past all groups.
     #[inline(always)]
     pub fn guest_at(&self, serial: u32) -> (usize, usize)
         ensures { result.1 < 1024 }
@@ -147,8 +151,9 @@ impl HeadIndexes {
         (self.indexes[head] as usize, (entry / HEADS) as usize)
     }
 
-    /// Notes where the guests of the head stand, from the place `first` on, counted from 0: those that the shard of this number opened,
-    /// if it opened the head too. What is noted of heads stays. It takes no memory.
+    /// Notes where the guests of the head stand, from the place `first` on, counted from 0: those
+    /// that the shard of this number opened, if it opened the head too. What is noted of heads
+    /// stays. It takes no memory.
     pub fn note_guests<L: Log>(
         &mut self,
         guests: &[Span<L>],
@@ -163,7 +168,8 @@ impl HeadIndexes {
         }
     }
 
-    /// Notes where the heads of the shard of this number stand from the index on. It takes no memory.
+    /// Notes where the heads of the shard of this number stand from the index on. It takes no
+    /// memory.
     pub fn note_from<L: Log>(&mut self, groups: &[Group<L>], from: usize, number: u32)
         requires { AreReady number groups.now self.old from }
         ensures known { KnowsHeads number groups.now self.new }
@@ -174,7 +180,8 @@ impl HeadIndexes {
     }
 }
 
-/// Whether the shard of this number, the first of whose entries is that of the base, notes where a head of this id stands.
+/// Whether the shard of this number, the first of whose entries is that of the base, notes where a
+/// head of this id stands.
 #[inline(always)]
 pub fn is_noted(number: u32, base: usize, head: SpanId) -> bool
     ensures known { result ≡ true → IsNoted number base head }
@@ -226,7 +233,8 @@ fn grow(indexes: &mut Vec<u32>, count: usize) -> Result<(), AllocError>
     indexes.resize(count, 0)
 }
 
-// Notes of the guests from the place `first` on where they stand, those whose shard is that of their head.
+// Notes of the guests from the place `first` on where they stand, those whose shard is that of
+// their head.
 fn note_places<L: Log>(
     base: usize,
     places: &mut Vec<u32>,
@@ -256,7 +264,8 @@ fn note_heads<L: Log>(
     from: usize,
     number: u32,
 )
-    requires { AreReady number groups.now (record { base = base; entries = indexes.old.items }) from }
+    requires { AreReady number groups.now (record { base = base; entries = indexes.old.items })
+        from }
     ensures known { KnowsHeads number groups.now
         (record { base = base; entries = indexes.new.items }) }
     ensures len { length indexes.new.items ≡ length indexes.old.items }

@@ -55,10 +55,12 @@ pub enum Freed {
     NotHere,
 }
 
-/// The groups of spans that one thread owns, by ascending head, each with its page of 256 words, or with none where nothing is live.
+/// The groups of spans that one thread owns, by ascending head, each with its page of 256 words, or
+/// with none where nothing is live.
 ///
-/// It keeps that it is sound, that a group whose index is not in `rooms` has no usable slot, and that one whose index is in the
-/// set of a class is of that class. `heads` says of the last heads that it opened at which index they stand.
+/// It keeps that it is sound, that a group whose index is not in `rooms` has no usable slot, and
+/// that one whose index is in the set of a class is of that class. `heads` says of the last heads
+/// that it opened at which index they stand.
 #[derive(Drop)]
 pub struct Shard<L: Log = Kept> {
     alloc: Global,
@@ -76,7 +78,8 @@ pub struct Shard<L: Log = Kept> {
     group_room: usize,
     span_room: usize,
     onto: Option<SpanId>,
-    // An empty list with room for the guests of the group `onto` and those for which room is reserved.
+    // An empty list with room for the guests of the group `onto` and those for which room is
+    // reserved.
     guest_room: Vec<Span<L>>,
 }
 
@@ -96,9 +99,9 @@ impl<L: Log> Model for Shard<L> {
 }
 
 impl Shard<Kept> {
-    /// A shard with no page, which may have that many pages, opens as many spans as there are serials, and gives a slot the
-    /// generations 1 to `gens`. It is refused exactly where the number is not below 64, the pages are not 1 to 1,048,576, or `gens`
-    /// is 0.
+    /// A shard with no page, which may have that many pages, opens as many spans as there are
+    /// serials, and gives a slot the generations 1 to `gens`. It is refused exactly where the
+    /// number is not below 64, the pages are not 1 to 1,048,576, or `gens` is 0.
     pub fn new(alloc: Global, number: u32, page_limit: usize, gens: u32) -> Result<Shard, Config>
         ensures in_range { IsOk result ↔ ((number < MOST_SHARDS) × (1 ≤ page_limit)
             × (page_limit ≤ MOST_PAGES) × (1 ≤ gens)) }
@@ -121,8 +124,9 @@ impl Shard<Kept> {
 }
 
 impl<L: Log> Shard<L> {
-    /// A shard with no page, whose logs are kept or counted as its type says, and which may open `span_limit` spans in its
-    /// life: else as [`Shard::new`], and refused as that is, and where `span_limit` is not 1 to [`MOST_SPANS`].
+    /// A shard with no page, whose logs are kept or counted as its type says, and which may open
+    /// `span_limit` spans in its life: else as [`Shard::new`], and refused as that is, and where
+    /// `span_limit` is not 1 to [`MOST_SPANS`].
     pub fn with_log(
         alloc: Global,
         number: u32,
@@ -131,7 +135,8 @@ impl<L: Log> Shard<L> {
         gens: u32,
     ) -> Result<Shard<L>, Config>
         ensures in_range { IsOk result ↔ ((number < MOST_SHARDS) × (1 ≤ page_limit)
-            × (page_limit ≤ MOST_PAGES) × (1 ≤ span_limit) × (span_limit ≤ MOST_SPANS) × (1 ≤ gens)) }
+            × (page_limit ≤ MOST_PAGES) × (1 ≤ span_limit) × (span_limit ≤ MOST_SPANS)
+            × (1 ≤ gens)) }
         ensures empty { IfOk result (λ shard. shard ≡ record {
           number = number;
           page_limit = page_limit;
@@ -179,7 +184,8 @@ impl<L: Log> Shard<L> {
         self.groups.len()
     }
 
-    /// How many pages it has, one a group that has any: a trim takes those on which nothing is live.
+    /// How many pages it has, one a group that has any: a trim takes those on which nothing is
+    /// live.
     pub fn pages(&self) -> usize
         ensures pages { result ≡ length (paged_in self.now.groups) }
         ensures at_most { result ≤ length self.now.groups }
@@ -244,7 +250,8 @@ impl<L: Log> Shard<L> {
         live
     }
 
-    /// Of each group that has a page the head and the slots that are live in one of its spans, by ascending head.
+    /// Of each group that has a page the head and the slots that are live in one of its spans, by
+    /// ascending head.
     ///
     /// # Errors
     ///

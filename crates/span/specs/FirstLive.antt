@@ -7,10 +7,13 @@ use Rattle.span.specs.PlainMap.{PlainMap}
 
 -- of the spans of these ranks, from the low one on and below the high one, no key has a value
 abbrev pub HasNoneBetween : PlainMap → ℕ → ℕ → Type 0
-HasNoneBetween map low high = (key : Key) → low ≤ rank key.span → rank key.span < high → map.value_of key ≡ None
+HasNoneBetween map low high = (key : Key) → low ≤ rank key.span → rank key.span < high
+    → map.value_of key ≡ None
 
--- the key has a value and its span is of this rank or a later one, and each other such key comes after it
+-- the key has a value and its span is of this rank or a later one, and each other such key comes
+-- after it
 pub record IsFirstLive (map : PlainMap) (low : ℕ) (key : Key) : Type 0 where
   pub live : IsSome (map.value_of key)
   pub not_below : low ≤ rank key.span
-  pub first : (other : Key) → low ≤ rank other.span → IsSome (map.value_of other) → (other ≡ key) ⊎ IsAfter key other
+  pub first : (other : Key) → low ≤ rank other.span → IsSome (map.value_of other) → (other ≡ key)
+      ⊎ IsAfter key other

@@ -9,15 +9,19 @@ use Rattle.span.specs.declared.generations.Generations.{Generations}
 use Rattle.span.specs.LastGiven.{HasAllOrNone, last_given}
 use Rattle.span.specs.Log.{IsLegal, IsOfClass, puts_of, all_puts, live_slots, worn_slots}
 
--- the log is legal, and the sets and the last generations are those of the log, a missing generation being 0
-pub record Follows (gens : ℕ) (log : List Change) (live worn : SlotSet) (generations : List ℕ) : Type 0 where
+-- the log is legal, and the sets and the last generations are those of the log, a missing
+-- generation being 0
+pub record Follows (gens : ℕ) (log : List Change) (live worn : SlotSet) (generations : List ℕ) :
+    Type 0 where
   pub legal : IsLegal gens log
   pub live_is : live ≡ live_slots log
   pub worn_is : worn ≡ worn_slots gens log
   pub generation_is : (slot : ℕ) → slot < SLOTS → slice_index generations slot ≡ puts_of slot log
 
--- beside this, a generation is kept for each slot of the class or for none, beside puts and their frees the log has at most 2^63 changes, and it has room for a free of each live slot
-pub record IsKept (class : Class) (gens : ℕ) (live worn : SlotSet) (generations : Generations) (log : List Change) (room : ℕ) : Type 0 where
+-- beside this, a generation is kept for each slot of the class or for none, beside puts and their
+-- frees the log has at most 2^63 changes, and it has room for a free of each live slot
+pub record IsKept (class : Class) (gens : ℕ) (live worn : SlotSet) (generations : Generations)
+    (log : List Change) (room : ℕ) : Type 0 where
   pub some_generation : 1 ≤ gens
   pub gens_fit : gens < 2 ^ 32
   pub of_class : IsOfClass class log

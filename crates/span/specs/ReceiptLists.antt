@@ -12,7 +12,8 @@ kept_receipts list = receipts_in list.words.items list.len list.runs.items
 abbrev pub lesser : ℕ → ℕ → ℕ
 lesser a b = a - (a - b)
 
--- how many more receipts the list takes with no memory: as far as it has room, and its length is a number
+-- how many more receipts the list takes with no memory: as far as it has room, and its length is a
+-- number
 abbrev pub receipt_room : ReceiptList → ℕ
 receipt_room list = lesser (vec_capacity list.runs - vec_len list.runs) (2 ^ 64 - 1 - list.len)
 

@@ -26,4 +26,10 @@ call_viewed NotFreed = call.NotFreed
 
 -- the receipt that a view shows, with its words
 abbrev pub receipt_viewed : ReceiptView → Receipt
-receipt_viewed view = record { key = view.key; worker = view.worker; section = view.section; at = view.at; call = call_viewed view.call }
+receipt_viewed view = record {
+  key = view.key;
+  worker = view.worker;
+  section = view.section;
+  at = view.at;
+  call = call_viewed view.call;
+}

@@ -1,4 +1,5 @@
--- How a list keeps receipts: those of calls that follow one another as one, all apart from the words of their objects, and of words that count up the first alone.
+-- How a list keeps receipts: those of calls that follow one another as one, all apart from the
+-- words of their objects, and of words that count up the first alone.
 use Rattle.std.specs.Prelude.{◌≡◌, ◌⊎◌, zero, suc, ℕ, ◌+◌, ◌-◌, ◌*◌, ◌%◌, ◌^◌, ◌<◌, ◌≤◌, List, [], ◌∷◌, ◌++◌, Option, None, Some, length, map, slice_get}
 use Rattle.std.specs.Coded.{le_prop, ×_prop, Π_prop, →_prop}
 use mathlib.Core.HLevel.{×₃_prop}
@@ -38,7 +39,8 @@ call_width (NotSet class) = width_of class
 call_width Freed = 0
 call_width NotFreed = 0
 
--- how far the words of each call of a run stand behind those of the one before it: words that count up are the same, of the first call
+-- how far the words of each call of a run stand behind those of the one before it: words that count
+-- up are the same, of the first call
 abbrev pub stride : StoredCall → ℕ
 stride (Put class) = width_of class
 stride CountedPut = 0
@@ -69,7 +71,13 @@ call_in NotFreed k words = call.NotFreed
 -- the key of the run's call with this number
 abbrev pub key_in : ReceiptRun → ℕ → Key
 key_in run k = record {
-  span = record { shard = run.shard; serial = run.serial; shard_in_range = run.shard_in_range; serial_in_range = run.serial_in_range };
+  span =
+      record {
+        shard = run.shard;
+        serial = run.serial;
+        shard_in_range = run.shard_in_range;
+        serial_in_range = run.serial_in_range;
+      };
   slot = run.slot + k;
   generation = run.generation;
   generation_in_range = run.generation_in_range;
@@ -89,7 +97,8 @@ receipt_in words run k = record {
   call = call_in run.call k (run_from words (first_in run k) (call_width run.call));
 }
 
--- what a run of these calls is where their words count up, which those of objects of one word may do
+-- what a run of these calls is where their words count up, which those of objects of one word may
+-- do
 abbrev pub counted_form : StoredCall → Option StoredCall
 counted_form (Put C16) = Some CountedPut
 counted_form (Set C16) = Some CountedSet
@@ -109,14 +118,18 @@ abbrev pub next_start : ℕ → List ReceiptRun → ℕ
 next_start len [] = len
 next_start len (run ∷ runs) = run.start
 
--- the receipts of the runs, with the words of their calls; each run goes up to the start of the next
+-- the receipts of the runs, with the words of their calls; each run goes up to the start of the
+-- next
 abbrev pub receipts_in : List ℕ → ℕ → List ReceiptRun → List Receipt
 receipts_in words len [] = []
-receipts_in words len (run ∷ runs) = run_receipts words run (next_start len runs - run.start) ++ receipts_in words len runs
+receipts_in words len (run ∷ runs) = run_receipts words run (next_start len runs - run.start)
+    ++ receipts_in words len runs
 
--- the run's call with this number has a slot and a place that are numbers of their types, and words among so many
+-- the run's call with this number has a slot and a place that are numbers of their types, and words
+-- among so many
 abbrev pub HasCall : ℕ → ReceiptRun → ℕ → Type 0
-HasCall words run k = (run.slot + k < 256) × (run.at + k < 2 ^ 64) × (first_in run k + call_width run.call ≤ words)
+HasCall words run k = (run.slot + k < 256) × (run.at + k < 2 ^ 64)
+    × (first_in run k + call_width run.call ≤ words)
 
 -- the run has that many calls
 abbrev pub IsRunWithin : ℕ → ReceiptRun → ℕ → Type 0
@@ -125,20 +138,27 @@ IsRunWithin words run n = (k : ℕ) → k < n → HasCall words run k
 IsRunWithin-prop : (words : ℕ) (run : ReceiptRun) (n : ℕ) → IsProp (IsRunWithin words run n)
 IsRunWithin-prop words run n = Π_prop (λ k. →_prop (×₃_prop le_prop le_prop le_prop))
 
--- the run starts at this place, the next ones come behind it, and its calls up to there are within these words
+-- the run starts at this place, the next ones come behind it, and its calls up to there are within
+-- these words
 abbrev pub IsRunFrom : ℕ → ℕ → ℕ → ReceiptRun → Type 0
-IsRunFrom words start next run = (run.start ≡ start) × (start < next) × IsRunWithin words run (next - start)
+IsRunFrom words start next run = (run.start ≡ start) × (start < next)
+    × IsRunWithin words run (next - start)
 
 -- the runs start one after another, the first at this place
 abbrev pub AreRuns : ℕ → ℕ → ℕ → List ReceiptRun → Type 0
 AreRuns words len start [] = start ≡ len
-AreRuns words len start (run ∷ runs) = IsRunFrom words start (next_start len runs) run × AreRuns words len (next_start len runs) runs
+AreRuns words len start (run ∷ runs) = IsRunFrom words start (next_start len runs) run
+    × AreRuns words len (next_start len runs) runs
 
-pub AreRuns-prop : (words len start : ℕ) (runs : List ReceiptRun) → IsProp (AreRuns words len start runs)
+pub AreRuns-prop : (words len start : ℕ) (runs : List ReceiptRun)
+    → IsProp (AreRuns words len start runs)
 AreRuns-prop words len start [] = ℕ_set _ _
-AreRuns-prop words len start (run ∷ runs) = ×_prop (×₃_prop (ℕ_set _ _) le_prop (IsRunWithin-prop words run _)) (AreRuns-prop words len (next_start len runs) runs)
+AreRuns-prop words len start (run ∷ runs) = ×_prop
+    (×₃_prop (ℕ_set _ _) le_prop (IsRunWithin-prop words run _))
+    (AreRuns-prop words len (next_start len runs) runs)
 
--- the place is that of a receipt of the run with this number, as far as the starts of this one and the next tell
+-- the place is that of a receipt of the run with this number, as far as the starts of this one and
+-- the next tell
 pub record HasPlace (runs : List ReceiptRun) (place i : ℕ) : Type 0 where
   pub run : ReceiptRun
   pub at : slice_get runs i ≡ Some run
@@ -158,7 +178,8 @@ pub record Follows (run : ReceiptRun) (k : ℕ) (receipt : Receipt) : Type 0 whe
   pub place_fits : run.at + k < 2 ^ 64
 
 -- the receipt follows the first k calls of the run, and its words would stand at this place
-pub record IsNextOf (run : ReceiptRun) (k first : ℕ) (call : StoredCall) (receipt : Receipt) : Type 0 where
+pub record IsNextOf (run : ReceiptRun) (k first : ℕ) (call : StoredCall) (receipt : Receipt) :
+    Type 0 where
   pub follows : Follows run k receipt
   pub call_is : run.call ≡ call
   pub words : first_in run k ≡ first
@@ -167,14 +188,17 @@ pub record IsNextOf (run : ReceiptRun) (k first : ℕ) (call : StoredCall) (rece
 abbrev pub with_call : ReceiptRun → StoredCall → ReceiptRun
 with_call run call = record run { call = call }
 
--- the object is of the word that comes that many after the one at this place, which is itself the first of them
+-- the object is of the word that comes that many after the one at this place, which is itself the
+-- first of them
 pub record CountsUp (words : List ℕ) (first k : ℕ) (object : List ℕ) : Type 0 where
   pub inside : first < length words
   pub word : counted_up k (run_from words first 1) ≡ object
   pub own : counted_up 0 (run_from words first 1) ≡ run_from words first 1
 
--- the receipt follows the first k calls of the run, and its word counts up from the run's first, where the run's call is this one
-pub record IsCountedOf (words : List ℕ) (run : ReceiptRun) (k : ℕ) (call : StoredCall) (receipt : Receipt) : Type 0 where
+-- the receipt follows the first k calls of the run, and its word counts up from the run's first,
+-- where the run's call is this one
+pub record IsCountedOf (words : List ℕ) (run : ReceiptRun) (k : ℕ) (call : StoredCall)
+    (receipt : Receipt) : Type 0 where
   pub follows : Follows run k receipt
   pub before : run_receipts words (with_call run call) k ≡ run_receipts words run k
   pub one : call_width call ≡ 1
@@ -189,14 +213,17 @@ pub record IsLast (runs : List ReceiptRun) (len : ℕ) (run : ReceiptRun) (last 
   pub from : run.start ≤ len
 
 -- the receipt follows those of the last run
-pub record GoesOn (runs : List ReceiptRun) (len first : ℕ) (call : StoredCall) (receipt : Receipt) : Type 0 where
+pub record GoesOn (runs : List ReceiptRun) (len first : ℕ) (call : StoredCall) (receipt : Receipt) :
+    Type 0 where
   pub run : ReceiptRun
   pub last : ℕ
   pub is_last : IsLast runs len run last
   pub next : IsNextOf run (len - run.start) first call receipt
 
--- the receipt follows those of the last run, where that run's call is this one, so that its word counts up
-pub record CountsOn (words : List ℕ) (runs : List ReceiptRun) (len : ℕ) (call : StoredCall) (receipt : Receipt) : Type 0 where
+-- the receipt follows those of the last run, where that run's call is this one, so that its word
+-- counts up
+pub record CountsOn (words : List ℕ) (runs : List ReceiptRun) (len : ℕ) (call : StoredCall)
+    (receipt : Receipt) : Type 0 where
   pub run : ReceiptRun
   pub last : ℕ
   pub is_last : IsLast runs len run last

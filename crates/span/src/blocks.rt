@@ -10,7 +10,8 @@ pub(crate) fn base_of(bases: &[usize], block: usize) -> usize
     if block == 0 { 0 } else { bases[block - 1] }
 }
 
-/// Notes, in reserved room, that the words of the block begin at the word `first`, if it is the first block that isn't noted.
+/// Notes, in reserved room, that the words of the block begin at the word `first`, if it is the
+/// first block that isn't noted.
 pub(crate) fn begin_block(bases: &mut Vec<usize>, block: usize, first: usize)
     requires next { block ≤ length bases.old.items + 1 }
     requires room { block ≤ vec_capacity bases.old }

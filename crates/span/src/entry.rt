@@ -19,7 +19,8 @@ pub struct Entry {
 impl Entry {
     ghost use Rattle.span.specs.Entries.{are_compatible};
 
-    /// Whether the groups are of one class, and no slot is occupied in both, so that one page can hold the words of both.
+    /// Whether the groups are of one class, and no slot is occupied in both, so that one page can
+    /// hold the words of both.
     pub fn is_compatible(&self, other: &Entry) -> bool
         ensures { result ≡ are_compatible self.now other.now }
     {

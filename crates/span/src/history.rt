@@ -1,7 +1,9 @@
-// The changes of a span as a list that only proofs read: it has no bytes, and its calls do nothing when they run.
+// The changes of a span as a list that only proofs read: it has no bytes, and its calls do nothing
+// when they run.
 //
-// No memory ties the list to anything, so what it says rests on the contracts of those who keep a history: no body
-// decides anything by it. `new` and `with` are proved by hand, and no other function makes a history.
+// No memory ties the list to anything, so what it says rests on the contracts of those who keep a
+// history: no body decides anything by it. `new` and `with` are proved by hand, and no other
+// function makes a history.
 ghost use Rattle.std.specs.Prelude.{◌≡◌, List, [], ◌∷◌, ◌++◌};
 ghost use Rattle.std.specs.Borrow.{ftrue};
 ghost use Rattle.span.specs.declared.change.Change.{Change};

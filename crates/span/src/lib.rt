@@ -22,12 +22,12 @@
 //! is legal, and each change stands at its end. So whoever has the log can tell what each key held
 //! at each time, and check what a [`Receipt`] says of a call.
 //!
-//! A log that is [`Kept`] takes 8 bytes a change, and the words of each object that was put or set, for
-//! as long as its span lives. A span that works for ever and whose log nobody reads is a
-//! `Span<Counted>`: it keeps the number of changes alone, so a put and its free leave memory as it was,
-//! but once in a span's life: generations take a byte each until a slot passes 255, and 4 bytes each
-//! from then on. Its contracts are the same, since they speak of the log as a list that proofs alone
-//! carry along; only `log` is missing.
+//! A log that is [`Kept`] takes 8 bytes a change, and the words of each object that was put or set,
+//! for as long as its span lives. A span that works for ever and whose log nobody reads is a
+//! `Span<Counted>`: it keeps the number of changes alone, so a put and its free leave memory as it
+//! was, but once in a span's life: generations take a byte each until a slot passes 255, and 4
+//! bytes each from then on. Its contracts are the same, since they speak of the log as a list that
+//! proofs alone carry along; only `log` is missing.
 //!
 //! # Examples
 //!

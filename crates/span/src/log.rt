@@ -16,7 +16,8 @@ use crate::words::{push_words, words_from};
 use std::alloc::{AllocError, Global};
 use std::marker::Model;
 
-/// How a span keeps its changes: as [`Kept`], which has them all, or as [`Counted`], which has their number.
+/// How a span keeps its changes: as [`Kept`], which has them all, or as [`Counted`], which has
+/// their number.
 ///
 /// Contracts see all changes in both, so no other clause speaks of the choice.
 pub trait Log: Drop {
@@ -37,7 +38,8 @@ pub trait Log: Drop {
     ///
     /// # Errors
     ///
-    /// `AllocError` where memory runs out. The changes are then as they were, and the room has not shrunk.
+    /// `AllocError` where memory runs out. The changes are then as they were, and the room has not
+    /// shrunk.
     fn reserve(&mut self, more: usize, words: usize) -> Result<(), AllocError>
         ensures changes { changes self.new ≡ changes self.old }
         ensures room { room self.old ≤ room self.new }
@@ -54,12 +56,14 @@ pub trait Log: Drop {
             ++ change.Put slot generation words.now ∷ [] }
         ensures room { room self.old ≤ room self.new + 1 };
 
-    /// Makes room for that many more changes, of which one is a set, and for that many words of objects among them.
+    /// Makes room for that many more changes, of which one is a set, and for that many words of
+    /// objects among them.
     ///
     /// # Errors
     ///
-    /// `AllocError` where memory runs out, or where there would be more than 2^63 changes, as only a log that takes no memory
-    /// could have. The changes are then as they were, and the room has not shrunk.
+    /// `AllocError` where memory runs out, or where there would be more than 2^63 changes, as only
+    /// a log that takes no memory could have. The changes are then as they were, and the room has
+    /// not shrunk.
     fn reserve_set(&mut self, more: usize, words: usize) -> Result<(), AllocError>
         ensures changes { changes self.new ≡ changes self.old }
         ensures room { room self.old ≤ room self.new }
@@ -90,8 +94,8 @@ pub trait Log: Drop {
         ensures { result ≡ length (changes self.now) };
 }
 
-/// A log that keeps all its changes, and drops none: it can be read and audited. A change takes 8 bytes, and a put or a set
-/// the words of its object besides, which stand in a list of their own.
+/// A log that keeps all its changes, and drops none: it can be read and audited. A change takes 8
+/// bytes, and a put or a set the words of its object besides, which stand in a list of their own.
 #[derive(Drop)]
 pub struct Kept {
     changes: Vec<Stored>,

@@ -5,11 +5,11 @@ ghost use Rattle.span.specs.Classes.{IsObject, class_of, width_of};
 use crate::class::Class;
 use std::marker::Model;
 
-/// An object: a class, and as many words as the class has. Contracts see it as the list of its words,
-/// whose length tells the class.
+/// An object: a class, and as many words as the class has. Contracts see it as the list of its
+/// words, whose length tells the class.
 ///
-/// It takes 272 bytes whatever its class, so it stands at the outermost calls alone: below them words go
-/// as slices, and no list keeps objects.
+/// It takes 272 bytes whatever its class, so it stands at the outermost calls alone: below them
+/// words go as slices, and no list keeps objects.
 #[derive(Clone, Copy, PartialEq, Eq, Debug)]
 pub struct Object {
     kept: Words,

@@ -9,10 +9,12 @@ use crate::stored_receipt::{Joins, ReceiptRun};
 use crate::words::push_words;
 use std::alloc::{AllocError, Global};
 
-/// Receipts, in the order of their calls: what a worker keeps of its run for an audit. A receipt takes 48 bytes, and one with
-/// an object the object's words besides, which stand in a list of their own. Receipts of calls that follow one another, as those
-/// of puts on a fresh page do, take 48 bytes together, and their words. Where these are puts of one word each, or sets, whose words
-/// count up by one from call to call, the first word alone is kept, so that they take 64 bytes together.
+/// Receipts, in the order of their calls: what a worker keeps of its run for an audit. A receipt
+/// takes 48 bytes, and one with an object the object's words besides, which stand in a list of
+/// their own. Receipts of calls that follow one another, as those of puts on a fresh page do, take
+/// 48 bytes together, and their words. Where these are puts of one word each, or sets, whose words
+/// count up by one from call to call, the first word alone is kept, so that they take 64 bytes
+/// together.
 #[derive(Drop)]
 pub struct ReceiptList {
     runs: Vec<ReceiptRun>,
@@ -48,8 +50,8 @@ impl ReceiptList {
     ///
     /// # Errors
     ///
-    /// `AllocError` where memory runs out, or where there would be more receipts than a number counts. The receipts are then as
-    /// they were, and the room has not shrunk.
+    /// `AllocError` where memory runs out, or where there would be more receipts than a number
+    /// counts. The receipts are then as they were, and the room has not shrunk.
     pub fn reserve(&mut self, more: usize, words: usize) -> Result<(), AllocError>
         ensures receipts { kept_receipts self.new ≡ kept_receipts self.old }
         ensures room { receipt_room self.old ≤ receipt_room self.new }
@@ -114,7 +116,8 @@ impl ReceiptList {
         Ok(())
     }
 
-    /// The receipt at the place, the oldest being at 0, with its words lent: an object is not copied.
+    /// The receipt at the place, the oldest being at 0, with its words lent: an object is not
+    /// copied.
     pub fn view(&self, place: usize) -> ReceiptView<'_>
         requires { place < length (kept_receipts self.now) }
         ensures { slice_get (kept_receipts self.now) place ≡ Some (receipt_viewed result) }
@@ -122,8 +125,8 @@ impl ReceiptList {
         self.view_near(place, &mut self.guess(place))
     }
 
-    /// The same, looked for first by the number in `near`, which the last call left there: who reads a list in order, from any
-    /// number on, so spares a search.
+    /// The same, looked for first by the number in `near`, which the last call left there: who
+    /// reads a list in order, from any number on, so spares a search.
     #[inline(always)]
     pub fn view_near(&self, place: usize, near: &mut usize) -> ReceiptView<'_>
         requires { place < length (kept_receipts self.now) }
@@ -144,7 +147,8 @@ impl ReceiptList {
         receipt_of(run, place - run.start, self.words.as_slice())
     }
 
-    // The number of the run that the place may be in, as it is where all have as many receipts. No answer rests on it.
+    // The number of the run that the place may be in, as it is where all have as many receipts. No
+    // answer rests on it.
     fn guess(&self, place: usize) -> usize {
         if self.len == 0 {
             return 0;

@@ -1,4 +1,5 @@
-// Receipts that a list keeps as one: which receipt goes on with which, and where the run of a place is.
+// Receipts that a list keeps as one: which receipt goes on with which, and where the run of a place
+// is.
 ghost use Rattle.std.specs.Prelude.{◌≡◌, ◌≤◌, ◌<◌, ◌+◌, [], ◌∷◌, IsTrue, IfSome, Some, ℕ, length, slice_get, vec_capacity, vec_len};
 ghost use Rattle.span.specs.StoredReceipts.{CountsUp, Follows, HasCall, HasPlace, IsCountedOf, IsNextOf, JoinsAs, MayCount};
 ghost use Rattle.span.specs.StoredReceipts.{call_in, call_width, call_words, counted_form, counted_up, key_in, receipt_in, stride, with_last_call};
@@ -16,7 +17,8 @@ use crate::receipt_view::{CallView, ReceiptView};
 use crate::stored_receipt::{Joins, ReceiptRun, StoredCall};
 use crate::words::run;
 
-// Whether two calls are of one kind that makes a change, their objects of one class, and both counted or neither.
+// Whether two calls are of one kind that makes a change, their objects of one class, and both
+// counted or neither.
 fn same_call(a: StoredCall, b: StoredCall) -> bool
     ensures { IsTrue result → a ≡ b }
 {
@@ -30,7 +32,8 @@ fn same_call(a: StoredCall, b: StoredCall) -> bool
     }
 }
 
-// The slot of the receipt's key. What a call answers is known to be in the range of its type, and a field that is read is not.
+// The slot of the receipt's key. What a call answers is known to be in the range of its type, and a
+// field that is read is not.
 fn slot_of(receipt: &Receipt) -> u8
     ensures { result ≡ receipt.now.key.slot }
 {
@@ -63,8 +66,9 @@ fn follows(run: &ReceiptRun, k: usize, receipt: &Receipt) -> bool
     at >= run.at && at - run.at == k
 }
 
-// Whether a receipt that follows the first `k` calls of the run is also of their kind, and its words would stand behind theirs at
-// `first`. Calls that make no change leave the log as it is, so none follows another.
+// Whether a receipt that follows the first `k` calls of the run is also of their kind, and its
+// words would stand behind theirs at `first`. Calls that make no change leave the log as it is, so
+// none follows another.
 fn is_next_of(run: &ReceiptRun, k: usize, first: usize, call: StoredCall, receipt: &Receipt) -> bool
     requires { Follows run.now k receipt.now }
     ensures { IsTrue result → IsNextOf run.now k first call receipt.now }
@@ -75,7 +79,8 @@ fn is_next_of(run: &ReceiptRun, k: usize, first: usize, call: StoredCall, receip
     run.first <= first && first - run.first == k * stride(run.call)
 }
 
-// What a run of these calls is where their words count up, which those of objects of one word may do.
+// What a run of these calls is where their words count up, which those of objects of one word may
+// do.
 fn counted_form(call: StoredCall) -> Option<StoredCall>
     ensures { result ≡ counted_form call }
 {
@@ -116,7 +121,8 @@ fn may_count(run: StoredCall, k: usize, call: StoredCall, counted: StoredCall) -
     k == 1 && same_call(run, call)
 }
 
-// The run's call with one more receipt, which follows its first `k` calls, if the words of all of them count up.
+// The run's call with one more receipt, which follows its first `k` calls, if the words of all of
+// them count up.
 fn counted_on(
     run: &ReceiptRun,
     k: usize,
@@ -202,7 +208,8 @@ pub(crate) fn run_of(receipt: &Receipt, call: StoredCall, first: usize, start: u
     }
 }
 
-// Whether the run with this number has the place, as far as the starts of this one and the next tell.
+// Whether the run with this number has the place, as far as the starts of this one and the next
+// tell.
 #[inline(always)]
 fn has_place(runs: &[ReceiptRun], place: usize, i: usize) -> bool
     ensures { IsTrue result → HasPlace runs.now place i }
@@ -219,7 +226,8 @@ fn has_place(runs: &[ReceiptRun], place: usize, i: usize) -> bool
 // The number of the run that has the place, by halving.
 #[inline(never)]
 fn search(runs: &[ReceiptRun], place: usize) -> usize
-    requires first { (first : ReceiptRun) → slice_get runs.now 0 ≡ Some first → first.start ≤ place }
+    requires first { (first : ReceiptRun) → slice_get runs.now 0 ≡ Some first
+        → first.start ≤ place }
     requires some { 0 < length runs.now }
     ensures { HasPlace runs.now place result }
 {
@@ -235,10 +243,12 @@ fn search(runs: &[ReceiptRun], place: usize) -> usize
     low
 }
 
-/// The number of the run that has the place. `near`, and the number after it, are tried before a search.
+/// The number of the run that has the place. `near`, and the number after it, are tried before a
+/// search.
 #[inline(always)]
 pub(crate) fn run_at(runs: &[ReceiptRun], place: usize, near: usize) -> usize
-    requires first { (first : ReceiptRun) → slice_get runs.now 0 ≡ Some first → first.start ≤ place }
+    requires first { (first : ReceiptRun) → slice_get runs.now 0 ≡ Some first
+        → first.start ≤ place }
     requires some { 0 < length runs.now }
     ensures { HasPlace runs.now place result }
 {
@@ -347,7 +357,8 @@ pub(crate) fn stored(call: &Call) -> StoredCall
     }
 }
 
-// The call with this number of a run, whose words begin at the word `first`, or count up from there.
+// The call with this number of a run, whose words begin at the word `first`, or count up from
+// there.
 #[inline(always)]
 fn call_at(call: StoredCall, k: usize, words: &[u128], first: usize) -> CallView<'_>
     requires { first + call_width call ≤ length words.now }

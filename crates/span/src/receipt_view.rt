@@ -2,7 +2,8 @@
 use crate::key::Key;
 use crate::object_view::ObjectView;
 
-/// What a call asked of its key, and what it was answered, as [`Call`](crate::Call), whose object is not copied.
+/// What a call asked of its key, and what it was answered, as [`Call`](crate::Call), whose object
+/// is not copied.
 #[derive(Clone, Copy)]
 pub enum CallView<'a> {
     /// A put of this object.
@@ -13,7 +14,8 @@ pub enum CallView<'a> {
     NotFound,
     /// A set to this object that was done.
     Set { value: ObjectView<'a> },
-    /// A set to this object that was not done, since the key was not live, or its object had another class.
+    /// A set to this object that was not done, since the key was not live, or its object had
+    /// another class.
     NotSet { value: ObjectView<'a> },
     /// A free that was done.
     Freed,

@@ -17,11 +17,12 @@ use bitmap::{Bits256, SLOTS};
 use std::alloc::{AllocError, Global};
 use std::marker::Model;
 
-/// The slots of a class: which are live, at which generation, and the log of all that was done to them.
+/// The slots of a class: which are live, at which generation, and the log of all that was done to
+/// them.
 ///
 /// A span is moved whenever a list of spans grows, so the generations stand outside of the struct,
-/// and come with the first put: a byte each, and 4 bytes each once one passes 255. The log has room for
-/// the free of each live slot at all times, so a free takes no memory. A log that is only
+/// and come with the first put: a byte each, and 4 bytes each once one passes 255. The log has room
+/// for the free of each live slot at all times, so a free takes no memory. A log that is only
 /// [`Counted`](crate::Counted) takes none at all.
 #[derive(Drop)]
 pub struct Span<L: Log = Kept> {
@@ -40,7 +41,12 @@ impl<L: Log> Model for Span<L> {
 
     ghost Value = { SpanState };
 
-    ghost view = { λ s. record { id = s.id; class = s.class; gens = s.gens; log = L.changes s.log } };
+    ghost view = { λ s. record {
+      id = s.id;
+      class = s.class;
+      gens = s.gens;
+      log = L.changes s.log;
+    } };
 
     ghost use Rattle.span.specs.Kept.{IsKept};
 
@@ -54,8 +60,8 @@ impl<L: Log> Span<L> {
     ghost use Rattle.span.specs.Order.{HoldsNoneFrom, IsFirstHeld};
     ghost use Rattle.span.specs.State.{IsSettable};
 
-    /// A span to which nothing was done yet, whose log is kept or counted as its type says: as [`Span::new`]. Takes
-    /// no memory.
+    /// A span to which nothing was done yet, whose log is kept or counted as its type says: as
+    /// [`Span::new`]. Takes no memory.
     pub fn with_log(alloc: Global, id: SpanId, class: Class, gens: u32) -> Self
         requires { 1 ≤ gens }
         ensures { result ≡ record { id = id; class = class; gens = gens; log = [] } }
@@ -71,10 +77,11 @@ impl<L: Log> Span<L> {
         }
     }
 
-    /// Puts an object, given by its words, at a slot that is neither live nor worn, and answers its key, which was never
-    /// given out before. It grows a log that is kept for this put and for the frees of all live slots, and the
-    /// list of generations at the first put and where a slot is the first to pass generation 255. `Err` comes
-    /// where memory runs out, and then the span is as before.
+    /// Puts an object, given by its words, at a slot that is neither live nor worn, and answers its
+    /// key, which was never given out before. It grows a log that is kept for this put and for the
+    /// frees of all live slots, and the list of generations at the first put and where a slot is
+    /// the first to pass generation 255. `Err` comes where memory runs out, and then the span is as
+    /// before.
     #[inline(always)]
     pub fn put_at(&mut self, slot: u8, words: &[u128]) -> Result<Key, AllocError>
         requires on_page { slot < slots_in self.old.class }
@@ -122,7 +129,8 @@ impl<L: Log> Span<L> {
         key.span == self.id && self.holds(key.slot, key.generation)
     }
 
-    /// Whether the slot is live at the generation: as [`Span::find`], for a caller that found the span by its id.
+    /// Whether the slot is live at the generation: as [`Span::find`], for a caller that found the
+    /// span by its id.
     pub fn holds(&self, slot: u8, generation: u32) -> bool
         ensures live { IsTrue result ↔ Holds self.now.log slot generation }
         ensures on_page { OnTrue result (slot < slots_in self.now.class) }
@@ -149,21 +157,22 @@ impl<L: Log> Span<L> {
         })
     }
 
-    /// Sets the object of the slot to these words, where the slot is live at the generation and its object has as many, and
-    /// says whether it was: for a caller that found the span by its id. It grows a log that is kept for this set and
-    /// for the frees of all live slots.
+    /// Sets the object of the slot to these words, where the slot is live at the generation and its
+    /// object has as many, and says whether it was: for a caller that found the span by its id. It
+    /// grows a log that is kept for this set and for the frees of all live slots.
     ///
     /// # Errors
     ///
-    /// `AllocError` in place of `true`, where memory runs out. A log that is only counted takes none, and refuses a set after
-    /// 2^63 changes alone. The span is then as before.
+    /// `AllocError` in place of `true`, where memory runs out. A log that is only counted takes
+    /// none, and refuses a set after 2^63 changes alone. The span is then as before.
     pub fn set_held(
         &mut self,
         slot: u8,
         generation: u32,
         words: &[u128],
     ) -> Result<bool, AllocError>
-        ensures found { IfOk result (λ done. IsTrue done ↔ IsSettable self.old slot generation words.now) }
+        ensures found { IfOk result (λ done. IsTrue done
+            ↔ IsSettable self.old slot generation words.now) }
         ensures set { IfOk result (λ done. OnTrue done (self.new ≡ record self.old {
           log = self.old.log ++ Change.Set slot generation words.now ∷ [];
         })) }
@@ -180,7 +189,8 @@ impl<L: Log> Span<L> {
         Ok(true)
     }
 
-    // Sets the object of the slot, which is live at the generation, and whose object has as many words.
+    // Sets the object of the slot, which is live at the generation, and whose object has as many
+    // words.
     fn set_at(&mut self, slot: u8, generation: u32, words: &[u128]) -> Result<(), AllocError>
         requires { IsSettable self.old slot generation words.now }
         ensures ok { OnOk result (self.new ≡ record self.old {
@@ -213,8 +223,8 @@ impl<L: Log> Span<L> {
         true
     }
 
-    /// Frees the slot where it is live at the generation, and says whether it was: as [`Span::free`], for a caller
-    /// that found the span by its id. Takes no memory.
+    /// Frees the slot where it is live at the generation, and says whether it was: as
+    /// [`Span::free`], for a caller that found the span by its id. Takes no memory.
     #[inline(always)]
     pub fn free_held(&mut self, slot: u8, generation: u32) -> bool
         ensures found { IsTrue result ↔ Holds self.old.log slot generation }
@@ -319,7 +329,8 @@ impl Span<Kept> {
         Span::with_log(alloc, id, class, gens)
     }
 
-    /// All changes, in order, of which none is ever dropped. A log that is only counted has no such list.
+    /// All changes, in order, of which none is ever dropped. A log that is only counted has no such
+    /// list.
     pub fn log(&self) -> &Kept
         ensures changes { kept_changes result.now ≡ self.now.log }
         ensures legal { IsLegal self.now.gens self.now.log }
@@ -327,8 +338,8 @@ impl Span<Kept> {
         &self.log
     }
 
-    /// Its id, its greatest generation and all its changes, which are handed out by move, when its run is over. Takes
-    /// no memory.
+    /// Its id, its greatest generation and all its changes, which are handed out by move, when its
+    /// run is over. Takes no memory.
     pub fn into_log(self) -> SpanLog
         ensures log { span_of_log result ≡ self }
         ensures legal { IsLegal result.gens (kept_changes result.log) }

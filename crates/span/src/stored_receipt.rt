@@ -21,15 +21,17 @@ pub(crate) enum StoredCall {
     NotFreed,
 }
 
-/// Receipts of calls that follow one another: of one kind, by one worker in one section, on slots one after another of a span,
-/// at one generation and at places one after another of its log. What is kept is the first of them; how many they are is told by
-/// where the next ones start. It takes 48 bytes. Their words stand one after another. Where the run is counted, the word of the
-/// first stands there alone, and each of the others has the word that comes after that of the call before it: 0 comes after the
-/// greatest.
+/// Receipts of calls that follow one another: of one kind, by one worker in one section, on slots
+/// one after another of a span, at one generation and at places one after another of its log. What
+/// is kept is the first of them; how many they are is told by where the next ones start. It takes
+/// 48 bytes. Their words stand one after another. Where the run is counted, the word of the first
+/// stands there alone, and each of the others has the word that comes after that of the call before
+/// it: 0 comes after the greatest.
 ///
-/// The second receipt decides which of the two a run is: one whose first two words count up is counted, and ends where a word does
-/// not go on. So each such end takes at most the 48 bytes of another run: words that count up in twos alone take 64 bytes for two
-/// receipts, where 32 would do.
+/// The second receipt decides which of the two a run is: one whose first two words count up is
+/// counted, and ends where a word does not go on. So each such end takes at most the 48 bytes of
+/// another run: words that count up in twos alone take 64 bytes for two receipts, where 32 would
+/// do.
 #[derive(Clone, Copy)]
 pub(crate) struct ReceiptRun {
     pub section: u64,
@@ -60,6 +62,7 @@ pub(crate) enum Joins {
     Apart,
     /// It goes on with the last run, and its words stand behind those of the run.
     WithItsWords,
-    /// It goes on with the last run, whose call is now this one, and its word is told by how many there are.
+    /// It goes on with the last run, whose call is now this one, and its word is told by how many
+    /// there are.
     Counted(StoredCall),
 }

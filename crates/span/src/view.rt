@@ -9,7 +9,8 @@ pub enum ChangeView<'a> {
         generation: u32,
         words: &'a [u128],
     },
-    /// The slot, which was live at the generation, took an object of these words in place of its own.
+    /// The slot, which was live at the generation, took an object of these words in place of its
+    /// own.
     Set {
         slot: u8,
         generation: u32,

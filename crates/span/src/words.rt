@@ -23,7 +23,8 @@ pub(crate) fn words_from(words: &[u128], first: usize, width: usize) -> &[u128]
     &words[first..first + width]
 }
 
-/// Adds words at the end, in reserved room, which needs no memory. One word is by far the most frequent.
+/// Adds words at the end, in reserved room, which needs no memory. One word is by far the most
+/// frequent.
 pub(crate) fn push_words(list: &mut Vec<u128>, words: &[u128])
     requires { vec_len list.old + length words.now ≤ vec_capacity list.old }
     ensures items { list.new.items ≡ list.old.items ++ words.now }

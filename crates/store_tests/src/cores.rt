@@ -1,4 +1,5 @@
-//! Cores that answer tables of events. Where an allocation is refused, what was refused is asked again.
+//! Cores that answer tables of events. Where an allocation is refused, what was refused is asked
+//! again.
 use arena_core::{Core, CoreError, Event, Refusal, Reply};
 use fold::Step;
 use marks::Totals;
@@ -84,7 +85,8 @@ fn tell(reply: &Reply) -> Told {
     }
 }
 
-// What the core answers. Where an allocation was refused, the totals are as they were, and the event is asked again.
+// What the core answers. Where an allocation was refused, the totals are as they were, and the
+// event is asked again.
 fn answer<L: Log>(core: &mut Core<L>, event: &Event) -> Option<Told> {
     let before = core.totals();
     let first = tell(&core.step(*event));
@@ -143,8 +145,8 @@ fn are_told(replies: &[Reply], wanted: &[Told]) -> bool {
     replies.len() == wanted.len()
 }
 
-// Whether the core takes the events. Where the room for their replies was refused, the core and the replies are as they
-// were, and it is asked again.
+// Whether the core takes the events. Where the room for their replies was refused, the core and the
+// replies are as they were, and it is asked again.
 fn is_run(core: &mut Core, events: &[Event], replies: &mut Vec<Reply>) -> bool {
     let before = core.totals();
     let count = replies.len();
@@ -239,8 +241,8 @@ fn new_core_of_short_rings(alloc: Global) -> Option<Core> {
     }
 }
 
-// A key that is sent is live until it is settled, and is freed in the pool where its shard has ended; a key that is sent
-// again frees nothing.
+// A key that is sent is live until it is settled, and is freed in the pool where its shard has
+// ended; a key that is sent again frees nothing.
 fn totals_after_settling(alloc: Global) -> Option<Totals> {
     let (first, second) = (key(0, 0, 0, 1)?, key(0, 0, 1, 1)?);
     let table = [
@@ -322,7 +324,8 @@ fn each_cause_is_told(rt: HostRuntime) {
     );
 }
 
-// A core of three shards whose logs are only counted, asked for again where an allocation was refused.
+// A core of three shards whose logs are only counted, asked for again where an allocation was
+// refused.
 fn new_counted_core(alloc: Global) -> Option<Core<Counted>> {
     match Core::with_log(alloc, 3, 4, 8, 9) {
         Err(CoreError::OutOfMemory) => Core::with_log(alloc, 3, 4, 8, 9).ok(),
@@ -330,8 +333,8 @@ fn new_counted_core(alloc: Global) -> Option<Core<Counted>> {
     }
 }
 
-// Whether a core with logs and one that only counts answer alike: calls on live and stale keys, an end, a fold, an
-// adoption, and what is refused.
+// Whether a core with logs and one that only counts answer alike: calls on live and stale keys, an
+// end, a fold, an adoption, and what is refused.
 fn is_alike_with_no_log(alloc: Global) -> Option<bool> {
     let (freed, folded, later) = (key(0, 0, 0, 1)?, key(0, 0, 1, 1)?, key(0, 0, 0, 2)?);
     let events = [

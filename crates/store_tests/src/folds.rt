@@ -1,13 +1,13 @@
 //! Folds from a pool onto a shard.
 use crate::objects::{Sought, object};
-use abandoned::Pool;
 use fold::{Step, fold_one};
+use pool::Pool;
 use shard::{PutError, Shard};
 use span::{Class, Key, Object, SpanId};
 use std::alloc::Global;
 
-// What is seen of pool and shard: their pages, their live keys, and what both find of a key of the pool's group, and
-// then of one of the shard's.
+// What is seen of pool and shard: their pages, their live keys, and what both find of a key of the
+// pool's group, and then of one of the shard's.
 #[derive(Clone, Copy, PartialEq, Eq, Debug)]
 struct Seen {
     pages: [usize; 2],
@@ -51,7 +51,8 @@ fn abandon(pool: &mut Pool, shard: &mut Shard, class: Class) -> Option<()> {
     Some(())
 }
 
-// Opens that many groups of the class, each closed so that the next put opens another. In each, an object is live at slot 1.
+// Opens that many groups of the class, each closed so that the next put opens another. In each, an
+// object is live at slot 1.
 fn open_groups(shard: &mut Shard, class: Class, groups: u32) -> Option<()> {
     for _ in 0..groups {
         let first = put(shard, object(class, 5))?;
@@ -62,8 +63,8 @@ fn open_groups(shard: &mut Shard, class: Class, groups: u32) -> Option<()> {
     Some(())
 }
 
-// Folds the group of shard 0 onto that of the shard. Where memory was refused, nothing has changed, and the fold is
-// asked for again.
+// Folds the group of shard 0 onto that of the shard. Where memory was refused, nothing has changed,
+// and the fold is asked for again.
 fn fold(pool: &mut Pool, shard: &mut Shard, onto: u32) -> Option<Step> {
     let (a, b) = (SpanId::new(0, 0)?, SpanId::new(onto, 0)?);
     let before = look(pool, shard);
@@ -74,7 +75,8 @@ fn fold(pool: &mut Pool, shard: &mut Shard, onto: u32) -> Option<Step> {
     }
 }
 
-// What is seen after a fold of a group of one class onto the first of that many groups of another, or of the same.
+// What is seen after a fold of a group of one class onto the first of that many groups of another,
+// or of the same.
 fn seen_after(
     pool: &mut Pool,
     ended: &mut Shard,
@@ -184,7 +186,8 @@ fn leaves_two_classes_apart(rt: HostRuntime) {
     assert_eq!(rt; folded(rt.alloc(), classes, 1), Some((Step::Clash, wanted)));
 }
 
-// The steps onto a group that clashes, onto one that is not there, and then of a group without a page.
+// The steps onto a group that clashes, onto one that is not there, and then of a group without a
+// page.
 fn steps_without_a_fold(
     pool: &mut Pool,
     ended: &mut Shard,

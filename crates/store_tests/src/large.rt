@@ -1,8 +1,8 @@
 //! Calls at sizes far beyond those of the other tests, with ample memory: no size alone is a reason
 //! for a call to be refused.
-use abandoned::Pool;
 use arena_core::{Core, Event, Reply};
 use fold::{Step, fold_one};
+use pool::Pool;
 use shard::{Freed, Replaced, Shard};
 use span::{Class, Counted, Kept, Key, Log, MOST_RING_KEYS, MOST_SPANS, Object, SpanId};
 use std::alloc::Global;

@@ -1,14 +1,18 @@
 //! Spans, pages, shards, pools, folds and cores at work: what no clause of theirs says.
 //!
-//! What is tested is that calls succeed with ample memory, that one which was refused memory has changed nothing and succeeds
-//! the second time, and answers that were worked out by hand. All of it is compiled for tests alone, over the proved libraries,
-//! so that none of them is proved once more for its tests.
+//! What is tested is that calls succeed with ample memory, that one which was refused memory has
+//! changed nothing and succeeds the second time, and answers that were worked out by hand. All of
+//! it is compiled for tests alone, over the proved libraries, so that none of them is proved once
+//! more for its tests.
 //!
 //! # Examples
 //!
 //! ```text
-//! rt test store_tests     proves the tests of `span`, `key_bits`, `page`, `shard`, `abandoned`, `fold` and `arena_core`, and runs them
+//! rt test store_tests
 //! ```
+//!
+//! It proves the tests of `span`, `key_bits`, `page`, `shard`, `pool`, `fold` and `arena_core`, and
+//! runs them.
 #![tactic(auto)]
 
 #[cfg(test)]

@@ -4,8 +4,8 @@ ghost use Rattle.shard.specs.Calls.{FindsObject};
 use shard::Found;
 use span::{Class, Object};
 
-/// The object of 64 bytes whose words differ from this one in the two lowest bits, by their place: from a multiple of four
-/// on they count.
+/// The object of 64 bytes whose words differ from this one in the two lowest bits, by their place:
+/// from a multiple of four on they count.
 pub(crate) fn wide(word: u128) -> Object {
     let words = [word, word ^ 1, word ^ 2, word ^ 3];
     Object::of(Class::C64, &words)

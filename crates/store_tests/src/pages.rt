@@ -1,7 +1,7 @@
 //! A page at work, and what a refused allocation leaves.
 //!
-//! Each call stands in a helper that promises nothing, and the answers are compared at once. A page that was refused
-//! memory is asked for again.
+//! Each call stands in a helper that promises nothing, and the answers are compared at once. A page
+//! that was refused memory is asked for again.
 ghost use Rattle.std.specs.Prelude.{◌<◌, ◌≤◌};
 ghost use Rattle.span.specs.Classes.{slots_in};
 
@@ -33,7 +33,8 @@ fn value_at(page: &Page, class: Class, slot: u8) -> Option<Object>
     Some(Object::of(class, page.value_at(class, slot)))
 }
 
-// What stands at the first two slots and at the last two of a page, after an object at its first and another at its last.
+// What stands at the first two slots and at the last two of a page, after an object at its first
+// and another at its last.
 fn ends_of(alloc: Global, class: Class, last: u8) -> Option<[Option<Object>; 4]>
     requires last { last < slots_in class }
     requires more { 2 ≤ last }

@@ -1,12 +1,12 @@
 //! Ends and adoptions at work, and what a refused allocation leaves of pool and shard.
 //!
-//! Each call stands in a helper that promises nothing and owns neither pool nor shard, and the answers are compared at
-//! once: a test carries no clauses then, and has one exit. A call that was refused memory is made again where pool and
-//! shard are as before.
+//! Each call stands in a helper that promises nothing and owns neither pool nor shard, and the
+//! answers are compared at once: a test carries no clauses then, and has one exit. A call that was
+//! refused memory is made again where pool and shard are as before.
 ghost use Rattle.std.specs.Prelude.{◌<◌};
 
 use crate::objects::{Sought, wide, widest};
-use abandoned::{AdoptError, Pool, ReceiveError};
+use pool::{AdoptError, Pool, ReceiveError};
 use shard::{Freed, PutError, Shard};
 use span::{Key, Object, SpanId};
 use std::alloc::Global;
@@ -113,8 +113,8 @@ fn free(pool: &mut Pool, key: &Key) -> Freed {
     pool.free(key)
 }
 
-// The head of the pool's group at the index, and how many slots are live there. The list is asked for again where
-// memory was refused.
+// The head of the pool's group at the index, and how many slots are live there. The list is asked
+// for again where memory was refused.
 fn listed(pool: &Pool, index: usize) -> Option<(SpanId, u32)> {
     let groups = match pool.groups() {
         Ok(groups) => groups,

@@ -1,4 +1,5 @@
-//! A span at work: the generations that it gives out, and what its log tells. A put that was refused memory is made again.
+//! A span at work: the generations that it gives out, and what its log tells. A put that was
+//! refused memory is made again.
 use span::{ChangeView, Class, Counted, Kept, Key, Log, Span, SpanId, SpanLog};
 use std::test::Fail;
 

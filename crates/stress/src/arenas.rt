@@ -1,17 +1,17 @@
-//! What no clause says: that calls succeed, what they leave behind the locks, that two threads are in their shards at the same
-//! time, and that a call that was refused memory may be made again.
+//! What no clause says: that calls succeed, what they leave behind the locks, that two threads are
+//! in their shards at the same time, and that a call that was refused memory may be made again.
 //!
-//! What is called stands in helpers that promise nothing, and the answers are compared at once: a test carries no clauses then,
-//! and has one exit.
+//! What is called stands in helpers that promise nothing, and the answers are compared at once: a
+//! test carries no clauses then, and has one exit.
 ghost use Rattle.std.specs.Prelude.{◌≡◌, length};
 ghost use Rattle.arena.specs.Seats.{AreSeatsOf};
 
 use crate::held::{TURNS, is_set_in_time};
-use abandoned::{AdoptError, ReceiveError};
 use arena::{Arena, Gate, NoGate, OpenError, Seat, Stepped, Steward, finish};
 use fold::Step;
 use marks::{MarkError, Totals};
 use mesh_graph::AtHand;
+use pool::{AdoptError, ReceiveError};
 use shard::PutError;
 use span::{CallView, Counted, Kept, Key, Log, Object, ReceiptList, SpanId};
 use std::alloc::Global;
@@ -56,8 +56,8 @@ fn make_again<L: Log>(alloc: Global) -> Option<Two<NoGate, L>> {
     }
 }
 
-// The calls that may be refused memory, made again where they were. No contract speaks of them here, so that the tests hold no
-// clauses.
+// The calls that may be refused memory, made again where they were. No contract speaks of them
+// here, so that the tests hold no clauses.
 
 fn put<G: Gate, L: Log, R: Wait>(
     rt: &R,
@@ -236,8 +236,8 @@ fn folds_beside_locks(rt: HostRuntime) -> Result<(), Fail> {
     Ok(())
 }
 
-// The one group of a running shard is retired, and is folded onto the next that the shard opens: a page goes, and each key is
-// found where it then is.
+// The one group of a running shard is retired, and is folded onto the next that the shard opens: a
+// page goes, and each key is found where it then is.
 fn is_retired<G: Gate, L: Log, R: Wait>(
     rt: &R,
     arena: &Arena<G, L>,
@@ -304,7 +304,8 @@ fn stranger() -> Option<Key> {
     Key::new(id, 0, 1)
 }
 
-// A key is found where its span is: nowhere, in its shard, in the pool, and in the shard that adopts it.
+// A key is found where its span is: nowhere, in its shard, in the pool, and in the shard that
+// adopts it.
 fn is_followed<G: Gate, L: Log, R: Wait>(
     rt: &R,
     arena: &Arena<G, L>,
@@ -407,8 +408,8 @@ fn done_by(receipts: &ReceiptList, worker: u32) -> usize {
     done
 }
 
-// A ring for four keys takes four and hands the fifth back. What is sent is live until the shard's thread tends its rings; a
-// key that was sent three times is freed once.
+// A ring for four keys takes four and hands the fifth back. What is sent is live until the shard's
+// thread tends its rings; a key that was sent three times is freed once.
 fn is_freed_once<G: Gate, L: Log, R: Wait>(
     rt: &R,
     arena: &Arena<G, L>,
@@ -445,8 +446,8 @@ fn is_freed_once<G: Gate, L: Log, R: Wait>(
     )
 }
 
-// A key goes to the shard that opened its span, and is freed where the span then is: in the pool, or in the shard that
-// adopted it.
+// A key goes to the shard that opened its span, and is freed where the span then is: in the pool,
+// or in the shard that adopted it.
 fn is_freed_where_it_is<G: Gate, L: Log, R: Wait>(
     rt: &R,
     arena: &Arena<G, L>,
@@ -514,8 +515,8 @@ fn look_up<G: Gate, L: Log, R: Wait>(
     }
 }
 
-// A key that waits for its block to be full is seen after 64 further calls of its seat, and no earlier; or once the seat goes
-// on to the next section, ends its shard, or is let go.
+// A key that waits for its block to be full is seen after 64 further calls of its seat, and no
+// earlier; or once the seat goes on to the next section, ends its shard, or is let go.
 fn is_seen_in_time<G: Gate, L: Log, R: Wait>(
     rt: &R,
     arena: &Arena<G, L>,
@@ -577,7 +578,8 @@ fn opens_within_limits(rt: HostRuntime) -> Result<(), Fail> {
     Ok(())
 }
 
-// What two threads tell each other: one that is held inside of shard 0, and one that puts in another shard meanwhile.
+// What two threads tell each other: one that is held inside of shard 0, and one that puts in
+// another shard meanwhile.
 #[derive(Drop)]
 struct Signals {
     // 1 once the thread came to the gate.
@@ -588,8 +590,8 @@ struct Signals {
     missed: AtomicU64,
 }
 
-// A gate that holds a thread inside of shard 0 until a put in another shard has answered, for at most
-// TURNS turns.
+// A gate that holds a thread inside of shard 0 until a put in another shard has answered, for at
+// most TURNS turns.
 #[derive(Drop)]
 struct Held<'a> {
     signals: &'a Signals,
@@ -623,7 +625,8 @@ fn put_beside<R: Wait>(rt: &R, arena: &Arena<Held<'_>>, signals: &Signals, seat:
     came && put
 }
 
-// Both put, each in a thread of its own, and whether the first was held until the second's put had answered.
+// Both put, each in a thread of its own, and whether the first was held until the second's put had
+// answered.
 fn meet<R: Threads + Wait + Sync>(
     rt: &R,
     arena: &Arena<Held<'_>>,
@@ -664,7 +667,8 @@ fn puts_beside_a_thread_that_is_held(rt: HostRuntime) -> Result<(), Fail> {
     Ok(())
 }
 
-// The first of two seats puts an object, and the second leaves its key to the first one's thread. Says whether it came to that.
+// The first of two seats puts an object, and the second leaves its key to the first one's thread.
+// Says whether it came to that.
 fn leaves_one<R: Wait>(rt: &R, arena: &Arena<NoGate>, seats: &mut [Seat]) -> bool
     requires two { length seats.old ≡ 2 }
     requires seats { AreSeatsOf arena.now.limits arena.now.table seats.old }
@@ -683,8 +687,9 @@ fn leaves_one<R: Wait>(rt: &R, arena: &Arena<NoGate>, seats: &mut [Seat]) -> boo
     seats[1].free_later(key).is_ok()
 }
 
-// How many keys an arena of two settles from the ring from the second worker to the first shard when it ends, how many receipts
-// it adds for that shard's worker, and how many changes its logs have.
+// How many keys an arena of two settles from the ring from the second worker to the first shard
+// when it ends, how many receipts it adds for that shard's worker, and how many changes its logs
+// have.
 fn settled_at_the_end<R: Wait>(rt: &R, alloc: Global) -> Option<(usize, usize, usize)> {
     let Ok((arena, mut seats, _)) = Arena::open(alloc, 2, 4, 4, 9, NoGate) else {
         return None;

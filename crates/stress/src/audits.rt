@@ -1,4 +1,5 @@
-//! Receipts that agree with a log, and lists that differ from them in one thing, over objects of all classes.
+//! Receipts that agree with a log, and lists that differ from them in one thing, over objects of
+//! all classes.
 ghost use Rattle.std.specs.Prelude.{◌≡◌, ◌≤◌, OnOk};
 
 use audit::{AuditCause, AuditError, audit, audit_by_threads};
@@ -222,8 +223,8 @@ fn causes(alloc: Global, object: &Object) -> Result<[Option<AuditCause>; 8], Fai
     ])
 }
 
-// The answers to a span with two logs, a generation that is used twice, a change with two receipts, a look-up that
-// answers what the span held when it was opened, and a span that was never opened.
+// The answers to a span with two logs, a generation that is used twice, a change with two receipts,
+// a look-up that answers what the span held when it was opened, and a span that was never opened.
 fn other_causes(alloc: Global) -> Result<[Option<AuditCause>; 6], Fail> {
     let (key, object, class) = (key_of(0)?, Object::c16(5), Class::C16);
     let log = [put_of(0, object), FREE];
@@ -250,7 +251,8 @@ fn other_causes(alloc: Global) -> Result<[Option<AuditCause>; 6], Fail> {
     ])
 }
 
-// The answers to an object that differs in its last word, or is of another class, in a look-up and in a put.
+// The answers to an object that differs in its last word, or is of another class, in a look-up and
+// in a put.
 fn causes_of_others(alloc: Global) -> Result<[Option<AuditCause>; 4], Fail> {
     let ([one, four, _], other) = (objects()?, other_four()?);
     let (key, class, log) = (key_of(0)?, Class::C64, [put_of(0, four)]);
@@ -274,7 +276,8 @@ fn calls_with_set(key: Key, value: Object) -> [Receipt; 5] {
     ]
 }
 
-// The answer to a log of a put of 5, a set to 8 and a free, with the set's receipt naming the object, and a second list.
+// The answer to a log of a put of 5, a set to 8 and a free, with the set's receipt naming the
+// object, and a second list.
 fn cause_of_set(
     alloc: Global,
     object: Object,
@@ -285,8 +288,9 @@ fn cause_of_set(
     cause(alloc, Class::C16, &log, &first, second)
 }
 
-// The answers to honest receipts of a set, to one that names another object, to a put in the place of a set, to a set in the
-// place of a put, to a set of a slot that is not live, and to one of another class.
+// The answers to honest receipts of a set, to one that names another object, to a put in the place
+// of a set, to a set in the place of a put, to a set of a slot that is not live, and to one of
+// another class.
 fn causes_of_sets(alloc: Global) -> Result<[Option<AuditCause>; 6], Fail> {
     let ([one, four, _], key, class) = (objects()?, key_of(0)?, Class::C16);
     let (put_0, set_1) = (put(key, 0, 0, one), set(key, 1, one, true));
@@ -301,9 +305,9 @@ fn causes_of_sets(alloc: Global) -> Result<[Option<AuditCause>; 6], Fail> {
     ])
 }
 
-// The answers, beside honest receipts of a set to 8, to another call: a look-up after the set that finds 8, and one that finds 5,
-// a set that is not done since the key is not live, one since its object has another class, and one for no reason, and one that is
-// done and makes no change.
+// The answers, beside honest receipts of a set to 8, to another call: a look-up after the set that
+// finds 8, and one that finds 5, a set that is not done since the key is not live, one since its
+// object has another class, and one for no reason, and one that is done and makes no change.
 fn causes_beside_set(alloc: Global) -> Result<[Option<AuditCause>; 6], Fail> {
     let ([one, four, _], key, eight) = (objects()?, key_of(0)?, Object::c16(8));
     Ok([
@@ -327,8 +331,8 @@ fn cause_at(
     cause(alloc, class, &[put_of(slot, object)], &receipts, &[])
 }
 
-// The answers to an object of another class than its span's, to the last slot of a page of each class, and to the slot
-// after it.
+// The answers to an object of another class than its span's, to the last slot of a page of each
+// class, and to the slot after it.
 fn causes_by_class(alloc: Global) -> Result<[Option<AuditCause>; 7], Fail> {
     let [one, four, sixteen] = objects()?;
     Ok([
@@ -437,8 +441,8 @@ fn told_by_threads<R: Threads + Sync>(
     }
 }
 
-// Of the parts that lists fail the first is told, whichever list fails it: here the second fails the reply, and the first
-// the order, which comes after it.
+// Of the parts that lists fail the first is told, whichever list fails it: here the second fails
+// the reply, and the first the order, which comes after it.
 fn causes_by_threads<R: Threads + Sync>(
     rt: &R,
     alloc: Global,

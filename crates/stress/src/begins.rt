@@ -1,4 +1,5 @@
-//! A seat whose shard ended and begins again: it issues new keys, and tends what was left to it meanwhile.
+//! A seat whose shard ended and begins again: it issues new keys, and tends what was left to it
+//! meanwhile.
 ghost use Rattle.std.specs.Prelude.{◌≡◌};
 
 use arena::{Arena, Dropped, NoGate, Seat};
@@ -23,7 +24,8 @@ fn put<R: Wait>(rt: &R, arena: &Arena<NoGate>, seat: &mut Seat) -> Option<Key>
     }
 }
 
-// Ends the shard of the seat, and does so again where memory was refused. Says whether it has ended.
+// Ends the shard of the seat, and does so again where memory was refused. Says whether it has
+// ended.
 fn end<R: Wait>(rt: &R, arena: &Arena<NoGate>, seat: &mut Seat) -> bool
     requires { seat.old.limits ≡ arena.now.limits }
     ensures { seat.new.limits ≡ seat.old.limits }
@@ -77,8 +79,9 @@ fn is_found<R: Wait>(rt: &R, arena: &Arena<NoGate>, seat: &mut Seat, key: &Key) 
     seat.get(rt, arena, key).0 == Some(Object::c16(5))
 }
 
-// What the begins said: of a running shard, after its end, and once more; the serials of the keys before the end and after the
-// begin; how many keys were tended then; and how many pages and keys there are at last.
+// What the begins said: of a running shard, after its end, and once more; the serials of the keys
+// before the end and after the begin; how many keys were tended then; and how many pages and keys
+// there are at last.
 type Answers = ([bool; 3], [u32; 2], usize, Totals);
 
 fn answers<R: Wait>(

@@ -125,8 +125,9 @@ fn end<G: Gate, R: Wait>(rt: &R, arena: &Arena<G, Counted>, seat: &mut Seat) -> 
     seat.end(rt, arena).is_ok()
 }
 
-// How often each shard was entered so far, after a put of each worker, a look-up, a set, a free and a tend of keys in the first
-// shard, a trim and an end of that shard, and two look-ups in the pool, the first of which has no hint of where the span went.
+// How often each shard was entered so far, after a put of each worker, a look-up, a set, a free and
+// a tend of keys in the first shard, a trim and an end of that shard, and two look-ups in the pool,
+// the first of which has no hint of where the span went.
 fn entered<R: Wait>(
     rt: &R,
     arena: &Arena<Counting<'_>, Counted>,

@@ -1,4 +1,5 @@
-// That a thread which is held inside of a shard keeps nobody from the pool, and that a close has the locks of all shards at once.
+// That a thread which is held inside of a shard keeps nobody from the pool, and that a close has
+// the locks of all shards at once.
 ghost use Rattle.std.specs.Prelude.{◌≡◌};
 
 use arena::{Arena, Dropped, Gate, Seat, Steward, Totals};
@@ -40,7 +41,8 @@ impl Signals {
     }
 }
 
-// A gate that holds who is inside of the shard of this number, for at most that many turns since another thread began.
+// A gate that holds who is inside of the shard of this number, for at most that many turns since
+// another thread began.
 #[derive(Drop)]
 pub(crate) struct Holding<'a> {
     pub(crate) signals: &'a Signals,
@@ -63,8 +65,9 @@ impl<'a> Gate for Holding<'a> {
     }
 }
 
-// How many turns a thread waits for one that nothing keeps: some seconds of a processor. A turn lets
-// no other thread run, since on a busy machine that takes milliseconds, and on an idle one nothing.
+// How many turns a thread waits for one that nothing keeps: some seconds of a processor. A turn
+// lets no other thread run, since on a busy machine that takes milliseconds, and on an idle one
+// nothing.
 pub(crate) const TURNS: usize = 100_000_000;
 
 // Waits for the word to be 1, for at most that many turns, and says whether it is.
@@ -166,7 +169,8 @@ enum Asked {
     Tend,
 }
 
-// Leaves the key to the thread of its shard, in full sight of it, where that thread is to tend its rings.
+// Leaves the key to the thread of its shard, in full sight of it, where that thread is to tend its
+// rings.
 fn leave(seat: &mut Seat, key: Key, asked: Asked) -> bool
     ensures { seat.new.limits ≡ seat.old.limits }
 {
@@ -178,8 +182,8 @@ fn leave(seat: &mut Seat, key: Key, asked: Asked) -> bool
     sent
 }
 
-// Asks it of the key, which is in the shard of the seat's number. It gives whether the answer is as it must be, if memory was not
-// refused.
+// Asks it of the key, which is in the shard of the seat's number. It gives whether the answer is as
+// it must be, if memory was not refused.
 fn ask<R: Wait>(
     rt: &R,
     arena: &Arena<Holding<'_>, Counted>,
@@ -218,7 +222,8 @@ fn look_up_beside<R: Wait>(
     came && found
 }
 
-// Both, each in a thread of its own, and whether the first was held until the second had its answer.
+// Both, each in a thread of its own, and whether the first was held until the second had its
+// answer.
 fn meet<R: Threads + Wait + Sync>(
     rt: &R,
     arena: &Arena<Holding<'_>, Counted>,
@@ -301,8 +306,9 @@ fn leaves_the_pool_to_others(rt: HostRuntime) -> Result<(), Fail> {
     Ok(())
 }
 
-// Puts and frees in the first shard until a key comes from this span again, which is in a group that is closed, and says
-// whether the close that opened it had to wait for the thread which is held in the second shard.
+// Puts and frees in the first shard until a key comes from this span again, which is in a group
+// that is closed, and says whether the close that opened it had to wait for the thread which is
+// held in the second shard.
 fn opens_late<R: Wait>(
     rt: &R,
     arena: &Arena<Holding<'_>, Counted>,
@@ -367,7 +373,8 @@ fn close_and_put<R: Threads + Wait + Sync>(
     put && ended
 }
 
-// The same while a thread looks a key up in the second shard, and is held there for as long as no group is opened.
+// The same while a thread looks a key up in the second shard, and is held there for as long as no
+// group is opened.
 fn close_beside_a_look_up<R: Threads + Wait + Sync>(
     rt: &R,
     arena: &Arena<Holding<'_>, Counted>,
@@ -400,8 +407,8 @@ fn is_planned<R: Wait>(rt: &R, arena: &Arena<Holding<'_>, Counted>, steward: &mu
     }
 }
 
-// A group of the third shard, which ended, has slot 1, and so has that of the second, so that it is to be folded onto that of the
-// first, which is closed until the plan ends.
+// A group of the third shard, which ended, has slot 1, and so has that of the second, so that it is
+// to be folded onto that of the first, which is closed until the plan ends.
 fn closes_at_once<R: Threads + Wait + Sync>(rt: &R, alloc: Global) -> Option<bool> {
     let signals = Signals::new();
     let gate = Holding {
@@ -512,8 +519,8 @@ fn totals_beside<R: Wait>(
     arena.totals(rt)
 }
 
-// What is counted while a thread looks a key up in the last shard and is held there, whether it found
-// that, and whether the first shard is busy as long as it is held.
+// What is counted while a thread looks a key up in the last shard and is held there, whether it
+// found that, and whether the first shard is busy as long as it is held.
 fn counts_at_once<R: Threads + Wait + Sync>(rt: &R, alloc: Global) -> Option<(bool, Totals, bool)> {
     let signals = Signals::new();
     let gate = Holding {

@@ -1,5 +1,6 @@
-//! Keys at each place where a span may be: in a group that was folded onto another, in a shard that adopted its group, and in
-//! the pool. They are left to the threads of shards that ended, and freed when the rings are settled, by the arena or at its end.
+//! Keys at each place where a span may be: in a group that was folded onto another, in a shard that
+//! adopted its group, and in the pool. They are left to the threads of shards that ended, and freed
+//! when the rings are settled, by the arena or at its end.
 ghost use Rattle.std.specs.Prelude.{◌≡◌, length, vec_len};
 ghost use Rattle.arena.specs.Seats.{AreSeatsOf};
 
@@ -260,8 +261,8 @@ pub(crate) fn total(counts: &[Vec<usize>]) -> usize {
     all
 }
 
-// What came of settling: the totals before, how many keys were settled, how many of each shard were freed, what is found of
-// each afterwards, and the totals then.
+// What came of settling: the totals before, how many keys were settled, how many of each shard were
+// freed, what is found of each afterwards, and the totals then.
 type Settled = (
     Totals,
     usize,
@@ -325,7 +326,8 @@ fn finish_again(
     finish(arena, seats, lists).ok()
 }
 
-// What an arena leaves: how many keys were settled, how many of each shard were freed, and how many logs and changes there are.
+// What an arena leaves: how many keys were settled, how many of each shard were freed, and how many
+// logs and changes there are.
 fn left<R: Wait>(rt: &R, alloc: Global) -> Option<(usize, [usize; 4], usize, usize)> {
     let Ok((arena, mut seats, mut steward)) = Arena::open(alloc, 4, 4, 4, 9, NoGate) else {
         return None;
@@ -360,8 +362,8 @@ fn ends_wherever_a_span_is(rt: HostRuntime) -> Result<(), Fail> {
     Ok(())
 }
 
-// The first of two workers ends its shard, whose group comes to the pool and is emptied there, and the second has one that stands
-// in its shard. Says whether it came to that.
+// The first of two workers ends its shard, whose group comes to the pool and is emptied there, and
+// the second has one that stands in its shard. Says whether it came to that.
 fn empties_one<R: Wait>(rt: &R, arena: &Arena<NoGate>, seats: &mut [Seat]) -> Option<bool>
     requires { AreSeatsOf arena.now.limits arena.now.table seats.old }
     ensures len { length seats.new ≡ length seats.old }

@@ -13,7 +13,8 @@ fn key(slot: u8) -> Option<Key> {
     Key::new(span, slot, 1)
 }
 
-// A ring from one worker to one shard, with room for that many keys; made again where memory was refused.
+// A ring from one worker to one shard, with room for that many keys; made again where memory was
+// refused.
 fn links(alloc: Global, capacity: usize) -> Result<Links, LinkError>
     ensures one_row { IfOk result (λ links. (vec_len links.outboxes ≡ 1)
         × All (λ row. vec_len row ≡ 1) links.outboxes.items) }
@@ -40,8 +41,8 @@ fn ends(alloc: Global, capacity: usize) -> Option<(Outbox, Inbox)>
     Some((outbox, inbox))
 }
 
-// Whether a ring with room for one key takes a key, hands a second one back, and has room again once the first is taken; and
-// whether what is left is counted, and then taken.
+// Whether a ring with room for one key takes a key, hands a second one back, and has room again
+// once the first is taken; and whether what is left is counted, and then taken.
 fn holds_one(outbox: &mut Outbox, inbox: &mut Inbox) -> Option<bool>
     requires { outbox.old.ring ≡ inbox.old.ring }
 {
@@ -103,8 +104,9 @@ fn take_blocks(inbox: &mut Inbox, blocks: usize) -> usize {
     taken
 }
 
-// Of 80 keys on a ring for 100, a full block of 64 is seen; the others once they are handed over. 100 more are then as many as it
-// takes, and a key that is refused hands over those before it. Where the end is let go, three that wait are seen too.
+// Of 80 keys on a ring for 100, a full block of 64 is seen; the others once they are handed over.
+// 100 more are then as many as it takes, and a key that is refused hands over those before it.
+// Where the end is let go, three that wait are seen too.
 fn goes_in_blocks(mut outbox: Outbox, inbox: &mut Inbox) -> bool {
     let sent = send_up_to(&mut outbox, 80);
     let seen = take_blocks(inbox, 30);
@@ -131,8 +133,8 @@ fn keys_go_in_blocks(rt: HostRuntime) -> Result<(), Fail> {
     Ok(())
 }
 
-// Of four keys on a ring for four, the first two are drawn: as many more have a place then, while none is taken, and the third has
-// none. Once one is taken, five are left.
+// Of four keys on a ring for four, the first two are drawn: as many more have a place then, while
+// none is taken, and the third has none. Once one is taken, five are left.
 fn draws_before_it_takes(outbox: &mut Outbox, inbox: &mut Inbox) -> bool {
     let sent = send_up_to(outbox, 5);
     inbox.draw(2);

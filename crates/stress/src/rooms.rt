@@ -9,8 +9,8 @@ use std::alloc::Global;
 use std::sync::Wait;
 use std::test::Fail;
 
-// Puts until it is refused for another reason than memory, at most 2,000 times. It gives how often it put, the first key, and
-// the refusal.
+// Puts until it is refused for another reason than memory, at most 2,000 times. It gives how often
+// it put, the first key, and the refusal.
 fn fill<R: Wait>(
     rt: &R,
     arena: &Arena<NoGate>,
@@ -34,8 +34,8 @@ fn fill<R: Wait>(
     (count, first, None)
 }
 
-// Fills the shard, frees the first key, and fills it again. It gives how often it put each time, each refusal, and what the
-// arena then has.
+// Fills the shard, frees the first key, and fills it again. It gives how often it put each time,
+// each refusal, and what the arena then has.
 type Filled = ([(usize, Option<PutError>); 2], Totals);
 
 fn fill_twice<R: Wait>(rt: &R, arena: &Arena<NoGate>, seat: &mut Seat) -> Option<Filled>

@@ -1,7 +1,8 @@
-//! What is done under a lock, without one: that the calls succeed, and that the numbers of a run of them are those of its log.
-use abandoned::Pool;
+//! What is done under a lock, without one: that the calls succeed, and that the numbers of a run of
+//! them are those of its log.
 use arena::Outcome;
 use arena::sections::{free_in, free_pool, get_in, get_pool, set_in, set_pool};
+use pool::Pool;
 use shard::Shard;
 use span::{Call, Class, Key, Object, Receipt};
 use std::test::Fail;
@@ -38,7 +39,8 @@ fn freed(outcome: Option<Outcome>, key: &Key) -> Option<Receipt> {
     Some(outcome?.free_receipt(3, 2, key))
 }
 
-// Puts, looks up and frees in the shard, which the pool then receives, and looks up and frees there.
+// Puts, looks up and frees in the shard, which the pool then receives, and looks up and frees
+// there.
 fn are_told(shard: &mut Shard, pool: &mut Pool) -> Result<bool, Fail> {
     let (key, _) = shard.put(Object::c16(5))?;
     let elsewhere = got_pooled(pool, &key);

@@ -1,5 +1,5 @@
-//! Sets in place through a seat, one after the other: where the span is, and whether the key is live and its object of the same
-//! class. A set that was refused memory may be made again.
+//! Sets in place through a seat, one after the other: where the span is, and whether the key is
+//! live and its object of the same class. A set that was refused memory may be made again.
 ghost use Rattle.std.specs.Prelude.{◌≡◌};
 
 use arena::{Arena, NoGate, Seat};
@@ -22,7 +22,8 @@ fn put<R: Wait>(rt: &R, arena: &Arena<NoGate>, seat: &mut Seat) -> Option<Key>
     }
 }
 
-// Whether the set was done, and how many changes stood in its span's log. It is made again where memory was refused.
+// Whether the set was done, and how many changes stood in its span's log. It is made again where
+// memory was refused.
 fn set<R: Wait>(
     rt: &R,
     arena: &Arena<NoGate>,
@@ -71,8 +72,9 @@ fn stranger() -> Option<Key> {
     Key::new(id, 0, 1)
 }
 
-// What sets answered: of a key of the first shard, to another class, of a key of the second, of a freed one, of one in the pool,
-// and of one of a span that was never opened. And what the keys of each shard hold at the end of their sets.
+// What sets answered: of a key of the first shard, to another class, of a key of the second, of a
+// freed one, of one in the pool, and of one of a span that was never opened. And what the keys of
+// each shard hold at the end of their sets.
 type Answers = ([(bool, usize); 6], [Option<Object>; 2]);
 
 fn answers<R: Wait>(

@@ -1,5 +1,6 @@
-// That a shard of an arena opens spans without end, that those which have moved are found, though hints of where they are give way
-// to one another, since shards of two pages have eight words for them; and that keys of a span which was forgotten find nothing.
+// That a shard of an arena opens spans without end, that those which have moved are found, though
+// hints of where they are give way to one another, since shards of two pages have eight words for
+// them; and that keys of a span which was forgotten find nothing.
 ghost use Rattle.std.specs.Prelude.{◌≡◌};
 
 use arena::{Arena, NoGate, PlanOpen, Seat, Stepped, Steward};
@@ -110,7 +111,8 @@ fn count_found<R: Wait>(rt: &R, arena: &Shards, seat: &mut Seat, keys: &[Key; 3]
     found.iter().filter(|is| **is).count()
 }
 
-// Opens a span, has the shard adopt the group of lowest head for a while, sends both to the pool, and frees the key there.
+// Opens a span, has the shard adopt the group of lowest head for a while, sends both to the pool,
+// and frees the key there.
 fn open_one<R: Wait>(rt: &R, arena: &Shards, seat: &mut Seat) -> Option<SpanId>
     requires { seat.old.limits ≡ arena.now.limits }
     ensures { seat.new.limits ≡ seat.old.limits }
@@ -158,9 +160,9 @@ fn look_up_many<R: Wait>(
     true
 }
 
-// Keys of three spans are found while their shard opens 2,000 more, also by a thread that looks them up beside that. It gives the
-// serial of the last span, whether they were found meanwhile, and how many are found in the end: in the pool, once one was adopted,
-// and once that one was freed.
+// Keys of three spans are found while their shard opens 2,000 more, also by a thread that looks
+// them up beside that. It gives the serial of the last span, whether they were found meanwhile, and
+// how many are found in the end: in the pool, once one was adopted, and once that one was freed.
 fn opened<R: Threads + Wait + Sync>(
     rt: &R,
     arena: &Shards,
@@ -225,7 +227,8 @@ fn forget<R: Wait>(rt: &R, arena: &Shards, steward: &Steward) -> Result<usize, P
     arena.forget(rt, steward)
 }
 
-// A key of the first shard's span, which was folded onto the page of the second shard with the key given.
+// A key of the first shard's span, which was folded onto the page of the second shard with the key
+// given.
 fn fold_one<R: Wait>(
     rt: &R,
     arena: &Shards,
@@ -265,7 +268,8 @@ fn open_live<R: Wait>(rt: &R, arena: &Shards, seat: &mut Seat, count: u32) -> Op
     last
 }
 
-// Whether a step folds onto a group which its shard has adopted, once the hint of its head has given way to that of another span.
+// Whether a step folds onto a group which its shard has adopted, once the hint of its head has
+// given way to that of another span.
 fn folds_without_a_hint<R: Wait>(
     rt: &R,
     arena: &Shards,
@@ -310,9 +314,10 @@ fn folds_wherever_a_span_is(rt: HostRuntime) -> Result<(), Fail> {
     Ok(())
 }
 
-// What a forgetting answered while the guest had a live key, while a plan was open, and then; what a look-up of its key told, twice,
-// and a free; and whether three other keys are found: of the page, and of a span that shares its word of hints with the one that was
-// forgotten, from both seats.
+// What a forgetting answered while the guest had a live key, while a plan was open, and then; what
+// a look-up of its key told, twice, and a free; and whether three other keys are found: of the
+// page, and of a span that shares its word of hints with the one that was forgotten, from both
+// seats.
 type Forgets = ([Result<usize, PlanOpen>; 3], [(bool, usize); 3], [bool; 3]);
 
 fn forgotten<R: Wait>(

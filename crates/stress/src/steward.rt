@@ -46,7 +46,8 @@ pub struct Keeper<'a> {
 }
 
 impl<'a> Keeper<'a> {
-    /// The keeper of this steward, or `None` where the steward is that of an arena of other numbers.
+    /// The keeper of this steward, or `None` where the steward is that of an arena of other
+    /// numbers.
     pub fn new(arena: &'a Arena<NoGate>, steward: Steward) -> Option<Keeper<'a>> {
         if !steward.fits(arena) {
             return None;
@@ -58,8 +59,9 @@ impl<'a> Keeper<'a> {
         })
     }
 
-    /// A mark, the steps of its plan where they are wanted, and its close. What the mark hands out is counted beside what the
-    /// arena's totals tell just before, so no worker may run meanwhile. Threads fill the rows, however few there are.
+    /// A mark, the steps of its plan where they are wanted, and its close. What the mark hands out
+    /// is counted beside what the arena's totals tell just before, so no worker may run meanwhile.
+    /// Threads fill the rows, however few there are.
     pub fn mark_alone<R: Threads + Wait + Sync>(&mut self, rt: &R, takes_steps: bool) {
         let totals = self.arena.totals(rt);
         let runner = ByThreads::from_steps(rt, 0);

@@ -44,7 +44,8 @@ fn put<R: Wait>(rt: &R, arena: &Arena<NoGate>, seat: &mut Seat) -> Option<Key>
     }
 }
 
-// The first worker puts an object, and the second leaves its key to the first one's thread. Says whether it came to that.
+// The first worker puts an object, and the second leaves its key to the first one's thread. Says
+// whether it came to that.
 fn leave_one<R: Wait>(rt: &R, arena: &Arena<NoGate>, first: &mut Seat, second: &mut Seat) -> bool
     requires { first.old.limits ≡ arena.now.limits }
     ensures { first.new.limits ≡ first.old.limits }
@@ -65,8 +66,8 @@ fn tend<R: Wait>(rt: &R, arena: &Arena<NoGate>, seat: &mut Seat, asked: &mut Ask
     }
 }
 
-// For how many receipts a tend of three keys asks for room, how many keys it takes, and how many receipts there are, where each of
-// the two rings holds 1,024 keys.
+// For how many receipts a tend of three keys asks for room, how many keys it takes, and how many
+// receipts there are, where each of the two rings holds 1,024 keys.
 fn asked_for<R: Wait>(rt: &R, alloc: Global) -> Option<(usize, usize, usize)> {
     let Ok((arena, mut seats, _)) = Arena::open(alloc, 2, 4, 1024, 9, NoGate) else {
         return None;

@@ -4,8 +4,9 @@ use crate::worker::Trouble;
 use audit::AuditError;
 use std::test::Fail;
 
-// What a run must come to: no call met what none may, the audit is passed, that many marks were made, none of them was refused or
-// told other groups than there were, and no step missed its groups.
+// What a run must come to: no call met what none may, the audit is passed, that many marks were
+// made, none of them was refused or told other groups than there were, and no step missed its
+// groups.
 fn wanted(made: usize) -> (Option<Trouble>, Result<(), AuditError>, [usize; 4]) {
     (None, Ok(()), [made, 0, 0, 0])
 }
@@ -34,7 +35,8 @@ fn summary(told: &Told) -> (Option<Trouble>, Result<(), AuditError>, [usize; 4])
 fn marks_between_sections(rt: HostRuntime) -> Result<(), Fail> {
     let told = run(&rt, rt.alloc(), Turn::Between)?;
     assert_eq!(rt; summary(&told), wanted(10));
-    // Nobody is in the way of an end or a retirement, and the first plan always finds groups that fit.
+    // Nobody is in the way of an end or a retirement, and the first plan always finds groups that
+    // fit.
     let moved = told.retired > 0 && told.marks.folded > 0;
     let came = (told.ended, moved, all_taken(&told), some_replaced(&told));
     assert_eq!(rt; came, (4, true, true, true));

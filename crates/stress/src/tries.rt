@@ -1,5 +1,5 @@
-// That a call which does not wait does what the one does that waits, and answers that it is busy while another thread has a lock
-// that it needs.
+// That a call which does not wait does what the one does that waits, and answers that it is busy
+// while another thread has a lock that it needs.
 ghost use Rattle.std.specs.Prelude.{◌≡◌};
 
 use crate::held::{Holding, Signals, TURNS, Three, get, is_set_in_time, make_three, put};
@@ -54,8 +54,8 @@ fn leave(seat: &mut Seat, key: Key) -> bool
     sent
 }
 
-// What a key's look-ups find before and after it is set, once it was left to its shard's thread, and how many were tended; and
-// whether it was set, and another freed.
+// What a key's look-ups find before and after it is set, once it was left to its shard's thread,
+// and how many were tended; and whether it was set, and another freed.
 type Answers = ([Option<Object>; 3], Tended, [bool; 2]);
 
 fn answers(
@@ -82,8 +82,9 @@ fn answers(
     Some(([before, after, gone], tended, [set, freed]))
 }
 
-// How many pages and keys there are once the first shard's group was folded onto the second's, and what the calls on the way
-// answered: how many groups went, whether there was a plan of one fold, a fold, and a close.
+// How many pages and keys there are once the first shard's group was folded onto the second's, and
+// what the calls on the way answered: how many groups went, whether there was a plan of one fold, a
+// fold, and a close.
 type Folded = (Totals, usize, [bool; 3]);
 
 fn folds(
@@ -120,7 +121,8 @@ fn folds(
     Some((totals, retired, [is_one, is_folded, is_closed]))
 }
 
-// Both, and how many pages the first shard then gave back, and whether it ended, and adopts no more.
+// Both, and how many pages the first shard then gave back, and whether it ended, and adopts no
+// more.
 fn all_answers(alloc: Global) -> Option<(Answers, Folded, usize, bool, bool)> {
     let signals = Signals::new();
     let gate = Holding {
@@ -158,7 +160,8 @@ fn answer_as_calls_that_wait(rt: HostRuntime) -> Result<(), Fail> {
     Ok(())
 }
 
-// Whether the calls are busy while another thread is inside of the first shard: a put there, and a look-up, a set and a free of a key there.
+// Whether the calls are busy while another thread is inside of the first shard: a put there, and a
+// look-up, a set and a free of a key there.
 fn by_words(
     arena: &Arena<Holding<'_>, Counted>,
     first: &mut Seat,
@@ -178,8 +181,9 @@ fn by_words(
     ]
 }
 
-// What calls answer while another thread is inside of the first shard: a look-up of a key there, a mark and totals are busy, as are
-// tending the key that was left to that shard and the calls by words there; a put into another shard is not.
+// What calls answer while another thread is inside of the first shard: a look-up of a key there, a
+// mark and totals are busy, as are tending the key that was left to that shard and the calls by
+// words there; a put into another shard is not.
 fn try_beside(
     arena: &Arena<Holding<'_>, Counted>,
     signals: &Signals,

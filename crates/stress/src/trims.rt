@@ -44,8 +44,8 @@ fn is_found<R: Wait>(rt: &R, arena: &Arena<NoGate>, seat: &mut Seat, key: &Key) 
     seat.get(rt, arena, key).0 == Some(Object::c16(5))
 }
 
-// How many pages went, with a live object in each shard, with none in the first, and once more; and how many there were then, and
-// after another put of the first worker.
+// How many pages went, with a live object in each shard, with none in the first, and once more; and
+// how many there were then, and after another put of the first worker.
 type Answers = ([usize; 4], [Totals; 2]);
 
 fn answers<R: Wait>(

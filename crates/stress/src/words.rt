@@ -41,7 +41,8 @@ fn free(arena: &Arena<Holding<'_>, Counted>, seat: &mut Seat, key: &Key) -> Opti
     Some((freed.done(), freed.at()))
 }
 
-// How many words a look-up finds, the first of them, and how many changes the log of the key's span has.
+// How many words a look-up finds, the first of them, and how many changes the log of the key's span
+// has.
 fn found(
     arena: &Arena<Holding<'_>, Counted>,
     seat: &mut Seat,
@@ -57,7 +58,8 @@ fn found(
     }
 }
 
-// Finds the word, and sets the key to the next one after as many changes: whether it did, and after how many.
+// Finds the word, and sets the key to the next one after as many changes: whether it did, and after
+// how many.
 fn visit(
     arena: &Arena<Holding<'_>, Counted>,
     seat: &mut Seat,
@@ -97,7 +99,8 @@ fn carries_out(arena: &Arena<Holding<'_>, Counted>, steward: &mut Steward) -> bo
     is_marked && is_folded && is_closed
 }
 
-// Whether the group of the one seat was folded onto that of the other, which has a key at the lowest slot.
+// Whether the group of the one seat was folded onto that of the other, which has a key at the
+// lowest slot.
 fn folds(
     arena: &Arena<Holding<'_>, Counted>,
     from: &mut Seat,
@@ -116,9 +119,10 @@ fn folds(
     is_put && is_retired && is_carried_out
 }
 
-// After how many changes two keys were put, and the first of them was freed; what the visits answered of the second, in the shard
-// that opened its span, in the pool, in a shard that adopted it and in one onto whose group it was folded; what two frees of it
-// answered then, and a set; and what a look-up finds.
+// After how many changes two keys were put, and the first of them was freed; what the visits
+// answered of the second, in the shard that opened its span, in the pool, in a shard that adopted
+// it and in one onto whose group it was folded; what two frees of it answered then, and a set; and
+// what a look-up finds.
 type Answers = (
     [usize; 2],
     [(bool, usize); 5],

@@ -1,8 +1,8 @@
 // A worker of a run.
 ghost use Rattle.std.specs.Prelude.{◌≡◌, IfSome};
 
-use abandoned::{AdoptError, ReceiveError};
 use arena::{Arena, NoGate, Seat};
+use pool::{AdoptError, ReceiveError};
 use rand_core::utils::NextWord;
 use rand_pcg::Pcg32;
 use shard::PutError;
@@ -80,7 +80,8 @@ impl<'a> Worker<'a> {
         })
     }
 
-    /// From now on its receipts carry the next section, and its keys are those of the section before.
+    /// From now on its receipts carry the next section, and its keys are those of the section
+    /// before.
     pub fn go_on(&mut self)
         ensures { self.new.seat.table ≡ self.old.seat.table }
     {
@@ -102,10 +103,11 @@ impl<'a> Worker<'a> {
         }
     }
 
-    // One call: mostly puts at first, and then frees until few keys are left. Now and then it tends its rings. From the second
-    // section on, workers of even number adopt near its start; each other worker ends its shard late in the section of its
-    // number. In the middle of every second section each retires two groups. So what the first mark finds is the same in each
-    // run: the groups of the shard that ended, in the pool.
+    // One call: mostly puts at first, and then frees until few keys are left. Now and then it tends
+    // its rings. From the second section on, workers of even number adopt near its start; each
+    // other worker ends its shard late in the section of its number. In the middle of every second
+    // section each retires two groups. So what the first mark finds is the same in each run: the
+    // groups of the shard that ended, in the pool.
     fn call<R: Wait>(&mut self, rt: &R, old: &[Key], turn: usize) -> Result<(), Trouble>
         ensures { self.new.seat.table ≡ self.old.seat.table }
     {
@@ -183,7 +185,8 @@ impl<'a> Worker<'a> {
         Ok(())
     }
 
-    // Frees a key of its own, or one of the section before, whoever was given it; a third of them later, where the ring has room.
+    // Frees a key of its own, or one of the section before, whoever was given it; a third of them
+    // later, where the ring has room.
     fn free<R: Wait>(&mut self, rt: &R, old: &[Key], word: u32) -> Result<(), Trouble>
         ensures { self.new.seat.table ≡ self.old.seat.table }
     {
@@ -256,8 +259,8 @@ impl<'a> Worker<'a> {
     }
 }
 
-// An object of the class that the number tells: of 16 numbers 12 are of one word, and one of sixteen words, so that a section's
-// puts of each class take about a page.
+// An object of the class that the number tells: of 16 numbers 12 are of one word, and one of
+// sixteen words, so that a section's puts of each class take about a page.
 fn object_of(number: u32) -> Object {
     let word = u128::from(number);
     match number / 16 % 16 {

@@ -46,14 +46,18 @@ pub record HasNew (limits : Limits) (new : Option Held) : Type 0 where
   pub core : held.core ≡ new_core limits
   pub last : held.last ≡ None
 
--- from one core to the other it gives this reply to the event: a step of shards and pool, and of the plain map that they show, to a sound core
-pub record Replies (before : CoreState) (event : Event) (reply : Reply) (after : CoreState) : Type 0 where
+-- from one core to the other it gives this reply to the event: a step of shards and pool, and of
+-- the plain map that they show, to a sound core
+pub record Replies (before : CoreState) (event : Event) (reply : Reply) (after : CoreState) :
+    Type 0 where
   pub exact : CoreStep before event reply after
   pub plain : ErasedStep before.limits (shown before) event reply (shown after)
   pub sound : IsSound after
 
--- the core of the handle gives this reply to the event, and the certificate that is kept is as it was
-pub record Steps (old : Option Held) (event : Event) (reply : Reply) (new : Option Held) : Type 0 where
+-- the core of the handle gives this reply to the event, and the certificate that is kept is as it
+-- was
+pub record Steps (old : Option Held) (event : Event) (reply : Reply) (new : Option Held) :
+    Type 0 where
   pub before : Held
   pub after : Held
   pub before_is : old ≡ Some before
@@ -69,9 +73,11 @@ SaysPut says reply = ⊥
 
 -- the object is put, or the put is refused
 abbrev pub Puts : Option Held → ℕ → Value → PutReply → Option Held → Type 0
-Puts old shard value says new = (reply : Reply) × Steps old (Put shard value) reply new × SaysPut says reply
+Puts old shard value says new = (reply : Reply) × Steps old (Put shard value) reply new
+    × SaysPut says reply
 
--- words that are no object are refused, and nothing changes; others are put, or their put is refused
+-- words that are no object are refused, and nothing changes; others are put, or their put is
+-- refused
 abbrev pub PutsWords : Option Held → ℕ → List ℕ → PutReply → Option Held → Type 0
 PutsWords old shard words says new = (IsObject words × Puts old shard words says new)
     ⊎ ((IsObject words → ⊥) × (says.status ≡ config) × (new ≡ old))
@@ -83,16 +89,19 @@ SaysGot says (Some value) =
     ⊎ ((1 < length value) × (says.status ≡ too_small) × (word_of says.value ≡ 0))
 SaysGot says None = (says.status ≡ none) × (word_of says.value ≡ 0)
 
--- what C reads of a look-up, and what it leaves in the room: the object's words, where there is room for them
+-- what C reads of a look-up, and what it leaves in the room: the object's words, where there is
+-- room for them
 abbrev pub SaysWords : List RawWord → WordsReply → List RawWord → Option Value → Type 0
 SaysWords room says room_new (Some value) =
     (says.len ≡ length value)
-    × (((length value ≤ length room) × (says.status ≡ done) × (words_of room_new ≡ value ++ drop (length value) (words_of room)))
+    × (((length value ≤ length room) × (says.status ≡ done)
+    × (words_of room_new ≡ value ++ drop (length value) (words_of room)))
     ⊎ ((length room < length value) × (says.status ≡ too_small) × (room_new ≡ room)))
 SaysWords room says room_new None = (says.len ≡ 0) × (says.status ≡ none) × (room_new ≡ room)
 
 -- this is told of the value of the key in the map that the core shows; nothing changes
-pub record GetsKey (old : Option Held) (key : Key) (Tells : Option Value → Type 0) (new : Option Held) : Type 0 where
+pub record GetsKey (old : Option Held) (key : Key) (Tells : Option Value
+    → Type 0) (new : Option Held) : Type 0 where
   pub held : Held
   pub is : old ≡ Some held
   pub same : new ≡ old
@@ -104,8 +113,10 @@ Gets old raw says new = (IsNoKey raw × SaysGot says None × (new ≡ old))
     ⊎ ((key : Key) × IsKeyOf raw key × GetsKey old key (SaysGot says) new)
 
 -- the words of the key with these numbers, if it is live; nothing changes but the room
-abbrev pub GetsWords : Option Held → RawKey → List RawWord → WordsReply → List RawWord → Option Held → Type 0
-GetsWords old raw room says room_new new = (IsNoKey raw × SaysWords room says room_new None × (new ≡ old))
+abbrev pub GetsWords : Option Held → RawKey → List RawWord → WordsReply → List RawWord → Option Held
+    → Type 0
+GetsWords old raw room says room_new new = (IsNoKey raw × SaysWords room says room_new None
+    × (new ≡ old))
     ⊎ ((key : Key) × IsKeyOf raw key × GetsKey old key (SaysWords room says room_new) new)
 
 -- what C reads of a step of a walk
@@ -114,15 +125,19 @@ SaysNext says (Some key) = (says.status ≡ done) × IsKeyOf says.key key
 SaysNext says None = says.status ≡ none
 
 -- the live key that comes next in the map that the core shows; nothing changes
-pub record NextsKey (old : Option Held) (after found : Option Key) (new : Option Held) : Type 0 where
+pub record NextsKey (old : Option Held) (after found : Option Key) (new : Option Held) :
+    Type 0 where
   pub held : Held
   pub is : old ≡ Some held
   pub same : new ≡ old
-  pub next : MatchOption found (HasNoneBeyond (shown held.core) after) (IsNextLive (shown held.core) after)
+  pub next : MatchOption found (HasNoneBeyond (shown held.core) after)
+      (IsNextLive (shown held.core) after)
 
--- the live key that comes next after the key with these numbers, or the first one where no key has them; nothing changes
+-- the live key that comes next after the key with these numbers, or the first one where no key has
+-- them; nothing changes
 abbrev pub Nexts : Option Held → RawKey → NextReply → Option Held → Type 0
-Nexts old raw says new = (after found : Option Key) × MatchOption after (IsNoKey raw) (IsKeyOf raw) × NextsKey old after found new × SaysNext says found
+Nexts old raw says new = (after found : Option Key) × MatchOption after (IsNoKey raw) (IsKeyOf raw)
+    × NextsKey old after found new × SaysNext says found
 
 -- what C reads of the reply to a set; no other reply comes
 abbrev pub SaysSet : ℕ → Reply → Type 0
@@ -133,11 +148,14 @@ SaysSet says reply = ⊥
 
 -- the core is asked to set the key to the object, and this is said of its reply
 abbrev pub SetsKey : Option Held → Key → Value → ℕ → Option Held → Type 0
-SetsKey old key value says new = (reply : Reply) × Steps old (Set key value) reply new × SaysSet says reply
+SetsKey old key value says new = (reply : Reply) × Steps old (Set key value) reply new
+    × SaysSet says reply
 
--- the key with these numbers is set to the object, if it is live and its object has as many words, or the set is refused; else nothing changes
+-- the key with these numbers is set to the object, if it is live and its object has as many words,
+-- or the set is refused; else nothing changes
 abbrev pub Sets : Option Held → RawKey → Value → ℕ → Option Held → Type 0
-Sets old raw value says new = (IsNoKey raw × (says ≡ none) × (new ≡ old)) ⊎ ((key : Key) × IsKeyOf raw key × SetsKey old key value says new)
+Sets old raw value says new = (IsNoKey raw × (says ≡ none) × (new ≡ old))
+    ⊎ ((key : Key) × IsKeyOf raw key × SetsKey old key value says new)
 
 -- words that are no object are refused, and nothing changes; to others the key is set
 abbrev pub SetsWords : Option Held → RawKey → List ℕ → ℕ → Option Held → Type 0
@@ -146,11 +164,13 @@ SetsWords old raw words says new = (IsObject words × Sets old raw words says ne
 
 -- the core is asked to free the key, and this is said of its reply
 abbrev pub FreesKey : Option Held → Key → ℕ → Option Held → Type 0
-FreesKey old key says new = (Steps old (Free key) (Freed true) new × (says ≡ done)) ⊎ (Steps old (Free key) (Freed false) new × (says ≡ none))
+FreesKey old key says new = (Steps old (Free key) (Freed true) new × (says ≡ done))
+    ⊎ (Steps old (Free key) (Freed false) new × (says ≡ none))
 
 -- the key with these numbers is freed, if it is live; else nothing changes
 abbrev pub Frees : Option Held → RawKey → ℕ → Option Held → Type 0
-Frees old raw says new = (IsNoKey raw × (says ≡ none) × (new ≡ old)) ⊎ ((key : Key) × IsKeyOf raw key × FreesKey old key says new)
+Frees old raw says new = (IsNoKey raw × (says ≡ none) × (new ≡ old))
+    ⊎ ((key : Key) × IsKeyOf raw key × FreesKey old key says new)
 
 -- what C reads of the reply to an end
 abbrev pub SaysEnd : ℕ → Reply → Type 0
@@ -172,7 +192,8 @@ SaysBegun says reply = ⊥
 
 -- the shard runs again, or is refused its begin
 abbrev pub Begins : Option Held → ℕ → ℕ → Option Held → Type 0
-Begins old shard says new = (reply : Reply) × Steps old (Begin shard) reply new × SaysBegun says reply
+Begins old shard says new = (reply : Reply) × Steps old (Begin shard) reply new
+    × SaysBegun says reply
 
 -- what C reads of the reply to a retirement
 abbrev pub SaysRetired : RetireReply → Reply → Type 0
@@ -183,7 +204,8 @@ SaysRetired says reply = ⊥
 
 -- groups of the shard go to the pool, or the retirement is refused
 abbrev pub Retires : Option Held → ℕ → ℕ → RetireReply → Option Held → Type 0
-Retires old shard most says new = (reply : Reply) × Steps old (Retire shard most) reply new × SaysRetired says reply
+Retires old shard most says new = (reply : Reply) × Steps old (Retire shard most) reply new
+    × SaysRetired says reply
 
 -- what C reads of the reply to a trim
 abbrev pub SaysTrimmed : TrimReply → Reply → Type 0
@@ -194,21 +216,24 @@ SaysTrimmed says reply = ⊥
 
 -- the shard gives pages back, or there is no such shard
 abbrev pub Trims : Option Held → ℕ → TrimReply → Option Held → Type 0
-Trims old shard says new = (reply : Reply) × Steps old (Trim shard) reply new × SaysTrimmed says reply
+Trims old shard says new = (reply : Reply) × Steps old (Trim shard) reply new
+    × SaysTrimmed says reply
 
 -- what C reads of the answer to a forgetting
 abbrev pub SaysForgotten : ForgetReply → Result ℕ Refusal → Type 0
 SaysForgotten says (Ok count) = (says.status ≡ done) × (says.count ≡ count)
 SaysForgotten says (Err refusal) = (says.status ≡ refusal_status refusal) × (says.count ≡ 0)
 
--- the core of the handle forgets the spans that can never be live again, or is refused that while a plan is open; the map that it shows stays, and so does the certificate that is kept
+-- the core of the handle forgets the spans that can never be live again, or is refused that while a
+-- plan is open; the map that it shows stays, and so does the certificate that is kept
 pub record Forgets (old : Option Held) (says : ForgetReply) (new : Option Held) : Type 0 where
   pub before : Held
   pub after : Held
   pub answer : Result ℕ Refusal
   pub before_is : old ≡ Some before
   pub after_is : new ≡ Some after
-  pub exact : MatchResult answer (λ count. ForgetsIn before.core count after.core) (λ refusal. (refusal ≡ PlanOpen) × HasPlan before.core × (after.core ≡ before.core))
+  pub exact : MatchResult answer (λ count. ForgetsIn before.core count after.core)
+      (λ refusal. (refusal ≡ PlanOpen) × HasPlan before.core × (after.core ≡ before.core))
   pub plain : shown after.core ≡ shown before.core
   pub sound : IsSound after.core
   pub same : after.last ≡ before.last
@@ -223,7 +248,8 @@ SaysAdopted says reply = ⊥
 
 -- a group is adopted, or the adoption is refused
 abbrev pub Adopts : Option Held → ℕ → AdoptReply → Option Held → Type 0
-Adopts old shard says new = (reply : Reply) × Steps old (Adopt shard) reply new × SaysAdopted says reply
+Adopts old shard says new = (reply : Reply) × Steps old (Adopt shard) reply new
+    × SaysAdopted says reply
 
 -- the numbers of a certificate: groups of both sides, folds, and members of the short set
 pub record CountsOf (says : MarkReply) (certificate : Certificate) : Type 0 where
@@ -256,8 +282,10 @@ IsOfMark (Marked certificate) = IsWritable certificate
 IsOfMark (Refused refusal) = Unit {0}
 IsOfMark reply = ⊥
 
--- by a mark, of all groups or of the sparsest, a largest plan is opened and its certificate kept, or the mark is refused
-pub record Marks (event : Event) (old : Option Held) (says : MarkReply) (new : Option Held) : Type 0 where
+-- by a mark, of all groups or of the sparsest, a largest plan is opened and its certificate kept,
+-- or the mark is refused
+pub record Marks (event : Event) (old : Option Held) (says : MarkReply) (new : Option Held) :
+    Type 0 where
   pub before : Held
   pub after : Held
   pub reply : Reply
@@ -269,8 +297,10 @@ pub record Marks (event : Event) (old : Option Held) (says : MarkReply) (new : O
 
 -- what C reads of the reply to a step
 abbrev pub SaysStepped : StepReply → Reply → Type 0
-SaysStepped says (Stepped abandoned owned Folded) = (says.status ≡ done) × IsIdOf says.abandoned abandoned × IsIdOf says.owned owned
-SaysStepped says (Stepped abandoned owned Emptied) = (says.status ≡ emptied) × IsIdOf says.abandoned abandoned × IsIdOf says.owned owned
+SaysStepped says (Stepped abandoned owned Folded) = (says.status ≡ done)
+    × IsIdOf says.abandoned abandoned × IsIdOf says.owned owned
+SaysStepped says (Stepped abandoned owned Emptied) = (says.status ≡ emptied)
+    × IsIdOf says.abandoned abandoned × IsIdOf says.owned owned
 SaysStepped says NoPairLeft = says.status ≡ no_pair_left
 SaysStepped says NoPlan = says.status ≡ no_plan
 SaysStepped says (Refused refusal) = says.status ≡ refusal_status refusal
@@ -292,16 +322,20 @@ SaysClosed says reply = ⊥
 abbrev pub Closes : Option Held → ℕ → Option Held → Type 0
 Closes old says new = (reply : Reply) × Steps old Close reply new × SaysClosed says reply
 
--- the text of this certificate stands at the room's beginning and the rest of the room is as it was; or there is no certificate, no room, or no memory, and all of it is
+-- the text of this certificate stands at the room's beginning and the rest of the room is as it
+-- was; or there is no certificate, no room, or no memory, and all of it is
 abbrev pub Tells : Option Witness → List ℕ → CertificateReply → List ℕ → Type 0
 Tells None old says new = (says.status ≡ none) × (new ≡ old)
 Tells (Some witness) old says new =
-    ((says.status ≡ done) × (says.len ≡ length (certificate_text witness.certificate)) × (new ≡ certificate_text witness.certificate ++ drop says.len old))
-    ⊎ (((says.status ≡ too_small) × (says.len ≡ length (certificate_text witness.certificate)) × (length old < says.len) × (new ≡ old))
+    ((says.status ≡ done) × (says.len ≡ length (certificate_text witness.certificate))
+    × (new ≡ certificate_text witness.certificate ++ drop says.len old))
+    ⊎ (((says.status ≡ too_small) × (says.len ≡ length (certificate_text witness.certificate))
+    × (length old < says.len) × (new ≡ old))
     ⊎ ((says.status ≡ out_of_memory) × (new ≡ old)))
 
 -- the text of the certificate that is kept is written into the room
-pub record Writes (old : Option Held) (room : List ℕ) (says : CertificateReply) (room_new : List ℕ) : Type 0 where
+pub record Writes (old : Option Held) (room : List ℕ) (says : CertificateReply) (room_new : List ℕ)
+    : Type 0 where
   pub held : Held
   pub is : old ≡ Some held
   pub tells : Tells held.last room says room_new

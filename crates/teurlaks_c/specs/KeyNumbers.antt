@@ -32,7 +32,8 @@ SaysLayout shards spans generations says =
 abbrev pub SaysNumber : RawKeyBits → RawKey → NumberReply → Type 0
 SaysNumber raw key says =
     ((says.status ≡ done)
-    × (bits : KeyBits) × (k : Key) × IsLayoutOf raw bits × IsKeyOf key k × IsNumberOf bits k says.number)
+    × (bits : KeyBits) × (k : Key) × IsLayoutOf raw bits × IsKeyOf key k
+    × IsNumberOf bits k says.number)
     ⊎ (((says.status ≡ none) × (says.number ≡ 0)
     × (bits : KeyBits) × IsLayoutOf raw bits × ((k : Key) → IsKeyOf key k → Fits bits k → ⊥))
     ⊎ ((says.status ≡ config) × (says.number ≡ 0) × IsNoLayoutOf raw))
@@ -41,7 +42,8 @@ SaysNumber raw key says =
 abbrev pub SaysKey : RawKeyBits → (number : ℕ) → KeyReply → Type 0
 SaysKey raw number says =
     ((says.status ≡ done)
-    × (bits : KeyBits) × (k : Key) × IsLayoutOf raw bits × IsKeyOf says.key k × IsNumberOf bits k number)
+    × (bits : KeyBits) × (k : Key) × IsLayoutOf raw bits × IsKeyOf says.key k
+    × IsNumberOf bits k number)
     ⊎ (((says.status ≡ none)
     × (bits : KeyBits) × IsLayoutOf raw bits × ((k : Key) → IsNumberOf bits k number → ⊥))
     ⊎ ((says.status ≡ config) × IsNoLayoutOf raw))

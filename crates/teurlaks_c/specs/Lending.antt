@@ -16,4 +16,5 @@ LendsHeld handle lent = Lends Row.the_row Content.the_row handle lent (with_held
 
 -- the same, where something is lent; else it ends as it was
 abbrev pub LendsHeldIf : MutBor Handle → Option (MutBor Held) → Fml
-LendsHeldIf handle lent = LendsIf Row.the_row Content.the_row handle lent (with_held handle.now) handle.now
+LendsHeldIf handle lent = LendsIf Row.the_row Content.the_row handle lent (with_held handle.now)
+    handle.now

@@ -24,16 +24,21 @@ objects_of words = map (λ word. word_of word ∷ []) words
 abbrev pub PutsAll : CoreState → ℕ → List Value → List RawKey → CoreState → Type 0
 PutsAll old shard [] [] new = new ≡ old
 PutsAll old shard (value ∷ values) (raw ∷ raws) new =
-    (mid : CoreState) × (key : Key) × Replies old (Put shard value) (Issued key) mid × IsKeyOf raw key × PutsAll mid shard values raws new
+    (mid : CoreState) × (key : Key) × Replies old (Put shard value) (Issued key) mid
+    × IsKeyOf raw key × PutsAll mid shard values raws new
 PutsAll old shard values raws new = ⊥
 
--- the put of the object that comes next is refused, and the status says why; or none is left, and all are done
+-- the put of the object that comes next is refused, and the status says why; or none is left, and
+-- all are done
 abbrev pub StopsAt : CoreState → ℕ → Option Value → ℕ → CoreState → Type 0
 StopsAt old shard None status new = (status ≡ done) × (new ≡ old)
-StopsAt old shard (Some value) status new = (refusal : Refusal) × Replies old (Put shard value) (Refused refusal) new × (status ≡ refusal_status refusal)
+StopsAt old shard (Some value) status new = (refusal : Refusal)
+    × Replies old (Put shard value) (Refused refusal) new × (status ≡ refusal_status refusal)
 
--- as many of the objects as the count says are put, the first ones, up to the first whose put is refused; their keys stand at the beginning of the room, and the rest of it is as it was
-pub record PutsMany (old : CoreState) (shard : ℕ) (values : List Value) (room : List RawKey) (says : ManyReply) (room_new : List RawKey) (new : CoreState) : Type 0 where
+-- as many of the objects as the count says are put, the first ones, up to the first whose put is
+-- refused; their keys stand at the beginning of the room, and the rest of it is as it was
+pub record PutsMany (old : CoreState) (shard : ℕ) (values : List Value) (room : List RawKey)
+    (says : ManyReply) (room_new : List RawKey) (new : CoreState) : Type 0 where
   pub keys : List RawKey
   pub mid : CoreState
   pub few : says.count ≤ length values
@@ -43,26 +48,33 @@ pub record PutsMany (old : CoreState) (shard : ℕ) (values : List Value) (room 
 
 -- the key with these numbers is freed, if it is live; else nothing changes
 abbrev pub FreesRaw : CoreState → RawKey → Bool → CoreState → Type 0
-FreesRaw old raw freed new = (IsNoKey raw × (freed ≡ false) × (new ≡ old)) ⊎ ((key : Key) × IsKeyOf raw key × Replies old (Free key) (Freed freed) new)
+FreesRaw old raw freed new = (IsNoKey raw × (freed ≡ false) × (new ≡ old))
+    ⊎ ((key : Key) × IsKeyOf raw key × Replies old (Free key) (Freed freed) new)
 
 -- the keys are freed, one after another, and so many of them were live
 abbrev pub FreesAll : CoreState → List RawKey → ℕ → CoreState → Type 0
 FreesAll old [] count new = (count ≡ 0) × (new ≡ old)
 FreesAll old (raw ∷ raws) count new =
-    (mid : CoreState) × (freed : Bool) × (rest : ℕ) × FreesRaw old raw freed mid × (count ≡ (if freed then rest + 1 else rest)) × FreesAll mid raws rest new
+    (mid : CoreState) × (freed : Bool) × (rest : ℕ) × FreesRaw old raw freed mid
+    × (count ≡ (if freed then rest + 1 else rest)) × FreesAll mid raws rest new
 
 -- what is read of a look-up of the key with these numbers
 abbrev pub GetsRaw : CoreState → RawKey → GetReply → Type 0
-GetsRaw core raw says = (IsNoKey raw × SaysGot says None) ⊎ ((key : Key) × IsKeyOf raw key × SaysGot says ((shown core).value_of key))
+GetsRaw core raw says = (IsNoKey raw × SaysGot says None)
+    ⊎ ((key : Key) × IsKeyOf raw key × SaysGot says ((shown core).value_of key))
 
--- what is read of a look-up of each key stands at its place in the room, as far as both go, and all else of the room is as it was
-pub record GetsAll (core : CoreState) (raws : List RawKey) (room room_new : List GetReply) : Type 0 where
+-- what is read of a look-up of each key stands at its place in the room, as far as both go, and all
+-- else of the room is as it was
+pub record GetsAll (core : CoreState) (raws : List RawKey) (room room_new : List GetReply) :
+    Type 0 where
   pub long : length room_new ≡ length room
-  pub got : (place : ℕ) (raw : RawKey) (says : GetReply) → slice_get raws place ≡ Some raw → slice_get room_new place ≡ Some says → GetsRaw core raw says
+  pub got : (place : ℕ) (raw : RawKey) (says : GetReply) → slice_get raws place ≡ Some raw
+      → slice_get room_new place ≡ Some says → GetsRaw core raw says
   pub others : (place : ℕ) → length raws ≤ place → slice_get room_new place ≡ slice_get room place
 
 -- the cores of the handle before and after, whose certificate stays
-pub record Changes (old : Option Held) (Does : CoreState → CoreState → Type 0) (new : Option Held) : Type 0 where
+pub record Changes (old : Option Held) (Does : CoreState → CoreState
+    → Type 0) (new : Option Held) : Type 0 where
   pub before : Held
   pub after : Held
   pub before_is : old ≡ Some before

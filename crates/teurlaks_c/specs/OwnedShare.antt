@@ -19,7 +19,8 @@ system = record { memory = record { seal = tt } }
 abbrev pub right : Ty → Ptr → Fml
 right = heap.ghosts.dealloc_token system
 
--- what is held at this place, and the right to free its block; a handle that holds nothing is null, and no other is
+-- what is held at this place, and the right to free its block; a handle that holds nothing is null,
+-- and no other is
 abbrev pub owns_share : Ptr → Option Share → Fml
 owns_share at None = feq Ptr at null_ptr
 owns_share at (Some held) = box_owns right the_row at held

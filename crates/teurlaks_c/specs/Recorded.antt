@@ -1,4 +1,5 @@
--- What a call does at the seat of an arena whose run is recorded: it is the call of any seat, and its receipts are kept.
+-- What a call does at the seat of an arena whose run is recorded: it is the call of any seat, and
+-- its receipts are kept.
 use Rattle.std.specs.Prelude.{◌≡◌, ◌++◌, List, Option, Some, Result, Ok, Err, IfOk, OnErr}
 use Rattle.std.specs.declared.alloc.AllocError.{AllocError}
 use Rattle.span.specs.ReceiptLists.{kept_receipts}
@@ -13,16 +14,19 @@ use Rattle.teurlaks_c.specs.declared.share.Share.TheVariants as shares
 abbrev pub receipts_of : KeptSeat → List Receipt
 receipts_of kept = kept_receipts kept.receipts
 
--- the seat does this and answers that, and keeps the receipts of just that after those before; or there is no room for a receipt, and neither the seat nor its
--- receipts change
-abbrev pub DoesKept : {Answer : Type 0} → (SeatState → Answer → SeatState → Type 0) → (SeatState → Answer → List Receipt) → KeptSeat → Result Answer AllocError
+-- the seat does this and answers that, and keeps the receipts of just that after those before; or
+-- there is no room for a receipt, and neither the seat nor its receipts change
+abbrev pub DoesKept : {Answer : Type 0} → (SeatState → Answer → SeatState → Type 0)
+    → (SeatState → Answer → List Receipt) → KeptSeat → Result Answer AllocError
     → KeptSeat → Type 0
 DoesKept does told before answer after =
-    IfOk answer (λ answer. does before.seat answer after.seat × (receipts_of after ≡ receipts_of before ++ told before.seat answer))
+    IfOk answer (λ answer. does before.seat answer after.seat
+    × (receipts_of after ≡ receipts_of before ++ told before.seat answer))
     × OnErr answer ((after.seat ≡ before.seat) × (receipts_of after ≡ receipts_of before))
 
 -- the recorded seat of the handle does so, at the same arena
-pub record AtRecorded {Answer : Type 0} (does : SeatState → Answer → SeatState → Type 0) (told : SeatState → Answer → List Receipt)
+pub record AtRecorded {Answer : Type 0} (does : SeatState → Answer → SeatState
+    → Type 0) (told : SeatState → Answer → List Receipt)
     (old : Option Share) (answer : Result Answer AllocError) (new : Option Share) : Type 0 where
   pub before : RecordedSeat
   pub after : RecordedSeat
@@ -32,6 +36,7 @@ pub record AtRecorded {Answer : Type 0} (does : SeatState → Answer → SeatSta
   pub did : DoesKept does told before.kept answer after.kept
 
 -- what a seat that there is answers, as the answer of one that there may be
-abbrev pub asked_of : {Answer : Type 0} → Result Answer AllocError → Result (Option Answer) AllocError
+abbrev pub asked_of : {Answer : Type 0} → Result Answer AllocError
+    → Result (Option Answer) AllocError
 asked_of (Ok answer) = Ok (Some answer)
 asked_of (Err error) = Err error

@@ -4,10 +4,10 @@ use Rattle.arena_core.specs.declared.reply.Refusal.{Refusal}
 use Rattle.arena_core.specs.declared.reply.Refusal.TheVariants.{OutOfMemory, PagesSpent, Ended, Running, PlanOpen, TooMany, NothingToAdopt, RingFull, Config}
 use Rattle.shard.specs.declared.error.PutError.{PutError}
 use Rattle.shard.specs.declared.error.PutError.TheVariants as put_error
-use Rattle.abandoned.specs.declared.error.ReceiveError.{ReceiveError}
-use Rattle.abandoned.specs.declared.error.ReceiveError.TheVariants as receive_error
-use Rattle.abandoned.specs.declared.error.AdoptError.{AdoptError}
-use Rattle.abandoned.specs.declared.error.AdoptError.TheVariants as adopt_error
+use Rattle.pool.specs.declared.error.ReceiveError.{ReceiveError}
+use Rattle.pool.specs.declared.error.ReceiveError.TheVariants as receive_error
+use Rattle.pool.specs.declared.error.AdoptError.{AdoptError}
+use Rattle.pool.specs.declared.error.AdoptError.TheVariants as adopt_error
 use Rattle.marks.specs.declared.error.MarkError.{MarkError}
 use Rattle.marks.specs.declared.error.MarkError.TheVariants as mark_error
 use Rattle.fold.specs.declared.step.Step.{Step as Outcome}
@@ -111,7 +111,8 @@ mark_status mark_error.PlanOpen = 5
 mark_status mark_error.TooMany = 6
 mark_status mark_error.Doubled = 1
 
--- for what came of a planned pair; the pair's groups are where they were planned, so that neither is absent or clashes
+-- for what came of a planned pair; the pair's groups are where they were planned, so that neither
+-- is absent or clashes
 abbrev pub status_of_outcome : Outcome → ℕ
 status_of_outcome outcome.Folded = 0
 status_of_outcome outcome.Emptied = 9

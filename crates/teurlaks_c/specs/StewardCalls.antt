@@ -56,23 +56,29 @@ pub record HasNewRecord (limits : Limits) (new : Option Share) : Type 0 where
   pub seats : vec_len steward.seats ≡ limits.shards
   pub none : HaveNoReceipt steward.seats.items
 
--- a seat is handed out, which leaves the steward's list; or there is none left; or memory is refused, and the list is as it was
+-- a seat is handed out, which leaves the steward's list; or there is none left; or memory is
+-- refused, and the list is as it was
 abbrev pub HandsOutOf : SharedSteward → ℕ → SharedSteward → Option Share → Type 0
 HandsOutOf before says after (Some (Seat seat)) =
-    (says ≡ done) × (arc_value seat.arena ≡ arc_value before.arena) × (before.seats.items ≡ after.seats.items ++ seat.seat ∷ [])
+    (says ≡ done) × (arc_value seat.arena ≡ arc_value before.arena)
+    × (before.seats.items ≡ after.seats.items ++ seat.seat ∷ [])
 HandsOutOf before says after None =
-    (((says ≡ none) × (vec_len before.seats ≡ 0)) ⊎ (says ≡ out_of_memory)) × (after.seats.items ≡ before.seats.items)
+    (((says ≡ none) × (vec_len before.seats ≡ 0)) ⊎ (says ≡ out_of_memory))
+    × (after.seats.items ≡ before.seats.items)
 HandsOutOf before says after (Some other) = ⊥
 
 -- the same of a seat with its receipts
 abbrev pub HandsOutKept : Recorder → ℕ → Recorder → Option Share → Type 0
 HandsOutKept before says after (Some (RecordedSeat seat)) =
-    (says ≡ done) × (arc_value seat.arena ≡ arc_value before.arena) × (before.seats.items ≡ after.seats.items ++ seat.kept ∷ [])
+    (says ≡ done) × (arc_value seat.arena ≡ arc_value before.arena)
+    × (before.seats.items ≡ after.seats.items ++ seat.kept ∷ [])
 HandsOutKept before says after None =
-    (((says ≡ none) × (vec_len before.seats ≡ 0)) ⊎ (says ≡ out_of_memory)) × (after.seats.items ≡ before.seats.items)
+    (((says ≡ none) × (vec_len before.seats ≡ 0)) ⊎ (says ≡ out_of_memory))
+    × (after.seats.items ≡ before.seats.items)
 HandsOutKept before says after (Some other) = ⊥
 
--- the steward of the handle hands out a seat, or has none left, or is refused memory; its arena, plan and certificate stay
+-- the steward of the handle hands out a seat, or has none left, or is refused memory; its arena,
+-- plan and certificate stay
 pub record HandsOutSeat (old : Option Share) (says : ℕ) (new out : Option Share) : Type 0 where
   pub before : SharedSteward
   pub after : SharedSteward
@@ -96,13 +102,18 @@ pub record HandsOutRecorded (old : Option Share) (says : ℕ) (new out : Option 
 abbrev pub HandsOut : (old : Option Share) → ℕ → (new out : Option Share) → Type 0
 HandsOut old says new out = HandsOutSeat old says new out ⊎ HandsOutRecorded old says new out
 
--- a seat of the handle's steward is left to another handle, where that has nothing and the first one has a steward
+-- a seat of the handle's steward is left to another handle, where that has nothing and the first
+-- one has a steward
 abbrev pub LeavesSeat : (old out : Option Share) → ℕ → (new out_new : Option Share) → Type 0
-LeavesSeat old (Some taken) says new out_new = (says ≡ has_core) × (new ≡ old) × (out_new ≡ Some taken)
-LeavesSeat old None says new out_new = (HasNoSteward old × (says ≡ no_core) × (new ≡ old) × (out_new ≡ None)) ⊎ HandsOut old says new out_new
+LeavesSeat old (Some taken) says new out_new = (says ≡ has_core) × (new ≡ old)
+    × (out_new ≡ Some taken)
+LeavesSeat old None says new out_new = (HasNoSteward old × (says ≡ no_core) × (new ≡ old)
+    × (out_new ≡ None)) ⊎ HandsOut old says new out_new
 
--- the steward of the handle does this and answers that, at the same arena and with the same seats to give out
-pub record AtSteward {Answer : Type 0} (does : Keeper → Answer → Keeper → Type 0) (old : Option Share) (answer : Answer) (new : Option Share) : Type 0 where
+-- the steward of the handle does this and answers that, at the same arena and with the same seats
+-- to give out
+pub record AtSteward {Answer : Type 0} (does : Keeper → Answer → Keeper
+    → Type 0) (old : Option Share) (answer : Answer) (new : Option Share) : Type 0 where
   pub before : SharedSteward
   pub after : SharedSteward
   pub before_is : old ≡ Some (Steward before)
@@ -123,8 +134,10 @@ pub record AtRecordedSteward {Answer : Type 0} (does : Keeper → Answer → Kee
   pub did : does before.keeper answer after.keeper
 
 -- the handle's steward is asked, where it has one
-abbrev pub Asks : {Answer : Type 0} → (Keeper → Answer → Keeper → Type 0) → Option Share → Option Answer → Option Share → Type 0
-Asks does old answer new = MatchOption answer (HasNoSteward old × (new ≡ old)) (λ answer. AtSteward does old answer new ⊎ AtRecordedSteward does old answer new)
+abbrev pub Asks : {Answer : Type 0} → (Keeper → Answer → Keeper → Type 0) → Option Share
+    → Option Answer → Option Share → Type 0
+Asks does old answer new = MatchOption answer (HasNoSteward old
+    × (new ≡ old)) (λ answer. AtSteward does old answer new ⊎ AtRecordedSteward does old answer new)
 
 -- a largest plan of what was seen is opened and its certificate kept
 pub record MarksPlan (before : Keeper) (says : MarkReply) (after : Keeper) : Type 0 where
@@ -136,22 +149,27 @@ pub record MarksPlan (before : Keeper) (says : MarkReply) (after : Keeper) : Typ
   pub none : before.steward.plan ≡ None
   pub begins : after.steward ≡ begun before.steward found.plan
 
--- a plan is opened, or the mark is refused or meets another thread's lock, and then plan and certificate are as they were
+-- a plan is opened, or the mark is refused or meets another thread's lock, and then plan and
+-- certificate are as they were
 abbrev pub Marks : Keeper → Result (Result MarkReply MarkError) Busy → Keeper → Type 0
 Marks before answer after =
-    IfOk answer (λ made. IfOk made (λ says. MarksPlan before says after) × OnErr made ((after.steward ≡ before.steward) × (after.last ≡ before.last)))
+    IfOk answer (λ made. IfOk made (λ says. MarksPlan before says after)
+    × OnErr made ((after.steward ≡ before.steward) × (after.last ≡ before.last)))
     × OnErr answer ((after.steward ≡ before.steward) × (after.last ≡ before.last))
 
--- the next pair is carried out, or there is none, or memory is refused, or another thread has a lock
+-- the next pair is carried out, or there is none, or memory is refused, or another thread has a
+-- lock
 abbrev pub TakesStep : Keeper → Result (Result Stepped AllocError) Busy → Keeper → Type 0
 TakesStep before answer after =
-    IfOk answer (λ step. IfOk step (λ stepped. Steps before.steward.plan stepped after.steward.plan) × OnErr step (after.steward ≡ before.steward))
+    IfOk answer (λ step. IfOk step (λ stepped. Steps before.steward.plan stepped after.steward.plan)
+    × OnErr step (after.steward ≡ before.steward))
     × OnErr answer (after.steward ≡ before.steward) × (after.last ≡ before.last)
 
 -- the plan is closed, or there is none, or another thread has a lock
 abbrev pub Closes : Keeper → Result Bool Busy → Keeper → Type 0
 Closes before answer after =
-    IfOk answer (λ closed. closed ≡ is_some before.steward.plan) × OnOk answer (after.steward ≡ record before.steward { plan = None })
+    IfOk answer (λ closed. closed ≡ is_some before.steward.plan)
+    × OnOk answer (after.steward ≡ record before.steward { plan = None })
     × OnErr answer (after.steward ≡ before.steward) × (after.last ≡ before.last)
 
 -- nothing of the steward changes
@@ -160,8 +178,10 @@ Keeps before answer after = (after.steward ≡ before.steward) × (after.last �
 
 -- the text of the certificate that is kept is written into the room, where the handle has a steward
 abbrev pub WritesLast : Option Share → List ℕ → CertificateReply → List ℕ → Type 0
-WritesLast (Some (Steward steward)) room says room_new = Tells steward.keeper.last room says room_new
-WritesLast (Some (RecordedSteward steward)) room says room_new = Tells steward.keeper.last room says room_new
+WritesLast (Some (Steward steward)) room says room_new =
+    Tells steward.keeper.last room says room_new
+WritesLast (Some (RecordedSteward steward)) room says room_new =
+    Tells steward.keeper.last room says room_new
 WritesLast held room says room_new = (says.status ≡ no_core) × (says.len ≡ 0) × (room_new ≡ room)
 
 -- what C reads of a mark
@@ -176,7 +196,8 @@ abbrev pub SaysStepped : StepReply → Option (Result (Result Stepped AllocError
 SaysStepped says None = says.status ≡ no_core
 SaysStepped says (Some (Err b)) = says.status ≡ busy
 SaysStepped says (Some (Ok (Err error))) = says.status ≡ out_of_memory
-SaysStepped says (Some (Ok (Ok (Taken abandoned owned outcome)))) = (says.status ≡ status_of_outcome outcome) × IsIdOf says.abandoned abandoned
+SaysStepped says (Some (Ok (Ok (Taken abandoned owned outcome)))) =
+    (says.status ≡ status_of_outcome outcome) × IsIdOf says.abandoned abandoned
     × IsIdOf says.owned owned
 SaysStepped says (Some (Ok (Ok NoPairLeft))) = says.status ≡ no_pair_left
 SaysStepped says (Some (Ok (Ok NoPlan))) = says.status ≡ no_plan
@@ -194,10 +215,12 @@ SaysForgotten says (Err b) = (says.status ≡ busy) × (says.count ≡ 0)
 SaysForgotten says (Ok (Ok count)) = (says.status ≡ done) × (says.count ≡ count)
 SaysForgotten says (Ok (Err refused)) = (says.status ≡ refusal_status PlanIsOpen) × (says.count ≡ 0)
 
--- guests are forgotten, but while a plan is open, or where another thread has a lock; never where the run is recorded
+-- guests are forgotten, but while a plan is open, or where another thread has a lock; never where
+-- the run is recorded
 abbrev pub ForgetsAll : Option Share → ForgetReply → Type 0
 ForgetsAll (Some (Steward steward)) says =
-    (answer : Result (Result ℕ PlanOpen) Busy) × IfOk answer (λ forgotten. IsErr forgotten ↔ IsSome steward.keeper.steward.plan) × SaysForgotten says answer
+    (answer : Result (Result ℕ PlanOpen) Busy) × IfOk answer (λ forgotten. IsErr forgotten
+    ↔ IsSome steward.keeper.steward.plan) × SaysForgotten says answer
 ForgetsAll (Some (RecordedSteward steward)) says = (says.status ≡ recorded) × (says.count ≡ 0)
 ForgetsAll held says = (says.status ≡ no_core) × (says.count ≡ 0)
 
@@ -205,4 +228,5 @@ ForgetsAll held says = (says.status ≡ no_core) × (says.count ≡ 0)
 abbrev pub SaysTotals : ArenaTotalsReply → Option (Result Totals Busy) → Type 0
 SaysTotals says None = (says.status ≡ no_core) × (says.pages ≡ 0) × (says.live ≡ 0)
 SaysTotals says (Some (Err b)) = (says.status ≡ busy) × (says.pages ≡ 0) × (says.live ≡ 0)
-SaysTotals says (Some (Ok totals)) = (says.status ≡ done) × (says.pages ≡ totals.pages) × (says.live ≡ totals.live)
+SaysTotals says (Some (Ok totals)) = (says.status ≡ done) × (says.pages ≡ totals.pages)
+    × (says.live ≡ totals.live)

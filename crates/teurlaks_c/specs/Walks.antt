@@ -17,7 +17,8 @@ walk_of raw = record { shard = raw.shard; serial = raw.serial; slot = raw.slot }
 
 -- the walk goes on: a key that it comes to was not behind it, and is behind it from now on
 abbrev pub GoesOn : Walk → Result (Option Key) Busy × Walk → Type 0
-GoesOn from (next, to) = HasGoneOn from to × IfOk next (λ found. IfSome found (λ key. IsAhead from key × (to ≡ walk_after key)))
+GoesOn from (next, to) = HasGoneOn from to × IfOk next
+    (λ found. IfSome found (λ key. IsAhead from key × (to ≡ walk_after key)))
 
 -- it goes on at a seat, which stays as it is
 abbrev pub WalksAtSeat : Walk → SeatState → Result (Option Key) Busy × Walk → SeatState → Type 0
@@ -28,8 +29,10 @@ abbrev pub WalksAtSteward : Walk → Keeper → Result (Option Key) Busy × Walk
 WalksAtSteward from before answer after = (after ≡ before) × GoesOn from answer
 
 -- what C reads of it
-abbrev pub SaysWalked : RawWalk → NextReply → RawWalk → Option (Result (Option Key) Busy × Walk) → Type 0
+abbrev pub SaysWalked : RawWalk → NextReply → RawWalk → Option (Result (Option Key) Busy × Walk)
+    → Type 0
 SaysWalked walk says walk_new None = (says.status ≡ no_core) × (walk_new ≡ walk)
 SaysWalked walk says walk_new (Some (Err b, to)) = (says.status ≡ busy) × (walk_of walk_new ≡ to)
 SaysWalked walk says walk_new (Some (Ok None, to)) = (says.status ≡ none) × (walk_of walk_new ≡ to)
-SaysWalked walk says walk_new (Some (Ok (Some key), to)) = (says.status ≡ done) × IsKeyOf says.key key × (walk_of walk_new ≡ to)
+SaysWalked walk says walk_new (Some (Ok (Some key), to)) = (says.status ≡ done)
+    × IsKeyOf says.key key × (walk_of walk_new ≡ to)

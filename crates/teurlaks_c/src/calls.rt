@@ -18,11 +18,13 @@ use span::{Class, Key};
 use std::alloc::Global;
 use std::mem::replace;
 
-/// Leaves a new core to the handle, which has none yet: of `shards` shards, 1 to 64, each of up to `page_limit` pages of 4,096 bytes,
-/// 1 to 1,048,576, with rings of `ring_capacity` keys, 1 to 1,024, each slot of which is given the generations from 1 to `gens`, at least 1.
+/// Leaves a new core to the handle, which has none yet: of `shards` shards, 1 to 64, each of up to
+/// `page_limit` pages of 4,096 bytes, 1 to 1,048,576, with rings of `ring_capacity` keys, 1 to
+/// 1,024, each slot of which is given the generations from 1 to `gens`, at least 1.
 ///
-/// `HAS_CORE` comes exactly where the handle has a core already. Where it has none, `CONFIG` comes exactly where a number is out of its
-/// range, and `OUT_OF_MEMORY` only where each is within it. Where the status is not `OK` the handle is as it was.
+/// `HAS_CORE` comes exactly where the handle has a core already. Where it has none, `CONFIG` comes
+/// exactly where a number is out of its range, and `OUT_OF_MEMORY` only where each is within it.
+/// Where the status is not `OK` the handle is as it was.
 #[unsafe(no_mangle)]
 pub extern "C" fn teurlaks_new(
     alloc: Global,
@@ -34,7 +36,8 @@ pub extern "C" fn teurlaks_new(
 ) -> u32
     ensures ok { result ≡ 0 → HasNew (limits_of shards page_limit ring_capacity gens) out.new.held }
     ensures refused { (result ≡ 0 → ⊥) → out.new.held ≡ out.old.held }
-    ensures config { out.old.held ≡ None → (result ≡ config) ↔ (AreWithin (limits_of shards page_limit ring_capacity gens)
+    ensures config { out.old.held ≡ None → (result ≡ config)
+        ↔ (AreWithin (limits_of shards page_limit ring_capacity gens)
         → ⊥) }
     ensures taken { (result ≡ has_core) ↔ IsSome out.old.held }
 {
@@ -68,21 +71,24 @@ pub extern "C" fn teurlaks_drop(alloc: Global, handle: &mut Handle)
     drop(replace(handle, Handle::none()).into_box(alloc));
 }
 
-/// Keeps an object of one word in the shard, and answers its key, which was never given out before. Refused with `PAGES_SPENT`,
-/// `ENDED`, `CONFIG` or `OUT_OF_MEMORY` as [`Core::put`] is; nothing has changed then.
+/// Keeps an object of one word in the shard, and answers its key, which was never given out before.
+/// Refused with `PAGES_SPENT`, `ENDED`, `CONFIG` or `OUT_OF_MEMORY` as [`Core::put`] is; nothing
+/// has changed then.
 #[unsafe(no_mangle)]
 pub extern "C" fn teurlaks_put(handle: &mut Handle, shard: u32, value: RawWord) -> PutReply
-    ensures live { IsSome handle.old.held → Puts handle.old.held shard (word_of value ∷ []) result handle.new.held }
+    ensures live { IsSome handle.old.held → Puts handle.old.held shard (word_of value ∷ []) result
+        handle.new.held }
     ensures none { handle.old.held ≡ None → (result.status ≡ no_core) × (handle.new.held ≡ None) }
 {
     put(handle, shard, Class::C16, &[value_of(value)])
 }
 
-/// Keeps an object of 1, 4 or 16 words in the shard, as [`teurlaks_put`] does with one word. Where the words are of another number,
-/// it answers `CONFIG`, and nothing has changed.
+/// Keeps an object of 1, 4 or 16 words in the shard, as [`teurlaks_put`] does with one word. Where
+/// the words are of another number, it answers `CONFIG`, and nothing has changed.
 #[unsafe(no_mangle)]
 pub extern "C" fn teurlaks_put_words(handle: &mut Handle, shard: u32, words: &[RawWord]) -> PutReply
-    ensures live { IsSome handle.old.held → PutsWords handle.old.held shard (words_of words.now) result handle.new.held }
+    ensures live { IsSome handle.old.held → PutsWords handle.old.held shard (words_of words.now)
+        result handle.new.held }
     ensures none { handle.old.held ≡ None → (result.status ≡ no_core) × (handle.new.held ≡ None) }
 {
     let Some(class) = class_for(words) else {
@@ -97,12 +103,13 @@ pub extern "C" fn teurlaks_put_words(handle: &mut Handle, shard: u32, words: &[R
     put(handle, shard, class, values)
 }
 
-/// The word of the key, where it is live and has an object of one word. `NONE` where it is not live, and `TOO_SMALL` where its object
-/// has more words. Nothing changes.
+/// The word of the key, where it is live and has an object of one word. `NONE` where it is not
+/// live, and `TOO_SMALL` where its object has more words. Nothing changes.
 #[unsafe(no_mangle)]
 pub extern "C" fn teurlaks_get(handle: &mut Handle, key: RawKey) -> GetReply
     ensures live { IsSome handle.old.held → Gets handle.old.held key result handle.new.held }
-    ensures none { handle.old.held ≡ None → (result.status ≡ no_core) × (word_of result.value ≡ 0) × (handle.new.held ≡ None) }
+    ensures none { handle.old.held ≡ None → (result.status ≡ no_core) × (word_of result.value ≡ 0)
+        × (handle.new.held ≡ None) }
 {
     let Some(key) = key_of(key) else {
         return GetReply {
@@ -113,16 +120,19 @@ pub extern "C" fn teurlaks_get(handle: &mut Handle, key: RawKey) -> GetReply
     get(handle, &key)
 }
 
-/// Writes the words of the key's object, where it is live, into `words`, from its first on, and answers how many they are. `NONE` where
-/// it is not live, and `TOO_SMALL` where there is no room for that many: nothing was written then. The core stays as it is.
+/// Writes the words of the key's object, where it is live, into `words`, from its first on, and
+/// answers how many they are. `NONE` where it is not live, and `TOO_SMALL` where there is no room
+/// for that many: nothing was written then. The core stays as it is.
 #[unsafe(no_mangle)]
 pub extern "C" fn teurlaks_get_words(
     handle: &mut Handle,
     key: RawKey,
     words: &mut [RawWord],
 ) -> WordsReply
-    ensures live { IsSome handle.old.held → GetsWords handle.old.held key words.old result words.new handle.new.held }
-    ensures none { handle.old.held ≡ None → (result.status ≡ no_core) × (result.len ≡ 0) × (words.new ≡ words.old) × (handle.new.held ≡ None) }
+    ensures live { IsSome handle.old.held → GetsWords handle.old.held key words.old result words.new
+        handle.new.held }
+    ensures none { handle.old.held ≡ None → (result.status ≡ no_core) × (result.len ≡ 0)
+        × (words.new ≡ words.old) × (handle.new.held ≡ None) }
 {
     let Some(key) = key_of(key) else {
         return WordsReply {
@@ -133,11 +143,13 @@ pub extern "C" fn teurlaks_get_words(
     get_words(handle, &key, words)
 }
 
-/// Sets the key to the object of this word, where it is live and has an object of one word, which `OK` says; else it answers `NONE`.
-/// Refused with `OUT_OF_MEMORY` as [`Core::set`] is; nothing has changed then.
+/// Sets the key to the object of this word, where it is live and has an object of one word, which
+/// `OK` says; else it answers `NONE`. Refused with `OUT_OF_MEMORY` as [`Core::set`] is; nothing has
+/// changed then.
 #[unsafe(no_mangle)]
 pub extern "C" fn teurlaks_set(handle: &mut Handle, key: RawKey, value: RawWord) -> u32
-    ensures live { IsSome handle.old.held → Sets handle.old.held key (word_of value ∷ []) result handle.new.held }
+    ensures live { IsSome handle.old.held → Sets handle.old.held key (word_of value ∷ []) result
+        handle.new.held }
     ensures none { handle.old.held ≡ None → (result ≡ no_core) × (handle.new.held ≡ None) }
 {
     let Some(key) = key_of(key) else {
@@ -146,11 +158,13 @@ pub extern "C" fn teurlaks_set(handle: &mut Handle, key: RawKey, value: RawWord)
     set(handle, &key, &[value_of(value)])
 }
 
-/// Sets the key to the object of 1, 4 or 16 words, as [`teurlaks_set`] does with one word, where it is live and its object has as many.
-/// Where the words are of another number than these, it answers `CONFIG`, and nothing has changed.
+/// Sets the key to the object of 1, 4 or 16 words, as [`teurlaks_set`] does with one word, where it
+/// is live and its object has as many. Where the words are of another number than these, it answers
+/// `CONFIG`, and nothing has changed.
 #[unsafe(no_mangle)]
 pub extern "C" fn teurlaks_set_words(handle: &mut Handle, key: RawKey, words: &[RawWord]) -> u32
-    ensures live { IsSome handle.old.held → SetsWords handle.old.held key (words_of words.now) result handle.new.held }
+    ensures live { IsSome handle.old.held → SetsWords handle.old.held key (words_of words.now)
+        result handle.new.held }
     ensures none { handle.old.held ≡ None → (result ≡ no_core) × (handle.new.held ≡ None) }
 {
     let Some(_) = class_for(words) else {
@@ -165,7 +179,8 @@ pub extern "C" fn teurlaks_set_words(handle: &mut Handle, key: RawKey, words: &[
     set(handle, &key, values)
 }
 
-/// Frees the key, where it is live, which `OK` says; else it answers `NONE`, and nothing changes. It takes no memory.
+/// Frees the key, where it is live, which `OK` says; else it answers `NONE`, and nothing changes.
+/// It takes no memory.
 #[unsafe(no_mangle)]
 pub extern "C" fn teurlaks_free(handle: &mut Handle, key: RawKey) -> u32
     ensures live { IsSome handle.old.held → Frees handle.old.held key result handle.new.held }
@@ -177,8 +192,9 @@ pub extern "C" fn teurlaks_free(handle: &mut Handle, key: RawKey) -> u32
     free(handle, &key)
 }
 
-/// The live key that comes next after this one, by the ids of spans and then by slots, as [`Core::next_live`] answers it; the first one
-/// where no key has these numbers, as where all are 0. `NONE` says that no live key is left. Nothing changes.
+/// The live key that comes next after this one, by the ids of spans and then by slots, as
+/// [`Core::next_live`] answers it; the first one where no key has these numbers, as where all are
+/// 0. `NONE` says that no live key is left. Nothing changes.
 #[unsafe(no_mangle)]
 pub extern "C" fn teurlaks_next(handle: &mut Handle, after: RawKey) -> NextReply
     ensures live { IsSome handle.old.held → Nexts handle.old.held after result handle.new.held }
@@ -197,7 +213,8 @@ pub extern "C" fn teurlaks_next(handle: &mut Handle, after: RawKey) -> NextReply
 #[unsafe(no_mangle)]
 pub extern "C" fn teurlaks_totals(handle: &mut Handle) -> TotalsReply
     ensures live { IsSome handle.old.held → Counts handle.old.held result handle.new.held }
-    ensures none { handle.old.held ≡ None → (result.pages ≡ 0) × (result.live ≡ 0) × (handle.new.held ≡ None) }
+    ensures none { handle.old.held ≡ None → (result.pages ≡ 0) × (result.live ≡ 0)
+        × (handle.new.held ≡ None) }
 {
     let Some(held) = handle.held() else {
         return TotalsReply { pages: 0, live: 0 };
@@ -213,7 +230,8 @@ pub extern "C" fn teurlaks_totals(handle: &mut Handle) -> TotalsReply
 #[inline(always)]
 fn put(handle: &mut Handle, shard: u32, class: Class, words: &[u128]) -> PutReply
     requires width { length words.now ≡ width_of class }
-    ensures live { IsSome handle.old.held → Puts handle.old.held shard words.now result handle.new.held }
+    ensures live { IsSome handle.old.held → Puts handle.old.held shard words.now result
+        handle.new.held }
     ensures none { handle.old.held ≡ None → (result.status ≡ no_core) × (handle.new.held ≡ None) }
 {
     let Some(held) = handle.held() else {
@@ -237,8 +255,10 @@ fn put(handle: &mut Handle, shard: u32, class: Class, words: &[u128]) -> PutRepl
 // The core looks the key up, for its word.
 #[inline(always)]
 fn get(handle: &mut Handle, key: &Key) -> GetReply
-    ensures live { IsSome handle.old.held → GetsKey handle.old.held key.now (SaysGot result) handle.new.held }
-    ensures none { handle.old.held ≡ None → (result.status ≡ no_core) × (word_of result.value ≡ 0) × (handle.new.held ≡ None) }
+    ensures live { IsSome handle.old.held → GetsKey handle.old.held key.now (SaysGot result)
+        handle.new.held }
+    ensures none { handle.old.held ≡ None → (result.status ≡ no_core) × (word_of result.value ≡ 0)
+        × (handle.new.held ≡ None) }
 {
     let Some(held) = handle.held() else {
         return GetReply {
@@ -251,8 +271,10 @@ fn get(handle: &mut Handle, key: &Key) -> GetReply
 
 // The core looks the key up, and its words are written into the room.
 fn get_words(handle: &mut Handle, key: &Key, room: &mut [RawWord]) -> WordsReply
-    ensures live { IsSome handle.old.held → GetsKey handle.old.held key.now (SaysWords room.old result room.new) handle.new.held }
-    ensures none { handle.old.held ≡ None → (result.status ≡ no_core) × (result.len ≡ 0) × (room.new ≡ room.old) × (handle.new.held ≡ None) }
+    ensures live { IsSome handle.old.held → GetsKey handle.old.held key.now
+        (SaysWords room.old result room.new) handle.new.held }
+    ensures none { handle.old.held ≡ None → (result.status ≡ no_core) × (result.len ≡ 0)
+        × (room.new ≡ room.old) × (handle.new.held ≡ None) }
 {
     let Some(held) = handle.held() else {
         return WordsReply {
@@ -265,7 +287,8 @@ fn get_words(handle: &mut Handle, key: &Key, room: &mut [RawWord]) -> WordsReply
 
 // The core sets the key to the object of these words.
 fn set(handle: &mut Handle, key: &Key, words: &[u128]) -> u32
-    ensures live { IsSome handle.old.held → SetsKey handle.old.held key.now words.now result handle.new.held }
+    ensures live { IsSome handle.old.held → SetsKey handle.old.held key.now words.now result
+        handle.new.held }
     ensures none { handle.old.held ≡ None → (result ≡ no_core) × (handle.new.held ≡ None) }
 {
     let Some(held) = handle.held() else {
@@ -280,7 +303,8 @@ fn set(handle: &mut Handle, key: &Key, words: &[u128]) -> u32
 // The core frees the key.
 #[inline(always)]
 fn free(handle: &mut Handle, key: &Key) -> u32
-    ensures live { IsSome handle.old.held → FreesKey handle.old.held key.now result handle.new.held }
+    ensures live { IsSome handle.old.held → FreesKey handle.old.held key.now result
+        handle.new.held }
     ensures none { handle.old.held ≡ None → (result ≡ no_core) × (handle.new.held ≡ None) }
 {
     let Some(held) = handle.held() else {

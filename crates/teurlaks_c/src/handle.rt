@@ -10,7 +10,8 @@ use std::alloc::Global;
 use std::marker::Model;
 use unboxed::Unboxed;
 
-/// Where a core is, or null where there is none. Only the library reads it; a caller moves it, and never copies it.
+/// Where a core is, or null where there is none. Only the library reads it; a caller moves it, and
+/// never copies it.
 #[repr(C)]
 #[derive(Drop)]
 pub struct Handle {

@@ -5,7 +5,8 @@ use arena_core::Core;
 use certificate::Certificate;
 use span::Counted;
 
-/// A core whose changes are only counted, and what its last mark answered, so that a caller can ask for the text of it afterwards.
+/// A core whose changes are only counted, and what its last mark answered, so that a caller can ask
+/// for the text of it afterwards.
 #[derive(Drop)]
 pub struct Held {
     /// The shards, the pool and the open plan.

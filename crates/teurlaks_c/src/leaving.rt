@@ -13,15 +13,17 @@ use std::alloc::Global;
 use std::mem::replace;
 use std::sync::Arc;
 
-// How often shares are counted: once more than there are other shares of seats, each of which may go meanwhile, once.
+// How often shares are counted: once more than there are other shares of seats, each of which may
+// go meanwhile, once.
 const COUNTS: u32 = 65;
 
-/// Gives the seat back to the steward of its arena, which hands it out again to whoever asks next: what waits at the seat is handed
-/// over, a recorded seat goes with its receipts, and its handle has nothing then. The shard stays as it is, running or ended; where the seat
-/// keeps it, it goes back to its lock.
+/// Gives the seat back to the steward of its arena, which hands it out again to whoever asks next:
+/// what waits at the seat is handed over, a recorded seat goes with its receipts, and its handle
+/// has nothing then. The shard stays as it is, running or ended; where the seat keeps it, it goes
+/// back to its lock.
 ///
-/// `NO_CORE` where the first handle has no steward or the second no seat, `CONFIG` where the seat is of another arena, and
-/// `OUT_OF_MEMORY`; nothing has changed then.
+/// `NO_CORE` where the first handle has no steward or the second no seat, `CONFIG` where the seat
+/// is of another arena, and `OUT_OF_MEMORY`; nothing has changed then.
 #[unsafe(no_mangle)]
 pub extern "C" fn teurlaks_seat_leave(
     alloc: Global,
@@ -134,10 +136,10 @@ fn make_room_for_kept(steward: &mut RecordedSteward, seat: &RecordedSeat) -> Res
     }
 }
 
-// Whether both are shares of one value, of which nobody else makes shares now: a share more of theirs
-// is then one of ours. Shares that go meanwhile can hide it, each of them once. Another steward that is
-// given a seat of ours makes a share of it, and deceives this. So callers compare places before
-// (`places.rt`): the library has no comparison of them.
+// Whether both are shares of one value, of which nobody else makes shares now: a share more of
+// theirs is then one of ours. Shares that go meanwhile can hide it, each of them once. Another
+// steward that is given a seat of ours makes a share of it, and deceives this. So callers compare
+// places before (`places.rt`): the library has no comparison of them.
 fn is_one<T: Drop>(ours: &Arc<T, Global>, theirs: &Arc<T, Global>) -> bool {
     for _ in 0..COUNTS {
         let before = Arc::strong_count(ours);

@@ -1,8 +1,9 @@
 //! The core for C, and for any language that calls C: a static library of proved functions.
 //!
-//! A [`Handle`] is what a caller keeps of a core: one word, which it never looks into. It begins as zero; `teurlaks_new` leaves a core
-//! to it, each other call works on that core, and `teurlaks_drop` gives its memory back. What the handle owns stands in its type, so
-//! the contracts of the calls are plain facts on the core before and after. Its logs are only counted.
+//! A [`Handle`] is what a caller keeps of a core: one word, which it never looks into. It begins as
+//! zero; `teurlaks_new` leaves a core to it, each other call works on that core, and
+//! `teurlaks_drop` gives its memory back. What the handle owns stands in its type, so the contracts
+//! of the calls are plain facts on the core before and after. Its logs are only counted.
 //!
 //! ```text
 //!   C, Rust, ..      struct teurlaks { void *at; }
@@ -12,31 +13,36 @@
 //!   events and replies           Core<Counted> ┘     └ the certificate of the last mark
 //! ```
 //!
-//! A [`ShareHandle`](share_handle::ShareHandle) is the same for threads: it has a seat of an arena, or its steward, each with a share of the
-//! arena, which goes with the last of them. Its calls (`seats.rt`, `stewards.rt`) wait for nobody: where another thread has a lock that a call
-//! needs, it answers `BUSY`, with nothing changed. Both kinds of handle may go to another thread, which is proved (`Send`); a call has its
-//! handle to itself. A seat that its thread is done with goes back to the steward (`leaving.rt`), of whose arena it is if both stand at one
-//! place (`places.rt`).
+//! A [`ShareHandle`](share_handle::ShareHandle) is the same for threads: it has a seat of an arena,
+//! or its steward, each with a share of the arena, which goes with the last of them. Its calls
+//! (`seats.rt`, `stewards.rt`) wait for nobody: where another thread has a lock that a call needs,
+//! it answers `BUSY`, with nothing changed. Both kinds of handle may go to another thread, which is
+//! proved (`Send`); a call has its handle to itself. A seat that its thread is done with goes back
+//! to the steward (`leaving.rt`), of whose arena it is if both stand at one place (`places.rt`).
 //!
-//! An arena may be *recorded* (`recorded.rt`): it keeps its logs, and each seat the receipts of its calls, which are the calls of any arena
-//! (`recorded_calls.rt`). Once all seats are back the steward ends it, and has the receipts held against the logs (`recorded_stewards.rt`):
-//! `OK` says that each span has one history.
+//! An arena may be *recorded* (`recorded.rt`): it keeps its logs, and each seat the receipts of its
+//! calls, which are the calls of any arena (`recorded_calls.rt`). Once all seats are back the
+//! steward ends it, and has the receipts held against the logs (`recorded_stewards.rt`): `OK` says
+//! that each span has one history.
 //!
-//! Nothing is asked of a handle: one that has no core, since none was made or it was dropped, is null, and each call tests it. It answers the
-//! status `NO_CORE` then, whatever else it is given; `teurlaks_totals` counts nothing, and `teurlaks_drop` does nothing.
+//! Nothing is asked of a handle: one that has no core, since none was made or it was dropped, is
+//! null, and each call tests it. It answers the status `NO_CORE` then, whatever else it is given;
+//! `teurlaks_totals` counts nothing, and `teurlaks_drop` does nothing.
 //!
-//! Numbers cross and small structs of numbers, no enums and no numbers of 128 bits: a reply has a status (`status.rt`), and a word
-//! is two halves. A call passes `alloc`, which takes no bytes, so callers in C pass nothing for it.
+//! Numbers cross and small structs of numbers, no enums and no numbers of 128 bits: a reply has a
+//! status (`status.rt`), and a word is two halves. A call passes `alloc`, which takes no bytes, so
+//! callers in C pass nothing for it.
 //!
-//! The public facts (`specs/Calls.antt`): each call is the event of the core that it is named for, and what it answers is what the core
-//! replies. So what [`Core::step`](arena_core::Core::step) promises, of the plain map of keys, of refusals and of largest plans, is
-//! promised to every caller that keeps a handle as `c/teurlaks.h` says.
+//! The public facts (`specs/Calls.antt`): each call is the event of the core that it is named for,
+//! and what it answers is what the core replies. So what [`Core::step`](arena_core::Core::step)
+//! promises, of the plain map of keys, of refusals and of largest plans, is promised to every
+//! caller that keeps a handle as `c/teurlaks.h` says.
 //!
 //! # Examples
 //!
 //! ```text
 //! struct teurlaks_handle core = {0};
-//! if (teurlaks_new(&core, 2, 4, 1, 9) != TEURLAKS_OK) return 1;    // two shards of up to four pages
+//! if (teurlaks_new(&core, 2, 4, 1, 9) != TEURLAKS_OK) return 1;  // two shards of up to four pages
 //! struct teurlaks_put_reply put = teurlaks_put(&core, 0, (struct teurlaks_word){7, 0});
 //! teurlaks_end(&core, 0);                                          // its group goes to the pool
 //! teurlaks_get(&core, put.key).value.low;                          // 7, as ever

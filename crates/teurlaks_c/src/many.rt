@@ -12,11 +12,12 @@ use crate::words::value_of;
 use arena_core::Core;
 use span::{Class, Counted};
 
-/// Keeps an object of one word for each of the words in the shard, in their order, as so many calls of `teurlaks_put` do, and leaves
-/// their keys in `keys`, in the same order. It stops where `words` or `keys` end, and at the first put that is refused.
+/// Keeps an object of one word for each of the words in the shard, in their order, as so many calls
+/// of `teurlaks_put` do, and leaves their keys in `keys`, in the same order. It stops where `words`
+/// or `keys` end, and at the first put that is refused.
 ///
-/// It answers how many were put, with `OK`, or with why the next one was refused, as `teurlaks_put` is; those before it stand, and
-/// nothing else of `keys` is written.
+/// It answers how many were put, with `OK`, or with why the next one was refused, as `teurlaks_put`
+/// is; those before it stand, and nothing else of `keys` is written.
 #[unsafe(no_mangle)]
 pub extern "C" fn teurlaks_put_many(
     handle: &mut Handle,
@@ -36,12 +37,13 @@ pub extern "C" fn teurlaks_put_many(
     put_all(&mut held.core, shard, words, keys)
 }
 
-/// Frees each of the keys that is live, in their order, as so many calls of `teurlaks_free` do, and answers how many were live. It
-/// takes no memory.
+/// Frees each of the keys that is live, in their order, as so many calls of `teurlaks_free` do, and
+/// answers how many were live. It takes no memory.
 #[unsafe(no_mangle)]
 pub extern "C" fn teurlaks_free_many(handle: &mut Handle, keys: &[RawKey]) -> ManyReply
     ensures live { IsSome handle.old.held → (result.status ≡ done)
-        × Changes handle.old.held (λ old new. FreesAll old keys.now result.count new) handle.new.held }
+        × Changes handle.old.held (λ old new. FreesAll old keys.now result.count new)
+        handle.new.held }
     ensures none { handle.old.held ≡ None → (result.status ≡ no_core) × (result.count ≡ 0)
         × (handle.new.held ≡ None) }
 {
@@ -54,8 +56,8 @@ pub extern "C" fn teurlaks_free_many(handle: &mut Handle, keys: &[RawKey]) -> Ma
     }
 }
 
-/// Leaves at each place of `replies` what `teurlaks_get` answers for the key at that place of `keys`, as far as both go, and answers
-/// how many were looked up. Nothing else changes.
+/// Leaves at each place of `replies` what `teurlaks_get` answers for the key at that place of
+/// `keys`, as far as both go, and answers how many were looked up. Nothing else changes.
 #[unsafe(no_mangle)]
 pub extern "C" fn teurlaks_get_many(
     handle: &mut Handle,
@@ -63,7 +65,8 @@ pub extern "C" fn teurlaks_get_many(
     replies: &mut [GetReply],
 ) -> ManyReply
     ensures live { IsSome handle.old.held → (result.status ≡ done)
-        × Changes handle.old.held (λ old new. (new ≡ old) × GetsAll old keys.now replies.old replies.new) handle.new.held }
+        × Changes handle.old.held (λ old new. (new ≡ old)
+        × GetsAll old keys.now replies.old replies.new) handle.new.held }
     ensures none { handle.old.held ≡ None → (result.status ≡ no_core) × (result.count ≡ 0)
         × (replies.new ≡ replies.old) × (handle.new.held ≡ None) }
 {

@@ -1,4 +1,5 @@
-// Shards that end, begin again, retire groups or give pages back, groups that are adopted, and plans of folds.
+// Shards that end, begin again, retire groups or give pages back, groups that are adopted, and
+// plans of folds.
 ghost use Rattle.std.specs.Prelude.{◌≡◌, IsSome, MatchOption, None};
 ghost use Rattle.arena_core.specs.declared.event.Event.TheVariants as event;
 ghost use Rattle.teurlaks_c.specs.Calls.{Adopts, Begins, Closes, CountsOf, Ends, Forgets, IsOfMark, Keeps, Marks, Retires, SaysForgotten, SaysMarked, Steps, TakesStep, Tells, Trims, Writes};
@@ -22,8 +23,9 @@ use span::SpanId;
 use std::alloc::Global;
 use std::mem::replace;
 
-/// Ends the shard: its groups go to the pool, with their pages, and it takes no put until it begins again. Refused with `ENDED`, `PLAN_OPEN`,
-/// `CONFIG` or `OUT_OF_MEMORY` as an end of [`Core::step`](arena_core::Core::step) is; nothing has changed then.
+/// Ends the shard: its groups go to the pool, with their pages, and it takes no put until it begins
+/// again. Refused with `ENDED`, `PLAN_OPEN`, `CONFIG` or `OUT_OF_MEMORY` as an end of
+/// [`Core::step`](arena_core::Core::step) is; nothing has changed then.
 #[unsafe(no_mangle)]
 pub extern "C" fn teurlaks_end(handle: &mut Handle, shard: u32) -> u32
     ensures live { IsSome handle.old.held → Ends handle.old.held shard result handle.new.held }
@@ -37,9 +39,10 @@ pub extern "C" fn teurlaks_end(handle: &mut Handle, shard: u32) -> u32
     }
 }
 
-/// Lets the shard, which has ended, run again, for a new thread. No key that it then gives out was given out before, and all keys stay
-/// what they were. Refused with `RUNNING` where the shard has not ended, and with `CONFIG` where there is no such shard; nothing has
-/// changed then. It takes no memory.
+/// Lets the shard, which has ended, run again, for a new thread. No key that it then gives out was
+/// given out before, and all keys stay what they were. Refused with `RUNNING` where the shard has
+/// not ended, and with `CONFIG` where there is no such shard; nothing has changed then. It takes no
+/// memory.
 #[unsafe(no_mangle)]
 pub extern "C" fn teurlaks_begin(handle: &mut Handle, shard: u32) -> u32
     ensures live { IsSome handle.old.held → Begins handle.old.held shard result handle.new.held }
@@ -53,13 +56,16 @@ pub extern "C" fn teurlaks_begin(handle: &mut Handle, shard: u32) -> u32
     }
 }
 
-/// Moves up to `most` groups of the shard to the pool, with their pages, and lets the shard go on: those with the fewest live keys, of
-/// those that have one. The count is `most`, or less where that is all that have a live key. Refused with `ENDED`, `PLAN_OPEN`, `CONFIG` or
-/// `OUT_OF_MEMORY` as [`Core::retire`](arena_core::Core::retire) is; nothing has changed then.
+/// Moves up to `most` groups of the shard to the pool, with their pages, and lets the shard go on:
+/// those with the fewest live keys, of those that have one. The count is `most`, or less where that
+/// is all that have a live key. Refused with `ENDED`, `PLAN_OPEN`, `CONFIG` or `OUT_OF_MEMORY` as
+/// [`Core::retire`](arena_core::Core::retire) is; nothing has changed then.
 #[unsafe(no_mangle)]
 pub extern "C" fn teurlaks_retire(handle: &mut Handle, shard: u32, most: usize) -> RetireReply
-    ensures live { IsSome handle.old.held → Retires handle.old.held shard most result handle.new.held }
-    ensures none { handle.old.held ≡ None → (result.status ≡ no_core) × (result.count ≡ 0) × (handle.new.held ≡ None) }
+    ensures live { IsSome handle.old.held → Retires handle.old.held shard most result
+        handle.new.held }
+    ensures none { handle.old.held ≡ None → (result.status ≡ no_core) × (result.count ≡ 0)
+        × (handle.new.held ≡ None) }
 {
     match step(handle, Event::Retire { shard, most }) {
         Some(Reply::Retired(count)) => RetireReply { status: OK, count },
@@ -79,12 +85,14 @@ pub extern "C" fn teurlaks_retire(handle: &mut Handle, shard: u32, most: usize) 
     }
 }
 
-/// Gives back the page of each open group of the shard in which no slot is live; the count is how many went. The groups stay, and a
-/// later put into one of them opens a page for it. Refused with `CONFIG` alone, where there is no such shard. It takes no memory.
+/// Gives back the page of each open group of the shard in which no slot is live; the count is how
+/// many went. The groups stay, and a later put into one of them opens a page for it. Refused with
+/// `CONFIG` alone, where there is no such shard. It takes no memory.
 #[unsafe(no_mangle)]
 pub extern "C" fn teurlaks_trim(handle: &mut Handle, shard: u32) -> TrimReply
     ensures live { IsSome handle.old.held → Trims handle.old.held shard result handle.new.held }
-    ensures none { handle.old.held ≡ None → (result.status ≡ no_core) × (result.count ≡ 0) × (handle.new.held ≡ None) }
+    ensures none { handle.old.held ≡ None → (result.status ≡ no_core) × (result.count ≡ 0)
+        × (handle.new.held ≡ None) }
 {
     match step(handle, Event::Trim { shard }) {
         Some(Reply::Trimmed(count)) => TrimReply { status: OK, count },
@@ -103,13 +111,15 @@ pub extern "C" fn teurlaks_trim(handle: &mut Handle, shard: u32) -> TrimReply
     }
 }
 
-/// Forgets the spans of the core that can never be live again, with their generations; the count is how many went. Nothing else
-/// changes that a caller sees. Refused with `PLAN_OPEN` alone, while a plan is open. It asks for memory only for smaller tables in the
-/// place of larger ones, which stay if there is none.
+/// Forgets the spans of the core that can never be live again, with their generations; the count is
+/// how many went. Nothing else changes that a caller sees. Refused with `PLAN_OPEN` alone, while a
+/// plan is open. It asks for memory only for smaller tables in the place of larger ones, which stay
+/// if there is none.
 #[unsafe(no_mangle)]
 pub extern "C" fn teurlaks_forget(handle: &mut Handle) -> ForgetReply
     ensures live { IsSome handle.old.held → Forgets handle.old.held result handle.new.held }
-    ensures none { handle.old.held ≡ None → (result.status ≡ no_core) × (result.count ≡ 0) × (handle.new.held ≡ None) }
+    ensures none { handle.old.held ≡ None → (result.status ≡ no_core) × (result.count ≡ 0)
+        × (handle.new.held ≡ None) }
 {
     let Some(held) = handle.held() else {
         return ForgetReply {
@@ -120,8 +130,9 @@ pub extern "C" fn teurlaks_forget(handle: &mut Handle) -> ForgetReply
     forgotten_reply(held.core.forget())
 }
 
-/// Moves the pool's group of lowest head that has a page to the shard, and answers its head. Refused with `PAGES_SPENT`, `ENDED`,
-/// `PLAN_OPEN`, `NOTHING_TO_ADOPT`, `CONFIG` or `OUT_OF_MEMORY`; nothing has changed then.
+/// Moves the pool's group of lowest head that has a page to the shard, and answers its head.
+/// Refused with `PAGES_SPENT`, `ENDED`, `PLAN_OPEN`, `NOTHING_TO_ADOPT`, `CONFIG` or
+/// `OUT_OF_MEMORY`; nothing has changed then.
 #[unsafe(no_mangle)]
 pub extern "C" fn teurlaks_adopt(handle: &mut Handle, shard: u32) -> AdoptReply
     ensures live { IsSome handle.old.held → Adopts handle.old.held shard result handle.new.held }
@@ -147,11 +158,13 @@ pub extern "C" fn teurlaks_adopt(handle: &mut Handle, shard: u32) -> AdoptReply
     }
 }
 
-/// Plans as many folds of the pool's groups onto those of the shards as can be, opens the plan, and keeps its certificate. Refused with
-/// `PLAN_OPEN`, `TOO_MANY` or `OUT_OF_MEMORY`; nothing has changed then, and the certificate of the mark before is kept.
+/// Plans as many folds of the pool's groups onto those of the shards as can be, opens the plan, and
+/// keeps its certificate. Refused with `PLAN_OPEN`, `TOO_MANY` or `OUT_OF_MEMORY`; nothing has
+/// changed then, and the certificate of the mark before is kept.
 #[unsafe(no_mangle)]
 pub extern "C" fn teurlaks_mark(handle: &mut Handle) -> MarkReply
-    ensures live { IsSome handle.old.held → Marks event.Mark handle.old.held result handle.new.held }
+    ensures live { IsSome handle.old.held → Marks event.Mark handle.old.held result
+        handle.new.held }
     ensures none { handle.old.held ≡ None → (result.status ≡ no_core) × (handle.new.held ≡ None) }
 {
     let Some(held) = handle.held() else {
@@ -161,11 +174,13 @@ pub extern "C" fn teurlaks_mark(handle: &mut Handle) -> MarkReply
     keep(held, reply)
 }
 
-/// Does as [`teurlaks_mark`] does with the 4,096 groups of each side that have the fewest live keys, or with all where there are no more.
-/// Refused with `PLAN_OPEN` or `OUT_OF_MEMORY`; nothing has changed then, and the certificate of the mark before is kept.
+/// Does as [`teurlaks_mark`] does with the 4,096 groups of each side that have the fewest live
+/// keys, or with all where there are no more. Refused with `PLAN_OPEN` or `OUT_OF_MEMORY`; nothing
+/// has changed then, and the certificate of the mark before is kept.
 #[unsafe(no_mangle)]
 pub extern "C" fn teurlaks_mark_some(handle: &mut Handle) -> MarkReply
-    ensures live { IsSome handle.old.held → Marks event.MarkSome handle.old.held result handle.new.held }
+    ensures live { IsSome handle.old.held → Marks event.MarkSome handle.old.held result
+        handle.new.held }
     ensures none { handle.old.held ≡ None → (result.status ≡ no_core) × (handle.new.held ≡ None) }
 {
     let Some(held) = handle.held() else {
@@ -175,8 +190,9 @@ pub extern "C" fn teurlaks_mark_some(handle: &mut Handle) -> MarkReply
     keep(held, reply)
 }
 
-/// Carries out the next pair of the open plan: `OK`, or `EMPTIED` where the pair's abandoned group had no live key left. `NO_PAIR_LEFT`
-/// and `NO_PLAN` change nothing. Refused with `OUT_OF_MEMORY` alone; the pair is then still the next.
+/// Carries out the next pair of the open plan: `OK`, or `EMPTIED` where the pair's abandoned group
+/// had no live key left. `NO_PAIR_LEFT` and `NO_PLAN` change nothing. Refused with `OUT_OF_MEMORY`
+/// alone; the pair is then still the next.
 #[unsafe(no_mangle)]
 pub extern "C" fn teurlaks_step(handle: &mut Handle) -> StepReply
     ensures live { IsSome handle.old.held → TakesStep handle.old.held result handle.new.held }
@@ -193,8 +209,8 @@ pub extern "C" fn teurlaks_step(handle: &mut Handle) -> StepReply
     }
 }
 
-/// Closes the open plan, whose pairs that are left are dropped: all groups take puts again. `NO_PLAN` changes nothing. It takes no
-/// memory.
+/// Closes the open plan, whose pairs that are left are dropped: all groups take puts again.
+/// `NO_PLAN` changes nothing. It takes no memory.
 #[unsafe(no_mangle)]
 pub extern "C" fn teurlaks_close(handle: &mut Handle) -> u32
     ensures live { IsSome handle.old.held → Closes handle.old.held result handle.new.held }
@@ -208,9 +224,10 @@ pub extern "C" fn teurlaks_close(handle: &mut Handle) -> u32
     }
 }
 
-/// Writes the text of the last mark's certificate into `text`, from its first byte on, and answers how many bytes it takes; `meshrun
-/// check` checks such a text. `TOO_SMALL` where there is no room for that many, `NONE` where no mark was made, `OUT_OF_MEMORY` where
-/// memory ran out for a copy of the text: nothing was written then. The core stays as it is.
+/// Writes the text of the last mark's certificate into `text`, from its first byte on, and answers
+/// how many bytes it takes; `meshrun check` checks such a text. `TOO_SMALL` where there is no room
+/// for that many, `NONE` where no mark was made, `OUT_OF_MEMORY` where memory ran out for a copy of
+/// the text: nothing was written then. The core stays as it is.
 #[unsafe(no_mangle)]
 pub extern "C" fn teurlaks_certificate(
     alloc: Global,
@@ -246,7 +263,8 @@ fn forgotten_reply(answer: Result<usize, Refusal>) -> ForgetReply
 // The core, if there is one, takes the event, which is no mark.
 #[inline(always)]
 fn step(handle: &mut Handle, event: Event) -> Option<Reply>
-    ensures { MatchOption result ((handle.old.held ≡ None) × (handle.new.held ≡ None)) (λ reply. Steps handle.old.held event reply handle.new.held) }
+    ensures { MatchOption result ((handle.old.held ≡ None)
+        × (handle.new.held ≡ None)) (λ reply. Steps handle.old.held event reply handle.new.held) }
 {
     let Some(held) = handle.held() else {
         return None;

@@ -10,9 +10,9 @@ use std::alloc::Global;
 use std::mem::replace;
 use std::sync::Arc;
 
-/// Writes where the arena of the seat stands to `out`, to be compared and for nothing else. A handle
-/// with a share of an arena keeps it there, so two handles are of one arena exactly if these places
-/// are the same.
+/// Writes where the arena of the seat stands to `out`, to be compared and for nothing else. A
+/// handle with a share of an arena keeps it there, so two handles are of one arena exactly if these
+/// places are the same.
 ///
 /// `NO_CORE` if the handle has no seat, and nothing was written then.
 #[unsafe(no_mangle)]

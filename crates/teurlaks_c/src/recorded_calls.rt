@@ -45,8 +45,9 @@ pub(crate) trait ToldCall: SessionCall + Copy {
         ensures { status result ≡ out_of_memory };
 }
 
-/// Asks the seat of the handle, where it has one, in its session, where it keeps its shard, and makes what C reads of it. A recorded seat
-/// makes room for the receipt first, and keeps it; where it was refused that room, nothing is asked.
+/// Asks the seat of the handle, where it has one, in its session, where it keeps its shard, and
+/// makes what C reads of it. A recorded seat makes room for the receipt first, and keeps it; where
+/// it was refused that room, nothing is asked.
 #[inline(always)]
 pub(crate) fn tell_at_seat<C: ToldCall>(
     alloc: Global,
@@ -83,11 +84,13 @@ fn tell_at_share<C: ToldCall>(share: &mut Share, call: &C) -> C::Reply
     }
 }
 
-// The same of a recorded seat. What the call and its answer take in memory is there for such a seat alone, and stays out of the way of others.
+// The same of a recorded seat. What the call and its answer take in memory is there for such a seat
+// alone, and stays out of the way of others.
 #[inline(always)]
 fn tell_at_recorded<C: ToldCall>(shared: &mut RecordedSeat, call: &C) -> C::Reply
     ensures arena { shared.new.arena ≡ shared.old.arena }
-    ensures does { (answer : _) × DoesKept (C.does call.now) (C.told call.now) shared.old.kept answer
+    ensures does { (answer : _) × DoesKept (C.does call.now) (C.told call.now) shared.old.kept
+        answer
         shared.new.kept × OrNoRoom (C.status result) (C.says call.now result) (asked_of answer) }
 {
     let answer = tell_recorded(shared, *call);
@@ -185,7 +188,8 @@ impl ToldCall for Free {
     }
 }
 
-/// Looks the key up at a recorded seat, which keeps the receipt, and writes the words of its object into the room, where there is enough.
+/// Looks the key up at a recorded seat, which keeps the receipt, and writes the words of its object
+/// into the room, where there is enough.
 #[inline(never)]
 pub(crate) fn look_up_recorded(
     shared: &mut RecordedSeat,
@@ -193,14 +197,16 @@ pub(crate) fn look_up_recorded(
     room: &mut [RawWord],
 ) -> WordsReply
     ensures arena { shared.new.arena ≡ shared.old.arena }
-    ensures does { (answer : _) × DoesKept (Gets key.now) got_kept shared.old.kept answer shared.new.kept
+    ensures does { (answer : _) × DoesKept (Gets key.now) got_kept shared.old.kept answer
+        shared.new.kept
         × SaysGotOrNoRoom room.old result room.new (asked_of answer) }
 {
     let answer = got_recorded(shared, key);
     got_reply(answer, room)
 }
 
-// What C reads of a look-up at a recorded seat, with the words of what was found in the room where there is enough.
+// What C reads of a look-up at a recorded seat, with the words of what was found in the room where
+// there is enough.
 fn got_reply(
     answer: Result<Result<(Option<Object>, Receipt), Busy>, AllocError>,
     room: &mut [RawWord],
@@ -254,8 +260,8 @@ fn tell_found(found: &Option<Object>, room: &mut [RawWord]) -> WordsReply
     }
 }
 
-/// Has the seat of the handle tend its rings, where it has one. Where it keeps its shard it gives that back before, and keeps it no more. Of
-/// the frees a recorded seat keeps receipts.
+/// Has the seat of the handle tend its rings, where it has one. Where it keeps its shard it gives
+/// that back before, and keeps it no more. Of the frees a recorded seat keeps receipts.
 pub(crate) fn tend_at_seat(
     alloc: Global,
     handle: &mut ShareHandle,

@@ -26,8 +26,9 @@ use std::alloc::{AllocError, AllocFailed, Global};
 use std::mem::replace;
 use std::sync::Arc;
 
-/// Leaves the steward of a new arena to the handle, as `teurlaks_arena_open` does, whose run is recorded: each span keeps its log, and each
-/// seat a receipt of each put, look-up, set and free that is made at it, until `teurlaks_arena_audit` holds these against the logs.
+/// Leaves the steward of a new arena to the handle, as `teurlaks_arena_open` does, whose run is
+/// recorded: each span keeps its log, and each seat a receipt of each put, look-up, set and free
+/// that is made at it, until `teurlaks_arena_audit` holds these against the logs.
 ///
 /// The statuses are those of `teurlaks_arena_open`.
 #[unsafe(no_mangle)]
@@ -147,7 +148,8 @@ fn boxed_seat(
     kept: KeptSeat,
 ) -> Result<Box<Share>, KeptSeat>
     requires { kept.seat.limits ≡ (arc_value arena.now).limits }
-    ensures ok { IfOk result (λ boxed. (shared : RecordedSeat) × (boxed.value ≡ shares.RecordedSeat shared)
+    ensures ok { IfOk result (λ boxed. (shared : RecordedSeat)
+        × (boxed.value ≡ shares.RecordedSeat shared)
         × (arc_value shared.arena ≡ arc_value arena.now) × (shared.kept ≡ kept)) }
     ensures err { IfErr result (λ back. back ≡ kept) }
 {
@@ -169,13 +171,16 @@ fn boxed_seat(
     }
 }
 
-/// Ends the arena of the steward, whose seats are all back, and holds the receipts of all seats against the logs of all spans: `OK` where
-/// they agree, and so each span has one history in which every call was answered as by a plain map; else the first part that fails, as
-/// `LOG_FAULT`, `CHANGE_FAULT`, `REPLY_FAULT`, `ORDER_FAULT` or `BARRIER_FAULT`.
+/// Ends the arena of the steward, whose seats are all back, and holds the receipts of all seats
+/// against the logs of all spans: `OK` where they agree, and so each span has one history in which
+/// every call was answered as by a plain map; else the first part that fails, as `LOG_FAULT`,
+/// `CHANGE_FAULT`, `REPLY_FAULT`, `ORDER_FAULT` or `BARRIER_FAULT`.
 ///
-/// `NO_CORE` where the handle has no steward of a recorded arena, `UNFINISHED` exactly where a seat of it is not back, `BUSY` where another
-/// handle has a share of the arena all the same, and `OUT_OF_MEMORY`. While the arena has not ended, all is as it was then. Once it has, the
-/// handle has its logs and receipts, and no steward; the audit is made anew whenever it is asked for, also after `OUT_OF_MEMORY`.
+/// `NO_CORE` where the handle has no steward of a recorded arena, `UNFINISHED` exactly where a seat
+/// of it is not back, `BUSY` where another handle has a share of the arena all the same, and
+/// `OUT_OF_MEMORY`. While the arena has not ended, all is as it was then. Once it has, the handle
+/// has its logs and receipts, and no steward; the audit is made anew whenever it is asked for, also
+/// after `OUT_OF_MEMORY`.
 #[unsafe(no_mangle)]
 pub extern "C" fn teurlaks_arena_audit(alloc: Global, handle: &mut ShareHandle) -> u32
     ensures { AuditsRun handle.old.share result handle.new.share }
@@ -298,7 +303,8 @@ fn logs_of(arena: &mut Arc<RecordedShards, Global>) -> Result<Vec<SpanLog>, u32>
 fn taken_apart(seats: Vec<KeptSeat>, lists: Vec<ReceiptList>) -> Vec<ReceiptList>
     requires room { vec_len seats ≤ vec_capacity lists }
     requires none { vec_len lists ≡ 0 }
-    ensures { map kept_receipts result.items ≡ map (λ kept. kept_receipts kept.receipts) seats.items }
+    ensures { map kept_receipts result.items ≡ map (λ kept. kept_receipts kept.receipts)
+        seats.items }
 {
     let mut lists = lists;
     for kept in seats {

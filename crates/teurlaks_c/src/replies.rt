@@ -1,7 +1,8 @@
 // What crosses to C, in and out.
 
-/// A key, in 12 bytes: the serial number of its span in the shard that opened that, the generation, the shard, the slot, and two bytes
-/// that are zero in each key. Any numbers may be given; where no live key has them, nothing is found.
+/// A key, in 12 bytes: the serial number of its span in the shard that opened that, the generation,
+/// the shard, the slot, and two bytes that are zero in each key. Any numbers may be given; where no
+/// live key has them, nothing is found.
 #[repr(C)]
 #[derive(Clone, Copy)]
 pub struct RawKey {
@@ -12,7 +13,8 @@ pub struct RawKey {
     pub reserved: u16,
 }
 
-/// The name of a span, and of the group that it heads: the shard that opened it, and its serial number there.
+/// The name of a span, and of the group that it heads: the shard that opened it, and its serial
+/// number there.
 #[repr(C)]
 #[derive(Clone, Copy)]
 pub struct RawSpan {
@@ -28,8 +30,8 @@ pub struct RawWord {
     pub high: u64,
 }
 
-/// Where a walk over the live keys of an arena stands: at this slot of the span that this shard opened as its `serial`th. All zeros are
-/// its beginning.
+/// Where a walk over the live keys of an arena stands: at this slot of the span that this shard
+/// opened as its `serial`th. All zeros are its beginning.
 #[repr(C)]
 #[derive(Clone, Copy)]
 pub struct RawWalk {
@@ -61,7 +63,8 @@ pub struct GetReply {
     pub status: u32,
 }
 
-/// What a look-up answers that writes words: how many words the object has, where the status is `OK` or `TOO_SMALL`; else 0.
+/// What a look-up answers that writes words: how many words the object has, where the status is
+/// `OK` or `TOO_SMALL`; else 0.
 #[repr(C)]
 #[derive(Clone, Copy)]
 pub struct WordsReply {
@@ -117,8 +120,9 @@ pub struct AdoptReply {
     pub head: RawSpan,
 }
 
-/// What a mark answers where the status is `OK`: how many groups of the pool have a page, how many groups the shards have, how many
-/// folds are planned, and how many groups are in the short set, which shows that no plan has more folds.
+/// What a mark answers where the status is `OK`: how many groups of the pool have a page, how many
+/// groups the shards have, how many folds are planned, and how many groups are in the short set,
+/// which shows that no plan has more folds.
 #[repr(C)]
 #[derive(Clone, Copy)]
 pub struct MarkReply {
@@ -154,7 +158,8 @@ pub struct TotalsReply {
     pub live: usize,
 }
 
-/// What totals of an arena answer: how many pages of 4,096 bytes there are, and how many keys are live, where the status is `OK`.
+/// What totals of an arena answer: how many pages of 4,096 bytes there are, and how many keys are
+/// live, where the status is `OK`.
 #[repr(C)]
 #[derive(Clone, Copy)]
 pub struct ArenaTotalsReply {
@@ -163,8 +168,8 @@ pub struct ArenaTotalsReply {
     pub live: usize,
 }
 
-/// What tending its rings answers: how many keys the seat took, and freed, where the status is `OK`, or before it met a lock that another
-/// thread has, where the status is `BUSY`.
+/// What tending its rings answers: how many keys the seat took, and freed, where the status is
+/// `OK`, or before it met a lock that another thread has, where the status is `BUSY`.
 #[repr(C)]
 #[derive(Clone, Copy)]
 pub struct TendReply {

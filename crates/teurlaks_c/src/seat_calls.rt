@@ -11,8 +11,8 @@ use crate::replies::{RawWord, WordsReply};
 use crate::share::{Share, SharedSeat};
 use crate::share_handle::ShareHandle;
 use crate::status::{BUSY, NONE, OK, TOO_SMALL};
-use abandoned::{AdoptError, ReceiveError};
 use arena::{Arena, Busy, Issued, Looked, NoGate, Outcome, Seat};
+use pool::{AdoptError, ReceiveError};
 use shard::PutError;
 use span::{Class, Key, Log, SpanId};
 use std::alloc::{AllocError, Global};
@@ -33,8 +33,8 @@ pub(crate) trait SeatCall {
         ensures does { does self.now seat.old result seat.new };
 }
 
-/// Asks the seat of the handle, where it has one, what no receipt is made of. Where it keeps its shard it gives that back before, and keeps
-/// it no more.
+/// Asks the seat of the handle, where it has one, what no receipt is made of. Where it keeps its
+/// shard it gives that back before, and keeps it no more.
 #[inline(always)]
 pub(crate) fn at_seat<C: SeatCall>(
     alloc: Global,
@@ -106,7 +106,8 @@ pub(crate) fn not_looked(status: u32) -> WordsReply
     WordsReply { status, len: 0 }
 }
 
-/// Looks the key up at the seat, and writes the words of its object into the room, where there is enough.
+/// Looks the key up at the seat, and writes the words of its object into the room, where there is
+/// enough.
 #[inline(always)]
 pub(crate) fn look_up(shared: &mut SharedSeat, key: &Key, room: &mut [RawWord]) -> WordsReply
     ensures arena { shared.new.arena ≡ shared.old.arena }

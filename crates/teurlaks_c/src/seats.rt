@@ -23,16 +23,17 @@ use crate::status::{
     PLAN_OPEN, RUNNING,
 };
 use crate::words::{class_for, join_all, value_of};
-use abandoned::{AdoptError, ReceiveError};
 use arena::{Busy, Tended};
+use pool::{AdoptError, ReceiveError};
 use span::{Class, Key, SpanId};
 use std::alloc::{AllocError, Global};
 
-/// Keeps an object of 1, 4 or 16 words in the seat's shard, and answers its key. Refused with `BUSY`, `PAGES_SPENT`, `ENDED` or
-/// `OUT_OF_MEMORY`; where the words are of another number, with `CONFIG`. Nothing has changed then.
+/// Keeps an object of 1, 4 or 16 words in the seat's shard, and answers its key. Refused with
+/// `BUSY`, `PAGES_SPENT`, `ENDED` or `OUT_OF_MEMORY`; where the words are of another number, with
+/// `CONFIG`. Nothing has changed then.
 ///
-/// A recorded seat keeps a receipt of each put, look-up, set and free, and of each free that it tends: where there is no room for it the
-/// call answers `OUT_OF_MEMORY`, and is not made.
+/// A recorded seat keeps a receipt of each put, look-up, set and free, and of each free that it
+/// tends: where there is no room for it the call answers `OUT_OF_MEMORY`, and is not made.
 #[unsafe(no_mangle)]
 pub extern "C" fn teurlaks_seat_put_words(
     alloc: Global,
@@ -47,9 +48,10 @@ pub extern "C" fn teurlaks_seat_put_words(
     put(alloc, handle, class, words)
 }
 
-/// Writes the words of the key's object, where it is live, into `words`, from its first on, and answers how many they are. `BUSY` where
-/// another thread has the lock of the span, `NONE` where the key is not live, and `TOO_SMALL` where there is no room for that many:
-/// nothing was written then.
+/// Writes the words of the key's object, where it is live, into `words`, from its first on, and
+/// answers how many they are. `BUSY` where another thread has the lock of the span, `NONE` where
+/// the key is not live, and `TOO_SMALL` where there is no room for that many: nothing was written
+/// then.
 #[unsafe(no_mangle)]
 pub extern "C" fn teurlaks_seat_get_words(
     alloc: Global,
@@ -65,8 +67,9 @@ pub extern "C" fn teurlaks_seat_get_words(
     look_up_at_seat(alloc, handle, &key, words)
 }
 
-/// Sets the key to the object of 1, 4 or 16 words, where it is live and its object has as many, which `OK` says; else it answers `NONE`.
-/// Refused with `BUSY`, or with `CONFIG` where the words are of another number; nothing has changed then.
+/// Sets the key to the object of 1, 4 or 16 words, where it is live and its object has as many,
+/// which `OK` says; else it answers `NONE`. Refused with `BUSY`, or with `CONFIG` where the words
+/// are of another number; nothing has changed then.
 #[unsafe(no_mangle)]
 pub extern "C" fn teurlaks_seat_set_words(
     alloc: Global,
@@ -85,8 +88,8 @@ pub extern "C" fn teurlaks_seat_set_words(
     set(alloc, handle, key, words)
 }
 
-/// Frees the key, where it is live, which `OK` says; else it answers `NONE`, or `BUSY`, and nothing changes. It takes no memory, but for
-/// the receipt of a recorded seat.
+/// Frees the key, where it is live, which `OK` says; else it answers `NONE`, or `BUSY`, and nothing
+/// changes. It takes no memory, but for the receipt of a recorded seat.
 #[unsafe(no_mangle)]
 pub extern "C" fn teurlaks_seat_free(alloc: Global, handle: &mut ShareHandle, key: RawKey) -> u32
     ensures { FreesKey handle.old.share key result handle.new.share }
@@ -97,27 +100,31 @@ pub extern "C" fn teurlaks_seat_free(alloc: Global, handle: &mut ShareHandle, ke
     free(alloc, handle, key)
 }
 
-/// Ends the seat's shard: its groups go to the pool, with their pages, and it takes no put until it begins again. Refused with `BUSY`, `ENDED`,
-/// `PLAN_OPEN` or `OUT_OF_MEMORY`; nothing has changed then.
+/// Ends the seat's shard: its groups go to the pool, with their pages, and it takes no put until it
+/// begins again. Refused with `BUSY`, `ENDED`, `PLAN_OPEN` or `OUT_OF_MEMORY`; nothing has changed
+/// then.
 #[unsafe(no_mangle)]
 pub extern "C" fn teurlaks_seat_end(alloc: Global, handle: &mut ShareHandle) -> u32
-    ensures { (answer : _) × AsksPaused Ends handle.old.share answer handle.new.share × SaysEnded result answer }
+    ensures { (answer : _) × AsksPaused Ends handle.old.share answer handle.new.share
+        × SaysEnded result answer }
 {
     ended_reply(at_seat(alloc, handle, &End))
 }
 
-/// Lets the seat's shard, which has ended, run again, for a new thread. No key that it then gives out was given out before, and all keys
-/// stay what they were. Refused with `BUSY`, or with `RUNNING` where the shard has not ended; nothing has changed then. It takes no
-/// memory.
+/// Lets the seat's shard, which has ended, run again, for a new thread. No key that it then gives
+/// out was given out before, and all keys stay what they were. Refused with `BUSY`, or with
+/// `RUNNING` where the shard has not ended; nothing has changed then. It takes no memory.
 #[unsafe(no_mangle)]
 pub extern "C" fn teurlaks_seat_begin(alloc: Global, handle: &mut ShareHandle) -> u32
-    ensures { (answer : _) × AsksPaused IsOneCall handle.old.share answer handle.new.share × SaysBegun result answer }
+    ensures { (answer : _) × AsksPaused IsOneCall handle.old.share answer handle.new.share
+        × SaysBegun result answer }
 {
     begun_reply(at_seat(alloc, handle, &Begin))
 }
 
-/// Moves up to `most` groups of the seat's shard to the pool, and lets the shard go on: those with the fewest live keys, of those that
-/// have one. Refused with `BUSY`, `ENDED`, `PLAN_OPEN` or `OUT_OF_MEMORY`; nothing has changed then.
+/// Moves up to `most` groups of the seat's shard to the pool, and lets the shard go on: those with
+/// the fewest live keys, of those that have one. Refused with `BUSY`, `ENDED`, `PLAN_OPEN` or
+/// `OUT_OF_MEMORY`; nothing has changed then.
 #[unsafe(no_mangle)]
 pub extern "C" fn teurlaks_seat_retire(
     alloc: Global,
@@ -130,8 +137,8 @@ pub extern "C" fn teurlaks_seat_retire(
     retired_reply(at_seat(alloc, handle, &Retire { most }))
 }
 
-/// Gives back the page of each open group of the seat's shard in which no slot is live; the count is how many went. Refused with
-/// `BUSY`. It takes no memory.
+/// Gives back the page of each open group of the seat's shard in which no slot is live; the count
+/// is how many went. Refused with `BUSY`. It takes no memory.
 #[unsafe(no_mangle)]
 pub extern "C" fn teurlaks_seat_trim(alloc: Global, handle: &mut ShareHandle) -> TrimReply
     ensures { (answer : _) × AsksPaused IsOneCall handle.old.share answer handle.new.share
@@ -140,8 +147,9 @@ pub extern "C" fn teurlaks_seat_trim(alloc: Global, handle: &mut ShareHandle) ->
     trimmed_reply(at_seat(alloc, handle, &Trim))
 }
 
-/// Moves the pool's group of lowest head that has a page to the seat's shard, and answers its head. Refused with `BUSY`, `PAGES_SPENT`,
-/// `ENDED`, `PLAN_OPEN`, `NOTHING_TO_ADOPT` or `OUT_OF_MEMORY`; nothing has changed then.
+/// Moves the pool's group of lowest head that has a page to the seat's shard, and answers its head.
+/// Refused with `BUSY`, `PAGES_SPENT`, `ENDED`, `PLAN_OPEN`, `NOTHING_TO_ADOPT` or `OUT_OF_MEMORY`;
+/// nothing has changed then.
 #[unsafe(no_mangle)]
 pub extern "C" fn teurlaks_seat_adopt(alloc: Global, handle: &mut ShareHandle) -> AdoptReply
     ensures { (answer : _) × AsksPaused IsOneCall handle.old.share answer handle.new.share
@@ -150,9 +158,10 @@ pub extern "C" fn teurlaks_seat_adopt(alloc: Global, handle: &mut ShareHandle) -
     adopted_reply(at_seat(alloc, handle, &Adopt))
 }
 
-/// Leaves the key to the thread of the shard that opened its span, which frees it when it tends its rings. Keys go in blocks: until its
-/// block is full the key waits at the seat, for fewer than 64 further calls. `NONE` where the arena has no such shard, and `RING_FULL`
-/// where the ring took none, with all that wait handed over. It takes no lock and no memory.
+/// Leaves the key to the thread of the shard that opened its span, which frees it when it tends its
+/// rings. Keys go in blocks: until its block is full the key waits at the seat, for fewer than 64
+/// further calls. `NONE` where the arena has no such shard, and `RING_FULL` where the ring took
+/// none, with all that wait handed over. It takes no lock and no memory.
 #[unsafe(no_mangle)]
 pub extern "C" fn teurlaks_seat_free_later(
     alloc: Global,
@@ -167,7 +176,8 @@ pub extern "C" fn teurlaks_seat_free_later(
     at_seat_or_session(alloc, handle, &FreeLater { key })
 }
 
-/// Hands over the keys that were left to other threads and wait for their block to be full. It takes no lock and no memory.
+/// Hands over the keys that were left to other threads and wait for their block to be full. It
+/// takes no lock and no memory.
 #[unsafe(no_mangle)]
 pub extern "C" fn teurlaks_seat_hand_over(alloc: Global, handle: &mut ShareHandle) -> u32
     ensures { (answer : _) × AsksEither (λ before _ after. HandsOver before after)
@@ -177,8 +187,9 @@ pub extern "C" fn teurlaks_seat_hand_over(alloc: Global, handle: &mut ShareHandl
     at_seat_or_session(alloc, handle, &HandOver)
 }
 
-/// Takes the keys that other threads have left to the seat's shard, as many as are seen, and frees each; the count is how many. `BUSY`
-/// where it left off, since another thread had the lock that the next key needs: that key is the next in turn.
+/// Takes the keys that other threads have left to the seat's shard, as many as are seen, and frees
+/// each; the count is how many. `BUSY` where it left off, since another thread had the lock that
+/// the next key needs: that key is the next in turn.
 #[unsafe(no_mangle)]
 pub extern "C" fn teurlaks_seat_tend(alloc: Global, handle: &mut ShareHandle) -> TendReply
     ensures { (answer : _) × AsksTend handle.old.share answer handle.new.share
@@ -187,7 +198,8 @@ pub extern "C" fn teurlaks_seat_tend(alloc: Global, handle: &mut ShareHandle) ->
     tended_reply(tend_at_seat(alloc, handle))
 }
 
-// The seat keeps the object of these words, which are as many as the class has. One word is by far the most frequent.
+// The seat keeps the object of these words, which are as many as the class has. One word is by far
+// the most frequent.
 #[inline(always)]
 fn put(alloc: Global, handle: &mut ShareHandle, class: Class, words: &[RawWord]) -> PutReply
     requires { length (words_of words.now) ≡ width_of class }
@@ -208,7 +220,8 @@ fn put_one(alloc: Global, handle: &mut ShareHandle, word: RawWord) -> PutReply
     put_values(alloc, handle, Class::C16, &words)
 }
 
-// The same of an object of any class. What it answers has a place in memory of its own, so that what one word's put answers needs none.
+// The same of an object of any class. What it answers has a place in memory of its own, so that
+// what one word's put answers needs none.
 #[inline(always)]
 fn put_wider(alloc: Global, handle: &mut ShareHandle, class: Class, words: &[RawWord]) -> PutReply
     requires { length (words_of words.now) ≡ width_of class }
@@ -263,7 +276,8 @@ fn set_one(alloc: Global, handle: &mut ShareHandle, key: Key, word: RawWord) -> 
     set_values(alloc, handle, key, &words)
 }
 
-// The same of an object of any class. It has room for the widest, which is kept out of the way of one word.
+// The same of an object of any class. It has room for the widest, which is kept out of the way of
+// one word.
 #[inline(never)]
 fn set_wide(alloc: Global, handle: &mut ShareHandle, key: Key, words: &[RawWord]) -> u32
     requires most { length words.now ≤ 16 }

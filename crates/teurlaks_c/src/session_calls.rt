@@ -22,8 +22,8 @@ use span::Key;
 use std::alloc::{AllocError, Global};
 use std::mem::replace;
 
-/// A call of a seat that goes by its session, where it has one. What C reads of it is made where it is answered: no answer of either kind
-/// of seat is handed on as one of any.
+/// A call of a seat that goes by its session, where it has one. What C reads of it is made where it
+/// is answered: no answer of either kind of seat is handed on as one of any.
 pub(crate) trait SessionCall: SeatCall {
     /// What C reads of it.
     type Reply;
@@ -48,14 +48,16 @@ pub(crate) trait SessionCall: SeatCall {
         ensures { says self.now result None };
 }
 
-/// Asks the seat of the handle, where it has one, in its session, where it keeps its shard. No receipt is made.
+/// Asks the seat of the handle, where it has one, in its session, where it keeps its shard. No
+/// receipt is made.
 #[inline(always)]
 pub(crate) fn at_seat_or_session<C: SessionCall>(
     alloc: Global,
     handle: &mut ShareHandle,
     call: &C,
 ) -> C::Reply
-    ensures { (answer : _) × AsksEither (C.does call.now) (C.does_held call.now) handle.old.share answer
+    ensures { (answer : _) × AsksEither (C.does call.now) (C.does_held call.now) handle.old.share
+        answer
         handle.new.share × C.says call.now result answer }
 {
     let Some(mut share) = replace(handle, ShareHandle::none()).into_box(alloc) else {
@@ -69,7 +71,8 @@ pub(crate) fn at_seat_or_session<C: SessionCall>(
 // Asks the seat, where that is what is shared.
 #[inline(always)]
 fn ask_either<C: SessionCall>(share: &mut Share, call: &C) -> C::Reply
-    ensures { (answer : _) × AsksEither (C.does call.now) (C.does_held call.now) (Some share.old) answer
+    ensures { (answer : _) × AsksEither (C.does call.now) (C.does_held call.now) (Some share.old)
+        answer
         (Some share.new) × C.says call.now result answer }
 {
     match share {
@@ -83,8 +86,8 @@ fn ask_either<C: SessionCall>(share: &mut Share, call: &C) -> C::Reply
     }
 }
 
-/// Looks the key up at the seat of the handle, where it has one, or in its session, and writes the words of its object into the room, where
-/// there is enough.
+/// Looks the key up at the seat of the handle, where it has one, or in its session, and writes the
+/// words of its object into the room, where there is enough.
 #[inline(always)]
 pub(crate) fn look_up_at_seat(
     alloc: Global,

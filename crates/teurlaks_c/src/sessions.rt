@@ -9,11 +9,13 @@ use arena::Session;
 use std::alloc::Global;
 use std::mem::replace;
 
-/// Keeps the seat's shard for its thread from now on, until `teurlaks_seat_pause`: a put, and a look-up, a set and a free of what is in that
-/// shard, take no lock then. Whoever else needs the shard's lock is answered `BUSY` meanwhile, the steward's mark among them. Where a look-up, a
-/// set or a free in the session answers `BUSY`, pause, make it again, and begin another session. Refused with `BUSY` where another thread
-/// has the shard, or with `CONFIG` at a recorded seat, whose calls all make receipts; nothing has changed then. Where the seat keeps its shard
-/// already it is `OK`. It takes no memory.
+/// Keeps the seat's shard for its thread from now on, until `teurlaks_seat_pause`: a put, and a
+/// look-up, a set and a free of what is in that shard, take no lock then. Whoever else needs the
+/// shard's lock is answered `BUSY` meanwhile, the steward's mark among them. Where a look-up, a set
+/// or a free in the session answers `BUSY`, pause, make it again, and begin another session.
+/// Refused with `BUSY` where another thread has the shard, or with `CONFIG` at a recorded seat,
+/// whose calls all make receipts; nothing has changed then. Where the seat keeps its shard already
+/// it is `OK`. It takes no memory.
 #[unsafe(no_mangle)]
 pub extern "C" fn teurlaks_seat_session(alloc: Global, handle: &mut ShareHandle) -> u32
     ensures { HoldsShard handle.old.share result handle.new.share }
@@ -26,7 +28,8 @@ pub extern "C" fn teurlaks_seat_session(alloc: Global, handle: &mut ShareHandle)
     status
 }
 
-/// Lets other threads at the seat's shard again, where the seat keeps it, which a recorded seat never does. It takes no memory.
+/// Lets other threads at the seat's shard again, where the seat keeps it, which a recorded seat
+/// never does. It takes no memory.
 #[unsafe(no_mangle)]
 pub extern "C" fn teurlaks_seat_pause(alloc: Global, handle: &mut ShareHandle) -> u32
     ensures { GivesShard handle.old.share result handle.new.share }

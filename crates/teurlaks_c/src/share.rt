@@ -9,7 +9,8 @@ use span::Counted;
 use std::alloc::Global;
 use std::sync::Arc;
 
-/// The arena of a service: its logs are only counted, and nothing is told of who is inside of a shard.
+/// The arena of a service: its logs are only counted, and nothing is told of who is inside of a
+/// shard.
 pub type Shards = Arena<NoGate, Counted>;
 
 /// A worker's seat, with a share of its arena, which goes with the last of its shares.
@@ -22,7 +23,8 @@ pub struct SharedSeat {
     pub ghost fits: { seat.limits ≡ (arc_value arena).limits },
 }
 
-/// A worker's seat that keeps its shard out of its lock, with a share of its arena. The shard goes back where this is dropped.
+/// A worker's seat that keeps its shard out of its lock, with a share of its arena. The shard goes
+/// back where this is dropped.
 #[derive(Drop)]
 pub struct SharedSession {
     /// The session.
@@ -63,8 +65,8 @@ pub struct SharedSteward {
     pub ghost seats_fit: { All (λ seat. seat.limits ≡ (arc_value arena).limits) seats.items },
 }
 
-/// What a handle has: a seat, which may keep its shard, or a steward of an arena, whose run is recorded or is not; or a recorded run that is
-/// over.
+/// What a handle has: a seat, which may keep its shard, or a steward of an arena, whose run is
+/// recorded or is not; or a recorded run that is over.
 #[derive(Drop)]
 pub enum Share {
     /// A worker's seat.
@@ -79,6 +81,7 @@ pub enum Share {
     RecordedSteward(RecordedSteward),
     /// What is left of such an arena.
     Run(RecordedRun),
-    /// Nothing: a call has taken out what is shared, to make another of these of it. No call leaves it behind.
+    /// Nothing: a call has taken out what is shared, to make another of these of it. No call leaves
+    /// it behind.
     Nothing,
 }

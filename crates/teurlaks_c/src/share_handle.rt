@@ -8,8 +8,8 @@ use crate::share::Share;
 use std::alloc::Global;
 use std::marker::Model;
 
-/// Where a seat or a steward is, or null where there is none. Only the library reads it; a caller moves it, to another thread too, and
-/// never copies it.
+/// Where a seat or a steward is, or null where there is none. Only the library reads it; a caller
+/// moves it, to another thread too, and never copies it.
 #[repr(C)]
 #[derive(Drop)]
 pub struct ShareHandle {

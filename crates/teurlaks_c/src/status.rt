@@ -43,7 +43,8 @@ pub(crate) const NO_PLAN: u32 = 11;
 /// The text or the object takes more than there is room for, and nothing was written.
 pub(crate) const TOO_SMALL: u32 = 12;
 
-/// Refused: a ring holds as many keys as it may. No call here frees a key later, so none answers it.
+/// Refused: a ring holds as many keys as it may. No call here frees a key later, so none answers
+/// it.
 pub(crate) const RING_FULL: u32 = 13;
 
 /// The handle has no core: none was made, or it was dropped.
@@ -67,13 +68,15 @@ pub(crate) const UNFINISHED: u32 = 19;
 /// The receipts do not agree with the logs: a log is not legal, or a span has two.
 pub(crate) const LOG_FAULT: u32 = 20;
 
-/// The receipts do not agree with the logs: a change has no receipt or two, or a receipt that makes a change has none.
+/// The receipts do not agree with the logs: a change has no receipt or two, or a receipt that makes
+/// a change has none.
 pub(crate) const CHANGE_FAULT: u32 = 21;
 
 /// The receipts do not agree with the logs: a call was not answered as the changes before it say.
 pub(crate) const REPLY_FAULT: u32 = 22;
 
-/// The receipts do not agree with the logs: the calls of a seat are not in the order of their changes.
+/// The receipts do not agree with the logs: the calls of a seat are not in the order of their
+/// changes.
 pub(crate) const ORDER_FAULT: u32 = 23;
 
 /// The receipts do not agree with the logs: a call stands before one of an earlier section.

@@ -26,12 +26,15 @@ use std::alloc::{AllocError, AllocFailed, Global};
 use std::mem::replace;
 use std::sync::Arc;
 
-/// Leaves the steward of a new arena to the handle, which has nothing yet: of `shards` shards, 1 to 64, each of up to `page_limit` pages of
-/// 4,096 bytes, 1 to 1,048,576, with rings of `ring_capacity` keys, 1 to 1,024, each slot of which is given the generations from 1 to `gens`,
-/// at least 1. A shard may open as many spans as there are serials. The steward has a seat for each shard, to be given to threads.
+/// Leaves the steward of a new arena to the handle, which has nothing yet: of `shards` shards, 1 to
+/// 64, each of up to `page_limit` pages of 4,096 bytes, 1 to 1,048,576, with rings of
+/// `ring_capacity` keys, 1 to 1,024, each slot of which is given the generations from 1 to `gens`,
+/// at least 1. A shard may open as many spans as there are serials. The steward has a seat for each
+/// shard, to be given to threads.
 ///
-/// `HAS_CORE` comes exactly where the handle has a seat or a steward already. Where it has none, `CONFIG` comes exactly where a number is
-/// out of its range, and `OUT_OF_MEMORY` only where each is within it. Where the status is not `OK` the handle is as it was.
+/// `HAS_CORE` comes exactly where the handle has a seat or a steward already. Where it has none,
+/// `CONFIG` comes exactly where a number is out of its range, and `OUT_OF_MEMORY` only where each
+/// is within it. Where the status is not `OK` the handle is as it was.
 #[unsafe(no_mangle)]
 pub extern "C" fn teurlaks_arena_open(
     alloc: Global,
@@ -107,8 +110,8 @@ fn opened(
     })
 }
 
-/// Gives the share back: the memory of the arena goes with the last of its shares. A seat does not come back, but by
-/// `teurlaks_seat_leave`: its shard takes no further put, and its objects stay.
+/// Gives the share back: the memory of the arena goes with the last of its shares. A seat does not
+/// come back, but by `teurlaks_seat_leave`: its shard takes no further put, and its objects stay.
 #[unsafe(no_mangle)]
 pub extern "C" fn teurlaks_share_drop(alloc: Global, handle: &mut ShareHandle)
     ensures { handle.new.share ≡ None }
@@ -116,8 +119,9 @@ pub extern "C" fn teurlaks_share_drop(alloc: Global, handle: &mut ShareHandle)
     drop(replace(handle, ShareHandle::none()).into_box(alloc));
 }
 
-/// Leaves a seat that no thread has to `out`, which has nothing yet. `NONE` where every seat is with a thread, `HAS_CORE` where `out` has
-/// a seat or a steward already, `NO_CORE` where the handle has no steward, and `OUT_OF_MEMORY`; nothing has changed then.
+/// Leaves a seat that no thread has to `out`, which has nothing yet. `NONE` where every seat is
+/// with a thread, `HAS_CORE` where `out` has a seat or a steward already, `NO_CORE` where the
+/// handle has no steward, and `OUT_OF_MEMORY`; nothing has changed then.
 #[unsafe(no_mangle)]
 pub extern "C" fn teurlaks_steward_seat(
     alloc: Global,
@@ -214,9 +218,10 @@ fn boxed_seat(alloc: Global, arena: &Arc<Shards, Global>, seat: Seat) -> Result<
     }
 }
 
-/// Plans as many folds of the pool's groups onto those of the shards as can be, of all groups, opens the plan, and keeps its certificate.
-/// Refused with `BUSY`, `PLAN_OPEN`, `TOO_MANY` where a side has more than 4,096 groups that have a page, or `OUT_OF_MEMORY`; nothing has
-/// changed then, and the certificate of the mark before is kept.
+/// Plans as many folds of the pool's groups onto those of the shards as can be, of all groups,
+/// opens the plan, and keeps its certificate. Refused with `BUSY`, `PLAN_OPEN`, `TOO_MANY` where a
+/// side has more than 4,096 groups that have a page, or `OUT_OF_MEMORY`; nothing has changed then,
+/// and the certificate of the mark before is kept.
 #[unsafe(no_mangle)]
 pub extern "C" fn teurlaks_steward_mark(alloc: Global, handle: &mut ShareHandle) -> MarkReply
     ensures { (answer : _) × Asks Marks handle.old.share answer handle.new.share
@@ -225,9 +230,10 @@ pub extern "C" fn teurlaks_steward_mark(alloc: Global, handle: &mut ShareHandle)
     marked_reply(at_steward(alloc, handle, &Mark))
 }
 
-/// Plans as many folds of the pool's groups onto those of the shards as can be, of the 4,096 of each side with the fewest live keys, opens
-/// the plan, and keeps its certificate. Refused with `BUSY`, `PLAN_OPEN` or `OUT_OF_MEMORY`; nothing has changed then, and the
-/// certificate of the mark before is kept.
+/// Plans as many folds of the pool's groups onto those of the shards as can be, of the 4,096 of
+/// each side with the fewest live keys, opens the plan, and keeps its certificate. Refused with
+/// `BUSY`, `PLAN_OPEN` or `OUT_OF_MEMORY`; nothing has changed then, and the certificate of the
+/// mark before is kept.
 #[unsafe(no_mangle)]
 pub extern "C" fn teurlaks_steward_mark_some(alloc: Global, handle: &mut ShareHandle) -> MarkReply
     ensures { (answer : _) × Asks Marks handle.old.share answer handle.new.share
@@ -236,8 +242,9 @@ pub extern "C" fn teurlaks_steward_mark_some(alloc: Global, handle: &mut ShareHa
     marked_reply(at_steward(alloc, handle, &MarkSome))
 }
 
-/// Carries out the next pair of the open plan: `OK`, or `EMPTIED` where the pair's abandoned group had no live key left. `NO_PAIR_LEFT`
-/// and `NO_PLAN` change nothing. Refused with `BUSY` or `OUT_OF_MEMORY`; the pair is then still the next.
+/// Carries out the next pair of the open plan: `OK`, or `EMPTIED` where the pair's abandoned group
+/// had no live key left. `NO_PAIR_LEFT` and `NO_PLAN` change nothing. Refused with `BUSY` or
+/// `OUT_OF_MEMORY`; the pair is then still the next.
 #[unsafe(no_mangle)]
 pub extern "C" fn teurlaks_steward_step(alloc: Global, handle: &mut ShareHandle) -> StepReply
     ensures { (answer : _) × Asks TakesStep handle.old.share answer handle.new.share
@@ -246,8 +253,8 @@ pub extern "C" fn teurlaks_steward_step(alloc: Global, handle: &mut ShareHandle)
     stepped_reply(at_steward(alloc, handle, &Step))
 }
 
-/// Closes the open plan, whose pairs that are left are dropped: all groups take puts again. `NO_PLAN` and `BUSY` change nothing. It takes
-/// no memory.
+/// Closes the open plan, whose pairs that are left are dropped: all groups take puts again.
+/// `NO_PLAN` and `BUSY` change nothing. It takes no memory.
 #[unsafe(no_mangle)]
 pub extern "C" fn teurlaks_steward_close(alloc: Global, handle: &mut ShareHandle) -> u32
     ensures { (answer : _) × Asks Closes handle.old.share answer handle.new.share
@@ -256,10 +263,11 @@ pub extern "C" fn teurlaks_steward_close(alloc: Global, handle: &mut ShareHandle
     closed_reply(at_steward(alloc, handle, &Close))
 }
 
-/// Forgets the spans that can never be live again, with their generations, as `Arena::forget` does; the count is how many went. Nothing
-/// else changes that a caller sees. Refused with `BUSY`, with `PLAN_OPEN` while a plan is open, or with `RECORDED` where the run is
-/// recorded, since its audit needs each log; nothing has changed then. It asks for memory only for smaller tables in the place of larger
-/// ones, which stay if there is none.
+/// Forgets the spans that can never be live again, with their generations, as `Arena::forget` does;
+/// the count is how many went. Nothing else changes that a caller sees. Refused with `BUSY`, with
+/// `PLAN_OPEN` while a plan is open, or with `RECORDED` where the run is recorded, since its audit
+/// needs each log; nothing has changed then. It asks for memory only for smaller tables in the
+/// place of larger ones, which stay if there is none.
 #[unsafe(no_mangle)]
 pub extern "C" fn teurlaks_steward_forget(alloc: Global, handle: &mut ShareHandle) -> ForgetReply
     ensures same { handle.new.share ≡ handle.old.share }
@@ -290,9 +298,9 @@ fn forget_of(share: &Share) -> ForgetReply
     }
 }
 
-/// Writes the text of the last mark's certificate into `text`, from its first byte on, and answers how long it is. `NONE` where no mark
-/// was made, `TOO_SMALL` where there is no room for all of it, and `OUT_OF_MEMORY`: nothing was written then. The arena stays as it is,
-/// and no lock is taken.
+/// Writes the text of the last mark's certificate into `text`, from its first byte on, and answers
+/// how long it is. `NONE` where no mark was made, `TOO_SMALL` where there is no room for all of it,
+/// and `OUT_OF_MEMORY`: nothing was written then. The arena stays as it is, and no lock is taken.
 #[unsafe(no_mangle)]
 pub extern "C" fn teurlaks_steward_certificate(
     alloc: Global,
@@ -338,7 +346,8 @@ fn unwritten() -> CertificateReply
     }
 }
 
-/// How many pages the arena has, and how many keys are live in it, at one time. Refused with `BUSY`. Nothing changes.
+/// How many pages the arena has, and how many keys are live in it, at one time. Refused with
+/// `BUSY`. Nothing changes.
 #[unsafe(no_mangle)]
 pub extern "C" fn teurlaks_steward_totals(
     alloc: Global,

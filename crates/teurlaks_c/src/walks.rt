@@ -16,12 +16,12 @@ use arena::{Arena, Busy, NoGate, Seat, Walk};
 use span::{Key, Log};
 use std::alloc::Global;
 
-/// The live key of the arena that comes next in the walk, behind which the walk stands from now on; all zeros are the beginning of a
-/// walk. `NONE` where it has come to its end, and `BUSY` where another thread has the lock of the span that comes next: the next call
-/// goes on from there.
+/// The live key of the arena that comes next in the walk, behind which the walk stands from now on;
+/// all zeros are the beginning of a walk. `NONE` where it has come to its end, and `BUSY` where
+/// another thread has the lock of the span that comes next: the next call goes on from there.
 ///
-/// A walk meets no key twice, and each that is live from its beginning to its end; a key that is put or freed meanwhile it may meet or
-/// not. It takes no memory, and no receipt is made of it.
+/// A walk meets no key twice, and each that is live from its beginning to its end; a key that is
+/// put or freed meanwhile it may meet or not. It takes no memory, and no receipt is made of it.
 #[unsafe(no_mangle)]
 pub extern "C" fn teurlaks_seat_next(
     alloc: Global,

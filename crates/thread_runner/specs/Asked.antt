@@ -21,7 +21,8 @@ use Rattle.thread_runner.specs.declared.diary.Other.TheVariants as other
 
 -- ---- what lines ask for
 
--- one thing that a line asks its thread for; it has one reply. A key goes by its place among all keys that the lines bind
+-- one thing that a line asks its thread for; it has one reply. A key goes by its place among all
+-- keys that the lines bind
 pub data Asked : Type 0 where
   -- a put of the object, which gives the key of that place
   Puts : (place : ℕ) → Value → Asked
@@ -46,18 +47,22 @@ pub data Asked : Type 0 where
   -- that its shard adopt a group
   Adopts : Asked
 
--- the place of the key that a reference names, by the lines above; a plain name is that of its only put
+-- the place of the key that a reference names, by the lines above; a plain name is that of its only
+-- put
 abbrev pub place_named : List Line → Reference → ℕ
 place_named above reference = first_of above reference.name + unwrap_or reference.index 0
 
--- what a thread's call below those lines asks for, in order; the keys that it binds have the next places
+-- what a thread's call below those lines asks for, in order; the keys that it binds have the next
+-- places
 abbrev pub asked_by : List Line → LineCall → List Asked
 asked_by above (Put name class value) = Puts (keys_in above) (counted_from class value) ∷ []
-asked_by above (Fill name class count value) = map (λ i. Puts (keys_in above + i) (counted_from class (value + i))) (range_with_len 0 count)
+asked_by above (Fill name class count value) = map
+    (λ i. Puts (keys_in above + i) (counted_from class (value + i))) (range_with_len 0 count)
 asked_by above (Get key) = Gets (place_named above key) ∷ []
 asked_by above (Set key class value) = Sets (place_named above key) (counted_from class value) ∷ []
 asked_by above (Free key) = Frees (place_named above key) ∷ []
-asked_by above (Sweep name from to) = map (λ i. Frees (first_of above name + i)) (range_with_len from (to - from))
+asked_by above (Sweep name from to) = map (λ i. Frees (first_of above name + i))
+    (range_with_len from (to - from))
 asked_by above (Later key) = Leaves (place_named above key) ∷ []
 asked_by above Tend = Tends ∷ []
 asked_by above Trim = Trims ∷ []
@@ -101,7 +106,8 @@ is_line_of thread _ = false
 abbrev pub places_from : (thread place : ℕ) → List Line → List ℕ
 places_from thread place [] = []
 places_from thread place (line ∷ lines) =
-    if is_line_of thread line then place ∷ places_from thread (place + 1) lines else places_from thread (place + 1) lines
+    if is_line_of thread line then place ∷ places_from thread (place + 1) lines else
+    places_from thread (place + 1) lines
 
 -- the places of the thread's lines below the header, in order
 abbrev pub places_of : (thread : ℕ) → List Line → List ℕ
@@ -143,7 +149,8 @@ IsRetirement most (other.Retired count) = count ≤ most
 IsRetirement most other.PlanOpen = Unit {0}
 IsRetirement most other = ⊥
 
--- a group was adopted, or the adoption was refused: its shard had as many groups as it may have pages, or there was none to adopt
+-- a group was adopted, or the adoption was refused: its shard had as many groups as it may have
+-- pages, or there was none to adopt
 abbrev pub is_adoption : Other → Bool
 is_adoption (other.Adopted head) = true
 is_adoption other.PagesSpent = true
@@ -156,36 +163,50 @@ pub record IsFreeBy (section thread : ℕ) (receipt : Receipt) : Type 0 where
   pub in_section : receipt.section ≡ section
   pub frees : is_free receipt.call ≡ true
 
--- the key that the put of each key gave, by the key's place among all keys that the lines bind; none where the put was refused
+-- the key that the put of each key gave, by the key's place among all keys that the lines bind;
+-- none where the put was refused
 abbrev pub GivenKeys : Type 0
 GivenKeys = ℕ → Option Key
 
--- the receipt is of a call by that thread, in that section, on the key that was given for that place
-pub record IsCallOn (given : GivenKeys) (section thread place : ℕ) (receipt : Receipt) : Type 0 where
+-- the receipt is of a call by that thread, in that section, on the key that was given for that
+-- place
+pub record IsCallOn (given : GivenKeys) (section thread place : ℕ) (receipt : Receipt) :
+    Type 0 where
   pub by : receipt.worker ≡ thread
   pub in_section : receipt.section ≡ section
   pub of_key : given place ≡ Some receipt.key
 
--- a key that was to be freed later was not sent off: its ring had no room, or it was never given out
+-- a key that was to be freed later was not sent off: its ring had no room, or it was never given
+-- out
 abbrev pub IsKeptBack : Option Key → Other → Type 0
 IsKeptBack None what = what ≡ other.Unbound
 IsKeptBack (Some key) what = what ≡ other.RingFull
 
--- this may come of what a line asks the thread for in that section, where those keys were given: the receipt of that call, on the key of that place; of a put
--- that no page was left; of a free that is left for later
--- that the key of that place was sent off, or that its ring had no room; and of a call on a key that it was never given out
+-- this may come of what a line asks the thread for in that section, where those keys were given:
+-- the receipt of that call, on the key of that place; of a put that no page was left; of a free
+-- that is left for later that the key of that place was sent off, or that its ring had no room; and
+-- of a call on a key that it was never given out
 abbrev pub Answers : GivenKeys → (section thread : ℕ) → Asked → Outcome → Type 0
-Answers given section thread (Puts place value) (Called receipt) = IsCallOn given section thread place receipt × (receipt.call ≡ call.Put value)
-Answers given section thread (Puts place value) (Said what) = (given place ≡ None) × (what ≡ other.PagesSpent)
-Answers given section thread (Gets place) (Called receipt) = IsCallOn given section thread place receipt × (is_look_up receipt.call ≡ true)
-Answers given section thread (Gets place) (Said what) = (given place ≡ None) × (what ≡ other.Unbound)
-Answers given section thread (Sets place value) (Called receipt) = IsCallOn given section thread place receipt × IsSetTo value receipt.call
-Answers given section thread (Sets place value) (Said what) = (given place ≡ None) × (what ≡ other.Unbound)
-Answers given section thread (Frees place) (Called receipt) = IsCallOn given section thread place receipt × (is_free receipt.call ≡ true)
-Answers given section thread (Frees place) (Said what) = (given place ≡ None) × (what ≡ other.Unbound)
+Answers given section thread (Puts place value) (Called receipt) =
+    IsCallOn given section thread place receipt × (receipt.call ≡ call.Put value)
+Answers given section thread (Puts place value) (Said what) = (given place ≡ None)
+    × (what ≡ other.PagesSpent)
+Answers given section thread (Gets place) (Called receipt) =
+    IsCallOn given section thread place receipt × (is_look_up receipt.call ≡ true)
+Answers given section thread (Gets place) (Said what) = (given place ≡ None)
+    × (what ≡ other.Unbound)
+Answers given section thread (Sets place value) (Called receipt) =
+    IsCallOn given section thread place receipt × IsSetTo value receipt.call
+Answers given section thread (Sets place value) (Said what) = (given place ≡ None)
+    × (what ≡ other.Unbound)
+Answers given section thread (Frees place) (Called receipt) =
+    IsCallOn given section thread place receipt × (is_free receipt.call ≡ true)
+Answers given section thread (Frees place) (Said what) = (given place ≡ None)
+    × (what ≡ other.Unbound)
 Answers given section thread (Leaves place) (Left key) = given place ≡ Some key
 Answers given section thread (Leaves place) (Said what) = IsKeptBack (given place) what
-Answers given section thread Tends (Took receipts) = AllByRecursion (IsFreeBy section thread) receipts
+Answers given section thread Tends (Took receipts) =
+    AllByRecursion (IsFreeBy section thread) receipts
 Answers given section thread Trims (Said what) = is_trim what ≡ true
 Answers given section thread (Retires most) (Said what) = IsRetirement most what
 Answers given section thread Ends (Said what) = what ≡ other.Ended
@@ -196,5 +217,6 @@ Answers given section thread asked outcome = ⊥
 -- these came of all that a line asks the thread for, in order
 abbrev pub AreAnswers : GivenKeys → (section thread : ℕ) → List Asked → List Outcome → Type 0
 AreAnswers given section thread [] [] = Unit {0}
-AreAnswers given section thread (asked ∷ more) (outcome ∷ outcomes) = Answers given section thread asked outcome × AreAnswers given section thread more outcomes
+AreAnswers given section thread (asked ∷ more) (outcome ∷ outcomes) =
+    Answers given section thread asked outcome × AreAnswers given section thread more outcomes
 AreAnswers given section thread asked outcomes = ⊥

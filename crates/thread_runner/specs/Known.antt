@@ -1,4 +1,5 @@
--- What is known of the keys that puts gave, while a run goes on. No public clause cites this module.
+-- What is known of the keys that puts gave, while a run goes on. No public clause cites this
+-- module.
 use Rattle.std.specs.Prelude.{◌≡◌, ◌+◌, ◌-◌, ◌<◌, ◌≤◌, ◌&&◌, ℕ, List, [], ◌∷◌, Option, Some, None, if◌then◌else◌, nat_le, nat_lt}
 use Rattle.std.specs.Coded.{le_prop, ×_prop}
 use Rattle.std.specs.List.{AllByRecursion}
@@ -34,9 +35,12 @@ AreApart from (one ∷ more) end = (from ≤ one.place) × AreApart (one.place +
 
 pub AreApart-prop : (from : ℕ) (kept : List Given) (end : ℕ) → IsProp (AreApart from kept end)
 AreApart-prop from [] end = le_prop
-AreApart-prop from (one ∷ more) end = ×_prop le_prop (AreApart-prop (one.place + one.times) more end)
+AreApart-prop from (one ∷ more) end = ×_prop le_prop
+    (AreApart-prop (one.place + one.times) more end)
 
 -- what is kept, as what was given
 abbrev pub given_by : List Given → GivenKeys
 given_by [] place = None
-given_by (one ∷ more) place = if nat_le one.place place && nat_lt place (one.place + one.times) then key_from one.key (place - one.place) else given_by more place
+given_by (one ∷ more) place = if nat_le one.place place
+    && nat_lt place (one.place + one.times) then key_from one.key (place - one.place) else
+    given_by more place

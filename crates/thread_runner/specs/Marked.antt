@@ -34,13 +34,16 @@ marks_above lines place = filter (is_mark_at lines) (range_with_len 0 place)
 abbrev pub mark_number : List Line → ℕ → ℕ
 mark_number lines place = length (marks_above lines place) + 1
 
--- where the next barrier begins: the place of the first adoption or mark from that one on, or that below the last line
+-- where the next barrier begins: the place of the first adoption or mark from that one on, or that
+-- below the last line
 abbrev pub barrier_from : List Line → ℕ → ℕ
-barrier_from lines place = place + length (take_while (λ line. not (is_barrier line)) (drop place lines))
+barrier_from lines place = place + length (take_while (λ line. not (is_barrier line))
+    (drop place lines))
 
 -- ---- what comes of them
 
--- a plan that a mark made: the certificate that shows it, the pages in use then, the steps that were taken, and the pages in use when it was closed
+-- a plan that a mark made: the certificate that shows it, the pages in use then, the steps that
+-- were taken, and the pages in use when it was closed
 pub record PlanMade : Type 0 where
   pub certificate : Certificate
   pub pages : ℕ
@@ -68,7 +71,8 @@ taken_pair step = (step.abandoned, step.owned)
 -- the plan, if there is one, is shown, and a step was taken for each of its pairs, in order
 abbrev pub IsCarriedOut : Option PlanMade → Type 0
 IsCarriedOut None = Unit {0}
-IsCarriedOut (Some plan) = IsShown plan.certificate × (map taken_pair plan.steps ≡ plan.certificate.plan)
+IsCarriedOut (Some plan) = IsShown plan.certificate
+    × (map taken_pair plan.steps ≡ plan.certificate.plan)
 
 abbrev pub IsMarkMade : MarkMade → Type 0
 IsMarkMade made = IsCarriedOut made.plan
@@ -93,17 +97,20 @@ news_marked mark c pages = record {
 
 -- the mark at that place planned
 abbrev pub note_planned : List Line → ℕ → Certificate → (pages : ℕ) → Note
-note_planned lines place c pages = note_at place (Marked (news_marked (mark_number lines place) c pages))
+note_planned lines place c pages = note_at place (Marked
+    (news_marked (mark_number lines place) c pages))
 
 -- its plan was closed after these steps, which is told where the next barrier begins
 abbrev pub note_closed : List Line → ℕ → List TakenStep → (pages : ℕ) → Note
 note_closed lines place steps pages =
-    note_at (barrier_from lines (place + 1)) (Closed (record { mark = mark_number lines place; steps = steps; pages = pages }))
+    note_at (barrier_from lines (place + 1)) (Closed
+    (record { mark = mark_number lines place; steps = steps; pages = pages }))
 
 -- the notes of the mark at that place, by what it planned
 abbrev pub plan_notes : List Line → ℕ → Option PlanMade → List Note
 plan_notes lines place None = note_at place (TooMany (mark_number lines place)) ∷ []
-plan_notes lines place (Some plan) = note_planned lines place plan.certificate plan.pages ∷ note_closed lines place plan.steps plan.pages_left ∷ []
+plan_notes lines place (Some plan) = note_planned lines place plan.certificate plan.pages
+    ∷ note_closed lines place plan.steps plan.pages_left ∷ []
 
 abbrev pub mark_notes : List Line → MarkMade → List Note
 mark_notes lines made = plan_notes lines made.place made.plan
@@ -120,8 +127,10 @@ certificate_after text made = text_after text made.plan
 abbrev pub last_certificate : List MarkMade → List ℕ
 last_certificate marks = fold certificate_after [] marks
 
--- the notes tell of each mark above that place, in order, with all steps of its plan, and no more; and this is the text of the last certificate among them
-pub record AreNotesTo (lines : List Line) (above : ℕ) (notes : List Note) (certificate : List ℕ) : Type 0 where
+-- the notes tell of each mark above that place, in order, with all steps of its plan, and no more;
+-- and this is the text of the last certificate among them
+pub record AreNotesTo (lines : List Line) (above : ℕ) (notes : List Note) (certificate : List ℕ) :
+    Type 0 where
   pub marks : List MarkMade
   pub each_mark : map place_marked marks ≡ marks_above lines above
   pub carried_out : AllByRecursion IsMarkMade marks

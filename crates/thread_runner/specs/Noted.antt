@@ -28,7 +28,8 @@ plan_pairs plan = option_map (λ p. p.pairs) plan
 -- ---- the notes
 
 -- the last mark above that place planned these pairs, and its plan is not closed
-pub record IsLastOpen (lines : List Line) (above : ℕ) (pairs : List (SpanId × SpanId)) (notes : List Note) (text : List ℕ) : Type 0 where
+pub record IsLastOpen (lines : List Line) (above : ℕ) (pairs : List (SpanId × SpanId))
+    (notes : List Note) (text : List ℕ) : Type 0 where
   pub place : ℕ
   pub notes_before : List Note
   pub text_before : List ℕ
@@ -48,6 +49,7 @@ AreNoted lines above None notes text = AreNotesTo lines above notes text
 AreNoted lines above (Some pairs) notes text = IsLastOpen lines above pairs notes text
 
 -- the minutes have come to that place, with these open pairs
-pub record HaveCome (lines : List Line) (above : ℕ) (pairs : Option (List (SpanId × SpanId))) (minutes : Minutes) : Type 0 where
+pub record HaveCome (lines : List Line) (above : ℕ) (pairs : Option (List (SpanId × SpanId)))
+    (minutes : Minutes) : Type 0 where
   pub counted : minutes.marks ≡ length (marks_above lines above)
   pub noted : AreNoted lines above pairs minutes.notes.items minutes.certificate.items

@@ -19,4 +19,5 @@ body_text shown replies (note ∷ notes) =
 
 -- the replies and the news in order, the counts, and that the audit was passed
 abbrev pub threaded_text : Bool → List LineAnswer → List Note → Ending → List ℕ
-threaded_text shown replies notes ending = (body_text shown replies notes ++ end_line ending) ++ codes "audit ok\n"
+threaded_text shown replies notes ending = (body_text shown replies notes ++ end_line ending)
+    ++ codes "audit ok\n"

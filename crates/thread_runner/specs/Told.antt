@@ -40,7 +40,8 @@ is_free call.Freed = true
 is_free call.NotFreed = true
 is_free call = false
 
--- the reply of a receipt that no line asked for; a free of a key that came in on a ring tells nothing
+-- the reply of a receipt that no line asked for; a free of a key that came in on a ring tells
+-- nothing
 abbrev pub lineless : Receipt → List LineAnswer
 lineless receipt = if is_free receipt.call then [] else call_line 0 receipt ∷ []
 
@@ -75,12 +76,15 @@ receipts_after (entry.Called line) receipts = drop 1 receipts
 receipts_after (entry.Incoming count) receipts = drop count receipts
 receipts_after (entry.Said told) receipts = receipts
 
--- the replies that entries tell, in order, whose receipts these are; what is left of them no line asked for
+-- the replies that entries tell, in order, whose receipts these are; what is left of them no line
+-- asked for
 abbrev pub told_lines : List Entry → List Receipt → List LineAnswer
 told_lines [] receipts = flat_map lineless receipts
-told_lines (entry ∷ entries) receipts = entry_lines entry receipts ++ told_lines entries (receipts_after entry receipts)
+told_lines (entry ∷ entries) receipts = entry_lines entry receipts
+    ++ told_lines entries (receipts_after entry receipts)
 
--- what a thread was told, in the order of its calls: its receipts, and where the report tells replies the entries that they belong to
+-- what a thread was told, in the order of its calls: its receipts, and where the report tells
+-- replies the entries that they belong to
 pub record Voice : Type 0 where
   pub entries : List Entry
   pub receipts : List Receipt

@@ -12,7 +12,8 @@ use trace_runner::{LineAnswer, PlanNews, push_answers, push_news};
 /// News of plans, with its place in the trace.
 #[derive(Drop)]
 pub struct Note {
-    /// The number of the line that it is told at: it stands after the replies of the lines above that.
+    /// The number of the line that it is told at: it stands after the replies of the lines above
+    /// that.
     pub line: usize,
     /// What it tells.
     pub news: PlanNews,
@@ -62,7 +63,8 @@ fn count_above(line: usize, replies: &[LineAnswer]) -> usize
     count
 }
 
-/// Adds the replies in order, where they are shown, and each piece of news after those of the lines above its own.
+/// Adds the replies in order, where they are shown, and each piece of news after those of the lines
+/// above its own.
 pub(crate) fn push_body(
     out: &mut Vec<u8>,
     shown: bool,

@@ -18,8 +18,8 @@ use crate::diary::{Diary, Other};
 use crate::error::Halt;
 use crate::keys::{Given, Keys, enter, find};
 use crate::layout::Text;
-use abandoned::{AdoptError, ReceiveError};
 use arena::{Arena, Gate, Seat};
+use pool::{AdoptError, ReceiveError};
 use shard::PutError;
 use span::{Class, Key, Object, Receipt, SpanId};
 use std::alloc::{AllocError, Global};
@@ -41,7 +41,8 @@ pub(crate) struct Caller<'a, G: Gate> {
     ghost fits: { seat.limits ≡ arena.now.limits },
 }
 
-/// Where a line stands, and which keys it names, by their places among all keys that the lines bind.
+/// Where a line stands, and which keys it names, by their places among all keys that the lines
+/// bind.
 #[derive(Clone, Copy)]
 struct Spot {
     /// The line's number.
@@ -52,7 +53,8 @@ struct Spot {
     reads: usize,
 }
 
-// The key of that index of a name whose first key is at that place, or of its only put. More than a number counts find no memory.
+// The key of that index of a name whose first key is at that place, or of its only put. More than a
+// number counts find no memory.
 fn place_of(first: usize, index: Option<u32>) -> Result<usize, AllocError>
     ensures { IfOk result (λ place. place ≡ first + unwrap_or index 0) }
 {
@@ -128,7 +130,8 @@ impl<'a, G: Gate> Caller<'a, G> {
         self.diary.reserve(calls)
     }
 
-    /// Makes the calls of the line at that place, which is one of its thread's. It halts at any other line than a call.
+    /// Makes the calls of the line at that place, which is one of its thread's. It halts at any
+    /// other line than a call.
     pub(crate) fn line<R: Wait>(
         &mut self,
         rt: &R,
@@ -243,8 +246,8 @@ impl<'a, G: Gate> Caller<'a, G> {
         Ok(())
     }
 
-    // The key that a put gave, by the place of the key among all keys that the lines bind: a put of an earlier section, or of its
-    // own. It halts where no such put was made.
+    // The key that a put gave, by the place of the key among all keys that the lines bind: a put of
+    // an earlier section, or of its own. It halts where no such put was made.
     fn key_at(&self, keys: &Keys, place: usize) -> Result<Option<Key>, Halt>
         ensures { (given : GivenKeys)
             → AreKnown keys.now.kept.items self.now.fresh.items given
@@ -259,8 +262,8 @@ impl<'a, G: Gate> Caller<'a, G> {
         }
     }
 
-    // Puts the object of the class that counts up from that base, on the line of that number, and keeps what it gave as the key
-    // of that place.
+    // Puts the object of the class that counts up from that base, on the line of that number, and
+    // keeps what it gave as the key of that place.
     fn put<R: Wait>(
         &mut self,
         rt: &R,
@@ -297,8 +300,8 @@ impl<'a, G: Gate> Caller<'a, G> {
         }
     }
 
-    // Puts `count` objects of the class in order, which count up from `value`, from `value + 1` and so on, and keeps what they gave
-    // as the keys from that place on.
+    // Puts `count` objects of the class in order, which count up from `value`, from `value + 1` and
+    // so on, and keeps what they gave as the keys from that place on.
     fn fill<R: Wait>(
         &mut self,
         rt: &R,
@@ -531,8 +534,8 @@ impl<'a, G: Gate> Caller<'a, G> {
         self.seat.hand_over();
     }
 
-    /// Frees the keys that are on the rings to its shard. Where all threads have come in and sent off theirs, no key is sent
-    /// meanwhile, so one look at each ring takes them all.
+    /// Frees the keys that are on the rings to its shard. Where all threads have come in and sent
+    /// off theirs, no key is sent meanwhile, so one look at each ring takes them all.
     pub(crate) fn settle<R: Wait>(&mut self, rt: &R) -> Result<usize, AllocError>
         ensures told { IfOk result (λ count. TellsTending self.old.seat.section
             self.old.seat.worker count self.old.diary self.new.diary
@@ -582,8 +585,8 @@ impl<'a, G: Gate> Caller<'a, G> {
         Ok(())
     }
 
-    /// Adds what its puts of this section gave to what those of other threads gave in it. From now on its receipts carry the
-    /// next section.
+    /// Adds what its puts of this section gave to what those of other threads gave in it. From now
+    /// on its receipts carry the next section.
     pub(crate) fn go_on(&mut self, latest: &mut Vec<Given>) -> Result<(), Halt>
         ensures diary { self.new.diary ≡ self.old.diary }
         ensures thread { self.new.seat.worker ≡ self.old.seat.worker }

@@ -17,8 +17,8 @@ use trace_runner::{Answer, LineAnswer};
 /// What a line came to other than by a call on a key.
 #[derive(Clone, Copy)]
 pub enum Other {
-    /// A put found no usable slot, and the shard may have no further page; or an adoption found the shard to have as many groups
-    /// as it may have pages.
+    /// A put found no usable slot, and the shard may have no further page; or an adoption found the
+    /// shard to have as many groups as it may have pages.
     PagesSpent,
     /// The put that should have bound the name was refused.
     Unbound,
@@ -58,7 +58,8 @@ pub struct OtherLine {
 pub enum Entry {
     /// A call on a key, on the line of that number. Its receipt is the next.
     Called(usize),
-    /// Frees of that many keys that came in on the rings. Their receipts are the next, and have no replies of their own.
+    /// Frees of that many keys that came in on the rings. Their receipts are the next, and have no
+    /// replies of their own.
     Incoming(usize),
     /// What a line came to other than by a call on a key.
     Said(OtherLine),
@@ -137,7 +138,8 @@ impl Diary {
         self.note(Entry::Said(OtherLine { line, other }))
     }
 
-    /// Keeps what the adoption of the line of that number came to. It is no reply to a call, and not counted.
+    /// Keeps what the adoption of the line of that number came to. It is no reply to a call, and
+    /// not counted.
     pub(crate) fn keep_adoption(&mut self, line: usize, other: Other) -> Result<(), AllocError>
         ensures { OnOk result (Grows (entry.Said (record { line = line; other = other }) ∷ []) [] 0
             self.old self.new) }
@@ -145,7 +147,8 @@ impl Diary {
         self.note(Entry::Said(OtherLine { line, other }))
     }
 
-    /// Frees the keys that have come in on the rings to the seat's shard, keeps their receipts, and says how many there were.
+    /// Frees the keys that have come in on the rings to the seat's shard, keeps their receipts, and
+    /// says how many there were.
     pub(crate) fn tend<R: Wait, G: Gate>(
         &mut self,
         rt: &R,
@@ -210,7 +213,8 @@ fn is_free(receipt: &Receipt) -> bool
     matches!(receipt.call, Call::Freed | Call::NotFreed)
 }
 
-/// Adds the reply of a receipt that no line asked for. That of a free has none: its key came in on a ring.
+/// Adds the reply of a receipt that no line asked for. That of a free has none: its key came in on
+/// a ring.
 fn push_lineless(replies: &mut Vec<LineAnswer>, receipt: &Receipt) -> Result<(), AllocError>
     ensures { OnOk result (replies.new.items ≡ replies.old.items ++ lineless receipt.now) }
 {
@@ -221,7 +225,8 @@ fn push_lineless(replies: &mut Vec<LineAnswer>, receipt: &Receipt) -> Result<(),
     Ok(())
 }
 
-/// Adds the replies of that many receipts that no line asked for, of which the first has that place.
+/// Adds the replies of that many receipts that no line asked for, of which the first has that
+/// place.
 fn push_all_lineless(
     replies: &mut Vec<LineAnswer>,
     receipts: &ReceiptList,
@@ -241,7 +246,8 @@ fn push_all_lineless(
     Ok(())
 }
 
-/// Adds the reply of the receipt of that place, if there is one, on the line of that number, and gives the place after it.
+/// Adds the reply of the receipt of that place, if there is one, on the line of that number, and
+/// gives the place after it.
 fn push_call(
     replies: &mut Vec<LineAnswer>,
     line: usize,
@@ -263,8 +269,8 @@ fn push_call(
     Ok(place + 1)
 }
 
-/// Adds the replies of that many receipts that no line asked for, as far as there are so many, of which the first has that place,
-/// and gives the place after them.
+/// Adds the replies of that many receipts that no line asked for, as far as there are so many, of
+/// which the first has that place, and gives the place after them.
 fn push_incoming(
     replies: &mut Vec<LineAnswer>,
     count: usize,
@@ -283,7 +289,8 @@ fn push_incoming(
     Ok(place + count)
 }
 
-/// Adds the replies of an entry whose first receipt has that place, and gives the place of the first that is left.
+/// Adds the replies of an entry whose first receipt has that place, and gives the place of the
+/// first that is left.
 fn push_entry(
     replies: &mut Vec<LineAnswer>,
     entry: &Entry,

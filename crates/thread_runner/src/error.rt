@@ -44,12 +44,14 @@ pub enum ThreadsError {
     /// nothing was written.
     #[error("line {line} of the trace is at fault: {cause}")]
     BadTrace { line: usize, cause: Cause },
-    /// A shard or the pool was not as the run had left it: a span that would move was at both places, a shard
-    /// had ended whose thread had not, or a plan was open that had been closed; or at the end a thread or its seat was
-    /// missing, or had lines left, or a ring had a key left. Nothing was written.
+    /// A shard or the pool was not as the run had left it: a span that would move was at both
+    /// places, a shard had ended whose thread had not, or a plan was open that had been closed; or
+    /// at the end a thread or its seat was missing, or had lines left, or a ring had a key left.
+    /// Nothing was written.
     #[error("a span stood in two places, or a shard had ended that had not: report this as an error of the program")]
     Doubled,
-    /// What the calls were told does not agree with the logs of the spans, in this part. Nothing was written.
+    /// What the calls were told does not agree with the logs of the spans, in this part. Nothing
+    /// was written.
     #[error("audit: {0}")]
     AuditFault(AuditCause),
     /// The sink did not take the whole report. It took a prefix of it.

@@ -82,7 +82,8 @@ fn take_steps<R: Wait, G: Gate>(
 }
 
 impl<'a, G: Gate> Keeper<'a, G> {
-    /// The keeper of this steward, who has no open plan, or `None` where the steward is that of an arena of other numbers.
+    /// The keeper of this steward, who has no open plan, or `None` where the steward is that of an
+    /// arena of other numbers.
     pub(crate) fn new(alloc: Global, arena: &'a Arena<G>, steward: Steward) -> Option<Keeper<'a, G>>
         requires { steward.plan ≡ None }
         ensures { (lines : List Line) → IfSome result (λ keeper. HaveCome lines 0
@@ -131,8 +132,8 @@ impl<'a, G: Gate> Keeper<'a, G> {
         })
     }
 
-    /// Ends the open plan, if there is one: takes the steps that are left, and closes it, which is told at the barrier that
-    /// begins at that place.
+    /// Ends the open plan, if there is one: takes the steps that are left, and closes it, which is
+    /// told at the barrier that begins at that place.
     pub(crate) fn finished<R: Wait>(
         self,
         rt: &R,
@@ -199,8 +200,8 @@ impl<'a, G: Gate> Keeper<'a, G> {
         }
     }
 
-    /// What the report tells of the marks, in order, and the text of the certificate of the last that planned; empty where
-    /// none did.
+    /// What the report tells of the marks, in order, and the text of the certificate of the last
+    /// that planned; empty where none did.
     pub(crate) fn into_notes(self) -> (Vec<Note>, Vec<u8>)
         ensures notes { result.0 ≡ self.entry.minutes.notes }
         ensures certificate { result.1 ≡ self.entry.minutes.certificate }

@@ -8,7 +8,8 @@ use crate::error::Halt;
 use span::Key;
 use std::alloc::{AllocError, Global};
 
-/// What puts one after another gave: keys of slots one after another of one span, with one generation, or nothing.
+/// What puts one after another gave: keys of slots one after another of one span, with one
+/// generation, or nothing.
 #[derive(Clone, Copy)]
 pub(crate) struct Given {
     /// The place of the first one's key among all keys that the lines bind.
@@ -29,7 +30,8 @@ fn key_above(key: Key, by: u32) -> Option<Key>
     Some(above)
 }
 
-// What the put gave that comes so far after the first of these, or `None` where a span has no such slot.
+// What the put gave that comes so far after the first of these, or `None` where a span has no such
+// slot.
 fn given_after(one: &Given, by: u32) -> Option<Option<Key>>
     ensures { IfSome result (λ key. key ≡ key_from one.now.key by) }
 {
@@ -132,7 +134,8 @@ fn given_in(one: &Given, place: usize) -> Option<Option<Key>>
     given_after(one, by)
 }
 
-/// What the put of that place gave, where it is one of these, which stand by place. Whoever asks is told nothing wrong where they don't.
+/// What the put of that place gave, where it is one of these, which stand by place. Whoever asks is
+/// told nothing wrong where they don't.
 pub(crate) fn find(runs: &[Given], place: usize) -> Option<Option<Key>>
     ensures { (given : GivenKeys) → AreFresh runs.now given
         → IfSome result (λ key. given place ≡ key) }
@@ -205,8 +208,8 @@ impl Keys {
         Ok(keys)
     }
 
-    /// With what the puts of a section gave, whose keys stand below those of the sections before. It halts where they don't, or
-    /// where two puts gave the key of one place.
+    /// With what the puts of a section gave, whose keys stand below those of the sections before.
+    /// It halts where they don't, or where two puts gave the key of one place.
     pub(crate) fn with(self, latest: Vec<Given>) -> Result<Keys, Halt>
         ensures before { (given : GivenKeys) → IfOk result (λ keys. AreKept keys.kept.items given
             → AreKept self.kept.items given) }

@@ -28,12 +28,15 @@ pub(crate) struct LineFirst {
     first: usize,
 }
 
-/// Where each thread's lines stand in a trace, and which keys the lines bind. It is found once, before anything runs.
+/// Where each thread's lines stand in a trace, and which keys the lines bind. It is found once,
+/// before anything runs.
 #[derive(Drop)]
 pub(crate) struct Layout {
-    /// Of each thread, the places of its lines below the header, and of the adoptions by its shard, ascending.
+    /// Of each thread, the places of its lines below the header, and of the adoptions by its shard,
+    /// ascending.
     places: Vec<Vec<usize>>,
-    /// Of each line that is neither empty nor a remark, how many keys the lines above it bind; by place.
+    /// Of each line that is neither empty nor a remark, how many keys the lines above it bind; by
+    /// place.
     firsts: Vec<LineFirst>,
 }
 
@@ -150,7 +153,8 @@ impl Layout {
         })
     }
 
-    /// The place of the line of the thread that comes after that many of its lines, where that is above `end`.
+    /// The place of the line of the thread that comes after that many of its lines, where that is
+    /// above `end`.
     pub(crate) fn line_after(&self, thread: u32, done: usize, end: usize) -> Option<usize>
         ensures place { (lines : List Line) → AreLaid lines (map vec_items self.now.places.items)
             → IfSome result (λ place. slice_get (places_of thread lines) done ≡ Some place) }
@@ -172,7 +176,8 @@ impl Layout {
         }
     }
 
-    /// How many lines the thread has from the one after that many of its lines up to, and without, the place `end`.
+    /// How many lines the thread has from the one after that many of its lines up to, and without,
+    /// the place `end`.
     pub(crate) fn lines_between(&self, thread: u32, done: usize, end: usize) -> usize {
         let Some(places) = self.places.get(thread as usize) else {
             return 0;
@@ -182,7 +187,8 @@ impl Layout {
             .saturating_sub(done)
     }
 
-    /// The place, among all keys that the lines bind, of the first key that the line at that place binds.
+    /// The place, among all keys that the lines bind, of the first key that the line at that place
+    /// binds.
     pub(crate) fn first(&self, place: usize) -> Option<usize>
         ensures { (lines : List Line) → AreFirsts lines self.now.firsts.items
             → IfSome result (λ first. first ≡ keys_in (take place lines)) }

@@ -1,7 +1,8 @@
 //! Replays traces by threads.
 //!
-//! [`replay_threads`] reads a trace whole and runs it on an [`Arena`](arena::Arena): each thread that has lines in a section runs
-//! them on a thread of its own, and the steward takes the steps of the open plan beside them. At a mark all meet.
+//! [`replay_threads`] reads a trace whole and runs it on an [`Arena`](arena::Arena): each thread
+//! that has lines in a section runs them on a thread of its own, and the steward takes the steps of
+//! the open plan beside them. At a mark all meet.
 //!
 //! ```text
 //!   thread 0   put a   get b.1 ──────┐             ┌── free a ──────────┐
@@ -12,12 +13,12 @@
 //!                                       mark
 //! ```
 //!
-//! The report is that of the run that happened. Each look-up, put and free has its receipt, and when the run is over the crate
-//! `audit` holds the receipts against the logs of all spans. Only where they agree a report is written, and it ends with
-//! `audit ok`.
+//! The report is that of the run that happened. Each look-up, put and free has its receipt, and
+//! when the run is over the crate `audit` holds the receipts against the logs of all spans. Only
+//! where they agree a report is written, and it ends with `audit ok`.
 //!
-//! What a contract can say of a run by threads is what its receipts say (`specs/Threaded.antt`). That the lines run side by side
-//! is shown by a test, with [`replay_gated`].
+//! What a contract can say of a run by threads is what its receipts say (`specs/Threaded.antt`).
+//! That the lines run side by side is shown by a test, with [`replay_gated`].
 //!
 //! # Examples
 //!

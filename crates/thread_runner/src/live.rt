@@ -43,8 +43,8 @@ fn sum(first: usize, second: usize) -> Result<usize, AllocError>
     first.checked_add(second).ok_or(AllocError)
 }
 
-/// How many keys are live by the logs of all spans. The error comes where these are more than a `usize` counts, and so more than
-/// there is memory for.
+/// How many keys are live by the logs of all spans. The error comes where these are more than a
+/// `usize` counts, and so more than there is memory for.
 pub(crate) fn live_in(logs: &[SpanLog]) -> Result<usize, AllocError>
     ensures { IfOk result (λ live. live ≡ live_count (map span_of_log logs.now)) }
 {

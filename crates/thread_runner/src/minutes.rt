@@ -22,8 +22,8 @@ pub(crate) struct Minutes {
     ghost few: { marks ≤ vec_len notes },
 }
 
-// What the report tells of a mark of that number that planned, with the pages in use then. The runner fills the rows of its
-// partners, by `pieces` if it goes by pieces.
+// What the report tells of a mark of that number that planned, with the pages in use then. The
+// runner fills the rows of its partners, by `pieces` if it goes by pieces.
 fn mark_news<R: Runner>(
     runner: &R,
     alloc: Global,
@@ -100,8 +100,8 @@ impl Minutes {
         Ok(())
     }
 
-    /// The mark at that place planned, with so many pages in use. Its certificate is the last from now on. The runner fills the
-    /// rows of its partners, by `pieces` if it goes by pieces.
+    /// The mark at that place planned, with so many pages in use. Its certificate is the last from
+    /// now on. The runner fills the rows of its partners, by `pieces` if it goes by pieces.
     pub(crate) fn planned<R: Runner>(
         &mut self,
         runner: &R,
@@ -130,8 +130,8 @@ impl Minutes {
         Ok(())
     }
 
-    /// The plan of the last mark was closed after these steps, with so many pages in use, at the barrier that begins at that
-    /// place.
+    /// The plan of the last mark was closed after these steps, with so many pages in use, at the
+    /// barrier that begins at that place.
     pub(crate) fn closed(
         &mut self,
         place: usize,
@@ -155,8 +155,8 @@ impl Minutes {
         )
     }
 
-    /// What the report tells of the marks, in order, and the text of the certificate of the last that planned; empty where
-    /// none did.
+    /// What the report tells of the marks, in order, and the text of the certificate of the last
+    /// that planned; empty where none did.
     pub(crate) fn into_parts(self) -> (Vec<Note>, Vec<u8>)
         ensures notes { result.0 ≡ self.notes }
         ensures certificate { result.1 ≡ self.certificate }

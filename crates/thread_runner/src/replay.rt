@@ -169,8 +169,9 @@ fn were_empty(counts: &[Vec<usize>]) -> bool
     true
 }
 
-// The logs of all spans of an arena that comes to its end with these seats, whose rings were settled: no key is left on one, and so no
-// receipt is left out, and what was taken from each ring is what was sent on it.
+// The logs of all spans of an arena that comes to its end with these seats, whose rings were
+// settled: no key is left on one, and so no receipt is left out, and what was taken from each ring
+// is what was sent on it.
 fn logs_of<G: Gate>(alloc: Global, arena: Arena<G>, seats: Vec<Seat>) -> Result<Vec<SpanLog>, Halt>
     requires { AllByRecursion (λ seat. seat.table ≡ arena.table) seats.items }
     ensures { OnOk result (AreDelivered (length seats.items) (map carried_by seats.items)) }
@@ -188,7 +189,8 @@ fn logs_of<G: Gate>(alloc: Global, arena: Arena<G>, seats: Vec<Seat>) -> Result<
     Ok(finished.logs)
 }
 
-// The report of a run of the trace by threads at an arena that was opened for it, and its last certificate.
+// The report of a run of the trace by threads at an arena that was opened for it, and its last
+// certificate.
 fn replay_at<R: Threads + Wait + Sync, G: Gate + Sync, J: Reading>(
     rt: &R,
     alloc: Global,
@@ -243,7 +245,8 @@ fn replay<R: Threads + Wait + Sync, G: Gate + Sync>(
     replay_at::<R, G, Brand>(rt, alloc, arena, seats, steward, trace, shown)
 }
 
-// The numbers of an arena that the header asks for, whose shards open as many spans at most as those of a serial run.
+// The numbers of an arena that the header asks for, whose shards open as many spans at most as
+// those of a serial run.
 fn limits_of(header: &Header) -> Limits
     requires { IsWithinLimits header.now }
     ensures { result ≡ limits_of_trace header.now }
@@ -258,20 +261,24 @@ fn limits_of(header: &Header) -> Limits
     }
 }
 
-/// Replays a trace by threads: reads the text whole, runs each section's lines on a thread for each of its threads that has
-/// some, with the steps of the open plan beside them, holds what all calls were told against the logs of all spans, and gives
-/// the report to `out`, with a line for each reply where `replies` asks for them. A thread's lines run on the thread at hand
-/// where none can be started. `cert` is then the text of the certificate of the last mark that planned, or empty where none did.
+/// Replays a trace by threads: reads the text whole, runs each section's lines on a thread for each
+/// of its threads that has some, with the steps of the open plan beside them, holds what all calls
+/// were told against the logs of all spans, and gives the report to `out`, with a line for each
+/// reply where `replies` asks for them. A thread's lines run on the thread at hand where none can
+/// be started. `cert` is then the text of the certificate of the last mark that planned, or empty
+/// where none did.
 ///
-/// The report is that of the run that happened. What it tells of calls that ran side by side may be another the next time.
+/// The report is that of the run that happened. What it tells of calls that ran side by side may be
+/// another the next time.
 ///
 /// # Errors
 ///
-/// `BadTrace` exactly for a text that is no trace, with its first line at fault and the first cause that holds of it.
-/// `AuditFault` where what the calls were told doesn't agree with the logs, with the first part that fails. `Doubled` where a
-/// shard or the pool was not as the run had left it, or at the end a seat was missing, a thread had lines left or a ring had a
-/// key. `OutOfMemory` where an allocation was refused. After each of these `out` has taken nothing. `SinkFailed` where `out` failed; it has then taken a prefix of the report. After each of them
-/// `cert` is as it was.
+/// `BadTrace` exactly for a text that is no trace, with its first line at fault and the first cause
+/// that holds of it. `AuditFault` where what the calls were told doesn't agree with the logs, with
+/// the first part that fails. `Doubled` where a shard or the pool was not as the run had left it,
+/// or at the end a seat was missing, a thread had lines left or a ring had a key. `OutOfMemory`
+/// where an allocation was refused. After each of these `out` has taken nothing. `SinkFailed` where
+/// `out` failed; it has then taken a prefix of the report. After each of them `cert` is as it was.
 pub fn replay_threads<R: Threads + Wait + Sync, S: Sink>(
     rt: &R,
     alloc: Global,
@@ -293,8 +300,8 @@ pub fn replay_threads<R: Threads + Wait + Sync, S: Sink>(
     replay_gated(rt, alloc, NoGate, text, replies, out, cert)
 }
 
-/// As [`replay_threads`], with a gate that each thread passes inside of each critical section under one shard's lock. A
-/// test can hold threads there, and so see that they run side by side.
+/// As [`replay_threads`], with a gate that each thread passes inside of each critical section under
+/// one shard's lock. A test can hold threads there, and so see that they run side by side.
 pub fn replay_gated<R: Threads + Wait + Sync, G: Gate + Sync, S: Sink>(
     rt: &R,
     alloc: Global,

@@ -59,7 +59,8 @@ struct Crew<'a, G: Gate, J: Reading> {
     sections: usize,
     of: PhantomData<J>,
     ghost reads: { text.now.trace.now.lines.items ≡ J.lines } by { Prim.hlevel props },
-    ghost rest: { AllByRecursion (λ one. Rests J.lines J.shown J.table (AreKept keys.kept.items) sections one.caller.seat one.done one.caller.diary) threads.items } by { Prim.hlevel props },
+    ghost rest: { AllByRecursion (λ one. Rests J.lines J.shown J.table (AreKept keys.kept.items)
+        sections one.caller.seat one.done one.caller.diary) threads.items } by { Prim.hlevel props },
 }
 
 // A run in a section.
@@ -121,7 +122,8 @@ fn begun<'a, G: Gate, J: Reading, K: Known>(
     Ok(workers)
 }
 
-// What the workers of a section are told, whose lines stand from one place up to, and without, the other.
+// What the workers of a section are told, whose lines stand from one place up to, and without, the
+// other.
 fn briefing<'k, J: Reading, K: Known>(keys: &'k Keys, from: usize, end: usize) -> Briefing<'k, J, K>
     requires kept { keys.now.kept.items ≡ K.kept }
     requires one { (place : ℕ) → from ≤ place → place < end
@@ -236,7 +238,8 @@ fn is_mark(line: &Line) -> bool
     matches!(line, Line::Mark)
 }
 
-// Where the next barrier begins: the place of the first adoption or mark from that one on, or that below the last line.
+// Where the next barrier begins: the place of the first adoption or mark from that one on, or that
+// below the last line.
 fn barrier_of(lines: &LineList, from: usize) -> usize
     requires { from ≤ length lines.now.items }
     ensures barrier { result ≡ barrier_from lines.now.items from }
@@ -327,7 +330,8 @@ fn seats_and_diaries<'a, G: Gate, J: Reading, K: Known>(
     ensures seats { IfOk result (λ parts. AllByRecursion (λ seat. seat.table ≡ J.table)
         parts.0.items) }
     ensures diaries { (given : GivenKeys) → AreKept K.kept given
-        → IfOk result (λ parts. AreDiaries J.lines J.shown given threads parts.0.items parts.1.items) }
+        → IfOk result (λ parts. AreDiaries J.lines J.shown given threads parts.0.items
+        parts.1.items) }
 {
     let mut workers = workers;
     let mut seats = Vec::with_capacity(alloc, workers.len())?;
@@ -342,7 +346,8 @@ fn seats_and_diaries<'a, G: Gate, J: Reading, K: Known>(
 }
 
 impl<'a, G: Gate + Sync, J: Reading, K: Known> Shift<'a, G, J, K> {
-    // Runs the lines of the section, with the steps of the open plan beside them. The workers are then in order.
+    // Runs the lines of the section, with the steps of the open plan beside them. The workers are
+    // then in order.
     fn run<R: Threads + Wait + Sync>(
         self,
         rt: &R,
@@ -387,8 +392,9 @@ impl<'a, G: Gate + Sync, J: Reading, K: Known> Shift<'a, G, J, K> {
         Ok(())
     }
 
-    // Settles the section that was run, whose plan was ended: shards are abandoned, and the rings are emptied. All workers hand
-    // over before the first tends, so that no key is left behind at a seat.
+    // Settles the section that was run, whose plan was ended: shards are abandoned, and the rings
+    // are emptied. All workers hand over before the first tends, so that no key is left behind at a
+    // seat.
     fn settled<R: Wait>(self, rt: &R) -> Result<Meeting<'a, G, J, K>, Halt> {
         let mut shift = self;
         shift.abandon(rt)?;
@@ -458,7 +464,8 @@ impl<'a, G: Gate, J: Reading, K: Known> Meeting<'a, G, J, K> {
 }
 
 impl<'a, G: Gate + Sync, J: Reading> Crew<'a, G, J> {
-    // A section from one place up to, and without, the mark at another, and the barrier, which begins at a third.
+    // A section from one place up to, and without, the mark at another, and the barrier, which
+    // begins at a third.
     fn section<R: Threads + Wait + Sync, K: Known>(
         self,
         rt: &R,
@@ -580,7 +587,8 @@ impl<'a, G: Gate + Sync, J: Reading> Crew<'a, G, J> {
         ensures seats { IfOk result (λ parts. AllByRecursion (λ seat. seat.table ≡ J.table)
             parts.0.items) }
         ensures diaries { (given : GivenKeys) → AreKept K.kept given
-            → IfOk result (λ parts. AreDiaries J.lines J.shown given threads parts.0.items parts.1.items) }
+            → IfOk result (λ parts. AreDiaries J.lines J.shown given threads parts.0.items
+            parts.1.items) }
     {
         let Crew {
             alloc,
@@ -620,8 +628,8 @@ impl<'a, G: Gate + Sync, J: Reading> Crew<'a, G, J> {
 ///
 /// # Errors
 ///
-/// `OutOfMemory` where an allocation was refused, and `Doubled` where a shard or the pool was not as the run had left it, or a
-/// thread's line or key was not where the trace has it.
+/// `OutOfMemory` where an allocation was refused, and `Doubled` where a shard or the pool was not
+/// as the run had left it, or a thread's line or key was not where the trace has it.
 pub(crate) fn run_sections<'a, R: Threads + Wait + Sync, G: Gate + Sync, J: Reading>(
     rt: &R,
     alloc: Global,

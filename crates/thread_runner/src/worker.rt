@@ -22,7 +22,8 @@ use std::marker::{Brand, PhantomData};
 use std::sync::Wait;
 use trace_runner::Line;
 
-/// What a run reads, which proofs alone know: so that each worker's type says whose lines it follows.
+/// What a run reads, which proofs alone know: so that each worker's type says whose lines it
+/// follows.
 pub(crate) trait Reading: Send + Sync {
     /// The lines of the trace below its header.
     ghost lines: { List Line };
@@ -43,7 +44,8 @@ impl Reading for Brand {
     ghost table = { record { rows = []; columns = [] } };
 }
 
-/// What a section begins with, which proofs alone know: so that the type of each of its workers says what that worker knows.
+/// What a section begins with, which proofs alone know: so that the type of each of its workers
+/// says what that worker knows.
 pub(crate) trait Known: Send + Sync {
     /// What is kept of the puts of the sections before.
     ghost kept: { List Given };
@@ -71,7 +73,8 @@ pub(crate) struct Briefing<'k, J: Reading, K: Known> {
     pub(crate) of: PhantomData<J>,
     pub(crate) at: PhantomData<K>,
     ghost known: { keys.now.kept.items ≡ K.kept } by { Prim.hlevel props },
-    ghost one: { (place : ℕ) → from ≤ place → place < end → marks (take place J.lines) ≡ K.section } by { Prim.hlevel props },
+    ghost one: { (place : ℕ) → from ≤ place → place < end
+        → marks (take place J.lines) ≡ K.section } by { Prim.hlevel props },
 }
 
 /// A thread of the trace between two sections.
@@ -83,7 +86,8 @@ pub(crate) struct Resting<'a, G: Gate> {
 }
 
 impl<'a, G: Gate> Resting<'a, G> {
-    /// The thread in this seat before the first section, or `None` where the seat is that of an arena of other numbers.
+    /// The thread in this seat before the first section, or `None` where the seat is that of an
+    /// arena of other numbers.
     pub(crate) fn new(
         alloc: Global,
         arena: &'a Arena<G>,
@@ -112,10 +116,12 @@ pub(crate) struct Worker<'a, G: Gate, J: Reading, K: Known> {
     ghost columns: { caller.seat.table.columns ≡ J.table.columns } by { Prim.hlevel props },
     ghost reads: { text.now.trace.now.lines.items ≡ J.lines } by { Prim.hlevel props },
     ghost section: { caller.seat.section ≡ K.section } by { Prim.hlevel props },
-    ghost tracks: { Tracks J.lines J.shown (AreKnown K.kept caller.fresh.items) caller.seat.worker done K.section caller.diary (carried_by caller.seat) } by { Prim.hlevel props },
+    ghost tracks: { Tracks J.lines J.shown (AreKnown K.kept caller.fresh.items) caller.seat.worker
+        done K.section caller.diary (carried_by caller.seat) } by { Prim.hlevel props },
 }
 
-/// A worker at the barrier that ends a section, which has taken and freed the keys that had come in on its rings.
+/// A worker at the barrier that ends a section, which has taken and freed the keys that had come in
+/// on its rings.
 #[derive(Drop)]
 pub(crate) struct Settled<'a, G: Gate, J: Reading, K: Known> {
     text: &'a Text<'a>,
@@ -128,10 +134,12 @@ pub(crate) struct Settled<'a, G: Gate, J: Reading, K: Known> {
     ghost columns: { caller.seat.table.columns ≡ J.table.columns } by { Prim.hlevel props },
     ghost reads: { text.now.trace.now.lines.items ≡ J.lines } by { Prim.hlevel props },
     ghost section: { caller.seat.section ≡ K.section } by { Prim.hlevel props },
-    ghost tracks: { Tracks J.lines J.shown (AreKnown K.kept caller.fresh.items) caller.seat.worker done (K.section + 1) caller.diary (carried_by caller.seat) } by { Prim.hlevel props },
+    ghost tracks: { Tracks J.lines J.shown (AreKnown K.kept caller.fresh.items) caller.seat.worker
+        done (K.section + 1) caller.diary (carried_by caller.seat) } by { Prim.hlevel props },
 }
 
-/// A worker at a barrier that has handed over the keys that its lines left to the threads of shards: none waits at its seat.
+/// A worker at a barrier that has handed over the keys that its lines left to the threads of
+/// shards: none waits at its seat.
 #[derive(Drop)]
 pub(crate) struct SentOff<'a, G: Gate, J: Reading, K: Known> {
     worker: Worker<'a, G, J, K>,
@@ -139,7 +147,8 @@ pub(crate) struct SentOff<'a, G: Gate, J: Reading, K: Known> {
 }
 
 impl<'a, G: Gate, J: Reading, K: Known> SentOff<'a, G, J, K> {
-    /// Frees the keys that are on the rings to its shard: all that were left to it, where all workers have sent off theirs.
+    /// Frees the keys that are on the rings to its shard: all that were left to it, where all
+    /// workers have sent off theirs.
     pub(crate) fn settled<R: Wait>(self, rt: &R) -> Result<Settled<'a, G, J, K>, AllocError>
         ensures { IfOk result (λ settled. settled.caller.seat.worker
             ≡ self.entry.worker.caller.seat.worker) }
@@ -243,8 +252,8 @@ impl<'a, G: Gate, J: Reading, K: Known> Worker<'a, G, J, K> {
         self.caller.leave(rt)
     }
 
-    /// Its seat, and what it was told, where it has run all its lines and has no key that is not kept. It has come to all
-    /// barriers.
+    /// Its seat, and what it was told, where it has run all its lines and has no key that is not
+    /// kept. It has come to all barriers.
     pub(crate) fn taken_apart(self) -> Result<(Seat, Diary), Halt>
         requires { K.section ≡ marks J.lines + 1 }
         ensures seat { IfOk result (λ parts. parts.0.table ≡ J.table) }
@@ -276,8 +285,8 @@ impl<'a, G: Gate, J: Reading, K: Known> Settled<'a, G, J, K> {
         self.caller.thread()
     }
 
-    /// Lets its shard adopt a group, as the line at that place asks, which is the next of its thread. It halts where that is
-    /// another.
+    /// Lets its shard adopt a group, as the line at that place asks, which is the next of its
+    /// thread. It halts where that is another.
     pub(crate) fn adopt<R: Wait>(self, rt: &R, place: usize) -> Result<Settled<'a, G, J, K>, Halt>
         requires place { place < 2 ^ 63 }
         requires section { marks (take place J.lines) ≡ K.section }
@@ -308,7 +317,8 @@ impl<'a, G: Gate, J: Reading, K: Known> Settled<'a, G, J, K> {
         })
     }
 
-    /// Adds what its puts of the section gave to what those of other threads gave in it, and ends the section.
+    /// Adds what its puts of the section gave to what those of other threads gave in it, and ends
+    /// the section.
     pub(crate) fn rested(self, latest: &mut Vec<Given>) -> Result<Resting<'a, G>, Halt>
         ensures before { (given : GivenKeys) → AreFresh latest.new.items given
             → OnOk result (AreFresh latest.old.items given) }

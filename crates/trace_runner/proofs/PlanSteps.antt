@@ -6,7 +6,7 @@ use Rattle.std.proofs.lemmas.Option.{slice_get-map}
 use Rattle.std.proofs.lemmas.Grind.{replicate_next}
 use Rattle.span.specs.declared.id.SpanId.{SpanId}
 use Rattle.shard.specs.State.{ShardState}
-use Rattle.abandoned.specs.State.{PoolState}
+use Rattle.pool.specs.State.{PoolState}
 use Rattle.certificate.specs.declared.certificate.Certificate.{Certificate}
 use Rattle.fold.specs.Folds.{Folds}
 use Rattle.fold.specs.declared.step.Step.{Step}

@@ -3,9 +3,9 @@ use Rattle.std.proofs.Common.{◌≡◌, ◌==◌, ℕ, zero, suc, Bool, true, f
 use Rattle.std.specs.Option.{option_map_or}
 use Rattle.std.proofs.lemmas.Bool.Decides.{nat_tests}
 use Rattle.std.proofs.lemmas.Bool.{cases_Bool, eqb-true}
-use Rattle.abandoned.specs.Calls.{with_rooms}
-use Rattle.abandoned.specs.Retires.{MovesSparse, Retires}
-use Rattle.abandoned.specs.State.{PoolState}
+use Rattle.pool.specs.Calls.{with_rooms}
+use Rattle.pool.specs.Retires.{MovesSparse, Retires}
+use Rattle.pool.specs.State.{PoolState}
 use Rattle.shard.specs.State.{ShardState, begun}
 use Rattle.shard.specs.Calls.{Puts, Frees, Sets}
 use Rattle.shard.specs.declared.shard.Freed.TheVariants.{Yes}

@@ -32,7 +32,8 @@ answer_told (Refused cause) = answer.PagesSpent
 -- no event of a line has another reply
 answer_told reply = answer.Unbound
 
--- what the report tells of a put: the key that it gave out, or that its shard may have no further page
+-- what the report tells of a put: the key that it gave out, or that its shard may have no further
+-- page
 abbrev pub put_told : Option Key → Answer
 put_told (Some key) = answer.Key key
 put_told None = answer.PagesSpent

@@ -8,19 +8,29 @@ use Rattle.trace_runner.specs.declared.key_list.Stretch.{Stretch}
 pub record AllGiven : Type 0 where
   pub items : List (Option Key)
 
--- of each put of a stretch, in order, the key that it gave out, where the keys of all puts are these
+-- of each put of a stretch, in order, the key that it gave out, where the keys of all puts are
+-- these
 abbrev pub given_in : List Key → Stretch → List (Option Key)
-given_in keys stretch = map Some (take stretch.given (drop stretch.above keys)) ++ replicate stretch.refused None
+given_in keys stretch = map Some (take stretch.given (drop stretch.above keys))
+    ++ replicate stretch.refused None
 
--- of each put, where these stretches are followed by the last one, above which so many keys were given out and of which so many puts were refused
+-- of each put, where these stretches are followed by the last one, above which so many keys were
+-- given out and of which so many puts were refused
 abbrev pub all_given : List Key → List Stretch → (above refused : ℕ) → AllGiven
-all_given keys closed above refused = record { items = flat_map (given_in keys) closed ++ (map Some (drop above keys) ++ replicate refused None) }
+all_given keys closed above refused =
+    record {
+      items = flat_map (given_in keys) closed ++ (map Some (drop above keys)
+          ++ replicate refused None);
+    }
 
--- the stretches stand one after another, from that place on and below that many keys, up to such a place and that many keys
+-- the stretches stand one after another, from that place on and below that many keys, up to such a
+-- place and that many keys
 abbrev pub AreInRow : (place above : ℕ) → List Stretch → (end last : ℕ) → Type 0
 AreInRow place above [] end last = (place ≡ end) × (above ≡ last)
 AreInRow place above (stretch ∷ more) end last =
-    (stretch.place ≡ place) × ((stretch.above ≡ above) × AreInRow (place + (stretch.given + stretch.refused)) (above + stretch.given) more end last)
+    (stretch.place ≡ place) × ((stretch.above ≡ above)
+    × AreInRow (place + (stretch.given + stretch.refused)) (above + stretch.given) more end
+    last)
 
 -- the key at that index, if there is one
 abbrev pub key_at : List Key → Option ℕ → Option Key

@@ -1,4 +1,5 @@
--- What a run keeps of the replies to its lines, and of the report. No public clause cites this module.
+-- What a run keeps of the replies to its lines, and of the report. No public clause cites this
+-- module.
 use Rattle.std.specs.Prelude.{◌≡◌, ◌<◌, ◌≤◌, ◌+◌, ◌++◌, ℕ, Bool, true, false, List, [], filter, length, map, slice_get, Option, Some, None, unwrap_or}
 use Rattle.std.specs.List.{AllByRecursion, flat_map}
 use Rattle.span.specs.declared.key.Key.{Key}
@@ -29,7 +30,13 @@ pub record Kept : Type 0 where
   pub text : List ℕ
 
 abbrev pub kept_in : Replies → Kept
-kept_in r = record { keys = r.keys.items; count = length r.keys.items + r.others; asked = r.asked; text = r.text.items }
+kept_in r =
+    record {
+      keys = r.keys.items;
+      count = length r.keys.items + r.others;
+      asked = r.asked;
+      text = r.text.items;
+    }
 
 abbrev pub kept_none : Bool → Kept
 kept_none asked = record { keys = []; count = 0; asked = asked; text = [] }
@@ -45,11 +52,21 @@ keys_of made = map key_made (filter (λ m. is_put (asked_of m)) made)
 
 -- what is kept once this was done at the line of that number
 abbrev pub keeping : ℕ → Kept → List Made → Kept
-keeping number kept made = record kept { keys = kept.keys ++ keys_of made; count = kept.count + length made; text = kept.text ++ told_of kept.asked number made }
+keeping number kept made = record kept {
+  keys = kept.keys ++ keys_of made;
+  count = kept.count + length made;
+  text = kept.text ++ told_of kept.asked number made;
+}
 
 -- what is kept of the lines that were run
 abbrev pub kept_of : Bool → List Did → Kept
-kept_of asked done = record { keys = flat_map (λ did. keys_of did.calls) done; count = length (flat_map (λ did. did.calls) done); asked = asked; text = (news_of asked done).text }
+kept_of asked done =
+    record {
+      keys = flat_map (λ did. keys_of did.calls) done;
+      count = length (flat_map (λ did. did.calls) done);
+      asked = asked;
+      text = (news_of asked done).text;
+    }
 
 -- ---- whose keys they are
 
@@ -65,15 +82,21 @@ AreHome shards keys = AllByRecursion (IsHome shards) keys
 
 -- at that place after the first stands the key of the name
 abbrev pub FindsOne : List Line → List Did → List (Option Key) → (first : ℕ) → List ℕ → ℕ → Type 0
-FindsOne lines done keys first name place = slice_get keys (first + place) ≡ Some (key_at lines done name place)
+FindsOne lines done keys first name place = slice_get keys (first + place)
+    ≡ Some (key_at lines done name place)
 
 -- so do all keys that the call reads, sets, frees or sends off
 abbrev pub Finds : List Line → List Did → List (Option Key) → (first : ℕ) → Call → Type 0
-Finds lines done keys first (Get key) = FindsOne lines done keys first key.name (unwrap_or key.index 0)
-Finds lines done keys first (Set key class value) = FindsOne lines done keys first key.name (unwrap_or key.index 0)
-Finds lines done keys first (Free key) = FindsOne lines done keys first key.name (unwrap_or key.index 0)
-Finds lines done keys first (Later key) = FindsOne lines done keys first key.name (unwrap_or key.index 0)
-Finds lines done keys first (Sweep name from to) = (place : ℕ) → from ≤ place → place < to → FindsOne lines done keys first name place
+Finds lines done keys first (Get key) = FindsOne lines done keys first key.name
+    (unwrap_or key.index 0)
+Finds lines done keys first (Set key class value) =
+    FindsOne lines done keys first key.name (unwrap_or key.index 0)
+Finds lines done keys first (Free key) = FindsOne lines done keys first key.name
+    (unwrap_or key.index 0)
+Finds lines done keys first (Later key) = FindsOne lines done keys first key.name
+    (unwrap_or key.index 0)
+Finds lines done keys first (Sweep name from to) = (place : ℕ) → from ≤ place → place < to
+    → FindsOne lines done keys first name place
 Finds lines done keys first _ = Unit {0}
 
 -- the same for a line
@@ -83,5 +106,6 @@ FindsAt lines done keys first _ = Unit {0}
 
 -- each key of a name that those lines bind stands at its place, as the line that binds it was run
 abbrev pub Recalls : List Line → List Did → List (Option Key) → Type 0
-Recalls above done keys = (name : List ℕ) (b : Binding) (place : ℕ) → binding_of name above ≡ Some b → place < key_count b.keys
+Recalls above done keys = (name : List ℕ) (b : Binding) (place : ℕ) → binding_of name above ≡ Some b
+    → place < key_count b.keys
     → (b.line < length done) × (slice_get keys (b.first + place) ≡ Some (key_bound done place b))

@@ -32,7 +32,8 @@ abbrev pub requests_of : Asked → List Request
 requests_of (Calls event) = Once event ∷ []
 requests_of Keyless = []
 requests_of Leaves = []
-requests_of (Tends workers shard) = map (λ worker. UntilNone (Settle worker shard)) (range_with_len 0 workers)
+requests_of (Tends workers shard) = map (λ worker. UntilNone (Settle worker shard))
+    (range_with_len 0 workers)
 
 -- ---- what came of it
 
@@ -48,9 +49,12 @@ pub record Made : Type 0 where
 -- the events were called as requested, each as often as the replies decide
 abbrev pub AreAsRequested : List Request → List CalledEvent → Type 0
 AreAsRequested [] [] = Unit {0}
-AreAsRequested (Once event ∷ requests) (Called done reply core ∷ more) = (done ≡ event) × AreAsRequested requests more
-AreAsRequested (UntilNone event ∷ requests) (Called done (Settled None) core ∷ more) = (done ≡ event) × AreAsRequested requests more
-AreAsRequested (UntilNone event ∷ requests) (Called done (Settled (Some key)) core ∷ more) = (done ≡ event) × AreAsRequested (UntilNone event ∷ requests) more
+AreAsRequested (Once event ∷ requests) (Called done reply core ∷ more) = (done ≡ event)
+    × AreAsRequested requests more
+AreAsRequested (UntilNone event ∷ requests) (Called done (Settled None) core ∷ more) =
+    (done ≡ event) × AreAsRequested requests more
+AreAsRequested (UntilNone event ∷ requests) (Called done (Settled (Some key)) core ∷ more) =
+    (done ≡ event) × AreAsRequested (UntilNone event ∷ requests) more
 AreAsRequested requests called = ⊥
 
 -- the events that were called are those that were asked for
@@ -67,7 +71,8 @@ no_call asked = record { asked = asked; called = [] }
 
 -- what was done at a line
 pub record Did : Type 0 where
-  -- where a barrier begins: the end of the open plan, the shards that were abandoned, and the keys that were freed from the rings
+  -- where a barrier begins: the end of the open plan, the shards that were abandoned, and the keys
+  -- that were freed from the rings
   pub settled : List Made
   -- what the line asks for, with a reply each
   pub calls : List Made

@@ -48,10 +48,28 @@ mark_news mark c core = record {
 
 -- one event more; it is news where it is a step, a close or a mark
 abbrev pub with_called : News → CalledEvent → News
-with_called n (Called event.Step (reply.Stepped abandoned owned outcome) core) = record n { taken = n.taken ++ record { abandoned = abandoned; owned = owned; outcome = outcome } ∷ [] }
-with_called n (Called event.Close reply core) = record n { taken = []; text = with_news n (Closed (record { mark = n.marks; steps = n.taken; pages = pages core })) }
-with_called n (Called event.Mark (reply.Marked c) core) = record n { marks = n.marks + 1; text = with_news n (Marked (mark_news (n.marks + 1) c core)); certificate = certificate_text c }
-with_called n (Called event.Mark reply core) = record n { marks = n.marks + 1; text = with_news n (TooMany (n.marks + 1)) }
+with_called n (Called event.Step (reply.Stepped abandoned owned outcome) core) =
+    record n {
+      taken = n.taken ++ record {
+        abandoned = abandoned;
+        owned = owned;
+        outcome = outcome;
+      } ∷ [];
+    }
+with_called n (Called event.Close reply core) = record n {
+  taken = [];
+  text = with_news n (Closed (record { mark = n.marks; steps = n.taken; pages = pages core }));
+}
+with_called n (Called event.Mark (reply.Marked c) core) =
+    record n {
+      marks = n.marks + 1;
+      text = with_news n (Marked (mark_news (n.marks + 1) c core));
+      certificate = certificate_text c;
+    }
+with_called n (Called event.Mark reply core) = record n {
+  marks = n.marks + 1;
+  text = with_news n (TooMany (n.marks + 1));
+}
 with_called n called = n
 
 abbrev pub with_made : News → Made → News
@@ -64,9 +82,11 @@ with_all_made n made = fold with_made n made
 abbrev pub with_answers : ℕ → List Made → News → News
 with_answers number made n = record n { text = n.text ++ told_of n.replies number made }
 
--- the line of that number more: what settles the section, the answers to its calls, and what follows them
+-- the line of that number more: what settles the section, the answers to its calls, and what
+-- follows them
 abbrev pub with_line : ℕ → News → Did → News
-with_line number n did = with_all_made (with_answers number did.calls (with_all_made n did.settled)) did.plans
+with_line number n did = with_all_made (with_answers number did.calls (with_all_made n did.settled))
+    did.plans
 
 -- that many lines more, of which the first has that number
 abbrev pub news_from : ℕ → News → List Did → News

@@ -22,31 +22,43 @@ use Rattle.trace_text.specs.declared.line.Line.{Line}
 
 -- ---- what is done at a line
 
--- what the line of that number asks for was done, from one core to the other, and is kept after what was
+-- what the line of that number asks for was done, from one core to the other, and is kept after
+-- what was
 abbrev pub Makes : ℕ → List Asked → CoreState → Kept → CoreState → Kept → Type 0
-Makes number asked old before new after = (made : List Made) × (map asked_of made ≡ asked) × IsAnswered old made new × (after ≡ keeping number before made)
+Makes number asked old before new after = (made : List Made) × (map asked_of made ≡ asked)
+    × IsAnswered old made new × (after ≡ keeping number before made)
 
--- these were asked and done, from one core to the other, and what they tell of plans stands after the earlier news
+-- these were asked and done, from one core to the other, and what they tell of plans stands after
+-- the earlier news
 abbrev pub Carries : List Asked → CoreState → News → CoreState → News → Type 0
-Carries asked old before new after = (made : List Made) × (map asked_of made ≡ asked) × IsAnswered old made new × (after ≡ with_all_made before made)
+Carries asked old before new after = (made : List Made) × (map asked_of made ≡ asked)
+    × IsAnswered old made new × (after ≡ with_all_made before made)
 
--- what a line asks for was done and told: first what settles the section, then its calls, and then what follows them
-pub record MakesLine (number : ℕ) (settled asked : List Asked) (line : Line) (old : CoreState) (before : Kept) (news_before : News) (new : CoreState) (after : Kept) (news_after : News) : Type 0 where
+-- what a line asks for was done and told: first what settles the section, then its calls, and then
+-- what follows them
+pub record MakesLine (number : ℕ) (settled asked : List Asked) (line : Line) (old : CoreState)
+    (before : Kept) (news_before : News) (new : CoreState) (after : Kept) (news_after : News) :
+    Type 0 where
   pub settled_core : CoreState
   pub called_core : CoreState
   pub news : News
   pub called : Kept
   pub settles : Carries settled old news_before settled_core news
-  pub makes : Makes number asked settled_core (record before { text = news.text }) called_core called
-  pub plans : Carries (planning_at called_core line) called_core (record news { replies = called.asked; text = called.text }) new news_after
+  pub makes : Makes number asked settled_core (record before { text = news.text }) called_core
+      called
+  pub plans : Carries (planning_at called_core line) called_core
+      (record news { replies = called.asked; text = called.text }) new news_after
   pub rest : after ≡ record called { text = after.text }
 
 -- the oldest key of the ring from the worker to the shard was freed, or none waited there
 abbrev pub SettlesNext : (worker shard : ℕ) → CoreState → Bool → CoreState → Type 0
-SettlesNext worker shard old true new = (key : Key) × AreSteps old (Called (Settle worker shard) (Settled (Some key)) new ∷ []) new
-SettlesNext worker shard old false new = AreSteps old (Called (Settle worker shard) (Settled None) new ∷ []) new
+SettlesNext worker shard old true new = (key : Key)
+    × AreSteps old (Called (Settle worker shard) (Settled (Some key)) new ∷ []) new
+SettlesNext worker shard old false new = AreSteps old
+    (Called (Settle worker shard) (Settled None) new ∷ []) new
 
--- what was requested was called, as often as the replies decide, and that many keys were freed by it
+-- what was requested was called, as often as the replies decide, and that many keys were freed by
+-- it
 pub record Drains (requests : List Request) (old new : CoreState) (count : ℕ) : Type 0 where
   pub called : List CalledEvent
   pub asked : AreAsRequested requests called
@@ -55,7 +67,8 @@ pub record Drains (requests : List Request) (old new : CoreState) (count : ℕ) 
 
 -- what settles the section, where a barrier begins at the line and the threads leave
 abbrev pub settling_with : (shards : ℕ) → List ℕ → CoreState → Line → List Asked
-settling_with shards threads core line = if is_barrier line then finishing core.plan ++ (ends_asked threads ++ rings_asked shards) else []
+settling_with shards threads core line = if is_barrier line then finishing core.plan
+    ++ (ends_asked threads ++ rings_asked shards) else []
 
 -- ---- the shards that have ended, and the open plan
 
@@ -89,9 +102,11 @@ pub record EndsOne (old : CoreState) (ending : ℕ) (new : CoreState) : Type 0 w
   pub ended : (number : ℕ) → ended_at new number ≡ (ending == number || ended_at old number)
 
 -- of the shards below a number, those that pass the test ended
-pub record EndsBelow (old : CoreState) (bound : ℕ) (test : ℕ → Bool) (new : CoreState) : Type 0 where
+pub record EndsBelow (old : CoreState) (bound : ℕ) (test : ℕ
+    → Bool) (new : CoreState) : Type 0 where
   pub limits : new.limits ≡ old.limits
-  pub ended : (number : ℕ) → ended_at new number ≡ ((nat_lt number bound && test number) || ended_at old number)
+  pub ended : (number : ℕ) → ended_at new number ≡ ((nat_lt number bound && test number)
+      || ended_at old number)
 
 -- no shard came, none ended and the plan did not change, but those that pass the test run
 pub record Resumes (old : CoreState) (test : ℕ → Bool) (new : CoreState) : Type 0 where
@@ -99,18 +114,23 @@ pub record Resumes (old : CoreState) (test : ℕ → Bool) (new : CoreState) : T
   pub ended : (number : ℕ) → ended_at new number ≡ (not (test number) && ended_at old number)
   pub plan : new.plan ≡ old.plan
 
--- of the shards below a number, those that pass the first test ended, but those that pass the second run
-pub record TurnsBelow (old : CoreState) (bound : ℕ) (ends begins : ℕ → Bool) (new : CoreState) : Type 0 where
+-- of the shards below a number, those that pass the first test ended, but those that pass the
+-- second run
+pub record TurnsBelow (old : CoreState) (bound : ℕ) (ends begins : ℕ
+    → Bool) (new : CoreState) : Type 0 where
   pub limits : new.limits ≡ old.limits
-  pub ended : (number : ℕ) → ended_at new number ≡ (not (begins number) && ((nat_lt number bound && ends number) || ended_at old number))
+  pub ended : (number : ℕ) → ended_at new number ≡ (not (begins number)
+      && ((nat_lt number bound && ends number) || ended_at old number))
 
--- the event may be called for a line and leaves what has ended: its shard is open, or its worker and shard are there, and no plan is where it would be in the
--- way of an adoption; the barrier alone ends shards, steps and closes
+-- the event may be called for a line and leaves what has ended: its shard is open, or its worker
+-- and shard are there, and no plan is where it would be in the way of an adoption; the barrier
+-- alone ends shards, steps and closes
 abbrev pub MayCall : CoreState → Event → Type 0
 MayCall core (Put shard value) = IsOpen core shard
 MayCall core (Trim shard) = IsOpen core shard
 MayCall core (Adopt shard) = IsOpen core shard × (core.plan ≡ None)
-MayCall core (Later worker key) = (worker < core.limits.shards) × (key.span.shard < core.limits.shards)
+MayCall core (Later worker key) = (worker < core.limits.shards)
+    × (key.span.shard < core.limits.shards)
 MayCall core (Settle worker shard) = ⊥
 MayCall core (End shard) = ⊥
 MayCall core (Begin shard) = ⊥
@@ -160,7 +180,14 @@ MeetsPlan event reply = Unit {0}
 
 -- the news of a run
 abbrev pub news_at : Kept → Plans → News
-news_at kept plans = record { replies = kept.asked; marks = plans.marks; taken = plans.taken; text = kept.text; certificate = plans.certificate.items }
+news_at kept plans =
+    record {
+      replies = kept.asked;
+      marks = plans.marks;
+      taken = plans.taken;
+      text = kept.text;
+      certificate = plans.certificate.items;
+    }
 
 -- the run knows how many pairs of the open plan are left, and where none is open
 abbrev pub KnowsPlan : Plans → CoreState → Type 0
@@ -174,13 +201,17 @@ has set thread = bag.contains nat_eq set thread
 
 -- the shards of the threads that leave are open
 abbrev pub CanLeave : (shards : ℕ) → CoreState → (leaving : ℕ → Bool) → Type 0
-CanLeave shards core leaving = (thread : ℕ) → thread < shards → leaving thread ≡ true → IsOpen core thread
+CanLeave shards core leaving = (thread : ℕ) → thread < shards → leaving thread ≡ true
+    → IsOpen core thread
 
--- the line may be run: its numbers are within their ranges, its thread or shard is open, or has ended where it begins again, and does not leave, and the core has all shards
+-- the line may be run: its numbers are within their ranges, its thread or shard is open, or has
+-- ended where it begins again, and does not leave, and the core has all shards
 pub record IsReady (shards : ℕ) (core : CoreState) (leaving : ℕ → Bool) (line : Line) : Type 0 where
   pub within : (above : List Line) × (is_call (is_call_over above) line ≡ false)
-  pub running : (thread : ℕ) → thread_of line ≡ Some thread → is_call begins_again line ≡ false → IsOpen core thread
-  pub resting : (thread : ℕ) → thread_of line ≡ Some thread → is_call begins_again line ≡ true → IsAtRest core thread
+  pub running : (thread : ℕ) → thread_of line ≡ Some thread → is_call begins_again line ≡ false
+      → IsOpen core thread
+  pub resting : (thread : ℕ) → thread_of line ≡ Some thread → is_call begins_again line ≡ true
+      → IsAtRest core thread
   pub stays : (thread : ℕ) → thread_of line ≡ Some thread → leaving thread ≡ false
   pub leavers : CanLeave shards core leaving
   pub enough : shards ≤ core.limits.shards
@@ -188,7 +219,8 @@ pub record IsReady (shards : ℕ) (core : CoreState) (leaving : ℕ → Bool) (l
 -- ---- how far a run has come
 
 -- that many lines of the trace were run to their end
-pub record HasCome (replies : Bool) (shards : ℕ) (lines : List Line) (count : ℕ) (old core : CoreState) (kept : Kept) (leaving : ℕ → Bool) (plans : Plans) : Type 0 where
+pub record HasCome (replies : Bool) (shards : ℕ) (lines : List Line) (count : ℕ)
+    (old core : CoreState) (kept : Kept) (leaving : ℕ → Bool) (plans : Plans) : Type 0 where
   pub done : List Did
   pub count_is : length done ≡ count
   pub lines_do : DoLines shards lines old (take count lines) [] done
@@ -198,9 +230,12 @@ pub record HasCome (replies : Bool) (shards : ℕ) (lines : List Line) (count : 
   pub long : length kept.keys ≡ keys_in (take count lines)
   pub enough : shards ≤ core.limits.shards
   pub home : AreHome core.limits.shards kept.keys
-  -- the threads that leave are those that ended after the last barrier, and the shards of those that ended above it have ended, but where they began again
+  -- the threads that leave are those that ended after the last barrier, and the shards of those
+  -- that ended above it have ended, but where they began again
   pub leaving_are : (thread : ℕ) → leaving thread ≡ has_ended (open_lines (take count lines)) thread
-  pub ended_are : (thread : ℕ) → thread < shards → ended_at core thread ≡ (has_ended (take count lines) thread && not (has_ended (open_lines (take count lines)) thread))
+  pub ended_are : (thread : ℕ) → thread < shards → ended_at core thread
+      ≡ (has_ended (take count lines) thread && not
+      (has_ended (open_lines (take count lines)) thread))
   -- the news is that of the lines, and the open plan is known
   pub news_are : news_at kept plans ≡ news_of replies done
   pub knows : KnowsPlan plans core

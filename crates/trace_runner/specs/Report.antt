@@ -52,7 +52,8 @@ answers_text replies answers = if replies then flat_map answer_line answers else
 
 -- the counts, on the last line
 abbrev pub end_line : Ending → List ℕ
-end_line e = codes "end pages " ++ decimal e.pages ++ codes " live " ++ decimal e.live ++ codes " calls " ++ decimal e.calls ++ codes "\n"
+end_line e = codes "end pages " ++ decimal e.pages ++ codes " live " ++ decimal e.live
+    ++ codes " calls " ++ decimal e.calls ++ codes "\n"
 
 -- ---- plans
 
@@ -64,7 +65,8 @@ outcome_text Clash = codes "clash"
 
 -- `step ID onto ID RESULT`
 abbrev pub step_line : TakenStep → List ℕ
-step_line step = codes "step " ++ id_text step.abandoned ++ codes " onto " ++ id_text step.owned ++ codes " " ++ outcome_text step.outcome ++ codes "\n"
+step_line step = codes "step " ++ id_text step.abandoned ++ codes " onto " ++ id_text step.owned
+    ++ codes " " ++ outcome_text step.outcome ++ codes "\n"
 
 -- a line for each step, where replies are asked for
 abbrev pub steps_text : Bool → List TakenStep → List ℕ
@@ -72,7 +74,8 @@ steps_text replies steps = if replies then flat_map step_line steps else []
 
 -- `closed M pages H`, after the steps
 abbrev pub close_text : Bool → CloseNews → List ℕ
-close_text replies c = steps_text replies c.steps ++ (codes "closed " ++ decimal c.mark) ++ (codes " pages " ++ decimal c.pages) ++ codes "\n"
+close_text replies c = steps_text replies c.steps ++ (codes "closed " ++ decimal c.mark)
+    ++ (codes " pages " ++ decimal c.pages) ++ codes "\n"
 
 -- `fold ID onto ID`
 abbrev pub fold_line : SpanId × SpanId → List ℕ
@@ -94,12 +97,15 @@ ids_line title ids = title ++ ids_text ids ++ codes "\n"
 -- `mark M abandoned A owned O folds F pages H`
 abbrev pub mark_line : MarkNews → List ℕ
 mark_line m =
-    codes "mark " ++ decimal m.mark ++ (codes " abandoned " ++ decimal m.abandoned) ++ (codes " owned " ++ decimal m.owned)
-    ++ (codes " folds " ++ decimal (length m.plan)) ++ (codes " pages " ++ decimal m.pages) ++ codes "\n"
+    codes "mark " ++ decimal m.mark ++ (codes " abandoned " ++ decimal m.abandoned)
+    ++ (codes " owned " ++ decimal m.owned)
+    ++ (codes " folds " ++ decimal (length m.plan)) ++ (codes " pages " ++ decimal m.pages)
+    ++ codes "\n"
 
 -- the mark's line, a line for each fold, and the lines of the short set and its partners
 abbrev pub mark_text : MarkNews → List ℕ
-mark_text m = mark_line m ++ flat_map fold_line m.plan ++ ids_line (codes "short") m.short ++ ids_line (codes "partners") m.partners
+mark_text m = mark_line m ++ flat_map fold_line m.plan ++ ids_line (codes "short") m.short
+    ++ ids_line (codes "partners") m.partners
 
 abbrev pub news_text : Bool → PlanNews → List ℕ
 news_text replies (Marked m) = mark_text m

@@ -37,11 +37,13 @@ key_made made = key_given made.called
 
 -- what the put at a place of the line that binds a name gave out
 abbrev pub key_bound : List Did → ℕ → Binding → Option Key
-key_bound done place binding = option_and_then (λ did. option_and_then key_made (slice_get did.calls place)) (slice_get done binding.line)
+key_bound done place binding = option_and_then (λ did. option_and_then key_made
+    (slice_get did.calls place)) (slice_get done binding.line)
 
 -- the key of a name and a place
 abbrev pub key_at : List Line → List Did → List ℕ → ℕ → Option Key
-key_at lines done name place = option_and_then (λ binding. key_bound done place binding) (binding_of name lines)
+key_at lines done name place = option_and_then (λ binding. key_bound done place binding)
+    (binding_of name lines)
 
 -- the key that a reference names; a plain name is that of its only put
 abbrev pub key_of : List Line → List Did → Reference → Option Key
@@ -54,13 +56,19 @@ on_key event (Some key) = Calls (event key)
 
 -- what a thread's call asks for, in order, after what the lines above it have done
 abbrev pub asked_by_call : (shards : ℕ) → List Line → List Did → ℕ → Call → List Asked
-asked_by_call shards lines done thread (Put name class value) = Calls (event.Put thread (counted_from class value)) ∷ []
-asked_by_call shards lines done thread (Fill name class count value) = map (λ i. Calls (event.Put thread (counted_from class (value + i)))) (range_with_len 0 count)
+asked_by_call shards lines done thread (Put name class value) =
+    Calls (event.Put thread (counted_from class value)) ∷ []
+asked_by_call shards lines done thread (Fill name class count value) =
+    map (λ i. Calls (event.Put thread (counted_from class (value + i)))) (range_with_len 0 count)
 asked_by_call shards lines done thread (Get key) = on_key event.Get (key_of lines done key) ∷ []
-asked_by_call shards lines done thread (Set key class value) = on_key (λ k. event.Set k (counted_from class value)) (key_of lines done key) ∷ []
+asked_by_call shards lines done thread (Set key class value) =
+    on_key (λ k. event.Set k (counted_from class value)) (key_of lines done key) ∷ []
 asked_by_call shards lines done thread (Free key) = on_key event.Free (key_of lines done key) ∷ []
-asked_by_call shards lines done thread (Sweep name from to) = map (λ place. on_key event.Free (key_at lines done name place)) (range_with_len from (to - from))
-asked_by_call shards lines done thread (Later key) = on_key (event.Later thread) (key_of lines done key) ∷ []
+asked_by_call shards lines done thread (Sweep name from to) =
+    map (λ place. on_key event.Free (key_at lines done name place))
+    (range_with_len from (to - from))
+asked_by_call shards lines done thread (Later key) =
+    on_key (event.Later thread) (key_of lines done key) ∷ []
 asked_by_call shards lines done thread Tend = Tends shards thread ∷ []
 asked_by_call shards lines done thread Trim = Calls (event.Trim thread) ∷ []
 asked_by_call shards lines done thread (Retire most) = Calls (event.Retire thread most) ∷ []
@@ -95,9 +103,11 @@ ends_asked threads = map (λ thread. Calls (event.End thread)) threads
 abbrev pub rings_asked : (shards : ℕ) → List Asked
 rings_asked shards = map (λ shard. Tends shards shard) (range_with_len 0 shards)
 
--- what a barrier or the end of the text begins with: the end of the open plan, then those of the shards of the threads that ended in the section, ascending, and then the keys of all rings
+-- what a barrier or the end of the text begins with: the end of the open plan, then those of the
+-- shards of the threads that ended in the section, ascending, and then the keys of all rings
 abbrev pub settling : (shards : ℕ) → List Line → CoreState → List Asked
-settling shards above core = finishing core.plan ++ (ends_asked (leavers shards above) ++ rings_asked shards)
+settling shards above core = finishing core.plan ++ (ends_asked (leavers shards above)
+    ++ rings_asked shards)
 
 -- the same where a barrier begins at a line; after its first line nothing is left of it
 abbrev pub settling_at : (shards : ℕ) → List Line → CoreState → Line → List Asked
@@ -120,9 +130,10 @@ abbrev pub MayMeetPlan : Event → Type 0
 MayMeetPlan (event.Retire shard most) = Unit {0}
 MayMeetPlan event = ⊥
 
--- no refused allocation, no shard that is not there, has ended where it is to run or runs where it is to begin, and no plan that is missed or in the way of
--- more than a retirement: of the refusals, only those of a page, of an adoption that finds nothing, of a mark that sees too much, of a ring that is full and of
--- a retirement while a plan is open come
+-- no refused allocation, no shard that is not there, has ended where it is to run or runs where it
+-- is to begin, and no plan that is missed or in the way of more than a retirement: of the refusals,
+-- only those of a page, of an adoption that finds nothing, of a mark that sees too much, of a ring
+-- that is full and of a retirement while a plan is open come
 abbrev pub IsTold : Event → Reply → Type 0
 IsTold event (Refused PagesSpent) = Unit {0}
 IsTold event (Refused TooMany) = Unit {0}
@@ -141,14 +152,17 @@ IsCallTold (Called event reply core) = IsTold event reply
 -- each event was a step of the core, which left it as it says
 abbrev pub Happens : CoreState → List CalledEvent → Type 0
 Happens core [] = Unit {0}
-Happens core (Called event reply after ∷ called) = CoreStep core event reply after × Happens after called
+Happens core (Called event reply after ∷ called) = CoreStep core event reply after
+    × Happens after called
 
--- the core answers the events so, which without ends, begins, retirements, trims, adoptions and what is done with plans is a run of the plain map that it shows
+-- the core answers the events so, which without ends, begins, retirements, trims, adoptions and
+-- what is done with plans is a run of the plain map that it shows
 pub record AreSteps (old : CoreState) (called : List CalledEvent) (new : CoreState) : Type 0 where
   pub each : Happens old called
   pub last : new ≡ core_called old called
   pub core : CoreRun old (events_of called) (replies_of called) new
-  pub plain : PlainRun old.limits (shown old) (erased (events_of called) (replies_of called)) (shown new)
+  pub plain : PlainRun old.limits (shown old) (erased (events_of called) (replies_of called))
+      (shown new)
   pub told : AllByRecursion IsCallTold called
 
 -- for all that was asked the core was called as often as its replies decide, and answered so
@@ -157,15 +171,19 @@ pub record IsAnswered (old : CoreState) (made : List Made) (new : CoreState) : T
   pub asked : AllByRecursion IsAsAsked made
 
 -- after what was done from the core on, the line did this
-pub record Does (shards : ℕ) (lines : List Line) (start : CoreState) (done : List Did) (line : Line) (did : Did) : Type 0 where
-  pub settled : map asked_of did.settled ≡ settling_at shards (take (length done) lines) (core_after start (all_made done)) line
+pub record Does (shards : ℕ) (lines : List Line) (start : CoreState) (done : List Did) (line : Line)
+    (did : Did) : Type 0 where
+  pub settled : map asked_of did.settled ≡ settling_at shards (take (length done) lines)
+      (core_after start (all_made done)) line
   pub calls : map asked_of did.calls ≡ asked_by shards lines done line
-  pub plans : map asked_of did.plans ≡ planning_at (core_after start (all_made done ++ (did.settled ++ did.calls))) line
+  pub plans : map asked_of did.plans ≡ planning_at
+      (core_after start (all_made done ++ (did.settled ++ did.calls))) line
 
 -- after what was done, the lines do this one after another
 abbrev pub DoLines : (shards : ℕ) → List Line → CoreState → List Line → List Did → List Did → Type 0
 DoLines shards all start [] done after = after ≡ done
-DoLines shards all start (line ∷ lines) done after = (did : Did) × Does shards all start done line did × DoLines shards all start lines (done ++ did ∷ []) after
+DoLines shards all start (line ∷ lines) done after = (did : Did)
+    × Does shards all start done line did × DoLines shards all start lines (done ++ did ∷ []) after
 
 -- ---- how many replies there are
 
@@ -179,8 +197,10 @@ abbrev pub calls_in : List Line → List Did → ℕ
 calls_in (line ∷ lines) (did ∷ done) = calls_at line did + calls_in lines done
 calls_in _ _ = 0
 
--- the lines of a trace were run, from one core to the other, with that many replies to threads' lines, and this was told of it
-pub record IsRun (shards : ℕ) (replies : Bool) (lines : List Line) (old new : CoreState) (calls : ℕ) (news : News) : Type 0 where
+-- the lines of a trace were run, from one core to the other, with that many replies to threads'
+-- lines, and this was told of it
+pub record IsRun (shards : ℕ) (replies : Bool) (lines : List Line) (old new : CoreState) (calls : ℕ)
+    (news : News) : Type 0 where
   pub done : List Did
   -- what is done at the end of the text
   pub last : List Made

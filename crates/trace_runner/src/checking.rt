@@ -9,13 +9,15 @@ use crate::writing::push_number;
 use certificate::{Certificate, check, partner_count, read};
 use std::alloc::{AllocError, Global};
 
-/// Reads a certificate, checks it, gives the line that says so to `out`, and answers whether it is accepted: whether its
-/// plan is one of its snapshot and its short set shows that no plan has more pairs. The line is
-/// `accepted folds F short K partners Q`, with the numbers of its pairs, of its short set and of the partners of that, or `rejected`.
+/// Reads a certificate, checks it, gives the line that says so to `out`, and answers whether it is
+/// accepted: whether its plan is one of its snapshot and its short set shows that no plan has more
+/// pairs. The line is `accepted folds F short K partners Q`, with the numbers of its pairs, of its
+/// short set and of the partners of that, or `rejected`.
 ///
-/// `BadCertificate` comes exactly for a text that is no certificate, with its first line at fault and the first cause that
-/// holds of it. `SinkFailed` comes where `out` failed; it has then taken a prefix of the line. `OutOfMemory` comes where an
-/// allocation was refused. After the first and the last `out` has taken nothing.
+/// `BadCertificate` comes exactly for a text that is no certificate, with its first line at fault
+/// and the first cause that holds of it. `SinkFailed` comes where `out` failed; it has then taken a
+/// prefix of the line. `OutOfMemory` comes where an allocation was refused. After the first and the
+/// last `out` has taken nothing.
 pub fn check_text<S: Sink>(alloc: Global, text: &[u8], out: &mut S) -> Result<bool, CheckError>
     requires { S.failures out.old < 2 ^ 64 - 1 }
     ensures ok { IfOk result (WritesVerdict text.now (S.taken out.old) (S.taken out.new)) }

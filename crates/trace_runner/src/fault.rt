@@ -67,8 +67,8 @@ pub enum CheckError {
     /// Memory ran out. Nothing was written.
     #[error("memory ran out before the verdict was written")]
     OutOfMemory,
-    /// The text is no certificate. `line` is the first line at fault, where the first line is 1, and
-    /// nothing was written.
+    /// The text is no certificate. `line` is the first line at fault, where the first line is 1,
+    /// and nothing was written.
     #[error("line {line} of the certificate is at fault: {cause}")]
     BadCertificate {
         line: usize,

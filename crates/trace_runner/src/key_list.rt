@@ -14,7 +14,8 @@ use std::marker::Model;
 /// That many puts are refused at most, so that a number counts all puts.
 const MOST_REFUSED: usize = 1 << 63;
 
-/// Puts one after another, of which the first ones gave a key out each, and the others were refused.
+/// Puts one after another, of which the first ones gave a key out each, and the others were
+/// refused.
 #[derive(Clone, Copy)]
 struct Stretch {
     /// The place of its first put among all puts.
@@ -27,8 +28,9 @@ struct Stretch {
     refused: usize,
 }
 
-/// What each put gave, in order: its key, or nothing where it was refused. A key takes 16 bytes, and puts that were refused one after
-/// another take 32, however many they are. Contracts see the list of what each put gave.
+/// What each put gave, in order: its key, or nothing where it was refused. A key takes 16 bytes,
+/// and puts that were refused one after another take 32, however many they are. Contracts see the
+/// list of what each put gave.
 #[derive(Drop)]
 pub(crate) struct KeyList {
     /// The keys, in order.
@@ -85,8 +87,8 @@ fn count_to(closed: &[Stretch], place: usize) -> usize
     )
 }
 
-// Where among all keys that one stands which the put at that place gave out, and none where it was refused. It stays out of the
-// calls of a line: most traces have no put that was refused.
+// Where among all keys that one stands which the put at that place gave out, and none where it was
+// refused. It stays out of the calls of a line: most traces have no put that was refused.
 #[inline(never)]
 fn index_above(closed: &[Stretch], place: usize) -> Option<usize>
     requires { (end : ℕ) × (last : ℕ) × AreInRow 0 0 closed.now end last × (place < end)
@@ -107,8 +109,8 @@ fn index_above(closed: &[Stretch], place: usize) -> Option<usize>
     Some(stretch.above + below)
 }
 
-// The same for the put so far below the one at the place `first`, where the last stretch begins at the place `last`, below so
-// many keys.
+// The same for the put so far below the one at the place `first`, where the last stretch begins at
+// the place `last`, below so many keys.
 #[inline(always)]
 fn index_of(
     closed: &[Stretch],
@@ -158,7 +160,8 @@ impl KeyList {
         }
     }
 
-    /// How many puts there are. `AllocError` comes exactly where they are more than a number counts.
+    /// How many puts there are. `AllocError` comes exactly where they are more than a number
+    /// counts.
     pub(crate) fn len(&self) -> Result<usize, AllocError>
         ensures count { IfOk result (λ len. len ≡ length self.now.items) }
         ensures err { OnErr result (2 ^ 64 ≤ length self.now.items) }
@@ -167,8 +170,8 @@ impl KeyList {
         sum(self.place, given, self.refused)
     }
 
-    /// The key that the put gave out which stands so far below the put at the place `first`, where there is such a put and it was
-    /// not refused.
+    /// The key that the put gave out which stands so far below the put at the place `first`, where
+    /// there is such a put and it was not refused.
     #[inline(always)]
     pub(crate) fn key(&self, first: usize, below: u32) -> Option<Key>
         ensures { result ≡ get_or self.now.items (first + below) None }
@@ -177,8 +180,8 @@ impl KeyList {
         key_at(self.keys.as_slice(), index)
     }
 
-    /// Adds what a put gave: its key, or nothing where it was refused. `AllocError` comes where memory runs out, or where more
-    /// than 2^63 puts would have been refused.
+    /// Adds what a put gave: its key, or nothing where it was refused. `AllocError` comes where
+    /// memory runs out, or where more than 2^63 puts would have been refused.
     pub(crate) fn push(&mut self, key: Option<Key>) -> Result<(), AllocError>
         ensures { OnOk result (self.new.items ≡ self.old.items ++ key ∷ []) }
     {

@@ -177,8 +177,8 @@ impl Plans {
         }
     }
 
-    /// Marks: makes a plan, and opens it, unless a side has too many groups; and tells so. The runner fills the rows of the
-    /// partners by `pieces` if it goes by pieces.
+    /// Marks: makes a plan, and opens it, unless a side has too many groups; and tells so. The
+    /// runner fills the rows of the partners by `pieces` if it goes by pieces.
     pub(crate) fn mark<R: Runner>(
         &mut self,
         runner: &R,

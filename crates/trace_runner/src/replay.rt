@@ -21,17 +21,19 @@ use span::Counted;
 use std::alloc::{AllocError, Global};
 use trace_text::{Header, Trace, parse};
 
-/// How many spans a shard of a trace opens at most, in each version of the grammar that there is: what a report tells of a shard
-/// that may open no more rests on it.
+/// How many spans a shard of a trace opens at most, in each version of the grammar that there is:
+/// what a report tells of a shard that may open no more rests on it.
 pub const TRACE_SPANS: u32 = 1024;
 
-/// Replays a trace: reads the text whole, runs its calls one after another on a core of its own, and gives the report to
-/// `out`, with a line for each call where `replies` asks for them. `cert` is then the text of the certificate of the last
-/// mark that planned, or empty where none did. The runner fills the rows of the marks' graphs; what is written does not depend on it.
+/// Replays a trace: reads the text whole, runs its calls one after another on a core of its own,
+/// and gives the report to `out`, with a line for each call where `replies` asks for them. `cert`
+/// is then the text of the certificate of the last mark that planned, or empty where none did. The
+/// runner fills the rows of the marks' graphs; what is written does not depend on it.
 ///
-/// `BadTrace` comes exactly for a text that is no trace, with its first line at fault and the first cause that holds of it.
-/// `SinkFailed` comes where `out` failed; it has then taken a prefix of the report. `OutOfMemory` comes where an
-/// allocation was refused. After the first and the last `out` has taken nothing. After each of them `cert` is as it was.
+/// `BadTrace` comes exactly for a text that is no trace, with its first line at fault and the first
+/// cause that holds of it. `SinkFailed` comes where `out` failed; it has then taken a prefix of the
+/// report. `OutOfMemory` comes where an allocation was refused. After the first and the last `out`
+/// has taken nothing. After each of them `cert` is as it was.
 pub fn replay_serial<R: Runner, S: Sink>(
     runner: &R,
     alloc: Global,
@@ -102,8 +104,8 @@ fn replay<R: Runner>(
     })
 }
 
-/// The core that the header asks for, whose shards open [`TRACE_SPANS`] spans at most. Its logs are only counted, since no report
-/// shows one.
+/// The core that the header asks for, whose shards open [`TRACE_SPANS`] spans at most. Its logs are
+/// only counted, since no report shows one.
 fn core_of(alloc: Global, header: &Header) -> Result<Core<Counted>, AllocError>
     requires { IsWithinLimits header.now }
     ensures core { IfOk result (λ core. core ≡ start_of header.now) }

@@ -14,8 +14,8 @@ use crate::writing::{push_answer_line, push_news};
 use span::{Key, Object};
 use std::alloc::{AllocError, Global};
 
-/// What a run keeps of the replies to its lines: the keys, which later lines may name, and the report so far. Of an answer
-/// that the report does not tell nothing is kept but that it was given.
+/// What a run keeps of the replies to its lines: the keys, which later lines may name, and the
+/// report so far. Of an answer that the report does not tell nothing is kept but that it was given.
 #[derive(Drop)]
 pub(crate) struct Replies {
     /// Of each put, in order, the key that it gave out.
@@ -24,7 +24,8 @@ pub(crate) struct Replies {
     others: usize,
     /// Whether the report tells the answers.
     asked: bool,
-    /// The report so far: a line for each answer, where it tells them, and between them the news of plans.
+    /// The report so far: a line for each answer, where it tells them, and between them the news of
+    /// plans.
     text: Vec<u8>,
 }
 
@@ -41,7 +42,8 @@ impl Replies {
         }
     }
 
-    /// How many answers there are. `AllocError` comes exactly where they are more than a number counts.
+    /// How many answers there are. `AllocError` comes exactly where they are more than a number
+    /// counts.
     pub(crate) fn count(&self) -> Result<usize, AllocError>
         ensures count { IfOk result (λ count. count ≡ (kept_in self.now).count) }
         ensures err { OnErr result (2 ^ 64 ≤ (kept_in self.now).count) }
@@ -56,8 +58,8 @@ impl Replies {
         self.text
     }
 
-    /// The key that stands `place` places after the place `first` among the keys of all puts; none where the put was refused,
-    /// or no such key stands.
+    /// The key that stands `place` places after the place `first` among the keys of all puts; none
+    /// where the put was refused, or no such key stands.
     pub(crate) fn key(&self, first: usize, place: u32) -> Option<Key>
         ensures found { (found : Option Key) → slice_get self.now.keys.items (first + place)
             ≡ Some found → result ≡ found }
@@ -83,7 +85,8 @@ impl Replies {
         Ok(())
     }
 
-    /// The same for what a look-up found: the words of an object, or nothing. They are copied only where the report tells them.
+    /// The same for what a look-up found: the words of an object, or nothing. They are copied only
+    /// where the report tells them.
     pub(crate) fn tell_look_up(
         &mut self,
         line: usize,
@@ -142,7 +145,8 @@ impl Replies {
         self.tell(line, &answer_to_free(freed))
     }
 
-    // Counts an answer that the report doesn't tell. An answer has the room of an object, so none is made.
+    // Counts an answer that the report doesn't tell. An answer has the room of an object, so none
+    // is made.
     fn count_one(&mut self) -> Result<(), AllocError>
         ensures count { OnOk result ((kept_in self.new).count ≡ (kept_in self.old).count + 1) }
         ensures text { self.new.text ≡ self.old.text }
@@ -153,8 +157,8 @@ impl Replies {
         Ok(())
     }
 
-    /// The same for a put: the key that it gave out, or none where its shard may have no further page. It is counted by
-    /// its key.
+    /// The same for a put: the key that it gave out, or none where its shard may have no further
+    /// page. It is counted by its key.
     pub(crate) fn tell_put(&mut self, line: usize, key: Option<Key>) -> Result<(), AllocError>
         ensures count { OnOk result ((kept_in self.new).count ≡ (kept_in self.old).count + 1) }
         ensures text { OnOk result (self.new.text.items ≡ self.old.text.items

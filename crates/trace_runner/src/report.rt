@@ -8,13 +8,14 @@ use span::{Key, Object, SpanId};
 use std::alloc::{AllocError, Global};
 use std::marker::Model;
 
-/// What a call of the trace answered, or an adoption. It takes as much room as an object does, 272 bytes, and a few words.
+/// What a call of the trace answered, or an adoption. It takes as much room as an object does, 272
+/// bytes, and a few words.
 #[derive(Clone, Copy)]
 pub enum Answer {
     /// A put stored its object under this key.
     Key(Key),
-    /// A put found no usable slot, and the shard may have no further page; or an adoption found the shard to have as many groups
-    /// as it may have pages.
+    /// A put found no usable slot, and the shard may have no further page; or an adoption found the
+    /// shard to have as many groups as it may have pages.
     PagesSpent,
     /// A look-up found this object.
     Value(Object),
@@ -97,7 +98,8 @@ impl Steps {
         }
     }
 
-    /// Adds a step after the others. `AllocError` comes where memory runs out, and then nothing is added.
+    /// Adds a step after the others. `AllocError` comes where memory runs out, and then nothing is
+    /// added.
     pub fn push(&mut self, step: TakenStep) -> Result<(), AllocError>
         ensures pushed { OnOk result (self.new ≡ self.old ++ step ∷ []) }
         ensures same { OnErr result (self.new ≡ self.old) }

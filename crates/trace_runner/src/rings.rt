@@ -18,7 +18,8 @@ fn sum(count: usize, more: usize) -> Result<usize, AllocError>
     count.checked_add(more).ok_or(AllocError)
 }
 
-/// Frees the key that has waited longest on the ring from the worker to the shard, and says whether one waited.
+/// Frees the key that has waited longest on the ring from the worker to the shard, and says whether
+/// one waited.
 fn settle_next(core: &mut Core<Counted>, worker: u32, shard: u32) -> bool
     requires worker { worker < core.old.limits.shards }
     requires shard { shard < core.old.limits.shards }
@@ -47,7 +48,8 @@ fn drain(core: &mut Core<Counted>, worker: u32, shard: u32) -> Result<usize, All
     Ok(count)
 }
 
-/// Frees the keys that wait on the rings from that many workers to the shard, by worker, and says how many there were.
+/// Frees the keys that wait on the rings from that many workers to the shard, by worker, and says
+/// how many there were.
 pub(crate) fn settle_shard(
     core: &mut Core<Counted>,
     workers: u32,

@@ -81,8 +81,8 @@ impl<'t> Run<'t> {
         Ok(())
     }
 
-    /// Lets the shard adopt, on the line of that number. An event has the room of an object, which is cleared, and here no other line
-    /// pays for it.
+    /// Lets the shard adopt, on the line of that number. An event has the room of an object, which
+    /// is cleared, and here no other line pays for it.
     #[inline(never)]
     fn adopt(&mut self, number: usize, shard: u32) -> Result<(), AllocError>
         requires { MayCall self.old.core (event.Adopt shard) }
@@ -122,7 +122,8 @@ impl<'t> Run<'t> {
         }
     }
 
-    // Puts the object of these words, by the core's own call: an event, an object and a reply would go through memory.
+    // Puts the object of these words, by the core's own call: an event, an object and a reply would
+    // go through memory.
     fn put_words(
         &mut self,
         number: usize,
@@ -159,7 +160,8 @@ impl<'t> Run<'t> {
         Ok(())
     }
 
-    /// Puts `count` objects of the class in order, which count up from `value`, from `value + 1` and so on.
+    /// Puts `count` objects of the class in order, which count up from `value`, from `value + 1`
+    /// and so on.
     fn fill(
         &mut self,
         number: usize,
@@ -196,8 +198,8 @@ impl<'t> Run<'t> {
         self.replies.key(first, reference.index.unwrap_or(0))
     }
 
-    /// Sets the key, where it was given out, to the object of the class that counts up from that base. It stays out of the calls of a
-    /// thread, which would have the room of its words each.
+    /// Sets the key, where it was given out, to the object of the class that counts up from that
+    /// base. It stays out of the calls of a thread, which would have the room of its words each.
     #[inline(never)]
     fn set(
         &mut self,
@@ -225,7 +227,8 @@ impl<'t> Run<'t> {
         }
     }
 
-    // Sets a key that was given out to the object of these words, by the core's own call, as a put does.
+    // Sets a key that was given out to the object of these words, by the core's own call, as a put
+    // does.
     fn set_key(&mut self, number: usize, key: Key, words: &[u128]) -> Result<(), AllocError>
         ensures made { OnOk result (Makes number (Calls (event.Set key words.now) ∷ [])
             self.old.core (kept_in self.old.replies) self.new.core (kept_in self.new.replies)) }
@@ -240,7 +243,8 @@ impl<'t> Run<'t> {
         Ok(())
     }
 
-    /// Frees the key, where it was given out. It is inlined, so that no key of a sweep goes through memory.
+    /// Frees the key, where it was given out. It is inlined, so that no key of a sweep goes through
+    /// memory.
     #[inline(always)]
     fn free(&mut self, number: usize, key: Option<Key>) -> Result<(), AllocError>
         ensures made { OnOk result (Makes number (on_key event.Free key ∷ []) self.old.core
@@ -301,7 +305,8 @@ impl<'t> Run<'t> {
         Ok(())
     }
 
-    /// Frees the keys of a name from one place up to, and without, another, where its first key has that place.
+    /// Frees the keys of a name from one place up to, and without, another, where its first key has
+    /// that place.
     fn sweep(&mut self, number: usize, first: usize, from: u32, to: u32) -> Result<(), AllocError>
         ensures made { (done : List Did) (name : List ℕ)
             → ((place : ℕ) → from ≤ place → place < to
@@ -365,7 +370,8 @@ impl<'t> Run<'t> {
         Ok(())
     }
 
-    /// Gives back the pages of the thread's shard on which nothing is live. It stays out of line, as an adoption does.
+    /// Gives back the pages of the thread's shard on which nothing is live. It stays out of line,
+    /// as an adoption does.
     #[inline(never)]
     fn trim(&mut self, number: usize, thread: u32) -> Result<(), AllocError>
         requires { IsOpen self.old.core thread }
@@ -379,7 +385,8 @@ impl<'t> Run<'t> {
         self.call(number, Event::Trim { shard: thread })
     }
 
-    /// Lets up to that many groups of the thread's shard go to the pool. It stays out of line, as an adoption does.
+    /// Lets up to that many groups of the thread's shard go to the pool. It stays out of line, as
+    /// an adoption does.
     #[inline(never)]
     fn retire(&mut self, number: usize, thread: u32, most: u32) -> Result<(), AllocError>
         requires { IsOpen self.old.core thread }
@@ -436,8 +443,8 @@ impl<'t> Run<'t> {
         Ok(())
     }
 
-    /// Makes the calls of a thread on the line of that number, which does not begin again. The first key of the name that it reads
-    /// has that place.
+    /// Makes the calls of a thread on the line of that number, which does not begin again. The
+    /// first key of the name that it reads has that place.
     fn thread_call(
         &mut self,
         number: usize,
@@ -500,7 +507,8 @@ impl<'t> Run<'t> {
         }
     }
 
-    /// Does what a thread's line of that number asks for. The first key of the name that it reads has that place.
+    /// Does what a thread's line of that number asks for. The first key of the name that it reads
+    /// has that place.
     fn thread_line(
         &mut self,
         number: usize,
@@ -594,8 +602,8 @@ impl<'t> Run<'t> {
         Ok(())
     }
 
-    /// Settles the section: ends the open plan, abandons the shards of the threads that have ended, and frees the keys that
-    /// wait on all rings.
+    /// Settles the section: ends the open plan, abandons the shards of the threads that have ended,
+    /// and frees the keys that wait on all rings.
     fn settle(&mut self) -> Result<(), AllocError>
         // A section is over.
         requires leave { CanLeave self.old.trace.now.header.shards self.old.core
@@ -627,9 +635,9 @@ impl<'t> Run<'t> {
         settle_rings(&mut self.core, self.trace.header.shards)
     }
 
-    /// Does what the line at that place below the header asks for, and after a thread's line takes a step while a pair
-    /// of the open plan is left. A barrier begins with its first adoption, since no thread's line stands between that
-    /// and the mark.
+    /// Does what the line at that place below the header asks for, and after a thread's line takes
+    /// a step while a pair of the open plan is left. A barrier begins with its first adoption,
+    /// since no thread's line stands between that and the mark.
     fn line<R: Runner>(&mut self, runner: &R, place: usize, line: &Line) -> Result<(), AllocError>
         requires runner { R.ready runner.now }
 
@@ -728,10 +736,12 @@ pub struct Ran {
     pub certificate: Vec<u8>,
 }
 
-/// Runs the lines of a trace on the core, one after another. At the end of the text it ends the open plan, abandons the
-/// shards of the threads that ended after the last mark, and frees the keys that wait on rings.
+/// Runs the lines of a trace on the core, one after another. At the end of the text it ends the
+/// open plan, abandons the shards of the threads that ended after the last mark, and frees the keys
+/// that wait on rings.
 ///
-/// The error means that memory ran out, in a call or for what is kept of its reply; the core is then dropped.
+/// The error means that memory ran out, in a call or for what is kept of its reply; the core is
+/// then dropped.
 pub fn run_lines<R: Runner>(
     runner: &R,
     alloc: Global,
@@ -812,8 +822,9 @@ fn answer_to(reply: Reply) -> Result<Answer, AllocError>
     }
 }
 
-/// What the report tells of a refusal: only that of a page, that of an adoption which finds nothing, that of a full ring and that of
-/// a retirement while a plan is open. Running out of memory ends the run.
+/// What the report tells of a refusal: only that of a page, that of an adoption which finds
+/// nothing, that of a full ring and that of a retirement while a plan is open. Running out of
+/// memory ends the run.
 fn answer_to_refusal(refusal: Refusal) -> Result<Answer, AllocError>
     requires { IsServed (reply.Refused refusal) }
     ensures told { (event : Event) → MeetsPlan event (reply.Refused refusal)
@@ -826,13 +837,15 @@ fn answer_to_refusal(refusal: Refusal) -> Result<Answer, AllocError>
         Refusal::RingFull => Ok(Answer::RingFull),
         Refusal::PlanOpen => Ok(Answer::PlanOpen),
         Refusal::OutOfMemory => Err(AllocError),
-        // A trace asks for its own shards alone, for none that has ended but to begin it, and for a mark by another way.
+        // A trace asks for its own shards alone, for none that has ended but to begin it, and for a
+        // mark by another way.
         Refusal::Ended | Refusal::Running => unreachable!(),
         Refusal::TooMany | Refusal::Config => unreachable!(),
     }
 }
 
-/// The key that a put gave out; none where its shard may have no further page. Running out of memory ends the run.
+/// The key that a put gave out; none where its shard may have no further page. Running out of
+/// memory ends the run.
 fn key_of_put(put: Result<Key, Refusal>) -> Result<Option<Key>, AllocError>
     requires { IsPutServed put }
     ensures told { (event : Event) → OnOk result (IsTold event (reply_to_put put)) }

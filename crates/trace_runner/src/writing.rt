@@ -1,4 +1,5 @@
-//! Writes the lines of a report. Each number is printed into a buffer on the stack, so that the text alone grows.
+//! Writes the lines of a report. Each number is printed into a buffer on the stack, so that the
+//! text alone grows.
 
 ghost use Rattle.std.specs.Prelude.{◌≡◌, ◌++◌, OnOk};
 ghost use Rattle.span.specs.Texts.{id_text, key_text};

@@ -32,5 +32,6 @@ lines_kept kept count = record {
 
 -- the lines are kept by place, each for another one, of that many
 pub record AreInOrder (kept : List KeptLine) (count : ℕ) : Type 0 where
-  pub ascend : (low high : ℕ) (a b : KeptLine) → low < high → slice_get kept low ≡ Some a → slice_get kept high ≡ Some b → a.place < b.place
+  pub ascend : (low high : ℕ) (a b : KeptLine) → low < high → slice_get kept low ≡ Some a
+      → slice_get kept high ≡ Some b → a.place < b.place
   pub below : (n : ℕ) (a : KeptLine) → slice_get kept n ≡ Some a → a.place < count

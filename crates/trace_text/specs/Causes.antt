@@ -93,37 +93,61 @@ abbrev pub keys_in : List Line → ℕ
 keys_in [] = 0
 keys_in (line ∷ lines) = keys_at line + keys_in lines
 
--- what a thread's call on the line at that place, in that section and after that many keys binds the name to
+-- what a thread's call on the line at that place, in that section and after that many keys binds
+-- the name to
 abbrev pub call_binding : (place section first : ℕ) → List ℕ → ℕ → Call → Option Binding
-call_binding place section first name thread (Put bound class value) = if bytes_eq bound name then Some
-    (record { keys = One; class = class; thread = thread; section = section; line = place; first = first }) else None
-call_binding place section first name thread (Fill bound class count value) = if bytes_eq bound name then Some
-    (record { keys = Many count; class = class; thread = thread; section = section; line = place; first = first }) else None
+call_binding place section first name thread (Put bound class value) =
+    if bytes_eq bound name then Some
+    (record {
+      keys = One;
+      class = class;
+      thread = thread;
+      section = section;
+      line = place;
+      first = first;
+    }) else None
+call_binding place section first name thread (Fill bound class count value) =
+    if bytes_eq bound name then Some
+    (record {
+      keys = Many count;
+      class = class;
+      thread = thread;
+      section = section;
+      line = place;
+      first = first;
+    }) else None
 call_binding place section first name thread _ = None
 
 -- what the line at that place, in that section and after that many keys binds the name to
 abbrev pub binding_at : (place section first : ℕ) → List ℕ → Line → Option Binding
-binding_at place section first name (line.Call thread call) = call_binding place section first name thread call
+binding_at place section first name (line.Call thread call) =
+    call_binding place section first name thread call
 binding_at place section first name _ = None
 
--- what the first line that binds the name binds it to, in lines of which the first stands at that place, in that section and after that many keys
+-- what the first line that binds the name binds it to, in lines of which the first stands at that
+-- place, in that section and after that many keys
 abbrev pub binding_from : (place section first : ℕ) → List ℕ → List Line → Option Binding
 binding_from place section first name [] = None
-binding_from place section first name (line ∷ lines) = option_or (binding_at place section first name line) (binding_from (place + 1) (section + marks_at line) (first + keys_at line) name lines)
+binding_from place section first name (line ∷ lines) =
+    option_or (binding_at place section first name line)
+    (binding_from (place + 1) (section + marks_at line) (first + keys_at line) name lines)
 
 -- what the lines below the header bind the name to
 abbrev pub binding_of : List ℕ → List Line → Option Binding
 binding_of name lines = binding_from 0 0 0 name lines
 
--- the keys are bound by a line of the reference's kind: by a put where it is a plain name, and by a fill where it has an index
+-- the keys are bound by a line of the reference's kind: by a put where it is a plain name, and by a
+-- fill where it has an index
 abbrev pub is_of_kind : Option ℕ → Keys → Bool
 is_of_kind None One = true
 is_of_kind (Some index) (Many count) = true
 is_of_kind _ _ = false
 
--- the class that a line of its kind binds the reference with, or that of one word where none of the lines does
+-- the class that a line of its kind binds the reference with, or that of one word where none of the
+-- lines does
 abbrev pub class_named : List Line → Reference → Class
-class_named lines key = option_map_or (λ (b : Binding). if is_of_kind key.index b.keys then b.class else C16) (binding_of key.name lines) C16
+class_named lines key = option_map_or (λ (b : Binding). if is_of_kind key.index b.keys then
+    b.class else C16) (binding_of key.name lines) C16
 
 -- the call, where a set has the class that the lines bind its key with
 abbrev pub classed_call : List Line → Call → Call
@@ -181,7 +205,8 @@ abbrev pub is_adopt : Line → Bool
 is_adopt (line.Adopt shard) = true
 is_adopt _ = false
 
--- the last of those lines that is neither empty nor a remark is an adoption, which waits for its mark
+-- the last of those lines that is neither empty nor a remark is an adoption, which waits for its
+-- mark
 abbrev pub awaits_mark : List Line → Bool
 awaits_mark lines = option_map_or is_adopt (find speaks (reverse lines)) false
 
@@ -192,29 +217,36 @@ may_follow_adopt _ = true
 
 -- ---- what is wrong with a line
 
--- after those lines a count, how many groups may go, or the last word of the last object that the call puts or sets, is outside its range
+-- after those lines a count, how many groups may go, or the last word of the last object that the
+-- call puts or sets, is outside its range
 abbrev pub is_call_over : List Line → Call → Bool
 is_call_over before (Put name class value) = nat_le (2 ^ 128) (last_word class value)
-is_call_over before (Fill name class count value) = not (nat_le 1 count && nat_le count MOST_KEYS) || nat_le (2 ^ 128) (last_word class (value + count - 1))
+is_call_over before (Fill name class count value) = not (nat_le 1 count && nat_le count MOST_KEYS)
+    || nat_le (2 ^ 128) (last_word class (value + count - 1))
 is_call_over before (Set key class value) = nat_le (2 ^ 128) (last_word class value)
 is_call_over before (Retire most) = not (nat_le 1 most && nat_le most MOST_RETIRED)
 is_call_over before _ = false
 
 -- the call binds a name that those lines bind
 abbrev pub binds_again : List Line → Call → Bool
-binds_again before call = option_map_or (λ name. is_some (binding_of name before)) (bound_name call) false
+binds_again before call = option_map_or (λ name. is_some (binding_of name before)) (bound_name call)
+    false
 
 -- the call reads, sets, frees or sends off keys of a name that those lines do not bind to such keys
 abbrev pub reads_unknown : List Line → Call → Bool
-reads_unknown before call = option_map_or (λ name. not (option_map_or (λ b. has_keys call b.keys) (binding_of name before) false)) (read_name call) false
+reads_unknown before call = option_map_or (λ name. not
+    (option_map_or (λ b. has_keys call b.keys) (binding_of name before) false)) (read_name call)
+    false
 
 -- the binding is another thread's, with no mark after it
 abbrev pub is_early : (section thread : ℕ) → Binding → Bool
 is_early section thread b = b.section == section && not (b.thread == thread)
 
--- the thread's call reads, sets, frees or sends off keys of a name that another thread binds in the same section
+-- the thread's call reads, sets, frees or sends off keys of a name that another thread binds in the
+-- same section
 abbrev pub reads_early : List Line → ℕ → Call → Bool
-reads_early before thread call = option_map_or (λ name. option_map_or (is_early (marks before) thread) (binding_of name before) false) (read_name call) false
+reads_early before thread call = option_map_or (λ name. option_map_or
+    (is_early (marks before) thread) (binding_of name before) false) (read_name call) false
 
 -- the call lets a thread begin again whose shard those lines do not abandon
 abbrev pub begins_early : List Line → ℕ → Call → Bool
@@ -251,37 +283,46 @@ holds h before line _ = false
 
 -- the first cause that holds of a line that has a form
 abbrev pub first_cause : Header → List Line → Line → Option Cause
-first_cause h before line = find (holds h before line) (Limit ∷ Thread ∷ Ended ∷ Adopt ∷ Bound ∷ Unknown ∷ Early ∷ [])
+first_cause h before line = find (holds h before line) (Limit ∷ Thread ∷ Ended ∷ Adopt ∷ Bound
+    ∷ Unknown ∷ Early ∷ [])
 
 -- no cause holds of a line, after those above it
 abbrev pub IsSound : Header → List Line → Type 0
-IsSound h lines = (place : ℕ) (line : Line) → slice_get lines place ≡ Some line → first_cause h (take place lines) line ≡ None
+IsSound h lines = (place : ℕ) (line : Line) → slice_get lines place ≡ Some line
+    → first_cause h (take place lines) line ≡ None
 
--- after those lines the bytes say this line: they have its form, and a set has the class that those lines bind its key with
+-- after those lines the bytes say this line: they have its form, and a set has the class that those
+-- lines bind its key with
 abbrev pub SaysAfter : Version → List Line → List ℕ → Line → Type 0
 SaysAfter version before bytes line = HasForm version line bytes × HasClass before line
 
--- after those lines the bytes are at fault: they have no form, or this cause is the first that holds of them
+-- after those lines the bytes are at fault: they have no form, or this cause is the first that
+-- holds of them
 abbrev pub HasCause : Header → List Line → List ℕ → Cause → Type 0
-HasCause h before bytes c = ((c ≡ Form) × ((line : Line) → HasForm h.version line bytes → ⊥)) ⊎ ((line : Line) × SaysAfter h.version before bytes line × (first_cause h before line ≡ Some c))
+HasCause h before bytes c = ((c ≡ Form) × ((line : Line) → HasForm h.version line bytes → ⊥))
+    ⊎ ((line : Line) × SaysAfter h.version before bytes line × (first_cause h before line ≡ Some c))
 
 -- after those lines the bytes say this line, and no cause holds of it
 abbrev pub IsNextLine : Header → List Line → List ℕ → Line → Type 0
-IsNextLine h before bytes line = SaysAfter h.version before bytes line × (first_cause h before line ≡ None)
+IsNextLine h before bytes line = SaysAfter h.version before bytes line
+    × (first_cause h before line ≡ None)
 
 -- after those lines the texts are these lines, and none is at fault
 abbrev pub AreReadAs : Header → List Line → List (List ℕ) → List Line → Type 0
 AreReadAs h before [] [] = Unit {0}
-AreReadAs h before (bytes ∷ texts) (line ∷ lines) = IsNextLine h before bytes line × AreReadAs h (before ++ line ∷ []) texts lines
+AreReadAs h before (bytes ∷ texts) (line ∷ lines) = IsNextLine h before bytes line
+    × AreReadAs h (before ++ line ∷ []) texts lines
 AreReadAs h before [] (line ∷ lines) = ⊥
 AreReadAs h before (bytes ∷ texts) [] = ⊥
 
--- after those lines the first of the texts is at fault by this cause; or the end, where no text is left and an adoption waits for its mark
+-- after those lines the first of the texts is at fault by this cause; or the end, where no text is
+-- left and an adoption waits for its mark
 abbrev pub BeginsAtFault : Header → List Line → List (List ℕ) → Cause → Type 0
 BeginsAtFault h before [] c = (c ≡ Adopt) × (awaits_mark before ≡ true)
 BeginsAtFault h before (bytes ∷ texts) c = HasCause h before bytes c
 
--- of the texts below a header, the one of this line number, or their end, is at fault by this cause, and none above it is
+-- of the texts below a header, the one of this line number, or their end, is at fault by this
+-- cause, and none above it is
 pub record IsFirstFault (h : Header) (texts : List (List ℕ)) (number : ℕ) (c : Cause) : Type 0 where
   pub above : List (List ℕ)
   pub rest : List (List ℕ)

@@ -38,7 +38,8 @@ IsFew keys = key_count keys ≤ MOST_KEYS
 abbrev pub Few : List Line → Type 0
 Few lines = (name : List ℕ) (b : Binding) → binding_of name lines ≡ Some b → IsFew b.keys
 
--- it has what those lines bind, which threads they end, and which of these below the last barrier, how many marks they have, how many keys they bind, and whether a mark must follow
+-- it has what those lines bind, which threads they end, and which of these below the last barrier,
+-- how many marks they have, how many keys they bind, and whether a mark must follow
 pub record Knows (lines : List Line) (e : Earlier) : Type 0 where
   pub names : (name : List ℕ) → bound_in e name ≡ binding_of name lines
   pub ended : (thread : ℕ) → ended_in e thread ≡ has_ended lines thread
@@ -50,15 +51,20 @@ pub record Knows (lines : List Line) (e : Earlier) : Type 0 where
 
 -- the new table has what the line at that place binds, and beside it what the old one had
 abbrev pub NotesNames : (old new : Earlier) (place : ℕ) → Line → Type 0
-NotesNames old new place line = (name : List ℕ) → bound_in new name ≡ option_or (binding_at place old.section old.keys name line) (bound_in old name)
+NotesNames old new place line = (name : List ℕ) → bound_in new name
+    ≡ option_or (binding_at place old.section old.keys name line) (bound_in old name)
 
--- the new set has the thread that the line ends, and beside it those of the old one, but for that which the line lets begin again
+-- the new set has the thread that the line ends, and beside it those of the old one, but for that
+-- which the line lets begin again
 abbrev pub NotesEnd : (old new : Earlier) → Line → Type 0
-NotesEnd old new line = (thread : ℕ) → ended_in new thread ≡ (not (begins thread line) && (ends thread line || ended_in old thread))
+NotesEnd old new line = (thread : ℕ) → ended_in new thread
+    ≡ (not (begins thread line) && (ends thread line || ended_in old thread))
 
 -- so has the set of those that leave, until a barrier comes
 abbrev pub NotesLeaving : (old new : Earlier) → Line → Type 0
-NotesLeaving old new line = (thread : ℕ) → leaving_in new thread ≡ (not (is_barrier line) && (not (begins thread line) && (ends thread line || leaving_in old thread)))
+NotesLeaving old new line = (thread : ℕ) → leaving_in new thread
+    ≡ (not (is_barrier line) && (not (begins thread line)
+    && (ends thread line || leaving_in old thread)))
 
 -- a line that is neither empty nor a remark decides whether a mark must follow
 abbrev pub awaits_after : (old : Bool) → Line → Bool

@@ -1,4 +1,5 @@
--- The forms of a line below the header, in each version: first as the words that each form has, then as a function of a line's words.
+-- The forms of a line below the header, in each version: first as the words that each form has,
+-- then as a function of a line's words.
 use Rattle.std.specs.Prelude.{◌≡◌, ◌==◌, ◌||◌, ◌⊎◌, ℕ, Bool, true, List, [], ◌∷◌, ◌++◌, Option, Some, None, option_map, option_and_then, codes, if◌then◌else◌}
 use Rattle.std.specs.List.{list_any}
 use Rattle.std.specs.Str.{bytes_eq}
@@ -69,16 +70,22 @@ bare_verbs = codes "tend" ∷ codes "end" ∷ []
 
 -- a thread's call may have the verb in a trace of any version
 abbrev pub is_common_verb : List ℕ → Bool
-is_common_verb verb = list_any (bytes_eq verb) binding_verbs || (list_any (bytes_eq verb) reading_verbs || list_any (bytes_eq verb) bare_verbs)
+is_common_verb verb = list_any (bytes_eq verb) binding_verbs
+    || (list_any (bytes_eq verb) reading_verbs || list_any (bytes_eq verb) bare_verbs)
 
--- a thread's call may have the verb, in a trace of each version; the second adds the verbs of objects of more words, the third that of sets, the fourth that of
--- trims, and the fifth those of retirements and of begins
+-- a thread's call may have the verb, in a trace of each version; the second adds the verbs of
+-- objects of more words, the third that of sets, the fourth that of trims, and the fifth those of
+-- retirements and of begins
 abbrev pub has_verb : Version → List ℕ → Bool
 has_verb One verb = is_common_verb verb
 has_verb Two verb = is_common_verb verb || list_any (bytes_eq verb) wide_verbs
-has_verb Three verb = is_common_verb verb || (list_any (bytes_eq verb) wide_verbs || bytes_eq verb set_verb)
-has_verb Four verb = is_common_verb verb || (list_any (bytes_eq verb) wide_verbs || (bytes_eq verb set_verb || bytes_eq verb trim_verb))
-has_verb Five verb = is_common_verb verb || (list_any (bytes_eq verb) wide_verbs || (bytes_eq verb set_verb || (bytes_eq verb trim_verb || (bytes_eq verb retire_verb || bytes_eq verb begin_verb))))
+has_verb Three verb = is_common_verb verb || (list_any (bytes_eq verb) wide_verbs
+    || bytes_eq verb set_verb)
+has_verb Four verb = is_common_verb verb || (list_any (bytes_eq verb) wide_verbs
+    || (bytes_eq verb set_verb || bytes_eq verb trim_verb))
+has_verb Five verb = is_common_verb verb || (list_any (bytes_eq verb) wide_verbs
+    || (bytes_eq verb set_verb || (bytes_eq verb trim_verb
+    || (bytes_eq verb retire_verb || bytes_eq verb begin_verb))))
 
 -- the verb of each call
 abbrev pub verb_of : Call → List ℕ
@@ -130,14 +137,18 @@ AreWords _ _ = ⊥
 -- in a trace of that version the words say this line, which is no empty line and no remark
 abbrev pub SaysLine : Version → Line → List (List ℕ) → Type 0
 SaysLine version line.Silent words = ⊥
-SaysLine version (line.Call thread call) words = (has_verb version (verb_of call) ≡ true) × AreWords words (Number thread ∷ words_of_call call)
-SaysLine version (line.Adopt shard) words = AreWords words (Verb (codes "adopt") ∷ Number shard ∷ [])
+SaysLine version (line.Call thread call) words = (has_verb version (verb_of call) ≡ true)
+    × AreWords words (Number thread ∷ words_of_call call)
+SaysLine version (line.Adopt shard) words = AreWords words (Verb (codes "adopt") ∷ Number shard
+    ∷ [])
 SaysLine version line.Mark words = AreWords words (Verb (codes "mark") ∷ [])
 
--- in a trace of that version the bytes have the form of this line, whose numbers may be of any size, and a set may be of any class: nothing, a `#` and any
--- bytes, or the words of a thread's call, of an adoption or of a mark
+-- in a trace of that version the bytes have the form of this line, whose numbers may be of any
+-- size, and a set may be of any class: nothing, a `#` and any bytes, or the words of a thread's
+-- call, of an adoption or of a mark
 abbrev pub HasForm : Version → Line → List ℕ → Type 0
-HasForm version line.Silent bytes = (bytes ≡ []) ⊎ ((remark : List ℕ) × (bytes ≡ codes "#" ++ remark))
+HasForm version line.Silent bytes = (bytes ≡ []) ⊎ ((remark : List ℕ)
+    × (bytes ≡ codes "#" ++ remark))
 HasForm version line bytes = SaysLine version line (words_of bytes)
 
 -- ---- the same as a function of the words, by which a set is of one word
@@ -187,11 +198,13 @@ class_filled verb =
 
 -- a call with a name and a value
 abbrev pub value_call : List ℕ → List ℕ → List ℕ → Option Call
-value_call verb name value = option_and_then (λ class. option_and_then (λ v. with_name (λ n. Put n class v) name) (number_in value)) (class_put verb)
+value_call verb name value = option_and_then (λ class. option_and_then
+    (λ v. with_name (λ n. Put n class v) name) (number_in value)) (class_put verb)
 
 -- a set of this key
 abbrev pub set_call : List ℕ → List ℕ → Option Call
-set_call key value = option_and_then (λ v. option_map (λ k. Set k C16 v) (reference_in key)) (number_in value)
+set_call key value = option_and_then (λ v. option_map (λ k. Set k C16 v) (reference_in key))
+    (number_in value)
 
 -- a call with a key or a name, and a value
 abbrev pub valued_call : List ℕ → List ℕ → List ℕ → Option Call
@@ -201,17 +214,20 @@ valued_call verb target value =
 
 -- a call of this name and these two numbers
 abbrev pub with_two : (List ℕ → ℕ → ℕ → Call) → List ℕ → List ℕ → List ℕ → Option Call
-with_two call name first second = option_and_then (λ a. option_and_then (λ b. with_name (λ n. call n a b) name) (number_in second)) (number_in first)
+with_two call name first second = option_and_then (λ a. option_and_then
+    (λ b. with_name (λ n. call n a b) name) (number_in second)) (number_in first)
 
 -- a call with a name and two numbers
 abbrev pub counted_call : List ℕ → List ℕ → List ℕ → List ℕ → Option Call
 counted_call verb name first second =
     if bytes_eq verb (codes "sweep") then with_two (λ n a b. Sweep n a b) name first second
-    else option_and_then (λ class. with_two (λ n a b. Fill n class a b) name first second) (class_filled verb)
+    else option_and_then (λ class. with_two (λ n a b. Fill n class a b) name first second)
+    (class_filled verb)
 
 -- the line of a thread's number and its call, whose verb the version must have
 abbrev pub thread_line : Version → List ℕ → List ℕ → Option Call → Option Line
-thread_line version thread verb call = if has_verb version verb then option_and_then (λ t. option_map (λ c. line.Call t c) call) (number_in thread) else None
+thread_line version thread verb call = if has_verb version verb then
+    option_and_then (λ t. option_map (λ c. line.Call t c) call) (number_in thread) else None
 
 -- the line of one word
 abbrev pub one_word : List ℕ → Option Line
@@ -231,12 +247,16 @@ two_words version first second =
 abbrev pub form_of_words : Version → List (List ℕ) → Option Line
 form_of_words version (word ∷ []) = one_word word
 form_of_words version (first ∷ second ∷ []) = two_words version first second
-form_of_words version (thread ∷ verb ∷ word ∷ []) = thread_line version thread verb (aimed_call verb word)
-form_of_words version (thread ∷ verb ∷ target ∷ value ∷ []) = thread_line version thread verb (valued_call verb target value)
-form_of_words version (thread ∷ verb ∷ name ∷ first ∷ second ∷ []) = thread_line version thread verb (counted_call verb name first second)
+form_of_words version (thread ∷ verb ∷ word ∷ []) =
+    thread_line version thread verb (aimed_call verb word)
+form_of_words version (thread ∷ verb ∷ target ∷ value ∷ []) =
+    thread_line version thread verb (valued_call verb target value)
+form_of_words version (thread ∷ verb ∷ name ∷ first ∷ second ∷ []) =
+    thread_line version thread verb (counted_call verb name first second)
 form_of_words version _ = None
 
 -- the line that the bytes have the form of; a `#` is 35
 abbrev pub form_of : Version → List ℕ → Option Line
 form_of version [] = Some line.Silent
-form_of version (b ∷ bs) = if b == 35 then Some line.Silent else form_of_words version (words_of (b ∷ bs))
+form_of version (b ∷ bs) = if b == 35 then Some line.Silent else form_of_words version
+    (words_of (b ∷ bs))

@@ -1,4 +1,5 @@
--- The header: five lines, of which the first says the version, and each other one a word and a number within its range.
+-- The header: five lines, of which the first says the version, and each other one a word and a
+-- number within its range.
 use Rattle.std.specs.Prelude.{◌≡◌, ◌+◌, ◌⊎◌, ℕ, List, [], ◌∷◌, ◌++◌, length, Option, None, codes, if◌then◌else◌}
 use Rattle.std.specs.Int.{IsInRange}
 use Rattle.std.specs.Str.{bytes_eq}
@@ -31,18 +32,22 @@ number_of Three = 3
 number_of Four = 4
 number_of Five = 5
 
--- what a line of the header says: that a trace begins, or a size, by its word and the greatest number it may be
+-- what a line of the header says: that a trace begins, or a size, by its word and the greatest
+-- number it may be
 pub data Field : Type 0 where
   Opening : Field
   Size : (word : List ℕ) → (most : ℕ) → Field
 
 -- the five lines, in their order
 abbrev pub fields : List Field
-fields = Opening ∷ Size (codes "shards") MOST_SHARDS ∷ Size (codes "pages") TRACE_PAGES ∷ Size (codes "ring") MOST_RING_KEYS ∷ Size (codes "gens") 4294967295 ∷ []
+fields = Opening ∷ Size (codes "shards") MOST_SHARDS ∷ Size (codes "pages") TRACE_PAGES
+    ∷ Size (codes "ring") MOST_RING_KEYS ∷ Size (codes "gens") 4294967295 ∷ []
 
--- the line has this form and says this number, which may be of any size: the first says that of a version, and each other line its word and the number
+-- the line has this form and says this number, which may be of any size: the first says that of a
+-- version, and each other line its word and the number
 abbrev pub SaysNumber : Field → ℕ → List ℕ → Type 0
-SaysNumber Opening n line = (version : Version) × (line ≡ opening_of version) × (n ≡ number_of version)
+SaysNumber Opening n line = (version : Version) × (line ≡ opening_of version)
+    × (n ≡ number_of version)
 SaysNumber (Size word most) n line = AreWords (words_of line) (Verb word ∷ Number n ∷ [])
 
 -- the number is in its range
@@ -50,10 +55,12 @@ abbrev pub IsWithin : Field → ℕ → Type 0
 IsWithin Opening n = Unit {0}
 IsWithin (Size word most) n = IsInRange 1 most n
 
--- the first lines are these, one each, and say these numbers, each in its range; the others are those below
+-- the first lines are these, one each, and say these numbers, each in its range; the others are
+-- those below
 abbrev pub BeginWith : List Field → List ℕ → (lines below : List (List ℕ)) → Type 0
 BeginWith [] [] lines below = lines ≡ below
-BeginWith (field ∷ more) (n ∷ numbers) (line ∷ lines) below = (SaysNumber field n line × IsWithin field n) × BeginWith more numbers lines below
+BeginWith (field ∷ more) (n ∷ numbers) (line ∷ lines) below =
+    (SaysNumber field n line × IsWithin field n) × BeginWith more numbers lines below
 BeginWith _ _ _ _ = ⊥
 
 -- the numbers that the lines of a header say
@@ -64,7 +71,8 @@ numbers_of h = number_of h.version ∷ h.shards ∷ h.pages ∷ h.ring ∷ h.gen
 abbrev pub HasHeader : Header → (lines below : List (List ℕ)) → Type 0
 HasHeader h lines below = BeginWith fields (numbers_of h) lines below
 
--- the first of the lines is at fault: it is missing or has not this form, or its number is outside its range
+-- the first of the lines is at fault: it is missing or has not this form, or its number is outside
+-- its range
 abbrev pub IsAtFault : Field → List (List ℕ) → Cause → Type 0
 IsAtFault field [] c = c ≡ cause.Header
 IsAtFault field (line ∷ below) c =

@@ -10,4 +10,5 @@ has_name_bytes bytes = list_all (λ b. is_ascii_lowercase b || is_ascii_digit b)
 -- 1 to 16 small letters and digits, beginning with a letter
 abbrev pub is_name : List ℕ → Bool
 is_name [] = false
-is_name (first ∷ rest) = nat_le (length (first ∷ rest)) 16 && (is_ascii_lowercase first && has_name_bytes rest)
+is_name (first ∷ rest) = nat_le (length (first ∷ rest)) 16
+    && (is_ascii_lowercase first && has_name_bytes rest)

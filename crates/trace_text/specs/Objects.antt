@@ -4,7 +4,8 @@ use Rattle.std.specs.List.{range_with_len}
 use Rattle.span.specs.Classes.{width_of}
 use Rattle.span.specs.declared.class.Class.{Class}
 
--- the words of the object of that class and base: the base, and each further one is one more than the one before it
+-- the words of the object of that class and base: the base, and each further one is one more than
+-- the one before it
 abbrev pub counted_from : Class → ℕ → List ℕ
 counted_from class base = range_with_len base (width_of class)
 

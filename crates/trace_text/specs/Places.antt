@@ -12,7 +12,8 @@ use Rattle.trace_text.specs.declared.line.Line.TheVariants as line
 abbrev pub first_of : List Line → List ℕ → ℕ
 first_of lines name = option_map_or (λ (b : Binding). b.first) (binding_of name lines) 0
 
--- the place of the first key of the name whose keys the call reads, sets, frees or sends off, or 0 where it names none
+-- the place of the first key of the name whose keys the call reads, sets, frees or sends off, or 0
+-- where it names none
 abbrev pub place_by : List Line → Call → ℕ
 place_by before call = option_map_or (first_of before) (read_name call) 0
 

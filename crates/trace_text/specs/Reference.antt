@@ -12,7 +12,8 @@ named name index = if is_name name then Some (record { name = name; index = inde
 -- what full stops part: a name alone, or a name and a number
 abbrev pub reference_of_parts : List (List ℕ) → Option Reference
 reference_of_parts (name ∷ []) = named name None
-reference_of_parts (name ∷ index ∷ []) = option_and_then (λ i. named name (Some i)) (number_in index)
+reference_of_parts (name ∷ index ∷ []) = option_and_then (λ i. named name (Some i))
+    (number_in index)
 reference_of_parts _ = None
 
 -- the reference that a word is, by its full stops (46)

@@ -21,10 +21,12 @@ pub record Spells (text : List ℕ) (header : Header) (lines : List Line) : Type
 abbrev pub IsTrace : List ℕ → Trace → Type 0
 IsTrace text trace = Spells text trace.header trace.lines.items
 
--- the first line at fault is this one, of the header or, below a header, of the further lines and the end of the text
+-- the first line at fault is this one, of the header or, below a header, of the further lines and
+-- the end of the text
 abbrev pub IsFaultAt : List ℕ → ℕ → Cause → Type 0
 IsFaultAt text line c = IsHeaderFault (lines_of text) line c
-    ⊎ ((header : Header) × (below : List (List ℕ)) × HasHeader header (lines_of text) below × IsFirstFault header below line c)
+    ⊎ ((header : Header) × (below : List (List ℕ)) × HasHeader header (lines_of text) below
+    × IsFirstFault header below line c)
 
 -- the refusal names the first line at fault and its first cause
 abbrev pub IsFault : List ℕ → ParseError → Type 0

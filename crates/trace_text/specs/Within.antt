@@ -1,4 +1,5 @@
--- Lines as the parser keeps them: a number that does not fit is clipped, and a value that does not is refused before anything else is asked. No public clause cites this module.
+-- Lines as the parser keeps them: a number that does not fit is clipped, and a value that does not
+-- is refused before anything else is asked. No public clause cites this module.
 use Rattle.std.specs.Prelude.{◌≡◌, ◌&&◌, ℕ, Bool, true, false, not, nat_le, ◌^◌, List, [], ◌∷◌, Option, Some, None, find, Result, Ok, Err, if◌then◌else◌}
 use Rattle.certificate.specs.Number.{clip}
 use Rattle.trace_text.specs.Reference.{clip_reference}
@@ -65,9 +66,11 @@ read_cause before thread call =
 
 -- the first cause that holds of a line that has a form, where none is that it binds a name again
 abbrev pub cause_but_bound : Header → List Line → Line → Option Cause
-cause_but_bound h before line = find (holds h before line) (Limit ∷ Thread ∷ Ended ∷ Adopt ∷ Unknown ∷ Early ∷ [])
+cause_but_bound h before line = find (holds h before line) (Limit ∷ Thread ∷ Ended ∷ Adopt ∷ Unknown
+    ∷ Early ∷ [])
 
--- after those lines the bytes are this line, unless it binds a name again, and are then at fault by that
+-- after those lines the bytes are this line, unless it binds a name again, and are then at fault by
+-- that
 abbrev pub IsNextUnlessBound : Header → List Line → List ℕ → Line → Type 0
 IsNextUnlessBound h before bytes line =
     (is_call (binds_again before) line ≡ false → IsNextLine h before bytes line)

@@ -18,7 +18,8 @@ pub fn count_from<const N: usize>(base: u128) -> [u128; N]
     words
 }
 
-/// The object of the class that counts up from that base: its words are the base, one more than that, and so on.
+/// The object of the class that counts up from that base: its words are the base, one more than
+/// that, and so on.
 pub fn counting_from(class: Class, base: u128) -> Object
     requires { last_word class base < 2 ^ 128 }
     ensures { result ≡ counted_from class base }

@@ -23,8 +23,8 @@ const MOST_KEYS: u32 = 262_144;
 /// The greatest number of groups that a retirement may ask for: more than a shard has at any time.
 const MOST_RETIRED: u32 = 1_048_576;
 
-/// Whether the last word of the last of that many objects of the class is above every word, where the first counts up from that
-/// value, and each other one from one more than the one before it.
+/// Whether the last word of the last of that many objects of the class is above every word, where
+/// the first counts up from that value, and each other one from one more than the one before it.
 #[inline(always)]
 fn ends_over(class: Class, count: u32, value: u128) -> bool
     requires { 0 < count }
@@ -87,7 +87,8 @@ impl Earlier {
         self.awaits_mark
     }
 
-    /// The class that a line of its kind binds the reference with, or that of one word where none does.
+    /// The class that a line of its kind binds the reference with, or that of one word where none
+    /// does.
     #[inline(never)]
     fn class_of(&self, key: &Reference) -> Class
         ensures { (before : List Line) → Knows before self.now
@@ -176,8 +177,8 @@ impl Earlier {
         }
     }
 
-    /// The place of the first key that a thread's call reads, 0 where it reads none; or what is wrong with what it reads, or
-    /// with when it comes.
+    /// The place of the first key that a thread's call reads, 0 where it reads none; or what is
+    /// wrong with what it reads, or with when it comes.
     fn read_place(&self, thread: u32, call: &Call) -> Result<usize, Cause>
         ensures { (before : List Line) → Knows before self.now
             → result ≡ unless (read_cause before thread call.now) (place_by before call.now) }
@@ -204,8 +205,8 @@ impl Earlier {
         }
     }
 
-    /// The place of the first key that a thread's call after those lines reads, 0 where it reads none; or what is wrong
-    /// with it, but for a name that it binds again.
+    /// The place of the first key that a thread's call after those lines reads, 0 where it reads
+    /// none; or what is wrong with it, but for a name that it binds again.
     fn call_place(&self, header: &Header, thread: u32, call: &Call) -> Result<usize, Cause>
         ensures { (before : List Line) → Knows before self.now
             → result ≡ unless (cause_but_bound header.now before (line.Call thread call.now))
@@ -225,8 +226,9 @@ impl Earlier {
         }
     }
 
-    /// The place of the first key that a line after those reads, 0 where it reads none; or what is wrong with the line,
-    /// where it has a form. That it binds a name again is told by `note`, so that the table is asked for the name once.
+    /// The place of the first key that a line after those reads, 0 where it reads none; or what is
+    /// wrong with the line, where it has a form. That it binds a name again is told by `note`, so
+    /// that the table is asked for the name once.
     pub fn place_of(&self, header: &Header, line: &Line) -> Result<usize, Cause>
         ensures { (before : List Line) → Knows before self.now
             → result ≡ unless (cause_but_bound header.now before line.now)
@@ -242,7 +244,8 @@ impl Earlier {
         }
     }
 
-    /// Keeps what a name is bound to, and counts its keys. It answers whether the name was bound before.
+    /// Keeps what a name is bound to, and counts its keys. It answers whether the name was bound
+    /// before.
     fn bind(&mut self, name: &Name, binding: Binding, count: usize) -> Result<bool, AllocError>
         ensures again { IfOk result (λ again. again ≡ is_some (bound_in self.old name.now)) }
         ensures names { OnOk result ((other : List ℕ)
@@ -261,7 +264,8 @@ impl Earlier {
         Ok(before.is_some())
     }
 
-    /// Keeps what a thread's call binds, ends or lets begin again. It answers whether the call binds a name again.
+    /// Keeps what a thread's call binds, ends or lets begin again. It answers whether the call
+    /// binds a name again.
     fn note_call(&mut self, place: usize, thread: u32, call: &Call) -> Result<bool, AllocError>
         ensures again { (before : List Line) → Knows before self.old
             → IfOk result (λ again. again ≡ binds_again before call.now) }
@@ -307,7 +311,8 @@ impl Earlier {
         }
     }
 
-    /// Keeps what a line says that follows those, at its place among them. It answers whether the line binds a name again.
+    /// Keeps what a line says that follows those, at its place among them. It answers whether the
+    /// line binds a name again.
     pub fn note(&mut self, place: usize, line: &Line) -> Result<bool, AllocError>
         requires { self.old.section < 2 ^ 64 - 1 }
         ensures again { (before : List Line) → Knows before self.old

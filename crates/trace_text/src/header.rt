@@ -17,8 +17,9 @@ use super::numeral::{Number, parse_number};
 use super::words::{first_line, words};
 use span::{MOST_RING_KEYS, MOST_SHARDS};
 
-/// How many pages a shard of a trace may have at most, in each version of the grammar that there is: which texts are refused rests
-/// on it, and what their reports tell of a shard that may have no more.
+/// How many pages a shard of a trace may have at most, in each version of the grammar that there
+/// is: which texts are refused rests on it, and what their reports tell of a shard that may have no
+/// more.
 pub const TRACE_PAGES: u32 = 1024;
 
 /// The version of the grammar that a trace is written in.
@@ -32,7 +33,8 @@ pub enum Version {
     Three,
     /// The first line is `mesh 4`: as `mesh 3`, and shards give pages with no live slot back.
     Four,
-    /// The first line is `mesh 5`: as `mesh 4`, and shards let groups go to the pool, and begin again once they have ended.
+    /// The first line is `mesh 5`: as `mesh 4`, and shards let groups go to the pool, and begin
+    /// again once they have ended.
     Five,
 }
 
@@ -99,8 +101,8 @@ impl Version {
     ghost use Rattle.std.specs.Prelude.{◌≡◌};
     ghost use Rattle.trace_text.specs.Form.{has_verb};
 
-    /// Whether a thread's call may have that verb. It stays out of the readers of lines, which are then small enough to stand
-    /// where they are called.
+    /// Whether a thread's call may have that verb. It stays out of the readers of lines, which are
+    /// then small enough to stand where they are called.
     #[inline(never)]
     pub(crate) fn has_verb(self, verb: &[u8]) -> bool
         ensures { result ≡ has_verb self verb.now }
@@ -205,7 +207,8 @@ fn opening(text: &[u8]) -> Result<(Version, &[u8]), ParseError>
     }
 }
 
-/// Reads the line of a size, which has this number in the whole text, and gives the size and the text below it.
+/// Reads the line of a size, which has this number in the whole text, and gives the size and the
+/// text below it.
 fn size<'a>(
     text: &'a [u8],
     line: usize,

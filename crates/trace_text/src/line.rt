@@ -12,8 +12,8 @@ pub enum Call {
         class: Class,
         value: u128,
     },
-    /// Puts `count` objects of the class in order, which count up from `value`, from `value + 1` and so on, and binds the name
-    /// to their keys.
+    /// Puts `count` objects of the class in order, which count up from `value`, from `value + 1`
+    /// and so on, and binds the name to their keys.
     Fill {
         name: Name,
         class: Class,
@@ -24,8 +24,8 @@ pub enum Call {
     Get {
         key: Reference,
     },
-    /// Replaces the object of a key by the one of the class that counts up from `value`. The class is in none of the line's words:
-    /// it is that of the line which binds the key's name.
+    /// Replaces the object of a key by the one of the class that counts up from `value`. The class
+    /// is in none of the line's words: it is that of the line which binds the key's name.
     Set {
         key: Reference,
         class: Class,
@@ -49,8 +49,8 @@ pub enum Call {
     Tend,
     /// Gives back the pages of the open groups of the thread's shard that have no live slot.
     Trim,
-    /// Lets up to `most` open groups of the thread's shard go to the pool, of those with a live slot: those with the fewest
-    /// first.
+    /// Lets up to `most` open groups of the thread's shard go to the pool, of those with a live
+    /// slot: those with the fewest first.
     Retire {
         most: u32,
     },
@@ -95,7 +95,8 @@ pub struct Binding {
     pub section: usize,
     /// The place of the line that binds it among the lines below the header, from 0.
     pub line: usize,
-    /// The place of its first key among all keys that the lines bind, from 0; its other keys stand after that.
+    /// The place of its first key among all keys that the lines bind, from 0; its other keys stand
+    /// after that.
     pub first: usize,
 }
 
@@ -114,7 +115,8 @@ impl Reference {
         }
     }
 
-    /// Whether a line of its kind binds those keys: a put where it is a name alone, and a fill where it has an index.
+    /// Whether a line of its kind binds those keys: a put where it is a name alone, and a fill
+    /// where it has an index.
     pub fn is_of_kind(&self, keys: Keys) -> bool
         ensures { result ≡ is_of_kind self.now.index keys }
     {

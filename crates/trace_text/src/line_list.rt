@@ -16,12 +16,14 @@ use std::marker::Model;
 pub struct KeptLine {
     /// Its place among all lines, from 0.
     place: usize,
-    /// The place of the first key that it reads among all keys that the lines bind; 0 where it reads none.
+    /// The place of the first key that it reads among all keys that the lines bind; 0 where it
+    /// reads none.
     reads: usize,
     line: Line,
 }
 
-/// The lines below a header, so that the first is line 6 of the text. Empty lines and remarks take no memory.
+/// The lines below a header, so that the first is line 6 of the text. Empty lines and remarks take
+/// no memory.
 #[derive(Drop)]
 pub struct LineList {
     /// The others, in order.
@@ -71,7 +73,8 @@ fn kept_there(kept: &[KeptLine], index: usize, place: usize) -> Option<&KeptLine
     if one.place == place { Some(one) } else { None }
 }
 
-// What is kept for that place. Most texts have no line that is not kept above it, or none below it, and then no search is needed.
+// What is kept for that place. Most texts have no line that is not kept above it, or none below it,
+// and then no search is needed.
 fn find_kept(kept: &[KeptLine], count: usize, place: usize) -> Option<&KeptLine>
     requires { (least : ℕ) × AreInOrder kept.now least }
     ensures { option_map (λ one. one.now) result ≡ find (is_at place) kept.now }
@@ -131,7 +134,8 @@ impl LineList {
         Some(self.line_at(place))
     }
 
-    /// The place of the first key that the line at that place reads among all keys that the lines bind; 0 where it reads none.
+    /// The place of the first key that the line at that place reads among all keys that the lines
+    /// bind; 0 where it reads none.
     pub fn place_read(&self, place: usize) -> usize
         requires { place < length self.now.items }
         ensures { slice_get self.now.places place ≡ Some result }
@@ -142,7 +146,8 @@ impl LineList {
         }
     }
 
-    /// Adds a line, with the place of the first key that it reads, which is 0 where it is empty or a remark.
+    /// Adds a line, with the place of the first key that it reads, which is 0 where it is empty or
+    /// a remark.
     ///
     /// # Errors
     ///

@@ -25,8 +25,8 @@ use std::alloc::Global;
 /// How many lines the header has.
 const HEADER_LINES: usize = 5;
 
-/// Reads the line that follows those, with the place of the first key that it reads. That it binds a name again is told
-/// where it is noted.
+/// Reads the line that follows those, with the place of the first key that it reads. That it binds
+/// a name again is told where it is noted.
 fn next_line(header: &Header, earlier: &Earlier, text: &[u8]) -> Result<(Line, usize), Cause>
     requires { IsWithinLimits header.now }
     ensures ok { (before : List Line) → Knows before earlier.now

@@ -41,8 +41,8 @@ fn key_call(verb: &[u8], key: &[u8]) -> Result<Call, Cause>
     }
 }
 
-/// A retirement. A number that does not fit is kept as the greatest that does, since no line may ask for so many groups. It stays
-/// out of the reader of lines, of which most are others.
+/// A retirement. A number that does not fit is kept as the greatest that does, since no line may
+/// ask for so many groups. It stays out of the reader of lines, of which most are others.
 #[inline(never)]
 fn retire_call(most: &[u8]) -> Result<Call, Cause>
     ensures { result ≡ within_call (retire_call most.now) }
@@ -105,8 +105,8 @@ fn value_call(verb: &[u8], name: &[u8], value: &[u8]) -> Result<Call, Cause>
     }
 }
 
-/// A set. Its class is that of the line that binds the name, of which its words say nothing: here it is of one word. It stays out of
-/// the reader of lines, of which most are others.
+/// A set. Its class is that of the line that binds the name, of which its words say nothing: here
+/// it is of one word. It stays out of the reader of lines, of which most are others.
 #[inline(never)]
 fn set_call(key: &[u8], value: &[u8]) -> Result<Call, Cause>
     ensures { result ≡ within_call (set_call key.now value.now) }

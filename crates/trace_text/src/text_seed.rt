@@ -2,9 +2,10 @@
 
 use std::hash::{BuildHasher, DefaultHasher, FoldHasher, Hasher};
 
-/// Hashes names by std's fast hash, which begins with a hash of the whole text (SipHash-1-3). Whoever writes a text of names whose hashes
-/// are alike changes the hashes by the names that he writes, as a seed of its own for each run would, and the same text takes the same
-/// time in each run.
+/// Hashes names by std's fast hash, which begins with a hash of the whole text (SipHash-1-3).
+/// Whoever writes a text of names whose hashes are alike changes the hashes by the names that he
+/// writes, as a seed of its own for each run would, and the same text takes the same time in each
+/// run.
 #[derive(Clone, Copy)]
 pub struct TextSeed {
     begun: FoldHasher,

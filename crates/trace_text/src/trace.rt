@@ -13,7 +13,8 @@ use super::line::Binding;
 use super::line_list::LineList;
 use super::name::Name;
 
-/// A trace: its sizes are within their ranges, and no cause holds of any of its lines or of its end.
+/// A trace: its sizes are within their ranges, and no cause holds of any of its lines or of its
+/// end.
 #[derive(Drop)]
 pub struct Trace {
     /// The sizes that it is run with.
@@ -37,9 +38,9 @@ impl Trace {
         self.earlier.binding(name)
     }
 
-    /// The place among all keys that the lines bind, from 0, of the first key of the name whose keys the line reads or
-    /// frees; 0 where it reads none. The line is counted from 0, below the header. The name was looked up as the line was
-    /// read.
+    /// The place among all keys that the lines bind, from 0, of the first key of the name whose
+    /// keys the line reads or frees; 0 where it reads none. The line is counted from 0, below the
+    /// header. The name was looked up as the line was read.
     pub fn place(&self, line: usize) -> usize
         requires { line < length self.now.lines.items }
         ensures { (there : Line) → slice_get self.now.lines.items line ≡ Some there

@@ -32,7 +32,8 @@ fn line_end(text: &[u8]) -> Option<usize>
     text.iter().position(|byte| *byte == b'\n')
 }
 
-/// The first line of a text, without its line feed, and the text below it. An empty text has no line.
+/// The first line of a text, without its line feed, and the text below it. An empty text has no
+/// line.
 pub fn first_line(text: &[u8]) -> Option<(&[u8], &[u8])>
     ensures some { IfSome result (λ split. lines_of text.now ≡ split.0.now ∷ lines_of split.1.now) }
     ensures none { IfNone result (lines_of text.now ≡ []) }

@@ -1,4 +1,5 @@
-// The calls of a seat that do not wait: where another thread has a lock that they need, they answer so, and change nothing.
+// The calls of a seat that do not wait: where another thread has a lock that they need, they answer
+// so, and change nothing.
 ghost use Rattle.std.specs.Prelude.{◌≡◌, ◌≤◌, IfOk, OnErr, OnOk, length};
 ghost use Rattle.arena.specs.Delays.{CountsCall, HandsOver, HasNoneWaiting};
 ghost use Rattle.arena.specs.Seats.{AreNoFewer, KeepsEnds, free_places, sending_side};
@@ -14,8 +15,8 @@ use crate::receipts::Receipts;
 use crate::sections::{Issued, Looked, Outcome};
 use crate::tending::{look_at_rings, tend_rings};
 use crate::word::Word;
-use abandoned::{AdoptError, ReceiveError};
 use latch::Busy;
+use pool::{AdoptError, ReceiveError};
 use shard::PutError;
 use span::{Class, Key, Log, SpanId};
 use std::alloc::AllocError;
@@ -25,18 +26,20 @@ use std::alloc::AllocError;
 pub struct Tended {
     /// How many keys were taken, and freed.
     pub count: usize,
-    /// Whether it left off, since another thread had the lock that the next key needs. That key is the next in turn.
+    /// Whether it left off, since another thread had the lock that the next key needs. That key is
+    /// the next in turn.
     pub is_busy: bool,
 }
 
 impl Seat {
-    /// Puts the object of these words, which are as many as the class has, into the worker's shard, under that
-    /// shard's lock. The words are copied to the page from where they stand.
+    /// Puts the object of these words, which are as many as the class has, into the worker's shard,
+    /// under that shard's lock. The words are copied to the page from where they stand.
     ///
     /// # Errors
     ///
-    /// [`Busy`] if another thread has the lock. Else those of [`Shard::put_words`](shard::Shard::put_words) on the shard as it
-    /// then is: `Ended`, `PagesSpent` and `OutOfMemory`.
+    /// [`Busy`] if another thread has the lock. Else those of
+    /// [`Shard::put_words`](shard::Shard::put_words) on the shard as it then is: `Ended`,
+    /// `PagesSpent` and `OutOfMemory`.
     #[inline(always)]
     pub fn try_put<G: Gate, L: Log>(
         &mut self,
@@ -52,16 +55,17 @@ impl Seat {
         self.put_by(&Tries, arena, class, words)
     }
 
-    /// Looks the key up, under the lock of whoever has its span, and writes the words of what is found into
-    /// `room`, from its first place on, if there is room for all of them. A span that was never opened takes no
-    /// lock: nothing is found, before its log's first change. The same is answered of a span that was forgotten
-    /// ([`Arena::forget`]).
+    /// Looks the key up, under the lock of whoever has its span, and writes the words of what is
+    /// found into `room`, from its first place on, if there is room for all of them. A span that
+    /// was never opened takes no lock: nothing is found, before its log's first change. The same is
+    /// answered of a span that was forgotten ([`Arena::forget`]).
     ///
     /// # Errors
     ///
-    /// [`Busy`] if another thread has a lock that it needs: that of whoever may have the span; and if the span has moved on, the
-    /// pool's, or one of the shards' and nobody else has the span. The same if the span moves each time that the
-    /// call looks for it, eight times in all. Nothing is written then.
+    /// [`Busy`] if another thread has a lock that it needs: that of whoever may have the span; and
+    /// if the span has moved on, the pool's, or one of the shards' and nobody else has the span.
+    /// The same if the span moves each time that the call looks for it, eight times in all. Nothing
+    /// is written then.
     #[inline(always)]
     pub fn try_get<G: Gate, L: Log, W: Word>(
         &mut self,
@@ -77,13 +81,14 @@ impl Seat {
         self.get_by(&Tries, arena, key, room)
     }
 
-    /// Sets the key's object to these words in place, under the lock of whoever has its span, if the key is
-    /// live and its object has as many words. A span that is nowhere takes no lock, as for [`Seat::try_get`].
+    /// Sets the key's object to these words in place, under the lock of whoever has its span, if
+    /// the key is live and its object has as many words. A span that is nowhere takes no lock, as
+    /// for [`Seat::try_get`].
     ///
     /// # Errors
     ///
-    /// [`Busy`] as that of [`Seat::try_get`]. Else `AllocError` in place of a set that would be done, if the
-    /// span's log could not grow. Nothing is set then.
+    /// [`Busy`] as that of [`Seat::try_get`]. Else `AllocError` in place of a set that would be
+    /// done, if the span's log could not grow. Nothing is set then.
     pub fn try_set<G: Gate, L: Log>(
         &mut self,
         arena: &Arena<G, L>,
@@ -97,8 +102,8 @@ impl Seat {
         self.set_by(&Tries, arena, key, words)
     }
 
-    /// Frees the key, if it is live, under the lock of whoever has its span. A span that is nowhere takes no
-    /// lock, as for [`Seat::try_get`].
+    /// Frees the key, if it is live, under the lock of whoever has its span. A span that is nowhere
+    /// takes no lock, as for [`Seat::try_get`].
     ///
     /// # Errors
     ///
@@ -116,8 +121,8 @@ impl Seat {
         self.free_by(&Tries, arena, key)
     }
 
-    /// What [`Seat::tend`] does, as long as no other thread has a lock that the next key needs: it takes a key only
-    /// where it can free it at once.
+    /// What [`Seat::tend`] does, as long as no other thread has a lock that the next key needs: it
+    /// takes a key only where it can free it at once.
     ///
     /// # Errors
     ///
@@ -159,7 +164,8 @@ impl Seat {
     ///
     /// # Errors
     ///
-    /// [`Busy`] where another thread has one. Else the end, whose errors are those of [`Seat::end`].
+    /// [`Busy`] where another thread has one. Else the end, whose errors are those of
+    /// [`Seat::end`].
     pub fn try_end<G: Gate, L: Log>(
         &mut self,
         arena: &Arena<G, L>,
@@ -188,7 +194,8 @@ impl Seat {
     ///
     /// # Errors
     ///
-    /// [`Busy`] where another thread has one. Else the retirement, whose errors are those of [`Seat::retire`].
+    /// [`Busy`] where another thread has one. Else the retirement, whose errors are those of
+    /// [`Seat::retire`].
     pub fn try_retire<G: Gate, L: Log>(
         &mut self,
         arena: &Arena<G, L>,
@@ -219,7 +226,8 @@ impl Seat {
     ///
     /// # Errors
     ///
-    /// [`Busy`] where another thread has one. Else the adoption, whose errors are those of [`Seat::adopt`].
+    /// [`Busy`] where another thread has one. Else the adoption, whose errors are those of
+    /// [`Seat::adopt`].
     pub fn try_adopt<G: Gate, L: Log>(
         &mut self,
         arena: &Arena<G, L>,

@@ -42,8 +42,8 @@ impl<L: Log> Core<L> {
         self.rings.take(worker, shard)
     }
 
-    // Frees the key that has waited longest on the ring from this worker to this shard, if one waits there. Inlined, since most
-    // rings are empty where all of them are asked.
+    // Frees the key that has waited longest on the ring from this worker to this shard, if one
+    // waits there. Inlined, since most rings are empty where all of them are asked.
     #[inline(always)]
     pub(super) fn settle(&mut self, worker: u32, shard: u32) -> Result<Option<Key>, Refusal>
         ensures exact { MatchResult result

@@ -30,12 +30,14 @@ impl<L: Log> Core<L> {
         Ok(())
     }
 
-    /// Lets the shard of this number, which has ended, run again, for a new thread: it takes puts and groups as before. The spans
-    /// that it opens have serials that go on from where they stood, so no key is issued twice; what stood in it stays where it
-    /// is, under its keys. It takes no memory.
+    /// Lets the shard of this number, which has ended, run again, for a new thread: it takes puts
+    /// and groups as before. The spans that it opens have serials that go on from where they stood,
+    /// so no key is issued twice; what stood in it stays where it is, under its keys. It takes no
+    /// memory.
     ///
-    /// What [`Core::step`] does with [`Event::Begin`], without a reply to take apart. It is refused by [`Refusal::Running`] exactly
-    /// where the shard has not ended, and by [`Refusal::Config`] exactly where there is no such shard.
+    /// What [`Core::step`] does with [`Event::Begin`], without a reply to take apart. It is refused
+    /// by [`Refusal::Running`] exactly where the shard has not ended, and by [`Refusal::Config`]
+    /// exactly where there is no such shard.
     pub fn begin(&mut self, number: u32) -> Result<(), Refusal>
         ensures exact { MatchResult result
             (λ _. CoreStep self.old (event.Begin number) reply.ShardBegun self.new)
@@ -53,13 +55,15 @@ impl<L: Log> Core<L> {
         Ok(())
     }
 
-    /// Moves up to `most` groups of the shard of this number to the pool, with their pages, and lets the shard go on. It answers how many
-    /// went: `most`, or all that have a live key. Those with the fewest live keys go first; of several, the one of lowest head.
-    /// Groups with no live key stay with the shard, whose free pages they are.
+    /// Moves up to `most` groups of the shard of this number to the pool, with their pages, and
+    /// lets the shard go on. It answers how many went: `most`, or all that have a live key. Those
+    /// with the fewest live keys go first; of several, the one of lowest head. Groups with no live
+    /// key stay with the shard, whose free pages they are.
     ///
-    /// What [`Core::step`] does with [`Event::Retire`], without a reply to take apart. It is refused as that is: by
-    /// [`Refusal::Config`] where there is no such shard, by [`Refusal::Ended`] where it has ended, by [`Refusal::PlanOpen`] where
-    /// one of its groups is closed, and by [`Refusal::OutOfMemory`] only where none of these holds.
+    /// What [`Core::step`] does with [`Event::Retire`], without a reply to take apart. It is
+    /// refused as that is: by [`Refusal::Config`] where there is no such shard, by
+    /// [`Refusal::Ended`] where it has ended, by [`Refusal::PlanOpen`] where one of its groups is
+    /// closed, and by [`Refusal::OutOfMemory`] only where none of these holds.
     pub fn retire(&mut self, number: u32, most: usize) -> Result<usize, Refusal>
         ensures exact { MatchResult result
             (λ count. CoreStep self.old (event.Retire number most) (reply.Retired count) self.new)
@@ -78,11 +82,12 @@ impl<L: Log> Core<L> {
         Ok(count)
     }
 
-    /// Gives back the page of each open group of the shard of this number in which no slot is live, and answers how many went. The
-    /// groups stay: a later put into one of them opens a page for it. It takes no memory.
+    /// Gives back the page of each open group of the shard of this number in which no slot is live,
+    /// and answers how many went. The groups stay: a later put into one of them opens a page for
+    /// it. It takes no memory.
     ///
-    /// What [`Core::step`] does with [`Event::Trim`], without a reply to take apart. It is refused by [`Refusal::Config`] exactly
-    /// where there is no such shard.
+    /// What [`Core::step`] does with [`Event::Trim`], without a reply to take apart. It is refused
+    /// by [`Refusal::Config`] exactly where there is no such shard.
     pub fn trim(&mut self, number: u32) -> Result<usize, Refusal>
         ensures exact { MatchResult result
             (λ count. CoreStep self.old (event.Trim number) (reply.Trimmed count) self.new)
@@ -111,8 +116,8 @@ impl<L: Log> Core<L> {
         Refusal::Config
     }
 
-    // Moves the pool's group of lowest head that has a page to the shard of this number, and notes that its spans are
-    // there. The room for the notes is made before anything changes.
+    // Moves the pool's group of lowest head that has a page to the shard of this number, and notes
+    // that its spans are there. The room for the notes is made before anything changes.
     pub(super) fn adopt(&mut self, number: u32) -> Result<SpanId, Refusal>
         ensures exact { MatchResult result
             (λ head. CoreStep self.old (event.Adopt number) (reply.Adopted head) self.new)

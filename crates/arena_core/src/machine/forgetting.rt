@@ -13,14 +13,17 @@ use shard::Shard;
 use span::Counted;
 
 impl Core<Counted> {
-    /// Forgets the spans that can never be live again, with their generations, and answers how many: the guests of the shards'
-    /// groups in which no slot is live, and of the pool such guests and all spans of groups in which no slot is live. A guest takes no
-    /// put, and neither does what is in the pool, which no shard takes back where nothing of it is live: so each of their keys finds nothing,
-    /// as before, and was given out once, as before. A shard's own group with nothing live stays, since it takes puts again, also where it has been trimmed.
-    /// Nothing that a caller sees changes but the memory that is kept. It asks for memory only for a smaller table in the place of a
-    /// larger one, which stays if there is none.
+    /// Forgets the spans that can never be live again, with their generations, and answers how
+    /// many: the guests of the shards' groups in which no slot is live, and of the pool such guests
+    /// and all spans of groups in which no slot is live. A guest takes no put, and neither does
+    /// what is in the pool, which no shard takes back where nothing of it is live: so each of their
+    /// keys finds nothing, as before, and was given out once, as before. A shard's own group with
+    /// nothing live stays, since it takes puts again, also where it has been trimmed. Nothing that
+    /// a caller sees changes but the memory that is kept. It asks for memory only for a smaller
+    /// table in the place of a larger one, which stays if there is none.
     ///
-    /// It is no event, and is asked for: a sweep looks at each group and each guest. With kept logs there is none, since an audit reads all logs.
+    /// It is no event, and is asked for: a sweep looks at each group and each guest. With kept logs
+    /// there is none, since an audit reads all logs.
     ///
     /// It is refused with [`Refusal::PlanOpen`] exactly while a plan is open.
     pub fn forget(&mut self) -> Result<usize, Refusal>

@@ -16,13 +16,14 @@ use shard::{Found, Freed};
 use span::{Class, Key, Log, Object};
 
 impl<L: Log> Core<L> {
-    /// Keeps the object in the shard of this number, at the slot that the shard chooses among those of its class, and answers
-    /// its key.
+    /// Keeps the object in the shard of this number, at the slot that the shard chooses among those
+    /// of its class, and answers its key.
     ///
-    /// What [`Core::step`] does with [`Event::Put`], without a reply to take apart. It is refused as that is: by
-    /// [`Refusal::Config`] where there is no such shard, by [`Refusal::Ended`] where it has ended, by
-    /// [`Refusal::PagesSpent`] where it needs a new span, and has as many groups as it may have pages or has opened as many
-    /// spans as it may, and by [`Refusal::OutOfMemory`] only where none of these holds.
+    /// What [`Core::step`] does with [`Event::Put`], without a reply to take apart. It is refused
+    /// as that is: by [`Refusal::Config`] where there is no such shard, by [`Refusal::Ended`] where
+    /// it has ended, by [`Refusal::PagesSpent`] where it needs a new span, and has as many groups
+    /// as it may have pages or has opened as many spans as it may, and by [`Refusal::OutOfMemory`]
+    /// only where none of these holds.
     #[inline(always)]
     pub fn put(&mut self, number: u32, value: Object) -> Result<Key, Refusal>
         ensures exact { MatchResult result
@@ -39,8 +40,8 @@ impl<L: Log> Core<L> {
         self.put_words(number, value.class(), value.words())
     }
 
-    /// What [`Core::put`] does with the object of these words, which are as many as the class has. An object has the room
-    /// of the largest; words go to their page from where they stand.
+    /// What [`Core::put`] does with the object of these words, which are as many as the class has.
+    /// An object has the room of the largest; words go to their page from where they stand.
     #[inline(always)]
     pub fn put_words(&mut self, number: u32, class: Class, words: &[u128]) -> Result<Key, Refusal>
         requires { length words.now ≡ width_of class }
@@ -62,8 +63,8 @@ impl<L: Log> Core<L> {
         Ok(key)
     }
 
-    /// The words of the key's object, where it is live: those of the object that [`Core::step`] answers to [`Event::Get`].
-    /// They are lent from the page where they stand. It takes no memory.
+    /// The words of the key's object, where it is live: those of the object that [`Core::step`]
+    /// answers to [`Event::Get`]. They are lent from the page where they stand. It takes no memory.
     #[inline(always)]
     pub fn get(&self, key: &Key) -> Option<&[u128]>
         ensures value { option_map (λ words. words.now) result
@@ -81,8 +82,9 @@ impl<L: Log> Core<L> {
         }
     }
 
-    // The words of the key's object, where it is live, and the shard that opened its span does not have the span. The key comes by value, so that
-    // its parts stay in registers where this is not called.
+    // The words of the key's object, where it is live, and the shard that opened its span does not
+    // have the span. The key comes by value, so that its parts stay in registers where this is not
+    // called.
     #[inline(never)]
     fn get_moved(&self, key: Key) -> Option<&[u128]>
         requires { StandsIn self.now.shards key.span key.span.shard → ⊥ }
@@ -113,8 +115,8 @@ impl<L: Log> Core<L> {
         shard.get(key)
     }
 
-    /// Frees the key, where it is live, and says whether it was: what [`Core::step`] does with [`Event::Free`]. It takes
-    /// no memory.
+    /// Frees the key, where it is live, and says whether it was: what [`Core::step`] does with
+    /// [`Event::Free`]. It takes no memory.
     #[inline(always)]
     pub fn free(&mut self, key: &Key) -> bool
         ensures exact { CoreStep self.old (event.Free key.now) (reply.Freed result) self.new }

@@ -1,6 +1,6 @@
 // Marks, the steps of their plans, and closes.
 ghost use Rattle.std.specs.Prelude.{◌≡◌, ◌<◌, ℕ, IsSome, MatchResult, length};
-ghost use Rattle.abandoned.specs.State.{PooledState};
+ghost use Rattle.pool.specs.State.{PooledState};
 ghost use Rattle.shard.specs.Group.{GroupState};
 ghost use Rattle.groups.specs.Group.{IsHeadOf, spans_of};
 ghost use Rattle.shard.specs.Sound.{IsSound as IsSoundShard};
@@ -16,18 +16,18 @@ ghost use Rattle.arena_core.specs.declared.reply.Reply.TheVariants as reply;
 
 use super::Core;
 use crate::reply::{Refusal, Reply, mark_refusal};
-use abandoned::Pool;
 use certificate::Certificate;
 use fold::{Step, fold_one};
 use marks::{has_too_many, mark_some_in, reopen_all};
 use mesh_graph::Runner;
+use pool::Pool;
 use shard::Shard;
 use span::{Log, SpanId};
 use std::alloc::AllocError;
 
 impl<L: Log> Core<L> {
-    // Makes a plan of as many folds as can be of what stands now, opens it, and closes the groups that it folds onto. The runner
-    // fills the rows of its graph.
+    // Makes a plan of as many folds as can be of what stands now, opens it, and closes the groups
+    // that it folds onto. The runner fills the rows of its graph.
     pub(super) fn mark<R: Runner>(&mut self, runner: &R) -> Result<Certificate, Refusal>
         requires { R.ready runner.now }
         ensures exact { MatchResult result
@@ -45,7 +45,8 @@ impl<L: Log> Core<L> {
         self.mark_some(runner)
     }
 
-    // The same of the groups of each side with the fewest live slots. The plan is made before anything changes.
+    // The same of the groups of each side with the fewest live slots. The plan is made before
+    // anything changes.
     pub(super) fn mark_some<R: Runner>(&mut self, runner: &R) -> Result<Certificate, Refusal>
         requires { R.ready runner.now }
         ensures exact { MatchResult result
@@ -96,8 +97,8 @@ impl<L: Log> Core<L> {
         number
     }
 
-    // Folds the next pair, whose owned group stands in the shard of this number, and notes that the spans that came are
-    // there. The room for the notes is made before anything changes.
+    // Folds the next pair, whose owned group stands in the shard of this number, and notes that the
+    // spans that came are there. The room for the notes is made before anything changes.
     fn fold_next(
         &mut self,
         number: usize,
@@ -150,7 +151,8 @@ fn span_count<L: Log>(shard: &Shard<L>, head: SpanId) -> usize
     }
 }
 
-// How many spans leave the pool with the group of the head, where that has a page: only such a group is adopted or folded.
+// How many spans leave the pool with the group of the head, where that has a page: only such a
+// group is adopted or folded.
 pub(super) fn spans_to_come<L: Log>(pool: &Pool<L>, head: SpanId) -> usize
     ensures { (index : ℕ) (group : PooledState) → IsHeadOf pool.now.groups head index group
         → IsSome group.page → result ≡ length (spans_of group) }

@@ -15,12 +15,14 @@ use shard::Replaced;
 use span::{Key, Log};
 
 impl<L: Log> Core<L> {
-    /// Sets the key to the object of these words, where it is live and its object has as many words, and says whether it did:
-    /// what [`Core::step`] does with [`Event::Set`]. The words go to the page where the object stands, also while a plan is
-    /// open. Any number of words may be given. A free of the key takes no memory afterwards, as before.
+    /// Sets the key to the object of these words, where it is live and its object has as many
+    /// words, and says whether it did: what [`Core::step`] does with [`Event::Set`]. The words go
+    /// to the page where the object stands, also while a plan is open. Any number of words may be
+    /// given. A free of the key takes no memory afterwards, as before.
     ///
-    /// It is refused by [`Refusal::OutOfMemory`] alone, and only in place of `true`, where the log of the key's span could not
-    /// grow. A log that is only counted takes no memory, and refuses a set after 2^63 changes alone.
+    /// It is refused by [`Refusal::OutOfMemory`] alone, and only in place of `true`, where the log
+    /// of the key's span could not grow. A log that is only counted takes no memory, and refuses a
+    /// set after 2^63 changes alone.
     ///
     /// [`Event::Set`]: crate::Event::Set
     #[inline(always)]

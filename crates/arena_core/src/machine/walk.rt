@@ -8,8 +8,8 @@ ghost use Rattle.arena_core.specs.State.{shown};
 ghost use Rattle.span.specs.declared.limits.TheConstants.{ALL_IDS, MOST_SHARDS, MOST_SPANS};
 
 use super::Core;
-use abandoned::Pool;
 use groups::earlier;
+use pool::Pool;
 use shard::Shard;
 use span::{Key, Log, SpanId};
 

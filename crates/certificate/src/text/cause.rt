@@ -15,8 +15,8 @@ pub enum Cause {
     Form,
     /// A count, or an id's shard or serial, is outside its range, or a class is not 16, 64 or 256.
     Limit,
-    /// The last word of a group's line is not 64 lower-case hexadecimal digits, or has a slot that no page
-    /// of the group's class has.
+    /// The last word of a group's line is not 64 lower-case hexadecimal digits, or has a slot that
+    /// no page of the group's class has.
     Set,
     /// The id is not above the one before it in its list.
     Order,

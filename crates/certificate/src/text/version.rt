@@ -91,7 +91,8 @@ fn has_large_group(groups: &[Entry]) -> bool
 }
 
 fn has_large_pair(pairs: &[(SpanId, SpanId)]) -> bool
-    ensures { result ≡ list_any (λ p. is_large (id_parts p.0) || is_large (id_parts p.1)) pairs.now }
+    ensures { result ≡ list_any (λ p. is_large (id_parts p.0)
+        || is_large (id_parts p.1)) pairs.now }
 {
     pairs
         .iter()

@@ -111,7 +111,8 @@ fn entry_of(
     class: Result<Class, Cause>,
     set: &[u8],
 ) -> Result<Entry, Cause>
-    ensures entry { result_map entry_parts result ≡ entry_of (result_map id_parts id) class set.now }
+    ensures entry { result_map entry_parts result ≡ entry_of (result_map id_parts id) class
+        set.now }
     ensures fits { IfOk result FitsClass }
 {
     let (id, class) = both(id, class)?;

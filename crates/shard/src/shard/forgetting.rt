@@ -19,12 +19,14 @@ use groups::Directory;
 use span::Counted;
 
 impl Shard<Counted> {
-    /// Forgets each guest in which no slot is live, and answers how many. A guest takes no put, so none of its keys can be live
-    /// again: a look-up and a free of one no longer find its span. Heads stay, since they may take puts, and pages do. It takes no memory.
+    /// Forgets each guest in which no slot is live, and answers how many. A guest takes no put, so
+    /// none of its keys can be live again: a look-up and a free of one no longer find its span.
+    /// Heads stay, since they may take puts, and pages do. It takes no memory.
     pub fn forget(&mut self) -> usize
         ensures forgets { Forgets self.old result self.new }
         ensures at_most { result ≤ ALL_IDS }
-        ensures value { (key : Key) → (shown self.new).value_of key ≡ (shown self.old).value_of key }
+        ensures value { (key : Key) → (shown self.new).value_of key
+            ≡ (shown self.old).value_of key }
         ensures sound { IsSound self.new }
     {
         let before = self.span_count();
@@ -39,8 +41,9 @@ impl Shard<Counted> {
     }
 }
 
-// Has each group forget its guests in which no slot is live, and notes where the others stand then. Then gives back the room of groups that were folded, if half of it is enough
-// for the groups that are here and for those that room is reserved for.
+// Has each group forget its guests in which no slot is live, and notes where the others stand then.
+// Then gives back the room of groups that were folded, if half of it is enough for the groups that
+// are here and for those that room is reserved for.
 fn forget_all(
     groups: &mut Vec<Group<Counted>>,
     directory: &mut Directory,
@@ -98,7 +101,8 @@ fn forget_each(
     }
 }
 
-// Has the group forget its guests in which no slot is live. The entries of the others say where they stand then.
+// Has the group forget its guests in which no slot is live. The entries of the others say where
+// they stand then.
 fn forget_in(
     group: &mut Group<Counted>,
     directory: &mut Directory,

@@ -14,7 +14,8 @@ use crate::head_indexes::is_noted;
 use span::{Key, Log, SpanId};
 
 impl<L: Log> Shard<L> {
-    /// The words of the key's object, where it is live here. They are lent from the page, which all spans of a group share.
+    /// The words of the key's object, where it is live here. They are lent from the page, which all
+    /// spans of a group share.
     // Inlined, what is found stays in registers: a call passes it through memory.
     #[inline(always)]
     pub fn get(&self, key: &Key) -> Found<'_>
@@ -60,7 +61,8 @@ impl<L: Log> Shard<L> {
         Freed::Yes(at)
     }
 
-    /// The key of the span's lowest live slot from this one on, if one is live here. It takes no memory.
+    /// The key of the span's lowest live slot from this one on, if one is live here. It takes no
+    /// memory.
     pub fn first_from(&self, id: SpanId, slot: u32) -> Option<Key>
         ensures first { MatchOption result (HasNoneFrom (shown self.now) id slot)
             (IsFirstFrom (shown self.now) id slot) }
@@ -72,9 +74,10 @@ impl<L: Log> Shard<L> {
         self.groups[index].span_at(place).first_from(slot)
     }
 
-    // Where the span of the id stands: its group, and its place there. Tried first is the index that a head has
-    // while the shard has all groups that it opened, and no other, and then the one that is noted for it. That much is inlined,
-    // so that the place stays in registers; a call would pass it through memory.
+    // Where the span of the id stands: its group, and its place there. Tried first is the index
+    // that a head has while the shard has all groups that it opened, and no other, and then the one
+    // that is noted for it. That much is inlined, so that the place stays in registers; a call
+    // would pass it through memory.
     #[inline(always)]
     pub(super) fn find(&self, id: SpanId) -> Option<(usize, usize)>
         ensures sound { IsSound self.now }
@@ -104,8 +107,10 @@ impl<L: Log> Shard<L> {
     // Whether the group at the index, if there is one, has this head.
     #[inline(always)]
     fn is_head(&self, index: usize, head: SpanId) -> bool
-        ensures yes { result ≡ true → (group : GroupState) × IsHeadOf self.now.groups head index group }
-        ensures no { result ≡ false → (group : GroupState) → IsHeadOf self.now.groups head index group
+        ensures yes { result ≡ true → (group : GroupState)
+            × IsHeadOf self.now.groups head index group }
+        ensures no { result ≡ false → (group : GroupState)
+            → IsHeadOf self.now.groups head index group
             → ⊥ }
         ensures sound { IsSound self.now }
     {
@@ -142,8 +147,8 @@ impl<L: Log> Shard<L> {
         group.span_at(place + 1).id() == guest
     }
 
-    // The index that is noted for the head, and whether it is one of those that the shard notes: its group stands there, if
-    // there is one.
+    // The index that is noted for the head, and whether it is one of those that the shard notes:
+    // its group stands there, if there is one.
     #[inline(always)]
     fn noted_index(&self, head: SpanId) -> (usize, bool)
         ensures { result.1 ≡ true → (index : ℕ) (group : GroupState)
@@ -156,9 +161,10 @@ impl<L: Log> Shard<L> {
         }
     }
 
-    // The same of a span that is no head at the index that is noted for it; past all groups where it stands nowhere. A head that
-    // is not noted is found by halving, and all else goes by the directory. Two numbers come back in registers, and an option
-    // of them through memory, which a caller clears before it knows whether it asks.
+    // The same of a span that is no head at the index that is noted for it; past all groups where
+    // it stands nowhere. A head that is not noted is found by halving, and all else goes by the
+    // directory. Two numbers come back in registers, and an option of them through memory, which a
+    // caller clears before it knows whether it asks.
     #[inline(never)]
     fn find_moved(&self, id: SpanId, is_noted: bool) -> (usize, usize)
         requires { is_noted ≡ true → HasNoHead self.now.groups id }
@@ -173,7 +179,8 @@ impl<L: Log> Shard<L> {
         self.find_guest(id)
     }
 
-    // The index of the head, if it is none of those that the shard notes; past all groups where none has it.
+    // The index of the head, if it is none of those that the shard notes; past all groups where
+    // none has it.
     fn far_index(&self, head: SpanId, is_noted: bool) -> usize
         requires { is_noted ≡ true → HasNoHead self.now.groups head }
         ensures elsewhere { length self.now.groups ≤ result → HasNoHead self.now.groups head }

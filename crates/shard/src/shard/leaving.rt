@@ -14,9 +14,10 @@ use span::{Log, SpanId};
 use std::mem::replace;
 
 impl<L: Log> Shard<L> {
-    /// The group of the head leaves, with its guests and its page, and no other moves up: where it stood stays a place of no
-    /// account, until [`Shard::sweep`] drops all such places. So many that leave cost a walk together, where each
-    /// [`Shard::lift`] costs one. `None` where the shard does not have the group, or it has left. It takes no memory.
+    /// The group of the head leaves, with its guests and its page, and no other moves up: where it
+    /// stood stays a place of no account, until [`Shard::sweep`] drops all such places. So many
+    /// that leave cost a walk together, where each [`Shard::lift`] costs one. `None` where the
+    /// shard does not have the group, or it has left. It takes no memory.
     pub fn lift_aside(&mut self, head: SpanId) -> Option<Whole<L>>
         ensures lifts { Lifts (swept self.old) head result (swept self.new) }
         ensures sound { IsSound self.new }
@@ -46,7 +47,8 @@ impl<L: Log> Shard<L> {
     }
 }
 
-// Has the sets name the groups that have not left by the indexes that they get where the others' places go.
+// Has the sets name the groups that have not left by the indexes that they get where the others'
+// places go.
 fn sweep_rooms<L: Log>(groups: &[Group<L>], rooms: &mut ClassRooms)
     requires has { (class : Class) → HasRooms class groups.now (rooms_of rooms.old class) }
     requires room { (class : Class) → length groups.now ≤ room_of rooms.old class }

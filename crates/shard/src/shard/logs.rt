@@ -22,8 +22,9 @@ impl<L: Log> Shard<L> {
 }
 
 impl Shard<Kept> {
-    /// Moves the log of each of its spans, heads and guests by ascending head, to the end of a list with room for them,
-    /// when its run is over: of open groups and closed, and of all, whether it has ended or not. It takes no memory.
+    /// Moves the log of each of its spans, heads and guests by ascending head, to the end of a list
+    /// with room for them, when its run is over: of open groups and closed, and of all, whether it
+    /// has ended or not. It takes no memory.
     pub fn into_logs(self, logs: &mut Vec<SpanLog>)
         requires room { length (spans_in self.groups) ≤ room_for_logs logs.old }
         ensures logs { map span_of_log logs.new.items ≡ map span_of_log logs.old.items

@@ -14,13 +14,15 @@ use page::Page;
 use span::{Class, Key, Log, Object, Span, SpanId};
 
 impl<L: Log> Shard<L> {
-    /// Keeps the object at the lowest usable slot of the open group of its class of lowest head that has one, and where there
-    /// is none, at slot 0 of a span that it opens on a new page. It gives the key, which the group's head gives
-    /// out, and the number of changes that the head's log had before.
+    /// Keeps the object at the lowest usable slot of the open group of its class of lowest head
+    /// that has one, and where there is none, at slot 0 of a span that it opens on a new page. It
+    /// gives the key, which the group's head gives out, and the number of changes that the head's
+    /// log had before.
     ///
-    /// It is refused with `Ended` exactly after the shard's end, and with `PagesSpent` exactly where it has not
-    /// ended, no open group has a usable slot, and it has as many groups as it may have pages, or has opened as many spans as it may.
-    /// With `OutOfMemory` an allocation was refused; each stands before the first change.
+    /// It is refused with `Ended` exactly after the shard's end, and with `PagesSpent` exactly
+    /// where it has not ended, no open group has a usable slot, and it has as many groups as it may
+    /// have pages, or has opened as many spans as it may. With `OutOfMemory` an allocation was
+    /// refused; each stands before the first change.
     pub fn put(&mut self, object: Object) -> Result<(Key, usize), PutError>
         ensures ok { IfOk result (λ made.
             Puts self.old (class_of object) object made.0 made.1 self.new) }
@@ -36,8 +38,8 @@ impl<L: Log> Shard<L> {
         self.put_words(object.class(), object.words())
     }
 
-    /// What [`Shard::put`] does with the object of these words, which are as many as the class has: they are copied to the
-    /// page from where they stand, and no object is made.
+    /// What [`Shard::put`] does with the object of these words, which are as many as the class has:
+    /// they are copied to the page from where they stand, and no object is made.
     // Inlined, a caller's class is a constant in it, and what it answers stays in registers.
     #[inline(always)]
     pub fn put_words(&mut self, class: Class, words: &[u128]) -> Result<(Key, usize), PutError>
@@ -59,8 +61,8 @@ impl<L: Log> Shard<L> {
             let group = &mut self.groups[index];
             let at = group.span_at(0).changes();
             if let Some(Placed { key, is_full }) = group.put(self.alloc, class, words)? {
-                // A group that is full now leaves the set at once, by what is known of it in registers and without a branch: every other
-                // put would look there first.
+                // A group that is full now leaves the set at once, by what is known of it in
+                // registers and without a branch: every other put would look there first.
                 self.rooms.remove_if(class, index, is_full);
                 return Ok((key, at));
             }
@@ -73,8 +75,9 @@ impl<L: Log> Shard<L> {
         Ok((key, 0))
     }
 
-    // Opens a span on a new page, with the value at its first slot. The new head, its page, the list of groups and the sets of
-    // those with room grow before the shard changes. No other group has room, so its own is the only one that may have.
+    // Opens a span on a new page, with the value at its first slot. The new head, its page, the
+    // list of groups and the sets of those with room grow before the shard changes. No other group
+    // has room, so its own is the only one that may have.
     #[inline(never)]
     fn put_in_new(&mut self, class: Class, words: &[u128]) -> Result<Key, PutError>
         requires width { length words.now ≡ width_of class }

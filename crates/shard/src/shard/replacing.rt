@@ -21,13 +21,14 @@ pub enum Replaced {
 }
 
 impl<L: Log> Shard<L> {
-    /// Sets the key's object to these words in place, where the key is live here and its object has as many. A closed group
-    /// takes sets, and so does a guest. A free of the key takes no memory afterwards, as before.
+    /// Sets the key's object to these words in place, where the key is live here and its object has
+    /// as many. A closed group takes sets, and so does a guest. A free of the key takes no memory
+    /// afterwards, as before.
     ///
     /// # Errors
     ///
-    /// `AllocError` in place of `Yes`, where the span's log could not grow. The shard is then as it was. A log that is only
-    /// counted takes no memory, and refuses a set after 2^63 changes alone.
+    /// `AllocError` in place of `Yes`, where the span's log could not grow. The shard is then as it
+    /// was. A log that is only counted takes no memory, and refuses a set after 2^63 changes alone.
     pub fn set(&mut self, key: &Key, words: &[u128]) -> Result<Replaced, AllocError>
         ensures step { IfOk result (λ answer. Sets self.old key.now words.now answer self.new) }
         ensures found { IfOk result (λ answer. was_replaced answer

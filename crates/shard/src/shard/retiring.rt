@@ -24,8 +24,8 @@ pub struct LiveGroup {
 }
 
 impl<L: Log> Shard<L> {
-    /// Up to so many groups with a live key: those with the fewest first, and of those with as many the one of lowest head.
-    /// The others are looked at once, and not put into order.
+    /// Up to so many groups with a live key: those with the fewest first, and of those with as many
+    /// the one of lowest head. The others are looked at once, and not put into order.
     ///
     /// # Errors
     ///

@@ -12,8 +12,9 @@ use span::Log;
 use std::alloc::AllocError;
 
 impl<L: Log> Shard<L> {
-    /// Gives back the page of each open group in which no slot is live, and answers how many went. The groups stay, and with
-    /// them their keys' generations: a later put into one of them opens a page for it. A closed group keeps its page. It takes no memory.
+    /// Gives back the page of each open group in which no slot is live, and answers how many went.
+    /// The groups stay, and with them their keys' generations: a later put into one of them opens a
+    /// page for it. A closed group keeps its page. It takes no memory.
     pub fn trim(&mut self) -> usize
         ensures trims { Trims self.old result self.new }
         ensures plain { shown self.new ≡ shown self.old }
@@ -22,8 +23,9 @@ impl<L: Log> Shard<L> {
         trim_all(&mut self.groups)
     }
 
-    /// Moves the page of the group at the index, if it has one, to a block that it asks for now, and changes nothing else. A source of
-    /// pages that hands out its lowest free block first can so empty its upper end.
+    /// Moves the page of the group at the index, if it has one, to a block that it asks for now,
+    /// and changes nothing else. A source of pages that hands out its lowest free block first can
+    /// so empty its upper end.
     ///
     /// # Errors
     ///

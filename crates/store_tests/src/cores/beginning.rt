@@ -9,8 +9,8 @@ fn begin(shard: u32) -> Event {
     Event::Begin { shard }
 }
 
-// Serials go on from where they stood, also once the shard has adopted what it had before. A begin of a shard that runs is
-// refused, and so is one of none.
+// Serials go on from where they stood, also once the shard has adopted what it had before. A begin
+// of a shard that runs is refused, and so is one of none.
 fn totals_after_begins(alloc: Global) -> Option<Totals> {
     let (first, second) = (key(0, 0, 0, 1)?, key(0, 1, 0, 1)?);
     let (beside, third) = (key(0, 0, 1, 1)?, key(0, 2, 0, 1)?);
@@ -45,8 +45,8 @@ fn a_shard_that_begins_again_issues_no_key_twice(rt: HostRuntime) {
     );
 }
 
-// The shard begins while a plan is open that folds its group of before, and ends and begins once more. Keys of before find
-// their objects, and those that were sent to the shard are settled.
+// The shard begins while a plan is open that folds its group of before, and ends and begins once
+// more. Keys of before find their objects, and those that were sent to the shard are settled.
 fn totals_beside_a_plan(alloc: Global) -> Option<Totals> {
     let (first, second, third) = (key(0, 0, 0, 1)?, key(0, 1, 0, 1)?, key(0, 2, 0, 1)?);
     let (freed, other) = (key(1, 0, 0, 1)?, key(1, 0, 1, 1)?);

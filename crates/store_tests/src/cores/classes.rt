@@ -11,7 +11,8 @@ fn put_object(shard: u32, value: Object) -> Event {
     Event::Put { shard, value }
 }
 
-// A group of each class goes to the pool. The one of 64 bytes is folded onto one of its class, and each key finds its object.
+// A group of each class goes to the pool. The one of 64 bytes is folded onto one of its class, and
+// each key finds its object.
 fn totals_after_a_fold(alloc: Global) -> Option<Totals> {
     let (small, middle, large) = (key(0, 0, 0, 1)?, key(0, 1, 0, 1)?, key(0, 2, 0, 1)?);
     let (freed, onto, other) = (key(1, 0, 0, 1)?, key(1, 0, 1, 1)?, key(1, 1, 0, 1)?);
@@ -48,7 +49,8 @@ fn groups_of_one_class_share_a_page(rt: HostRuntime) {
     );
 }
 
-// A page of one class takes no object of another: the second class of a shard of one page is refused, and the first is not.
+// A page of one class takes no object of another: the second class of a shard of one page is
+// refused, and the first is not.
 fn totals_on_one_page(alloc: Global) -> Option<Totals> {
     let (first, second) = (key(0, 0, 0, 1)?, key(0, 0, 1, 1)?);
     let table = [

@@ -31,7 +31,8 @@ fn look_gone(key: Key) -> (Event, Told) {
     (Event::Get { key }, Told::Found(None))
 }
 
-// The keys of three spans that come to share a page: of the first guest, of the head, and of the second guest.
+// The keys of three spans that come to share a page: of the first guest, of the head, and of the
+// second guest.
 fn keys() -> Option<[Key; 3]> {
     Some([key(0, 0, 1, 1)?, key(1, 0, 0, 1)?, key(2, 0, 2, 1)?])
 }
@@ -74,7 +75,8 @@ fn is_put_alone(core: &mut Core<Counted>, shard: u32, slot: u8) -> bool {
     true
 }
 
-// Whether the key's span is folded onto the head's group, and nothing is forgotten before the plan is closed.
+// Whether the key's span is folded onto the head's group, and nothing is forgotten before the plan
+// is closed.
 fn is_guest(core: &mut Core<Counted>, guest: Key, head: Key) -> bool {
     is_put_alone(core, guest.span.shard, guest.slot)
         && is_folded(core, guest, head)
@@ -83,7 +85,8 @@ fn is_guest(core: &mut Core<Counted>, guest: Key, head: Key) -> bool {
         && forget(core) == Ok(0)
 }
 
-// Whether the first guest is forgotten once its key is freed, and the head and the second guest answer as before.
+// Whether the first guest is forgotten once its key is freed, and the head and the second guest
+// answer as before.
 fn is_forgotten(core: &mut Core<Counted>, keys: [Key; 3], next: [Key; 2]) -> bool {
     let [first, head, second] = keys;
     let [in_head, anew] = next;
@@ -140,7 +143,8 @@ fn end(shard: u32) -> (Event, Told) {
     (Event::End { shard }, Told::ShardEnded)
 }
 
-// The counts of what is forgotten once all shards have ended: while the guest's key alone is live, once none is, and then.
+// The counts of what is forgotten once all shards have ended: while the guest's key alone is live,
+// once none is, and then.
 fn are_all_forgotten(core: &mut Core<Counted>, guest: Key, head: Key) -> Option<[usize; 3]> {
     let ends = [
         end(0),

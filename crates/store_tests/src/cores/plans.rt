@@ -24,8 +24,8 @@ fn is_given(core: &mut Core, number: u32) -> bool {
     are_answered(core, table.as_slice())
 }
 
-// Whether the pool gets a group that may be folded onto the first group of shard 1, to which each shard past that one
-// gives a group.
+// Whether the pool gets a group that may be folded onto the first group of shard 1, to which each
+// shard past that one gives a group.
 fn is_made(core: &mut Core, keys: [Key; 3], shards: u32) -> bool {
     let [freed, folded, kept] = keys;
     if answer(core, &put(1, 7)) != Some(Told::Issued(kept)) {
@@ -55,8 +55,8 @@ fn looks(keys: [Key; 3]) -> [(Event, Told); 3] {
     ]
 }
 
-// Whether a mark plans that many folds. Where an allocation was refused, no plan is open and nothing is lost, and the mark is
-// asked again.
+// Whether a mark plans that many folds. Where an allocation was refused, no plan is open and
+// nothing is lost, and the mark is asked again.
 fn is_marked(core: &mut Core, looks: &[(Event, Told)], pairs: usize) -> bool {
     let before = core.totals();
     let first = tell(&core.step(Event::Mark));
@@ -74,8 +74,8 @@ fn is_made_and_marked(core: &mut Core, keys: [Key; 3], shards: u32) -> bool {
     is_made(core, keys, shards) && is_marked(core, looks(keys).as_slice(), 1)
 }
 
-// Whether a step folds the one pair. Where an allocation was refused, the plan stays open, the pair stays next and nothing is
-// lost, and the step is asked again.
+// Whether a step folds the one pair. Where an allocation was refused, the plan stays open, the pair
+// stays next and nothing is lost, and the step is asked again.
 fn is_stepped(core: &mut Core, keys: [Key; 3]) -> bool {
     let [freed, _, kept] = keys;
     let before = core.totals();
@@ -196,8 +196,8 @@ fn are_put(core: &mut Core, shard: u32, slots: u8) -> bool {
     true
 }
 
-// Whether the first of the pool's groups may be folded onto either of the others, and the second onto the first of them
-// alone.
+// Whether the first of the pool's groups may be folded onto either of the others, and the second
+// onto the first of them alone.
 fn are_left(core: &mut Core) -> Option<bool> {
     let table = [
         (

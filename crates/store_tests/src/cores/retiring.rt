@@ -1,4 +1,5 @@
-// Groups of a running shard that go to the pool, are folded onto those that it keeps, and come back.
+// Groups of a running shard that go to the pool, are folded onto those that it keeps, and come
+// back.
 use super::{Told, found, key, put, totals_after};
 use arena_core::{Event, Refusal};
 use fold::Step;
@@ -9,8 +10,8 @@ fn retire(shard: u32, most: usize) -> Event {
     Event::Retire { shard, most }
 }
 
-// One shard with two groups, of two live keys and of one, no two at the same slot: the sparser one goes, is folded onto the other, and
-// the other goes and comes back.
+// One shard with two groups, of two live keys and of one, no two at the same slot: the sparser one
+// goes, is folded onto the other, and the other goes and comes back.
 fn totals_after_retiring(alloc: Global) -> Option<Totals> {
     let (freed, first, second) = (key(0, 0, 0, 1)?, key(0, 0, 1, 1)?, key(0, 0, 2, 1)?);
     let other = key(1, 0, 0, 1)?;
@@ -47,7 +48,8 @@ fn a_running_shard_folds(rt: HostRuntime) {
     );
 }
 
-// A shard with no group, with one that has no live key, and with one that has; one that has ended, and none.
+// A shard with no group, with one that has no live key, and with one that has; one that has ended,
+// and none.
 fn totals_after_refusals(alloc: Global) -> Option<Totals> {
     let (first, second) = (key(0, 0, 0, 1)?, key(0, 0, 0, 2)?);
     let table = [

@@ -21,7 +21,8 @@ fn look_gone(key: Key) -> (Event, Told) {
     (Event::Get { key }, Told::Found(None))
 }
 
-// A key of a shard that goes on, of the pool, and of a shard that adopted its group; and stale keys of each.
+// A key of a shard that goes on, of the pool, and of a shard that adopted its group; and stale keys
+// of each.
 fn totals_after_moves(alloc: Global) -> Option<Totals> {
     let (stale, first) = (key(0, 0, 0, 1)?, key(0, 0, 0, 2)?);
     let (never, nowhere) = (key(0, 3, 0, 1)?, key(7, 0, 0, 1)?);
@@ -63,8 +64,8 @@ fn a_key_is_set_wherever_it_is(rt: HostRuntime) {
     );
 }
 
-// A key of each side of a pair, set between the mark and the step; after it, where one of them is a guest, in the shard and in the
-// pool.
+// A key of each side of a pair, set between the mark and the step; after it, where one of them is a
+// guest, in the shard and in the pool.
 fn totals_after_a_fold(alloc: Global) -> Option<Totals> {
     let (freed, folded) = (key(0, 0, 0, 1)?, key(0, 0, 1, 1)?);
     let (kept, hole) = (key(1, 0, 0, 1)?, key(1, 0, 1, 1)?);

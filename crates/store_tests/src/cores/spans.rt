@@ -30,8 +30,8 @@ fn each_shard_may_open_a_span_at_least(rt: HostRuntime) {
     assert_eq!(rt; said, [false, true, true]);
 }
 
-// A third span is refused in one shard, which goes on with the groups that it has, and opened in the other. Whoever adopts opens
-// none.
+// A third span is refused in one shard, which goes on with the groups that it has, and opened in
+// the other. Whoever adopts opens none.
 fn totals_of_two_spans(alloc: Global) -> Option<Totals> {
     let (first, second) = (key(0, 0, 0, 1)?, key(0, 1, 0, 1)?);
     let (other, next) = (key(1, 0, 0, 1)?, key(0, 0, 1, 1)?);

@@ -44,8 +44,8 @@ fn is_trimmed(core: &mut Core, keys: [Key; 2]) -> bool {
     are_answered(core, table.as_slice())
 }
 
-// Whether a put opens the page anew. Where an allocation was refused, there still is no page and no key, and the put is asked
-// again.
+// Whether a put opens the page anew. Where an allocation was refused, there still is no page and no
+// key, and the put is asked again.
 fn is_put_anew(core: &mut Core, looks: &[(Event, Told)], made: Key) -> bool {
     let before = core.totals();
     let first = tell(&core.step(put(0, 7)));
@@ -86,8 +86,8 @@ fn a_page_goes_and_comes_again(rt: HostRuntime) {
     assert_eq!(rt; one_trim(rt.alloc()), Some(wanted));
 }
 
-// A group with no page still is one of those that the shard may have: it takes a key of its own class alone, and no other group
-// comes.
+// A group with no page still is one of those that the shard may have: it takes a key of its own
+// class alone, and no other group comes.
 fn totals_of_one_group(alloc: Global) -> Option<Totals> {
     let (first, second, other) = (key(0, 0, 0, 1)?, key(0, 0, 0, 2)?, key(1, 0, 0, 1)?);
     let value = wide(8);
@@ -149,8 +149,8 @@ fn a_group_with_no_page_ends(rt: HostRuntime) {
     );
 }
 
-// A mark sees no group without a page. The one that it folds onto keeps its page until the close, and then gives it back when its
-// guest's key is freed.
+// A mark sees no group without a page. The one that it folds onto keeps its page until the close,
+// and then gives it back when its guest's key is freed.
 fn totals_of_marks(alloc: Global) -> Option<Totals> {
     let (freed, folded) = (key(0, 0, 0, 1)?, key(0, 0, 1, 1)?);
     let (emptied, kept) = (key(1, 0, 0, 1)?, key(1, 0, 0, 2)?);

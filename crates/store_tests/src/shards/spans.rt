@@ -43,8 +43,8 @@ fn puts(shard: &mut Shard) -> ([Put; 3], [Put; 3]) {
     (first, second)
 }
 
-// What these puts are told by a shard that may open two spans, whose pages, live keys and opened spans come then, and what its
-// last key finds.
+// What these puts are told by a shard that may open two spans, whose pages, live keys and opened
+// spans come then, and what its last key finds.
 fn puts_of_two_spans(alloc: Global) -> Option<([Put; 3], [Put; 3], (usize, usize), u32, Sought)> {
     let mut shard = shard_of_spans(alloc, 2)?;
     let (first, second) = puts(&mut shard);

@@ -20,13 +20,15 @@ fn are_paged(shard: &Shard) -> Option<[bool; 3]> {
     Some([shard.is_paged(0), shard.is_paged(1), shard.is_paged(2)])
 }
 
-// What is seen of the shard: its pages and live keys, its first groups that have a page, and what the key finds.
+// What is seen of the shard: its pages and live keys, its first groups that have a page, and what
+// the key finds.
 fn look(shard: &Shard, key: &Key) -> ((usize, usize), [Option<(SpanId, u32)>; 2], Sought) {
     let groups = [listed(shard, 0), listed(shard, 1)];
     (sizes(shard), groups, get(shard, key))
 }
 
-// Puts onto a group with no page. Where memory was refused, nothing has changed, and it puts the second time.
+// Puts onto a group with no page. Where memory was refused, nothing has changed, and it puts the
+// second time.
 fn put_anew(shard: &mut Shard, value: Object, old: &Key) -> Put {
     let before = look(shard, old);
     let made = put_once(shard, value);

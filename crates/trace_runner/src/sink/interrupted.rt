@@ -7,8 +7,9 @@ ghost use Rattle.std.specs.declared.io.ErrorKind.TheVariants.{Interrupted};
 
 use std::io::{self, ErrorKind, Write};
 
-/// Writes a prefix of the bytes, and answers how many. A write that was interrupted has taken none of them, and is made again, as
-/// std's `write_all` does; a writer that is interrupted for ever has failed.
+/// Writes a prefix of the bytes, and answers how many. A write that was interrupted has taken none
+/// of them, and is made again, as std's `write_all` does; a writer that is interrupted for ever has
+/// failed.
 pub(super) fn write_once<W: Write>(writer: &mut W, bytes: &[u8]) -> io::Result<usize>
     ensures bound { WritesAtMost result bytes.now }
     ensures written { WriteAppends (W.contents writer.old) (W.contents writer.new) result

@@ -68,7 +68,8 @@ fn push_answer(out: &mut Vec<u8>, answer: &Answer) -> Result<(), AllocError>
     }
 }
 
-/// Adds the line of an answer to the text. It stays out of line, so that a call whose answer isn't told doesn't pay for it.
+/// Adds the line of an answer to the text. It stays out of line, so that a call whose answer isn't
+/// told doesn't pay for it.
 #[inline(never)]
 pub(crate) fn push_answer_line(
     out: &mut Vec<u8>,
@@ -86,8 +87,8 @@ pub(crate) fn push_answer_line(
     out.extend_from_slice(b"\n")
 }
 
-/// Adds a line for each answer to the text, in their order, where `replies` asks for them. `AllocError` comes where memory
-/// runs out.
+/// Adds a line for each answer to the text, in their order, where `replies` asks for them.
+/// `AllocError` comes where memory runs out.
 pub fn push_answers(
     out: &mut Vec<u8>,
     replies: bool,

@@ -1,4 +1,5 @@
-//! Writes the news of plans: what a mark planned and why no plan has more pairs, and how a plan was carried out.
+//! Writes the news of plans: what a mark planned and why no plan has more pairs, and how a plan was
+//! carried out.
 
 ghost use Rattle.std.specs.Prelude.{◌≡◌, ◌++◌, OnOk, codes, decimal};
 ghost use Rattle.std.specs.List.{flat_map};
@@ -141,7 +142,8 @@ fn push_too_many(out: &mut Vec<u8>, mark: usize) -> Result<(), AllocError>
     out.extend_from_slice(b" refused many\n")
 }
 
-/// Adds news of a plan to the text, with its steps where `replies` asks for them. `AllocError` comes where memory runs out.
+/// Adds news of a plan to the text, with its steps where `replies` asks for them. `AllocError`
+/// comes where memory runs out.
 pub fn push_news(out: &mut Vec<u8>, replies: bool, news: &PlanNews) -> Result<(), AllocError>
     ensures { OnOk result (out.new.items ≡ out.old.items ++ news_text replies news.now) }
 {

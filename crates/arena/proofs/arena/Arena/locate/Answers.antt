@@ -1,5 +1,5 @@
 use Rattle.std.proofs.Common.{◌↔◌, IsTrue, subst}
-use Rattle.abandoned.specs.State.{PoolState}
+use Rattle.pool.specs.State.{PoolState}
 use Rattle.groups.specs.Group.{IsElsewhere}
 use Rattle.arena.proofs.Elsewhere.{IsElsewhere-not_had}
 use Rattle.arena.proofs.arena.Arena.locate.Goals as goal

@@ -1,5 +1,5 @@
 use Rattle.std.proofs.Common.{◌≡◌, IfOk, None, refl, subst}
-use Rattle.abandoned.specs.Calls.{Sets as SetsPooled}
+use Rattle.pool.specs.Calls.{Sets as SetsPooled}
 use Rattle.shard.specs.declared.shard.replacing.Replaced.{Replaced}
 use Rattle.arena.proofs.Elsewhere.{SetsPooled-elsewhere}
 use Rattle.arena.specs.Told.{set_told}

@@ -39,7 +39,7 @@ use Rattle.span.specs.contracts.log.CountedLog.TheImpl as log
 use Rattle.std.specs.contracts.alloc.Global as global
 use Rattle.std.specs.contracts.impls.GlobalAllocator.TheImpl as allocator
 use Rattle.std.specs.contracts.vec.Vec as vec
-use Rattle.abandoned.specs.contracts.pool.Pool as pool
+use Rattle.pool.specs.contracts.pool.Pool as pool
 
 -- the list of shards that is lent
 abbrev lent : RattleType

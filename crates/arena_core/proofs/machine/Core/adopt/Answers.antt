@@ -1,8 +1,8 @@
 use Rattle.std.proofs.Common.{◌≡◌, ◌≢◌, ◌↔◌, ◌∙◌, true, false, length, slice_get, Some, Err, ap, refl, subst}
 use Rattle.std.proofs.lemmas.Result.{err_from_is_err_and}
-use Rattle.abandoned.specs.Calls.{Adopts, HasNothingToAdopt, IsDoubled}
-use Rattle.abandoned.specs.State.{PoolState}
-use Rattle.abandoned.specs.declared.error.AdoptError.TheVariants as adopt_error
+use Rattle.pool.specs.Calls.{Adopts, HasNothingToAdopt, IsDoubled}
+use Rattle.pool.specs.State.{PoolState}
+use Rattle.pool.specs.declared.error.AdoptError.TheVariants as adopt_error
 use Rattle.arena_core.specs.declared.event.Event.TheVariants.{Adopt}
 use Rattle.arena_core.specs.declared.reply.Refusal.TheVariants.{OutOfMemory}
 use Rattle.arena_core.specs.declared.reply.Reply.TheVariants.{Adopted, Refused}

@@ -1,7 +1,7 @@
 use Rattle.std.proofs.Common.{subst}
 use Rattle.std.specs.Prelude.{MatchOption}
 use Rattle.span.specs.Order.{HasNoneFrom, IsFirstFrom}
-use Rattle.abandoned.specs.Shown.{shown as shown_by_pool}
+use Rattle.pool.specs.Shown.{shown as shown_by_pool}
 use Rattle.arena_core.specs.Sound.{IsSound}
 use Rattle.arena_core.specs.State.{CoreState}
 use Rattle.arena_core.proofs.NextLive.{first-pool}

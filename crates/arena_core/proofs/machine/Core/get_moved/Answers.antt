@@ -1,5 +1,5 @@
 use Rattle.std.proofs.Common.{ap, refl, sym, ◌∙◌}
-use Rattle.abandoned.specs.Shown.{shown as shown_by_pool}
+use Rattle.pool.specs.Shown.{shown as shown_by_pool}
 use Rattle.arena_core.specs.State.{CoreState}
 use Rattle.arena_core.proofs.Moved.{value-no_other}
 use Rattle.arena_core.proofs.machine.Core.get_moved.Goals as goal

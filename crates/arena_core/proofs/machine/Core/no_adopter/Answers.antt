@@ -1,6 +1,6 @@
 use Rattle.std.proofs.Common.{ap, refl, subst, sym, ◌∙◌}
 use Rattle.std.proofs.option.Match.{None-if_not_some}
-use Rattle.abandoned.specs.Calls.{HasNothingToAdopt}
+use Rattle.pool.specs.Calls.{HasNothingToAdopt}
 use Rattle.arena_core.specs.Sound.{IsSound}
 use Rattle.arena_core.specs.State.{CoreState}
 use Rattle.arena_core.proofs.Moves.{HasNothingToAdopt-unpaged, may_take-nowhere, past_last, unpaged-HasNothingToAdopt}

@@ -4,7 +4,7 @@ use Rattle.std.proofs.lemmas.List.{take_all}
 use Rattle.std.proofs.lemmas.List.Sums.{sum_by_more}
 use Rattle.groups.specs.Group.{paged_in}
 use Rattle.shard.specs.State.{ShardState}
-use Rattle.abandoned.specs.State.{PooledState}
+use Rattle.pool.specs.State.{PooledState}
 use Rattle.arena_core.proofs.Fields.{IsFew, IsFew-fields}
 use Rattle.arena_core.proofs.Lists.{length-filter_most}
 use Rattle.arena_core.specs.Sound.{IsSound}

@@ -2,7 +2,7 @@ use Rattle.std.proofs.Common.{◌≡◌, ◌∙◌, None, ap, arith, length, ref
 use Rattle.std.proofs.lemmas.List.{length-append}
 use Rattle.std.proofs.option.Match.{None-if_not_some}
 use Rattle.span.specs.declared.log.Counted.{Counted}
-use Rattle.abandoned.specs.Forgets.{gone_from}
+use Rattle.pool.specs.Forgets.{gone_from}
 use Rattle.arena_core.specs.Forgets.{dead_owned, dead_spans, with_forgotten}
 use Rattle.arena_core.specs.Kept.{IsKept, state_of}
 use Rattle.arena_core.specs.Moved.{KeepsStanding}

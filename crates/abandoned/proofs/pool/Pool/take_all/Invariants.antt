@@ -1,9 +1,0 @@
-use Rattle.std.proofs.Common.{length}
-use Rattle.abandoned.proofs.Moving.{IsMoving}
-use Rattle.abandoned.proofs.pool.Pool.take_all.Given as goal
-
-abbrev pub invariant-loop-whole : goal.invariant-loop-whole
-invariant-loop-whole g l = IsMoving l.initial.self l.initial.shard l.self l.shard
-
-abbrev pub decreases-loop-whole : goal.decreases-loop-whole
-decreases-loop-whole g l = length l.shard.groups

@@ -1,6 +1,0 @@
-use Rattle.shard.specs.Leaving.{swept}
-use Rattle.abandoned.proofs.Retiring.{IsRetiring}
-use Rattle.abandoned.proofs.pool.Pool.take_going.Given as goal
-
-abbrev pub invariant-loop-one : goal.invariant-loop-one
-invariant-loop-one g l = IsRetiring l.initial.self (swept l.initial.shard) l.going l.one-index l.self (swept l.shard)

@@ -1,9 +1,0 @@
-use Rattle.std.proofs.Common.{◌≡◌, ◌<◌, ℕ, ◌⊎◌, Some, slice_get}
-use Rattle.span.specs.State.{SpanState}
-use Rattle.groups.specs.Spans.{all_spans}
-use Rattle.groups.specs.Group.{IsElsewhere}
-use Rattle.abandoned.specs.Calls.{MayOpen}
-use Rattle.abandoned.proofs.pool.handover.is_doubled.Given as goal
-
-abbrev pub invariant-loop-place : goal.invariant-loop-place
-invariant-loop-place g l = (other : ℕ) (span : SpanState) → other < l.place → slice_get (all_spans l.spans) other ≡ Some span → MayOpen l.shard span.id ⊎ (IsElsewhere l.shard.groups span.id → ⊥) → ⊥

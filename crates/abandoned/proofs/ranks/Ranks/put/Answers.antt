@@ -1,6 +1,0 @@
-use Rattle.std.proofs.lemmas.List.Sorted.{IsPermutation-map}
-use Rattle.abandoned.proofs.NotedRanks.{number}
-use Rattle.abandoned.proofs.ranks.Ranks.put.Goals as goal
-
-pub returns-clause-more : goal.returns-clause-more
-returns-clause-more c = rw (← c.self.view_is) (IsPermutation-map number _ _ c.in-Ok.ensures.permutation)

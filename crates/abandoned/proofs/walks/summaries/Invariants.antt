@@ -1,8 +1,0 @@
-use Rattle.std.proofs.Common.{◌≡◌, map, take}
-use Rattle.std.specs.Prelude.{filter}
-use Rattle.groups.specs.Group.{summary}
-use Rattle.abandoned.proofs.Walked.{paged}
-use Rattle.abandoned.proofs.walks.summaries.Given as goal
-
-abbrev pub invariant-loop-group : goal.invariant-loop-group
-invariant-loop-group g l = l.list.items ≡ map summary (filter paged (take l.group-index l.groups))

@@ -1,0 +1,32 @@
+-- A group after a free in one of its spans: its head, and its page.
+use Rattle.std.proofs.Common.{zero, suc, ◌≡◌, ℕ, Bool, true, false, Some, is_some, slice_get, ap, sym, subst, ◌∙◌, refl, inl, inr}
+use Rattle.std.specs.Bool.{OnFalse, OnTrue}
+use Rattle.std.specs.Prelude.{IsSome}
+use Rattle.std.proofs.lemmas.Bool.{false≢true}
+use Rattle.span.specs.State.{SpanState}
+use Rattle.groups.specs.Group.{spans_of, with_span}
+use Rattle.groups.specs.Spans.{union_of}
+use Rattle.groups.proofs.EmptySets.{empty_or_not}
+use Rattle.groups.proofs.ReplacedGroups.{head-alike}
+use Rattle.pool.specs.Calls.{GivesUp}
+use Rattle.pool.specs.State.{PooledState}
+use Rattle.pool.proofs.Released.{AreAlike-GivesUp}
+
+-- the head's id after a free, done or not
+pub head-free : (b : Bool) (group now : PooledState) (place : ℕ) (span changed : SpanState) → slice_get (spans_of group) place ≡ Some span → changed.id ≡ span.id
+    → OnTrue b (GivesUp (with_span group place changed) now) → OnFalse b (now ≡ group) → now.head.id ≡ group.head.id
+head-free false group now place span changed here same gives stays = ap (λ (g : PooledState). g.head.id) stays
+head-free true group now place span changed here same gives stays = head-alike group now (AreAlike-GivesUp group now place span changed here same gives)
+
+page-with_span : (group : PooledState) (place : ℕ) (changed : SpanState) → (with_span group place changed).page ≡ group.page
+page-with_span group zero changed = refl
+page-with_span group (suc place) changed = refl
+
+-- it has a page only where it had one
+pub paged-free : (b : Bool) (group now : PooledState) (place : ℕ) (changed : SpanState) → OnTrue b (GivesUp (with_span group place changed) now)
+    → OnFalse b (now ≡ group) → IsSome now.page → IsSome group.page
+paged-free false group now place changed gives stays paged = subst (λ (g : PooledState). IsSome g.page) stays paged
+paged-free true group now place changed gives stays paged = elim (empty_or_not (union_of (spans_of (with_span group place changed)))) [
+  | inl none ↦ absurd (false≢true (sym (ap (λ (g : PooledState). is_some g.page) (gives.emptied none)) ∙ paged))
+  | inr live ↦ ap is_some (sym (ap (λ (g : PooledState). g.page) (gives.live live) ∙ page-with_span group place changed)) ∙ paged
+]

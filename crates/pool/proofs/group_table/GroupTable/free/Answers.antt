@@ -1,0 +1,75 @@
+use Rattle.std.proofs.Common.{◌≡◌, ◌∙◌, ◌<◌, List, Some, ap, arith, length, length-set, nat_eq, refl, set, slice_get, subst, sym}
+use Rattle.std.specs.HashMap as hash
+use Rattle.span.specs.Ids.{rank}
+use Rattle.groups.specs.Group.{spans_of, with_span}
+use Rattle.groups.specs.Spans.{with_free_at}
+use Rattle.groups.proofs.Lists.{set-same, there_at}
+use Rattle.pool.specs.Calls.{GivesUp}
+use Rattle.pool.specs.Groups.{GroupsState, HasHeadAt}
+use Rattle.pool.specs.Ranked.{in_order}
+use Rattle.pool.specs.State.{PooledState}
+use Rattle.pool.proofs.Cases.{on_false, on_true}
+use Rattle.pool.proofs.FreedPlace.{head-free, paged-free}
+use Rattle.pool.proofs.KeptTable.{AreKept-set}
+use Rattle.pool.proofs.RankedGroups.{found_within, has_place}
+use Rattle.pool.proofs.ReadGroup.{IsRead, IsRead-found}
+use Rattle.pool.proofs.group_table.GroupTable.free.Goals as goal
+use Rattle.pool.proofs.group_table.GroupTable.free.Goals.{After-index_mut}
+
+pub unreachable-requires : goal.unreachable-requires
+unreachable-requires g c = has_place c.self.inside.row.items (hash.get nat_eq c.self.inside.places) c.self.invariant.kept.found c.args.head c.requires.0
+    (subst (λ (s : GroupsState). HasHeadAt s.groups c.args.head c.requires.0) (sym c.self.view_is) c.requires.1) (sym c.place_of.ensures ∙ c.in_default.is)
+
+pub index_mut-requires : goal.index_mut-requires
+index_mut-requires g c = omega (
+  arith,
+  found_within c.self.inside.row.items (hash.get nat_eq c.self.inside.places) c.self.invariant.kept.found (rank c.args.head) c.in-Some.at (sym c.place_of.ensures ∙ c.in-Some.is),
+  c.self.inside.row.ok.0,
+)
+
+its : (g : _) (c : After-index_mut g) → IsRead c.self.inside.row.items c.args.head c.in-Some.at c.index_mut.result.now c.self.inside.room c.args.self.now
+its g c = IsRead-found c.self.inside.row.items (hash.get nat_eq c.self.inside.places) c.self.invariant.kept.found c.args.head c.in-Some.at (sym c.place_of.ensures ∙ c.in-Some.is)
+    c.index_mut.result.now c.index_mut.ensures.value c.self.inside.room c.args.self.now c.self.view_is
+
+one : (g : _) (c : After-index_mut g) → c.requires.0 ≡ c.index_mut.result.now
+one g c = (its g c).one c.requires.1.0 c.requires.0 c.requires.1.1
+
+pub free-requires : goal.free-requires
+free-requires g c = subst (λ (x : PooledState). c.args.place < length (spans_of x)) (one g c) c.requires.2
+
+pub invariant_of-self : goal.invariant_of-self
+invariant_of-self g c =
+    let read = c.index_mut.result.now in
+    let span = there_at (spans_of read) c.args.place (subst (λ (x : PooledState). c.args.place < length (spans_of x)) (one g (goal.at.invariant_of-self g c).After-index_mut) c.requires.2) in
+    let changed = with_free_at span.0 c.args.slot c.args.generation in
+    let freed = c.free.ensures.freed span.0 span.1 in
+    record {
+      kept = AreKept-set c.self.inside.row.items _ (hash.get nat_eq c.self.inside.places) _ c.self.inside.paged c.self.inside.room c.self.invariant.kept c.in-Some.at read c.free.new.self (its g (goal.at.invariant_of-self g c).After-index_mut).there
+          (head-free c.free.result read c.free.new.self c.args.place span.0 changed span.1 refl freed c.free.ensures.unknown)
+          (paged-free c.free.result read c.free.new.self c.args.place changed freed c.free.ensures.unknown);
+      few = omega (arith, c.self.invariant.few, length-set c.self.inside.row.items c.in-Some.at c.free.new.self);
+    }
+
+pub returns-clause-found : goal.returns-clause-found
+returns-clause-found g c index group span is here =
+    c.free.ensures.found span (subst (λ (x : PooledState). slice_get (spans_of x) c.args.place ≡ Some span) ((its g (goal.at.returns-clause-found g c).After-index_mut).one index group is) here)
+
+pub returns-clause-freed : goal.returns-clause-freed
+returns-clause-freed g c index group span is here =
+    let same = (its g (goal.at.returns-clause-freed g c).After-index_mut).one index group is in
+    let changed = with_free_at span c.args.slot c.args.generation in
+    let at_read = subst (λ (x : PooledState). slice_get (spans_of x) c.args.place ≡ Some span) same here in
+    let freed = c.free.ensures.freed span at_read in
+    on_true c.free.result (λ gives. (
+      c.free.new.self,
+      subst (λ (x : PooledState). GivesUp (with_span x c.args.place changed) c.free.new.self) (sym same) gives,
+      (its g (goal.at.returns-clause-freed g c).After-index_mut).changed index group c.free.new.self is
+          (head-free c.free.result c.index_mut.result.now c.free.new.self c.args.place span changed at_read refl freed c.free.ensures.unknown),
+    )) freed
+
+pub returns-clause-unknown : goal.returns-clause-unknown
+returns-clause-unknown g c = on_false c.free.result (λ stays.
+    ap (λ (gs : List PooledState). record { groups = in_order gs; room = c.self.inside.room })
+    (ap (set c.self.inside.row.items c.in-Some.at) stays ∙ set-same c.self.inside.row.items c.in-Some.at c.index_mut.result.now (its g (goal.at.returns-clause-unknown g c).After-index_mut).there)
+    ∙ c.self.view_is)
+    c.free.ensures.unknown

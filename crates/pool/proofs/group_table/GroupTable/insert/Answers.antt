@@ -1,0 +1,52 @@
+use Rattle.std.proofs.Common.{◌<◌, ◌∙◌, ◌-◌, List, Some, ap, arith, insert, length, nat_eq, subst, sym}
+use Rattle.std.specs.HashMap as hash
+use Rattle.span.specs.Ids.{rank}
+use Rattle.groups.specs.Group.{HasNoHead, IsPlaceFor}
+use Rattle.groups.proofs.Maps.{Sets-number}
+use Rattle.pool.specs.Groups.{GroupsState}
+use Rattle.pool.specs.Noted.{AreNoted}
+use Rattle.pool.specs.Ranked.{AreFound, in_order}
+use Rattle.pool.specs.State.{PooledState}
+use Rattle.pool.proofs.NotedRanks.{AreNoted-push}
+use Rattle.pool.proofs.RankedGroups.{AreFound-push, in_order-push, its}
+use Rattle.pool.proofs.group_table.GroupTable.insert.Goals as goal
+
+pub invariant_of-self : goal.invariant_of-self
+invariant_of-self g c =
+    let row = c.self.inside.row.items in
+    let group = c.args.group in
+    let new = subst (λ (s : GroupsState). HasNoHead s.groups group.head.id) (sym c.self.view_is) c.requires.new in
+    let sets = its (hash.get nat_eq c.self.inside.places) (hash.get nat_eq c.enter.new.places) (Some c.len-place.result) _ c.rank.result _
+    (c.rank.ensures.value ∙ ap rank c.head_id.ensures) (ap Some (c.len-place.ensures ∙ c.self.inside.row.ok.0))
+    (Sets-number c.self.inside.places c.enter.new.places c.rank.result (Some c.len-place.result) c.enter.ensures.updates) in
+    let some : 0 < c.self.inside.room = subst (λ (s : GroupsState). 0 < s.room) (sym c.self.view_is) c.requires.room in
+    let long = ap (λ (gs : List PooledState). length gs) c.push_reserved.ensures.items in
+    record {
+      kept = record {
+        found = subst (λ (gs : List PooledState). AreFound gs (hash.get nat_eq c.enter.new.places)) (sym c.push_reserved.ensures.items)
+            (AreFound-push row (hash.get nat_eq c.self.inside.places) c.self.invariant.kept.found group new (hash.get nat_eq c.enter.new.places) sets);
+        noted = subst (λ (gs : List PooledState). AreNoted gs c.note.new.paged.ranks) (sym c.push_reserved.ensures.items)
+            (AreNoted-push row group c.self.inside.paged.ranks c.note.new.paged.ranks c.note.ensures.more c.note.ensures.noted c.self.invariant.kept.noted);
+        in_row = omega (arith, some, c.self.invariant.kept.in_row, c.push_reserved.ensures.len, c.push_reserved.ensures.capacity, c.push_reserved.new.self.ok.0, c.self.inside.row.ok.0);
+        in_table = omega (arith, c.self.invariant.kept.in_table, c.enter.ensures.spare);
+        in_heap = omega (arith, some, c.note.ensures.few, c.note.ensures.capacity, c.self.invariant.kept.in_heap);
+        all_in_heap = omega (arith, some, c.push_reserved.ensures.len, c.push_reserved.new.self.ok.0, c.self.inside.row.ok.0, c.note.ensures.capacity, c.self.invariant.kept.all_in_heap);
+      };
+      few = omega (arith, c.push_reserved.ensures.len, c.push_reserved.new.self.ok.0, c.self.inside.row.ok.0, c.note.ensures.few, c.self.invariant.few);
+    }
+
+pub returns : goal.returns
+returns g c =
+    let row = c.self.inside.row.items in
+    let group = c.args.group in
+    let new = subst (λ (s : GroupsState). HasNoHead s.groups group.head.id) (sym c.self.view_is) c.requires.new in
+    let sets = its (hash.get nat_eq c.self.inside.places) (hash.get nat_eq c.enter.new.places) (Some c.len-place.result) _ c.rank.result _
+    (c.rank.ensures.value ∙ ap rank c.head_id.ensures) (ap Some (c.len-place.ensures ∙ c.self.inside.row.ok.0))
+    (Sets-number c.self.inside.places c.enter.new.places c.rank.result (Some c.len-place.result) c.enter.ensures.updates) in
+    let pushed = in_order-push row (hash.get nat_eq c.self.inside.places) c.self.invariant.kept.found group new (hash.get nat_eq c.enter.new.places) sets in (
+      pushed.0,
+      subst (λ (s : GroupsState). IsPlaceFor s.groups group.head.id pushed.0) c.self.view_is pushed.1,
+      ap (λ (gs : List PooledState). record { groups = in_order gs; room = c.self.inside.room - 1 }) c.push_reserved.ensures.items
+          ∙ ap (λ gs. record { groups = gs; room = c.self.inside.room - 1 }) pushed.2
+          ∙ ap (λ (s : GroupsState). record { groups = insert s.groups pushed.0 group; room = s.room - 1 }) c.self.view_is,
+    )

@@ -1,0 +1,24 @@
+use Rattle.std.proofs.Common.{List, ap, arith, length, nat_eq, slice_get, subst, sym, ◌∙◌, ℕ}
+use Rattle.std.specs.HashMap as hash
+use Rattle.std.specs.Map.{lookup}
+use Rattle.pool.specs.Ranked.{AreFound}
+use Rattle.pool.specs.State.{PooledState}
+use Rattle.pool.proofs.RankedGroups.{AreFound-none}
+use Rattle.pool.proofs.group_table.GroupTable.new.Goals as goal
+
+pub invariant_of-result : goal.invariant_of-result
+invariant_of-result g c =
+    let none = ap (λ (gs : List PooledState). length gs) c.new.ensures.items in
+    let no_rank = ap (λ (ns : List ℕ). length ns) c.new-3.ensures in
+    record {
+      kept = record {
+        found = subst (λ (gs : List PooledState). AreFound gs (hash.get nat_eq c.new-2.result)) (sym c.new.ensures.items)
+            (AreFound-none (hash.get nat_eq c.new-2.result) (λ number. ap (λ es. lookup (nat_eq number) es) c.new-2.ensures.empty));
+        noted = λ index group there paged. absurd (let e = ap (λ gs. slice_get gs index) (sym c.new.ensures.items) ∙ there in cc);
+        in_row = omega (arith, none);
+        in_table = omega arith;
+        in_heap = omega (arith, no_rank);
+        all_in_heap = omega (arith, none);
+      };
+      few = omega (arith, none, no_rank);
+    }

@@ -1,0 +1,48 @@
+use Rattle.std.proofs.Common.{◌≡◌, ◌∙◌, List, Some, ap, arith, length, refl, set, slice_get, sym}
+use Rattle.std.proofs.lemmas.Option.{slice_get_read}
+use Rattle.groups.specs.Dead.{without_dead}
+use Rattle.pool.specs.Ranked.{HaveOwnHeads}
+use Rattle.groups.proofs.ForgottenGuests.{AreEntered-forgotten, KnowsGuests-forgotten_apart}
+use Rattle.pool.specs.State.{PooledState}
+use Rattle.shard.proofs.ChangedBelow.{changed_below-all, changed_below-next, get-changed_below, length-changed_below}
+use Rattle.pool.proofs.ForgottenGroups.{HaveOwnHeads-changed_below}
+use Rattle.pool.proofs.group_table.forget_all.Goals as goal
+
+pub forget_in-requires : goal.forget_in-requires
+forget_in-requires c =
+    let now = c.loop-index.groups.items in
+    let at = c.loop-index.index in
+    let group = c.index_mut.result.now in
+    let here : slice_get now at ≡ Some group =
+    slice_get_read now _ at group refl
+    (omega (
+      arith,
+      ap length c.loop-index.invariant.items,
+      length-changed_below without_dead at c.args.groups.now.items,
+      c.len-index-end.ensures,
+      c.args.groups.now.ok.0,
+    )) c.index_mut.ensures.value in
+    AreEntered-forgotten now c.loop-index.directory.entries c.loop-index.invariant.known at group here
+
+pub loop-index-preserved : goal.loop-index-preserved
+loop-index-preserved c =
+    let now = c.loop-index.groups.items in
+    let at = c.loop-index.index in
+    let first = c.args.groups.now.items in
+    let group = c.index_mut.result.now in
+    let is = c.loop-index.invariant.items in
+    let here : slice_get now at ≡ Some group =
+    slice_get_read now _ at group refl (omega (arith, ap length is, length-changed_below without_dead at first, c.len-index-end.ensures, c.args.groups.now.ok.0)) c.index_mut.ensures.value in
+    let there : slice_get _ at ≡ Some group = ap (λ (groups : List PooledState). slice_get groups at) (sym is) ∙ here in
+    let was : slice_get first at ≡ Some group = sym (get-changed_below without_dead at first) ∙ there in
+    let heads : HaveOwnHeads now = rw is (HaveOwnHeads-changed_below at first c.requires.heads) in
+    let known = KnowsGuests-forgotten_apart now c.loop-index.directory.entries c.loop-index.invariant.known at group here heads (c.requires.once at group was) in
+    record {
+      items = ap (set now at) c.forget_in.ensures.group ∙ ap (λ (groups : List PooledState). set groups at (without_dead group)) is ∙ changed_below-next without_dead at first group there;
+      capacity = c.loop-index.invariant.capacity;
+      known = rw (c.forget_in.ensures.group, c.forget_in.ensures.directory) known;
+      room = rw (c.forget_in.ensures.directory) c.loop-index.invariant.room;
+    }
+
+pub returns-clause-items : goal.returns-clause-items
+returns-clause-items c = c.loop-index.invariant.items ∙ changed_below-all without_dead c.loop-index.index c.args.groups.now.items (omega (arith, c.len-index-end.ensures, c.args.groups.now.ok.0))

@@ -1,0 +1,34 @@
+use Rattle.shard.proofs.Left.{IsSound-swept}
+use Rattle.shard.specs.Leaving.{swept}
+use Rattle.pool.proofs.Retiring.{AreReady-taken, IsSparsest-ready, MayTakeIn-lifted, MovesSparsest-lifted, together-taken}
+use Rattle.pool.proofs.pool.Pool.take_one.Goals as goal
+
+pub unreachable-requires : goal.unreachable-requires
+unreachable-requires g c =
+    let (more, rest, ready) = c.requires in
+    let first = IsSparsest-ready c.args.self.now (swept c.args.shard.now) c.args.one.now more rest ready in
+    (c.in_default.ensures {u = tt}).lifts.0 first.0 first.1 (record { here = first.2.here; head_is = first.3 })
+
+pub take_in-requires : goal.take_in-requires
+take_in-requires g c =
+    let (more, rest, ready) = c.requires in
+    MayTakeIn-lifted c.args.self.now c.args.self.now (swept c.args.shard.now) (swept c.lift_aside.new.self) c.args.one.now more rest c.in-Some.whole ready c.in-Some.ensures.lifts
+
+pub returns-clause-moves : goal.returns-clause-moves
+returns-clause-moves g c =
+    let (more, rest, ready) = c.requires in
+    MovesSparsest-lifted c.args.self.now c.take_in.new.self (swept c.args.shard.now)
+    (swept c.lift_aside.new.self) c.args.one.now more rest c.in-Some.whole ready c.in-Some.ensures.lifts c.take_in.ensures.takes
+
+pub returns-clause-kept : goal.returns-clause-kept
+returns-clause-kept g c =
+    let (more, rest, ready) = c.requires in
+    together-taken c.args.self.now c.take_in.new.self (swept c.args.shard.now)
+    (swept c.lift_aside.new.self) c.args.one.now more rest c.in-Some.whole ready c.in-Some.ensures.lifts c.take_in.ensures.takes c.take_in.ensures.sound
+    (IsSound-swept c.lift_aside.new.self c.lift_aside.ensures.sound)
+
+pub returns-clause-ready : goal.returns-clause-ready
+returns-clause-ready g c more rest ready =
+    AreReady-taken c.args.self.now c.take_in.new.self (swept c.args.shard.now)
+    (swept c.lift_aside.new.self) c.args.one.now more rest c.in-Some.whole ready c.in-Some.ensures.lifts c.take_in.ensures.takes c.take_in.ensures.sound
+    (IsSound-swept c.lift_aside.new.self c.lift_aside.ensures.sound)

@@ -1,0 +1,47 @@
+-- What a shard's groups need on their way to the pool, and what they leave behind. No public clause
+-- cites this module.
+use Rattle.std.specs.Prelude.{◌≡◌, ℕ, ◌+◌, ◌≤◌, List, [], ◌++◌, length, count_by, sum_by}
+use Rattle.span.specs.Ids.{same_span}
+use Rattle.span.specs.declared.id.SpanId.{SpanId}
+use Rattle.shard.specs.Sparse.{AreSparsestFirst}
+use Rattle.shard.specs.State.{ShardState}
+use Rattle.shard.specs.declared.shard.retiring.LiveGroup.{LiveGroup}
+use Rattle.groups.specs.Group.{spans_in}
+use Rattle.shard.specs.Sound.{IsSound as IsSoundShard}
+use Rattle.pool.specs.Sound.{IsSound}
+use Rattle.pool.specs.State.{PoolState}
+
+-- how many spans the groups have together
+abbrev pub span_count : List LiveGroup → ℕ
+span_count going = sum_by (λ one. one.spans) going
+
+-- no span stands twice in pool and shard together
+abbrev pub AreApart : PoolState → ShardState → Type 0
+AreApart pool shard = (id : SpanId) → count_by (λ span. same_span span.id id) (spans_in pool.groups)
+    + count_by (λ span. same_span span.id id) (spans_in shard.groups) ≤ 1
+
+-- the pool has reserved room for all groups of the shard
+pub record HasRoomFor (pool : PoolState) (shard : ShardState) : Type 0 where
+  pub groups : length shard.groups ≤ pool.group_room
+  pub spans : length (spans_in shard.groups) ≤ pool.span_room
+
+-- the shard has no group left, and nothing else has changed but its reserved room
+pub record HasLetAllGo (old new : ShardState) : Type 0 where
+  pub groups : new.groups ≡ []
+  pub number : new.number ≡ old.number
+  pub page_limit : new.page_limit ≡ old.page_limit
+  pub span_limit : new.span_limit ≡ old.span_limit
+  pub gens : new.gens ≡ old.gens
+  pub opened : new.opened ≡ old.opened
+  pub ended : new.ended ≡ old.ended
+
+-- both are sound, no span stands in both, and the pool has reserved room for the groups that are to
+-- go, which are the first of the shard's by sparseness
+pub record AreReady (pool : PoolState) (shard : ShardState) (going rest : List LiveGroup) :
+    Type 0 where
+  pub sound : IsSound pool
+  pub sound_shard : IsSoundShard shard
+  pub apart : AreApart pool shard
+  pub groups : length going ≤ pool.group_room
+  pub spans : span_count going ≤ pool.span_room
+  pub order : AreSparsestFirst shard.groups (going ++ rest)

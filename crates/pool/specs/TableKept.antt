@@ -1,0 +1,17 @@
+-- How the table of groups shows, and what it keeps. No public clause cites this module.
+use Rattle.std.specs.Prelude.{◌+◌, ◌*◌, ◌≤◌, length, nat_eq, vec_capacity}
+use Rattle.std.specs.HashMap as hash
+use Rattle.pool.specs.Groups.{GroupsState}
+use Rattle.pool.specs.Ranked.{in_order}
+use Rattle.pool.specs.Tabled.{AreKept}
+use Rattle.pool.specs.declared.group_table.GroupTable.TheInside.{Inside}
+
+-- what contracts see of the fields
+abbrev pub state_of : {L : Type 0} → Inside L → GroupsState
+state_of t = record { groups = in_order t.row.items; room = t.room }
+
+pub record IsKept {L : Type 0} (t : Inside L) : Type 0 where
+  pub kept : AreKept t.row.items (vec_capacity t.row) (hash.get nat_eq t.places)
+      (hash.spare t.places) t.paged t.room
+  -- no more ranks are noted than twice as many as there are groups, and one
+  pub few : length t.paged.ranks ≤ 2 * length t.row.items + 1

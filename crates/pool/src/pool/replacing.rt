@@ -1,0 +1,47 @@
+// Sets in place.
+ghost use Rattle.std.specs.Prelude.{◌≡◌, IfOk, OnErr, if◌then◌else◌, true};
+ghost use Rattle.span.specs.PlainMap as plain;
+ghost use Rattle.shard.specs.Calls.{was_replaced};
+ghost use Rattle.pool.specs.Calls.{Sets};
+ghost use Rattle.pool.specs.Shown.{shown};
+ghost use Rattle.pool.specs.Sound.{IsSound};
+
+use super::Pool;
+use shard::Replaced;
+use span::{Key, Log};
+use std::alloc::AllocError;
+
+impl<L: Log> Pool<L> {
+    /// Sets the key's object to these words in place, where the key is live here and its object has
+    /// as many. Its group keeps its page. A free of the key takes no memory afterwards, as before.
+    ///
+    /// # Errors
+    ///
+    /// `AllocError` in place of `Yes`, where the span's log could not grow. The pool is then as it
+    /// was. A log that is only counted takes no memory, and refuses a set after 2^63 changes alone.
+    pub fn set(&mut self, key: &Key, words: &[u128]) -> Result<Replaced, AllocError>
+        ensures step { IfOk result (λ answer. Sets self.old key.now words.now answer self.new) }
+        ensures found { IfOk result (λ answer. was_replaced answer
+            ≡ plain.may_set (shown self.old) key.now words.now) }
+        ensures plain { IfOk result (λ answer. shown self.new
+            ≡ (if was_replaced answer then plain.with_value (shown self.old) key.now words.now
+            else shown self.old)) }
+        ensures sound { IsSound self.new }
+        ensures refused { OnErr result (plain.may_set (shown self.old) key.now words.now ≡ true) }
+        ensures err { OnErr result (self.new ≡ self.old) }
+    {
+        let Some((group, place)) = self.find(key.span) else {
+            return Ok(Replaced::NotHere);
+        };
+        let head = group.head_id();
+        let span = group.span_at(place);
+        let at = span.changes();
+        if !self
+            .groups
+            .set(head, place, key.slot, key.generation, words)?
+        {
+            return Ok(Replaced::No(at));
+        }
+        Ok(Replaced::Yes(at))
+    }
+}
