@@ -24,10 +24,11 @@ behind it, and a light fence keeps both.
 A fault is one wrong step. Each must be found, but those that are named as harmless, with why.
 """
 
-import re
 import sys
 from pathlib import Path
 from typing import NamedTuple
+
+from code_steps import stands_as_modelled
 
 OPEN, KEPT, WANTED = 0, 1, 2
 FREE = -1
@@ -439,43 +440,13 @@ def is_as_meant(fault):
     return found is not None
 
 
-def body_of(source, head):
-    """What stands from the first such head on up to the brace that ends it, without remarks."""
-    lines = source[source.index(head) :].splitlines()
-    indent = source[: source.index(head)].rsplit("\n", 1)[-1]
-    margin = re.match(r" *", indent).group()
-    end = next(number for number, line in enumerate(lines) if number > 0 and line == margin + "}")
-    return "\n".join(line for line in lines[:end] if not line.strip().startswith("//"))
-
-
-def missing_in(source, functions):
-    """The heads of functions in which the words do not stand in their order."""
-    for head, words in functions.items():
-        pattern = ".*".join(re.escape(word) for word in words)
-        if head not in source or not re.search(pattern, body_of(source, head), re.DOTALL):
-            yield head
-
-
-def stands_as_modelled(folder):
-    """Whether the code has the steps of the model, and says where it does not."""
-    wrong = []
-    for name, functions in SOURCES.items():
-        source = (folder / name).read_text()
-        wrong += [f"{name}: {head}" for head in missing_in(source, functions)]
-    lane = (folder / "lane.rs").read_text()
-    wrong += [f"lane.rs: {words}" for words, count in CHANGES.items() if lane.count(words) != count]
-    for place in wrong:
-        print(f"the code is not as it is modelled: {place}: look at the model anew")
-    return not wrong
-
-
 def main():
     names = sys.argv[1:] or list(FAULTS)
     unknown = [name for name in names if name not in FAULTS]
     if unknown:
         sys.exit(f"there is no such fault: {', '.join(unknown)}; there are {', '.join(FAULTS)}")
     code = Path(__file__).resolve().parent.parent / "src" / "arena"
-    done = [stands_as_modelled(code)] + [is_as_meant(fault) for fault in [None, *names]]
+    done = [stands_as_modelled(code, SOURCES, "lane.rs", CHANGES)] + [is_as_meant(fault) for fault in [None, *names]]
     print(f"{done.count(True)} as meant, {done.count(False)} not")
     sys.exit(0 if all(done) else 1)
 
