@@ -22,9 +22,9 @@ A fault is one wrong step. Each must be found.
 
 import sys
 from pathlib import Path
+from typing import NamedTuple, Optional
 
 from code_steps import stands_as_modelled
-from typing import NamedTuple, Optional
 
 FAULTS = {
     "looks_before_it_pins": "a look-up compares the name before it pins, and not behind",
