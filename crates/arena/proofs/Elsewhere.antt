@@ -34,37 +34,21 @@ GetsPooled-elsewhere owner key at got none = of got.0 got.1 got.2
     of (found.Gone n) gets is = absurd (none-some n (sym none ∙ is))
     of found.NotHere gets is = gets
 
-pub Frees-elsewhere : (old new : ShardState) (key : Key) (answer : Option (Bool × ℕ)) → ((what : Freed) × Frees old key what new × (answer ≡ free_told what)) → answer ≡ None → IsElsewhere old.groups key.span
+pub Frees-elsewhere : (old new : ShardState) (key : Key) (answer : Option (Key × Bool × ℕ)) → ((what : Freed) × Frees old key what new × (answer ≡ free_told key what)) → answer ≡ None → IsElsewhere old.groups key.span
 Frees-elsewhere old new key answer told none = of told.0 told.1 told.2
   where
-    of : (what : Freed) → Frees old key what new → answer ≡ free_told what → IsElsewhere old.groups key.span
+    of : (what : Freed) → Frees old key what new → answer ≡ free_told key what → IsElsewhere old.groups key.span
     of (freed.Yes n) frees is = absurd (none-some _ (sym none ∙ is))
     of (freed.No n) frees is = absurd (none-some _ (sym none ∙ is))
     of freed.NotHere frees is = frees.0
 
-pub FreesPooled-elsewhere : (old new : PoolState) (key : Key) (answer : Option (Bool × ℕ)) → ((what : Freed) × FreesPooled old key what new × (answer ≡ free_told what)) → answer ≡ None → IsElsewhere old.groups key.span
+pub FreesPooled-elsewhere : (old new : PoolState) (key : Key) (answer : Option (Key × Bool × ℕ)) → ((what : Freed) × FreesPooled old key what new × (answer ≡ free_told key what)) → answer ≡ None → IsElsewhere old.groups key.span
 FreesPooled-elsewhere old new key answer told none = of told.0 told.1 told.2
   where
-    of : (what : Freed) → FreesPooled old key what new → answer ≡ free_told what → IsElsewhere old.groups key.span
+    of : (what : Freed) → FreesPooled old key what new → answer ≡ free_told key what → IsElsewhere old.groups key.span
     of (freed.Yes n) frees is = absurd (none-some _ (sym none ∙ is))
     of (freed.No n) frees is = absurd (none-some _ (sym none ∙ is))
     of freed.NotHere frees is = frees.0
-
-pub Sets-elsewhere : (old new : ShardState) (key : Key) (words : Value) (answer : Option (Bool × ℕ)) → ((what : Replaced) × Sets old key words what new × (answer ≡ set_told what)) → answer ≡ None → IsElsewhere old.groups key.span
-Sets-elsewhere old new key words answer told none = of told.0 told.1 told.2
-  where
-    of : (what : Replaced) → Sets old key words what new → answer ≡ set_told what → IsElsewhere old.groups key.span
-    of (replaced.Yes n) sets is = absurd (none-some _ (sym none ∙ is))
-    of (replaced.No n) sets is = absurd (none-some _ (sym none ∙ is))
-    of replaced.NotHere sets is = sets.0
-
-pub SetsPooled-elsewhere : (old new : PoolState) (key : Key) (words : Value) (answer : Option (Bool × ℕ)) → ((what : Replaced) × SetsPooled old key words what new × (answer ≡ set_told what)) → answer ≡ None → IsElsewhere old.groups key.span
-SetsPooled-elsewhere old new key words answer told none = of told.0 told.1 told.2
-  where
-    of : (what : Replaced) → SetsPooled old key words what new → answer ≡ set_told what → IsElsewhere old.groups key.span
-    of (replaced.Yes n) sets is = absurd (none-some _ (sym none ∙ is))
-    of (replaced.No n) sets is = absurd (none-some _ (sym none ∙ is))
-    of replaced.NotHere sets is = sets.0
 
 -- whoever does not have the span has no group with it
 pub IsElsewhere-not_had : {Closed : Type 0} (groups : List (Group Closed)) (id : SpanId) (has : Bool) → IsTrue has ↔ (IsElsewhere groups id → ⊥) → has ≡ false → IsElsewhere groups id

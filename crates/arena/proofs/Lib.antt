@@ -4,6 +4,7 @@ mod Elsewhere
 pub mod Ended
 mod Frees
 mod KeptSpans
+mod KeyCalls
 mod LeftObject
 pub mod Linking
 mod Made

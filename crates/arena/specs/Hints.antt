@@ -1,7 +1,7 @@
 -- Where a span may be, and the word that says so. No public clause cites this module.
 use Rattle.std.specs.Prelude.{◌≡◌, ℕ, ◌*◌, ◌+◌, ◌<◌, ◌^◌}
-use Rattle.arena.specs.declared.finding.Hinted.{Hinted}
-use Rattle.arena.specs.declared.finding.Hinted.TheVariants as hinted
+use Rattle.arena.specs.declared.nowhere.Hinted.{Hinted}
+use Rattle.arena.specs.declared.nowhere.Hinted.TheVariants as hinted
 use Rattle.arena.specs.declared.hints.Hint.{Hint}
 use Rattle.arena.specs.declared.hints.Place.{Place}
 use Rattle.arena.specs.declared.hints.Place.TheVariants.{Nowhere, Pool, Shard}

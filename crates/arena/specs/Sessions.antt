@@ -1,6 +1,7 @@
 -- What the calls of a session tell, whose own shard is asked first.
 use Rattle.std.specs.Prelude.{◌≡◌, ℕ, List, MatchResult, None, Option, Result, Some}
 use Rattle.span.specs.Log.{Value}
+use Rattle.span.specs.declared.key.Key.{Key}
 use Rattle.latch.specs.declared.latch.Busy.{Busy}
 use Rattle.arena.specs.Told.{LooksUp, WritesFound}
 
@@ -14,8 +15,8 @@ TellsOwn (Some own) told = told ≡ own
 -- span, it tells and leaves in the room what another place finds, or that this place is not to be
 -- had, with the room as it was
 abbrev pub LooksUpOwn : {W : Type 0} → (W → ℕ) → Option ℕ → Option Value → List W
-    → Result (Option ℕ × ℕ) Busy → List W → Type 0
-LooksUpOwn word (Some at) value room told after = MatchResult told (λ got. (got.1 ≡ at)
-    × WritesFound word value room got.0 after) (λ busy. ⊥)
-LooksUpOwn word None value room told after = MatchResult told (λ got. LooksUp word room got.0 after)
+    → Result (Key × Option ℕ × ℕ) Busy → List W → Type 0
+LooksUpOwn word (Some at) value room told after = MatchResult told (λ got. (got.2 ≡ at)
+    × WritesFound word value room got.1 after) (λ busy. ⊥)
+LooksUpOwn word None value room told after = MatchResult told (λ got. LooksUp word room got.1 after)
     (λ busy. after ≡ room)

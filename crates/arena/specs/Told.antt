@@ -1,7 +1,8 @@
--- What calls answer of which no receipt is made.
+-- What calls on a key answer, of which a receipt is made or none.
 use Rattle.std.specs.Prelude.{◌≡◌, ◌≤◌, ◌<◌, ◌⊎◌, ◌++◌, ℕ, Bool, true, false, List, Option, Some, None, IfSome, drop, length, map}
 use Rattle.span.specs.Classes.{IsObject}
 use Rattle.span.specs.Log.{Value}
+use Rattle.span.specs.declared.key.Key.{Key}
 use Rattle.shard.specs.declared.shard.Found.{Found}
 use Rattle.shard.specs.declared.shard.Found.TheVariants as found
 use Rattle.shard.specs.declared.shard.Freed.{Freed}
@@ -33,21 +34,21 @@ changes_at (found.Value value at) = Some at
 changes_at (found.Gone at) = Some at
 changes_at found.NotHere = None
 
--- whether a set was done, and how many changes stood in its span's log before it; none where the
--- span is not there
-abbrev pub set_told : Replaced → Option (Bool × ℕ)
-set_told (replaced.Yes at) = Some (true, at)
-set_told (replaced.No at) = Some (false, at)
-set_told replaced.NotHere = None
+-- the key of a set, whether it was done, and how many changes stood in its span's log before it;
+-- none where the span is not there
+abbrev pub set_told : Key → Replaced → Option (Key × Bool × ℕ)
+set_told key (replaced.Yes at) = Some (key, true, at)
+set_told key (replaced.No at) = Some (key, false, at)
+set_told key replaced.NotHere = None
 
--- whether a free was done, and how many changes stood in its span's log before it; none where the
--- span is not there
-abbrev pub free_told : Freed → Option (Bool × ℕ)
-free_told (freed.Yes at) = Some (true, at)
-free_told (freed.No at) = Some (false, at)
-free_told freed.NotHere = None
+-- the key of a free, whether it was done, and how many changes stood in its span's log before it;
+-- none where the span is not there
+abbrev pub free_told : Key → Freed → Option (Key × Bool × ℕ)
+free_told key (freed.Yes at) = Some (key, true, at)
+free_told key (freed.No at) = Some (key, false, at)
+free_told key freed.NotHere = None
 
 -- it was done
-abbrev pub is_done : Option (Bool × ℕ) → Bool
+abbrev pub is_done : Option (Key × Bool × ℕ) → Bool
 is_done None = false
-is_done (Some told) = told.0
+is_done (Some told) = told.1

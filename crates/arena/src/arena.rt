@@ -10,14 +10,15 @@ ghost use Rattle.arena.specs.Stewards.{Steps, begun};
 use crate::folding::Folding;
 use crate::gate::Gate;
 use crate::hints::{Hints, Place};
-use crate::locks::{LockedShard, LockedShards, lock_all, totals_of};
+use crate::locks::{LockedShard, LockedShards, lock_all};
 use crate::patience::{Patience, Tries, Waits};
 use crate::ring_table::RingTable;
-use crate::steward::Steward;
+use crate::steward::{Sight, Steward};
+use crate::totals::{LockedTotals, owned_pages};
 use certificate::Certificate;
 use fold::Step;
-use latch::{Busy, Latch, LatchGuard};
-use marks::{Limits, MarkError, Totals, mark_in, mark_some_in};
+use latch::{Busy, Latch};
+use marks::{Limits, MarkError, Totals};
 use mesh_graph::{AtHand, MOST_GROUPS, Runner};
 use pool::Pool;
 use shard::Shard;
@@ -53,13 +54,6 @@ pub enum Stepped {
     NoPairLeft,
     /// No plan is open.
     NoPlan,
-}
-
-// What a mark sees: every group with a page, or of each side those with the fewest live slots.
-#[derive(Clone, Copy)]
-enum Sight {
-    All,
-    Sparsest,
 }
 
 impl<G: Gate, L: Log> Arena<G, L> {
@@ -237,39 +231,7 @@ impl<G: Gate, L: Log> Arena<G, L> {
         for shard in &self.shards {
             guards.push_reserved(LockedShard::new(patience.lock(shard)?));
         }
-        Ok(self.mark_lent(runner, steward, sight, &mut pool, guards.as_mut_slice()))
-    }
-
-    // A mark of what is in sight of the pool and of all shards, which their locks lend, if no plan
-    // is open.
-    fn mark_lent<N: Runner>(
-        &self,
-        runner: &N,
-        steward: &mut Steward,
-        sight: Sight,
-        pool: &mut LatchGuard<'_, Pool<L>>,
-        shards: &mut [LockedShard<'_, L>],
-    ) -> Result<Certificate, MarkError>
-        requires none { steward.old.plan ≡ None }
-        requires pool { pool.old.latch.now ≡ self.now.pool }
-        requires lent { map (λ shard. shard.guard.latch.now) shards.old ≡ self.now.shards.items }
-        requires runner { N.ready runner.now }
-        ensures best { IfOk result (λ found. IsBestPlanOf found.snapshot found.plan) }
-        ensures short { IfOk result (λ found. IsShortOf found.snapshot found.plan found.short) }
-        ensures certificate { IfOk result (λ found. IsCertificateOf found.snapshot found.plan
-            found.short) }
-        ensures writable { IfOk result IsWritable }
-        ensures begun { IfOk result (λ found. steward.new ≡ begun steward.old found.plan) }
-        ensures too_many { sight ≡ Sight.Sparsest → result ≢ Err MarkError.TooMany }
-        ensures err { OnErr result (steward.new ≡ steward.old) }
-    {
-        let pool = &mut *pool.value;
-        let found = match sight {
-            Sight::All => mark_in(runner, self.alloc, pool, shards)?,
-            Sight::Sparsest => mark_some_in(runner, self.alloc, pool, shards)?,
-        };
-        steward.begin(found.plan.pairs());
-        Ok(found)
+        Ok(steward.mark(self, runner, sight, &mut pool, guards.as_mut_slice()))
     }
 
     /// Carries out the next pair of the steward's plan, under the pool's lock and that of the shard
@@ -384,7 +346,7 @@ impl<G: Gate, L: Log> Arena<G, L> {
     /// `live` of the pool and of each shard then say, the tests show.
     pub fn totals<R: Wait>(&self, rt: &R) -> Totals {
         let Ok(totals) = self.totals_within(&Waits { rt });
-        totals
+        totals.totals()
     }
 
     /// What [`Arena::totals`] counts, where no other thread has a lock.
@@ -393,31 +355,14 @@ impl<G: Gate, L: Log> Arena<G, L> {
     ///
     /// [`Busy`] where another thread has one.
     pub fn try_totals(&self) -> Result<Totals, Busy> {
-        self.totals_within(&Tries)
+        Ok(self.totals_within(&Tries)?.totals())
     }
 
     // Pages and live keys of the pool and of all shards.
-    fn totals_within<P: Patience>(&self, patience: &P) -> Result<Totals, P::Busy> {
+    fn totals_within<P: Patience>(&self, patience: &P) -> Result<LockedTotals, P::Busy> {
         let pool = patience.lock(&self.pool)?;
         let shards = self.lock_all(patience)?;
-        Ok(self.totals_lent(&pool, shards.as_slice()))
-    }
-
-    // The same of the pool and of all shards, which their locks lend.
-    fn totals_lent(
-        &self,
-        pool: &LatchGuard<'_, Pool<L>>,
-        shards: &[Option<LockedShard<'_, L>>],
-    ) -> Totals
-        requires pool { pool.now.latch.now ≡ self.now.pool }
-        requires lent { map (option_map (λ shard. shard.guard.latch.now)) shards.now
-            ≡ map Some self.now.shards.items }
-    {
-        let totals = totals_of(shards);
-        Totals {
-            pages: totals.pages.saturating_add(pool.value.pages()),
-            live: totals.live.saturating_add(pool.value.live()),
-        }
+        Ok(LockedTotals::of(self, &pool, shards.as_slice()))
     }
 
     // The locks of all shards.
@@ -425,7 +370,7 @@ impl<G: Gate, L: Log> Arena<G, L> {
         ensures lent { IfOk result (λ locked. map (option_map (λ shard. shard.guard.latch.now))
             locked.items ≡ map Some self.now.shards.items) }
     {
-        // An arena has 64 shards at most.
+        // For the prover: there are 64 shards at most.
         let _ = self.limits.shards();
         lock_all(patience, &self.shards)
     }
@@ -441,7 +386,7 @@ impl<G: Gate, L: Log> Arena<G, L> {
         }
         let shards = self.lock_all(patience)?;
         let has_too_many = pool.pages() > MOST_GROUPS
-            || totals_of(shards.as_slice()).pages > MOST_GROUPS;
+            || owned_pages(shards.as_slice()) > MOST_GROUPS;
         Ok(match sight {
             Sight::All if has_too_many => MarkError::TooMany,
             Sight::All | Sight::Sparsest => MarkError::OutOfMemory,

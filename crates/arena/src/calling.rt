@@ -1,12 +1,15 @@
 // A call on a key, made under the lock of whoever has the key's span.
-ghost use Rattle.std.specs.Prelude.{◌≡◌, IfOk, List, MatchOption, None, OnErr};
+ghost use Rattle.std.specs.Prelude.{◌≡◌, IfOk, IfSome, List, MatchOption, None, OnErr, Option};
+ghost use Rattle.arena.specs.KeyCalls.{IsAnswered};
 ghost use Rattle.groups.specs.Group.{IsElsewhere};
+ghost use Rattle.pool.specs.State.{PoolState};
+ghost use Rattle.shard.specs.State.{ShardState};
 ghost use Rattle.span.specs.declared.id.SpanId.{SpanId};
 
 use crate::arena::Arena;
-use crate::finding::{Hinted, Nowhere};
 use crate::gate::Gate;
 use crate::hints::Place;
+use crate::nowhere::{Hinted, Nowhere};
 use crate::patience::{Patience, Tries, Waits};
 use latch::{Ask, Busy};
 use pool::Pool;
@@ -21,8 +24,8 @@ const MOST_MOVES: u32 = 8;
 
 /// A call on a key. `W` is what it may write into a room of the caller's.
 ///
-/// Whoever makes it knows nothing of its answer, so that it is the answer of a shard or of the
-/// pool, or that of a span which is known to be nowhere.
+/// Its caller knows nothing of its answer, so that this is the answer of a shard or of the pool, or
+/// that of a span which is known to be nowhere.
 pub(crate) trait KeyCall<W> {
     /// What it answers.
     type Answer;
@@ -30,7 +33,18 @@ pub(crate) trait KeyCall<W> {
     /// The span of the key.
     ghost id: { Self → SpanId };
 
-    /// What it does, by what the room has before and after.
+    /// What it does in a shard, by the shard and what the room has before, and by both after.
+    ghost in_shard_does: { Self → ShardState → List W → Option Self.Answer → ShardState → List W
+        → Type 0 };
+
+    /// What it does in the pool, likewise.
+    ghost in_pool_does: { Self → PoolState → List W → Option Self.Answer → PoolState → List W
+        → Type 0 };
+
+    /// What it answers if its span is nowhere.
+    ghost nowhere_is: { Self → Self.Answer → Type 0 };
+
+    /// What it does wherever its span is, by what the room has before and after.
     ghost does: { Self → List W → Self.Answer → List W → Type 0 };
 
     /// The span of the key.
@@ -39,12 +53,14 @@ pub(crate) trait KeyCall<W> {
 
     /// Makes the call in the shard; nothing, and `None`, only if the shard does not have the span.
     fn in_shard<L: Log>(&self, shard: &mut Shard<L>, room: &mut [W]) -> Option<Self::Answer>
+        ensures shard { in_shard_does self.now shard.old room.old result shard.new room.new }
         ensures does { MatchOption result (room.new ≡ room.old)
             (λ answer. does self.now room.old answer room.new) }
         ensures elsewhere { result ≡ None → IsElsewhere shard.old.groups (id self.now) };
 
     /// Makes the call in the pool; nothing, and `None`, only if the pool does not have the span.
     fn in_pool<L: Log>(&self, pool: &mut Pool<L>, room: &mut [W]) -> Option<Self::Answer>
+        ensures pool { in_pool_does self.now pool.old room.old result pool.new room.new }
         ensures does { MatchOption result (room.new ≡ room.old)
             (λ answer. does self.now room.old answer room.new) }
         ensures elsewhere { result ≡ None → IsElsewhere pool.old.groups (id self.now) };
@@ -52,7 +68,9 @@ pub(crate) trait KeyCall<W> {
     /// What it answers if its span is nowhere.
     fn nowhere(&self, nowhere: Nowhere, room: &mut [W]) -> Self::Answer
         requires { nowhere.id ≡ id self.now }
-        ensures { does self.now room.old result room.new };
+        ensures nowhere { nowhere_is self.now result }
+        ensures room { room.new ≡ room.old }
+        ensures does { does self.now room.old result room.new };
 }
 
 // A call in the shard of this number, past the gate, where its latch keeps it.
@@ -66,7 +84,9 @@ struct InShard<'a, G: Gate, C> {
 impl<L: Log, G: Gate, W, C: KeyCall<W>> Ask<Shard<L>, W> for InShard<'_, G, C> {
     type Answer = Option<C::Answer>;
 
-    ghost does = { λ asked before answer after. MatchOption answer (after ≡ before)
+    ghost does = { λ asked old before answer new after.
+        C.in_shard_does asked.call.now old before answer new after
+        × MatchOption answer (after ≡ before)
         (λ answer. C.does asked.call.now before answer after) };
 
     #[inline(always)]
@@ -91,6 +111,8 @@ impl<G: Gate, L: Log> Arena<G, L> {
         call: &C,
         room: &mut [W],
     ) -> Result<C::Answer, Busy>
+        ensures answered { IfOk result (λ answer. IsAnswered (C.in_shard_does call.now)
+            (C.in_pool_does call.now) (C.nowhere_is call.now) room.old answer room.new) }
         ensures does { IfOk result (λ answer. C.does call.now room.old answer room.new) }
         ensures busy { OnErr result (room.new ≡ room.old) }
     {
@@ -103,6 +125,8 @@ impl<G: Gate, L: Log> Arena<G, L> {
     // The same, if the span was not where its hint said.
     #[inline(never)]
     fn try_call_again<W, C: KeyCall<W>>(&self, call: &C, room: &mut [W]) -> Result<C::Answer, Busy>
+        ensures answered { IfOk result (λ answer. IsAnswered (C.in_shard_does call.now)
+            (C.in_pool_does call.now) (C.nowhere_is call.now) room.old answer room.new) }
         ensures does { IfOk result (λ answer. C.does call.now room.old answer room.new) }
         ensures busy { OnErr result (room.new ≡ room.old) }
     {
@@ -124,11 +148,14 @@ impl<G: Gate, L: Log> Arena<G, L> {
         call: &C,
         room: &mut [W],
     ) -> Result<Option<C::Answer>, Busy>
+        ensures answered { IfOk result (λ made. IfSome made (λ answer.
+            IsAnswered (C.in_shard_does call.now) (C.in_pool_does call.now)
+            (C.nowhere_is call.now) room.old answer room.new)) }
         ensures does { IfOk result (λ answered. MatchOption answered (room.new ≡ room.old)
             (λ answer. C.does call.now room.old answer room.new)) }
         ensures busy { OnErr result (room.new ≡ room.old) }
     {
-        match self.hinted(call.span()) {
+        match Hinted::at(call.span(), &self.hints) {
             Hinted::Nowhere(nowhere) => Ok(Some(call.nowhere(nowhere, room))),
             Hinted::Pool => self.call_pooled(call, room),
             Hinted::Shard(number) => {
@@ -148,6 +175,9 @@ impl<G: Gate, L: Log> Arena<G, L> {
         call: &C,
         room: &mut [W],
     ) -> Result<Option<C::Answer>, Busy>
+        ensures answered { IfOk result (λ made. IfSome made (λ answer.
+            IsAnswered (C.in_shard_does call.now) (C.in_pool_does call.now)
+            (C.nowhere_is call.now) room.old answer room.new)) }
         ensures does { IfOk result (λ answered. MatchOption answered (room.new ≡ room.old)
             (λ answer. C.does call.now room.old answer room.new)) }
         ensures busy { OnErr result (room.new ≡ room.old) }
@@ -171,6 +201,8 @@ impl<G: Gate, L: Log> Arena<G, L> {
         call: &C,
         room: &mut [W],
     ) -> Result<C::Answer, Busy>
+        ensures answered { IfOk result (λ answer. IsAnswered (C.in_shard_does call.now)
+            (C.in_pool_does call.now) (C.nowhere_is call.now) room.old answer room.new) }
         ensures does { IfOk result (λ answer. C.does call.now room.old answer room.new) }
         ensures busy { OnErr result (room.new ≡ room.old) }
     {
@@ -192,6 +224,8 @@ pub(crate) trait CallsKeys: Patience {
         call: &C,
         room: &mut [W],
     ) -> Result<C::Answer, Self::Busy>
+        ensures answered { IfOk result (λ answer. IsAnswered (C.in_shard_does call.now)
+            (C.in_pool_does call.now) (C.nowhere_is call.now) room.old answer room.new) }
         ensures does { IfOk result (λ answer. C.does call.now room.old answer room.new) }
         ensures busy { OnErr result (room.new ≡ room.old) };
 }

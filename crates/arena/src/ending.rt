@@ -123,7 +123,7 @@ fn settled<G: Gate, K: Receipts>(
     ensures err { OnErr result (AreSameSeats seats.old seats.new
         × (map K.told receipts.new ≡ map K.told receipts.old)) }
 {
-    // There are 64 shards at most.
+    // For the prover: there are 64 shards at most.
     let _ = arena.limits.shards();
     know_rings(seats);
     let counts = make_room(arena.alloc, seats, receipts)?;

@@ -1,8 +1,7 @@
-// Where a span is: by its hint, or under the locks of all.
-ghost use Rattle.std.specs.Prelude.{◌≡◌, ◌<◌, ◌≤◌, All, IfOk, IfSome, Some, length, map};
+// Where a span is, if it is not where its hint says.
+ghost use Rattle.std.specs.Prelude.{◌≡◌, ◌<◌, ◌≤◌, IfOk, IfSome, Some, length, map};
 ghost use Rattle.groups.specs.Group.{IsElsewhere};
-ghost use Rattle.arena.specs.Hints.{HintsAt};
-ghost use Rattle.arena.specs.Locked.{HasGroup, latches_of, lent_by};
+ghost use Rattle.arena.specs.Locked.{latches_of};
 ghost use Rattle.span.specs.declared.limits.TheConstants.{MOST_SHARDS};
 
 use crate::arena::Arena;
@@ -10,43 +9,13 @@ use crate::folding::number_with;
 use crate::gate::Gate;
 use crate::hints::Place;
 use crate::locks::LockedShard;
+use crate::nowhere::Nowhere;
 use crate::patience::Tries;
 use latch::{Busy, LatchGuard};
 use pool::Pool;
 use span::{Log, SpanId};
 
-/// That a span is nowhere: it was not opened yet, or it was forgotten, so its keys find nothing.
-/// Only this module makes one: if the span's hint says so, or if nobody has the span under the
-/// locks of all.
-#[derive(Drop)]
-pub(crate) struct Nowhere {
-    id: SpanId,
-}
-
-/// Where a span may be, as its hint says. It may have moved since.
-#[derive(Drop)]
-pub(crate) enum Hinted {
-    /// Nowhere, for now or for good.
-    Nowhere(Nowhere),
-    /// In the pool.
-    Pool,
-    /// In the shard of this number.
-    Shard(u32),
-}
-
 impl<G: Gate, L: Log> Arena<G, L> {
-    /// Where the span may be: two loads.
-    #[inline(always)]
-    pub(crate) fn hinted(&self, id: SpanId) -> Hinted
-        ensures { HintsAt id result }
-    {
-        match self.hints.place_of(id) {
-            Place::Nowhere => Hinted::Nowhere(Nowhere { id }),
-            Place::Pool => Hinted::Pool,
-            Place::Shard(number) => Hinted::Shard(number),
-        }
-    }
-
     /// Looks for the span in the pool, and then in one shard after the other, and notes where it
     /// is; or says that it is nowhere. Every call that moves a span holds the pool's lock, and so
     /// does this one: a span that nobody has under the locks of all never comes back.
@@ -85,7 +54,7 @@ impl<G: Gate, L: Log> Arena<G, L> {
     fn is_in_shard(&self, id: SpanId, number: u32) -> bool
         requires { number < self.now.limits.shards }
     {
-        // There are 64 shards at most.
+        // For the prover: there are 64 shards at most.
         let _ = self.limits.shards();
         let Ok(shard) = self.shards[number as usize].try_lock() else {
             return false;
@@ -116,34 +85,7 @@ impl<G: Gate, L: Log> Arena<G, L> {
                 self.hints.note(id, Place::Shard(number as u32));
                 None
             }
-            None => Some(self.nowhere(id, pool, shards)),
+            None => Some(Nowhere::in_all(id, self, pool, shards)),
         }
-    }
-
-    /// That the span is nowhere: under the locks of all nobody has it. This is noted.
-    pub(crate) fn nowhere(
-        &self,
-        id: SpanId,
-        pool: &LatchGuard<'_, Pool<L>>,
-        shards: &[Option<LockedShard<'_, L>>],
-    ) -> Nowhere
-        requires pool { pool.now.latch.now ≡ self.now.pool }
-        requires unpooled { IsElsewhere pool.now.value.value.groups id }
-        requires lent { latches_of shards.now ≡ map Some self.now.shards.items }
-        requires unsharded { All (λ shard. HasGroup id shard → ⊥) (lent_by shards.now) }
-        ensures { result.id ≡ id }
-    {
-        let nowhere = Nowhere { id };
-        self.hints.note_nowhere(&nowhere);
-        nowhere
-    }
-}
-
-impl Nowhere {
-    /// The span.
-    pub(crate) fn id(&self) -> SpanId
-        ensures { result ≡ self.now.id }
-    {
-        self.id
     }
 }

@@ -4,7 +4,7 @@ ghost use Rattle.std.specs.Prelude.{◌≡◌, ◌*◌, ◌+◌, ◌<◌, ◌≤
 ghost use Rattle.arena.specs.Hints.{IsPlace, IsSomewhere, hint_word, place_code};
 ghost use Rattle.span.specs.declared.limits.TheConstants.{MOST_SHARDS};
 
-use crate::finding::Nowhere;
+use crate::nowhere::Nowhere;
 use shard::Shard;
 use span::{Log, MOST_SPANS, SpanId};
 use std::alloc::{AllocError, Global};

@@ -1,11 +1,12 @@
 // The calls on a key: a look-up, a set and a free.
-ghost use Rattle.std.specs.Prelude.{◌≡◌, None, Ok};
+ghost use Rattle.std.specs.Prelude.{◌≡◌, IfOk};
 ghost use Rattle.span.specs.Classes.{IsObject};
 ghost use Rattle.span.specs.Log.{Value};
+ghost use Rattle.arena.specs.KeyCalls.{FindsNothing, FreesIn, FreesInPool, FreesNothing, LooksUpIn, LooksUpPooled, SetsIn, SetsInPool, SetsNothing};
 ghost use Rattle.arena.specs.Told.{LooksUp};
 
 use crate::calling::KeyCall;
-use crate::finding::Nowhere;
+use crate::nowhere::Nowhere;
 use crate::sections::{Looked, Outcome, free_in, free_pool, get_in, get_pool, set_in, set_pool};
 use crate::word::Word;
 use pool::Pool;
@@ -24,7 +25,14 @@ impl<W: Word> KeyCall<W> for Get<'_> {
 
     ghost id = { λ call. call.key.now.span };
 
-    ghost does = { λ call before answer after. LooksUp W.word before answer.0 after };
+    ghost in_shard_does = { λ call. LooksUpIn W.word call.key.now };
+
+    ghost in_pool_does = { λ call. LooksUpPooled W.word call.key.now };
+
+    ghost nowhere_is = { λ call. FindsNothing call.key.now };
+
+    ghost does = { λ call before answer after. (answer.0 ≡ call.key.now)
+        × LooksUp W.word before answer.1 after };
 
     #[inline(always)]
     fn span(&self) -> SpanId {
@@ -59,7 +67,15 @@ impl KeyCall<u128> for Set<'_> {
 
     ghost id = { λ call. call.key.now.span };
 
-    ghost does = { λ _ _ _ _. Unit {0} };
+    ghost in_shard_does = { λ call old before answer new after.
+        SetsIn call.key.now call.words.now old answer new × (after ≡ before) };
+
+    ghost in_pool_does = { λ call old before answer new after.
+        SetsInPool call.key.now call.words.now old answer new × (after ≡ before) };
+
+    ghost nowhere_is = { λ call. SetsNothing call.key.now };
+
+    ghost does = { λ call _ answer _. IfOk answer (λ set. set.0 ≡ call.key.now) };
 
     #[inline(always)]
     fn span(&self) -> SpanId {
@@ -72,7 +88,7 @@ impl KeyCall<u128> for Set<'_> {
         shard: &mut Shard<L>,
         _room: &mut [u128],
     ) -> Option<Result<Outcome, AllocError>> {
-        answered(set_in(shard, self.key, self.words))
+        set_in(shard, self.key, self.words).transpose()
     }
 
     #[inline(never)]
@@ -81,24 +97,12 @@ impl KeyCall<u128> for Set<'_> {
         pool: &mut Pool<L>,
         _room: &mut [u128],
     ) -> Option<Result<Outcome, AllocError>> {
-        answered(set_pool(pool, self.key, self.words))
+        set_pool(pool, self.key, self.words).transpose()
     }
 
     #[inline(always)]
     fn nowhere(&self, nowhere: Nowhere, _room: &mut [u128]) -> Result<Outcome, AllocError> {
         Ok(Outcome::nowhere(self.key, nowhere))
-    }
-}
-
-// What a set answers, if the span is there.
-#[inline(always)]
-fn answered(set: Result<Option<Outcome>, AllocError>) -> Option<Result<Outcome, AllocError>>
-    ensures { result ≡ None → set ≡ Ok None }
-{
-    match set {
-        Ok(Some(set)) => Some(Ok(set)),
-        Ok(None) => None,
-        Err(refused) => Some(Err(refused)),
     }
 }
 
@@ -113,7 +117,15 @@ impl KeyCall<u128> for Free<'_> {
 
     ghost id = { λ call. call.key.now.span };
 
-    ghost does = { λ _ _ _ _. Unit {0} };
+    ghost in_shard_does = { λ call old before answer new after.
+        FreesIn call.key.now old answer new × (after ≡ before) };
+
+    ghost in_pool_does = { λ call old before answer new after.
+        FreesInPool call.key.now old answer new × (after ≡ before) };
+
+    ghost nowhere_is = { λ call. FreesNothing call.key.now };
+
+    ghost does = { λ call _ answer _. answer.0 ≡ call.key.now };
 
     #[inline(always)]
     fn span(&self) -> SpanId {

@@ -72,6 +72,7 @@
 //! ```
 #![tactic(auto)]
 
+mod about_key;
 mod arena;
 mod calling;
 mod counting;
@@ -85,6 +86,7 @@ mod gate;
 mod hints;
 mod key_calls;
 mod locks;
+mod nowhere;
 mod opening;
 mod outboxes;
 mod patience;
@@ -97,6 +99,7 @@ mod session;
 mod settling;
 mod steward;
 mod tending;
+mod totals;
 mod unkept;
 mod unlocked;
 mod walk;

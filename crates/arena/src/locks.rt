@@ -8,7 +8,7 @@ ghost use Rattle.span.specs.declared.limits.TheConstants.{MOST_SHARDS};
 use crate::patience::Patience;
 use arrayvec::ArrayVec;
 use latch::{Latch, LatchGuard};
-use marks::{LendsShard, Totals};
+use marks::LendsShard;
 use shard::Shard;
 use span::{Counted, Log, MOST_SHARDS, SpanId};
 
@@ -85,19 +85,6 @@ fn reopen_one<L: Log>(shard: &mut Option<LockedShard<'_, L>>)
         let guard = &mut shard.guard;
         guard.value.reopen();
     }
-}
-
-/// How many pages the shards have, and how many keys are live in them.
-pub(crate) fn totals_of<L: Log>(shards: &[Option<LockedShard<'_, L>>]) -> Totals {
-    let mut totals = Totals { pages: 0, live: 0 };
-    for shard in shards {
-        if let Some(shard) = shard {
-            let shard = shard.shard();
-            totals.pages = totals.pages.saturating_add(shard.pages());
-            totals.live = totals.live.saturating_add(shard.live());
-        }
-    }
-    totals
 }
 
 /// Has the shards forget each guest in which no slot is live. It gives how many went.

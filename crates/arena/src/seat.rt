@@ -2,6 +2,7 @@
 ghost use Rattle.std.proofs.Props.{props};
 ghost use Rattle.std.specs.Prelude.{All, ◌≡◌, ℕ, ◌+◌, ◌-◌, ◌<◌, ◌≤◌, ◌^◌, ◌↔◌, ◌∷◌, ◌++◌, [], IfOk, IfSome, IsOk, IsTrue, MatchResult, None, OnErr, OnOk, Some, length, map, slice_get, slice_index_or, slice_set, sum, vec_len};
 ghost use Rattle.arena.specs.Delays.{CountsCall, HandsOver, HasNoneWaiting, NoneWaits, delay_begun};
+ghost use Rattle.arena.specs.KeyCalls.{IsFreed, IsLookedUp, IsSet};
 ghost use Rattle.arena.specs.Receipts.{AddsFrees, free_receipt, get_receipt, joined, put_receipt, set_receipt};
 ghost use Rattle.arena.specs.Seats.{AreNoFewer, HasItsRings, KeepsEnds, free_places, in_rings, known_lists, sending_side, sent_lists, taken_lists};
 ghost use Rattle.arena.specs.Settled.{taken_with_known};
@@ -47,9 +48,9 @@ const MOST_WORDS: usize = 16;
 /// each worker's ring to its own shard.
 ///
 /// A key that it leaves to another thread goes in a block with others, and is on its ring, where
-/// that thread sees it, at the latest when the seat tends its own rings, hands over, ends its
-/// shard, goes on to the next section or is let go, or makes the [`MOST_DELAY`]th further call:
-/// each `put`, `get`, `set`, `free`, `free_later`, `retire`, `trim` and `adopt` is one.
+/// that thread sees it, at the latest when the seat calls `tend`, `hand_over`, `end` or
+/// `next_section`, is dropped, or makes the [`MOST_DELAY`]th further call: each `put`, `get`,
+/// `set`, `free`, `free_later`, `retire`, `trim` and `adopt` is one.
 #[derive(Drop)]
 pub struct Seat {
     worker: u32,
@@ -490,7 +491,10 @@ impl Seat {
         key: &Key,
         room: &mut [W],
     ) -> Result<Looked, P::Busy>
-        ensures words { IfOk result (λ got. LooksUp W.word room.old got.0 room.new) }
+        ensures key { IfOk result (λ got. got.0 ≡ key.now) }
+        ensures words { IfOk result (λ got. LooksUp W.word room.old got.1 room.new) }
+        ensures answered { IfOk result (λ got.
+            IsLookedUp W.word key.now room.old got room.new) }
         ensures seat { OnOk result (CountsCall self.old self.new) }
         ensures busy { OnErr result ((self.new ≡ self.old) × (room.new ≡ room.old)) }
     {
@@ -508,6 +512,8 @@ impl Seat {
         key: &Key,
         words: &[u128],
     ) -> Result<Result<Outcome, AllocError>, P::Busy>
+        ensures key { IfOk result (λ made. IfOk made (λ set. set.0 ≡ key.now)) }
+        ensures answered { IfOk result (IsSet key.now words.now) }
         ensures seat { OnOk result (CountsCall self.old self.new) }
         ensures busy { OnErr result (self.new ≡ self.old) }
     {
@@ -524,6 +530,8 @@ impl Seat {
         arena: &Arena<G, L>,
         key: &Key,
     ) -> Result<Outcome, P::Busy>
+        ensures key { IfOk result (λ freed. freed.0 ≡ key.now) }
+        ensures answered { IfOk result (IsFreed key.now) }
         ensures seat { OnOk result (CountsCall self.old self.new) }
         ensures busy { OnErr result (self.new ≡ self.old) }
     {
@@ -673,6 +681,7 @@ impl Seat {
     pub(crate) fn knows_its_rings(&self)
         ensures { HasItsRings self.now }
     {
+        // For the prover: the ghost fields hold.
         let _ = &self.worker;
     }
 

@@ -16,8 +16,9 @@ ghost use Rattle.pool.specs.Sound.{IsSound as IsSoundPool};
 ghost use Rattle.arena.specs.Receipts.{IsFreeBy, free_receipt, get_receipt, put_receipt, set_receipt};
 ghost use Rattle.arena.specs.Told.{LooksUp, WritesFound, changes_at, free_told, is_done, set_told};
 
-use crate::finding::Nowhere;
+use crate::about_key::AboutKey;
 use crate::hints::Announced;
+use crate::nowhere::Nowhere;
 use crate::word::{Word, write_words};
 use pool::Pool;
 use shard::{Found, Freed, Replaced, Shard};
@@ -83,20 +84,22 @@ impl Issued {
     }
 }
 
-/// What a look-up answers. In a clause it is how many words the key's object has, if the key is
+/// What a look-up answers. In a clause it is the key, how many words its object has, if the key is
 /// live, and how many changes stand in its span's log.
 #[derive(Drop)]
 pub struct Looked {
+    about: AboutKey,
     word_count: Option<usize>,
     at: usize,
 }
 
 impl Model for Looked {
     ghost use Rattle.std.specs.Prelude.{ℕ, Option};
+    ghost use Rattle.span.specs.declared.key.Key.{Key};
 
-    ghost Value = { Option ℕ × ℕ };
+    ghost Value = { Key × Option ℕ × ℕ };
 
-    ghost view = { λ looked. (looked.word_count, looked.at) };
+    ghost view = { λ looked. (looked.about.key, looked.word_count, looked.at) };
 }
 
 impl Looked {
@@ -104,11 +107,11 @@ impl Looked {
     #[inline(always)]
     pub(crate) fn nowhere(key: &Key, nowhere: Nowhere) -> Looked
         requires { nowhere.id ≡ key.now.span }
-        ensures { result ≡ (None, 0) }
+        ensures { result ≡ (key.now, None, 0) }
     {
-        let _ = key;
         let _ = nowhere;
         Looked {
+            about: AboutKey::new(key),
             word_count: None,
             at: 0,
         }
@@ -117,7 +120,7 @@ impl Looked {
     /// How many words the key's object has, or `None` if the key is not live.
     #[inline(always)]
     pub fn word_count(&self) -> Option<usize>
-        ensures { result ≡ self.now.0 }
+        ensures { result ≡ self.now.1 }
     {
         self.word_count
     }
@@ -125,7 +128,7 @@ impl Looked {
     /// How many changes stand in the log of the key's span.
     #[inline(always)]
     pub fn at(&self) -> usize
-        ensures { result ≡ self.now.1 }
+        ensures { result ≡ self.now.2 }
     {
         self.at
     }
@@ -133,18 +136,19 @@ impl Looked {
     /// The object whose words the look-up left in this room, which has place for any, if the key is
     /// live.
     pub fn object(&self, room: &[u128]) -> Option<Object>
-        requires left { (before : List ℕ) × LooksUp (λ word. word) before self.now.0 room.now }
+        requires left { (before : List ℕ) × LooksUp (λ word. word) before self.now.1 room.now }
         requires long { 16 ≤ length room.now }
-        ensures { result ≡ option_map (λ count. take count room.now) self.now.0 }
+        ensures { result ≡ option_map (λ count. take count room.now) self.now.1 }
     {
         let count = self.word_count?;
         Some(first_words(count, room))
     }
 
-    /// The receipt of the look-up of the key, which found this object, by the worker in the
-    /// section.
+    /// The receipt of the look-up, which was of this key and found this object, by the worker in
+    /// the section.
     pub fn receipt(&self, worker: u32, section: u64, key: &Key, found: &Option<Object>) -> Receipt
-        ensures { result ≡ get_receipt worker section key.now found.now self.now.1 }
+        requires { self.now.0 ≡ key.now }
+        ensures receipt { result ≡ get_receipt worker section key.now found.now self.now.2 }
     {
         Receipt {
             worker,
@@ -164,20 +168,22 @@ fn first_words(count: usize, room: &[u128]) -> Object
     Object::from_words(&room[..count])
 }
 
-/// What a set or a free answers. In a clause it is whether it was done, and how many changes stood
-/// in its span's log before.
+/// What a set or a free answers. In a clause it is the key, whether it was done, and how many
+/// changes stood in its span's log before.
 #[derive(Drop)]
 pub struct Outcome {
+    about: AboutKey,
     done: bool,
     at: usize,
 }
 
 impl Model for Outcome {
     ghost use Rattle.std.specs.Prelude.{Bool, ℕ};
+    ghost use Rattle.span.specs.declared.key.Key.{Key};
 
-    ghost Value = { Bool × ℕ };
+    ghost Value = { Key × Bool × ℕ };
 
-    ghost view = { λ outcome. (outcome.done, outcome.at) };
+    ghost view = { λ outcome. (outcome.about.key, outcome.done, outcome.at) };
 }
 
 impl Outcome {
@@ -185,17 +191,28 @@ impl Outcome {
     #[inline(always)]
     pub(crate) fn nowhere(key: &Key, nowhere: Nowhere) -> Outcome
         requires { nowhere.id ≡ key.now.span }
-        ensures { result ≡ (false, 0) }
+        ensures { result ≡ (key.now, false, 0) }
     {
-        let _ = key;
         let _ = nowhere;
-        Outcome { done: false, at: 0 }
+        Outcome::new(key, false, 0)
+    }
+
+    // What was answered to the key.
+    #[inline(always)]
+    fn new(key: &Key, done: bool, at: usize) -> Outcome
+        ensures { result ≡ (key.now, done, at) }
+    {
+        Outcome {
+            about: AboutKey::new(key),
+            done,
+            at,
+        }
     }
 
     /// Whether it was done.
     #[inline(always)]
     pub fn done(&self) -> bool
-        ensures { result ≡ self.now.0 }
+        ensures { result ≡ self.now.1 }
     {
         self.done
     }
@@ -203,14 +220,16 @@ impl Outcome {
     /// How many changes stood in the log of the key's span before.
     #[inline(always)]
     pub fn at(&self) -> usize
-        ensures { result ≡ self.now.1 }
+        ensures { result ≡ self.now.2 }
     {
         self.at
     }
 
-    /// The receipt of the set of the key, which was to this object, by the worker in the section.
+    /// The receipt of the set, which was of this key to this object, by the worker in the section.
     pub fn set_receipt(&self, worker: u32, section: u64, key: &Key, value: Object) -> Receipt
-        ensures { result ≡ set_receipt worker section key.now value self.now.0 self.now.1 }
+        requires { self.now.0 ≡ key.now }
+        ensures receipt { result ≡ set_receipt worker section key.now value self.now.1 self.now.2 }
+        ensures own { result ≡ set_receipt worker section self.now.0 value self.now.1 self.now.2 }
     {
         Receipt {
             worker,
@@ -221,12 +240,14 @@ impl Outcome {
         }
     }
 
-    /// The receipt of the free of the key by the worker in the section.
+    /// The receipt of the free, which was of this key, by the worker in the section.
     // Inlined, its fields go where they are read, and the room for an object is neither made nor
     // copied.
     #[inline(always)]
     pub fn free_receipt(&self, worker: u32, section: u64, key: &Key) -> Receipt
-        ensures receipt { result ≡ free_receipt worker section key.now self.now.0 self.now.1 }
+        requires { self.now.0 ≡ key.now }
+        ensures receipt { result ≡ free_receipt worker section key.now self.now.1 self.now.2 }
+        ensures own { result ≡ free_receipt worker section self.now.0 self.now.1 self.now.2 }
         ensures free { IsFreeBy worker section key.now result }
     {
         Receipt {
@@ -245,37 +266,40 @@ impl Outcome {
 #[inline(always)]
 pub fn get_in<L: Log, W: Word>(shard: &Shard<L>, key: &Key, room: &mut [W]) -> Option<Looked>
     ensures got { (what : Found) × Gets shard.now key.now what
-        × (option_map (λ got. got.1) result ≡ changes_at what) }
+        × (option_map (λ got. got.2) result ≡ changes_at what) }
+    ensures key { IfSome result (λ got. got.0 ≡ key.now) }
     ensures words { IfSome result (λ got. WritesFound W.word ((shown shard.now).value_of key.now)
-        room.old got.0 room.new) }
+        room.old got.1 room.new) }
     ensures width { IfSome ((shown shard.now).value_of key.now) IsObject }
     ensures none { result ≡ None → room.new ≡ room.old }
     ensures sound { IsSound shard.now }
 {
-    written(shard.get(key), room)
+    written(key, shard.get(key), room)
 }
 
 /// Looks the key up in the pool, as [`get_in`] does in a shard.
 #[inline(never)]
 pub fn get_pool<L: Log, W: Word>(pool: &Pool<L>, key: &Key, room: &mut [W]) -> Option<Looked>
     ensures got { (what : Found) × GetsPooled pool.now key.now what
-        × (option_map (λ got. got.1) result ≡ changes_at what) }
+        × (option_map (λ got. got.2) result ≡ changes_at what) }
+    ensures key { IfSome result (λ got. got.0 ≡ key.now) }
     ensures words { IfSome result (λ got. WritesFound W.word
-        ((shown_by_pool pool.now).value_of key.now) room.old got.0 room.new) }
+        ((shown_by_pool pool.now).value_of key.now) room.old got.1 room.new) }
     ensures width { IfSome ((shown_by_pool pool.now).value_of key.now) IsObject }
     ensures none { result ≡ None → room.new ≡ room.old }
     ensures sound { IsSoundPool pool.now }
 {
-    written(pool.get(key), room)
+    written(key, pool.get(key), room)
 }
 
-// What was found, with its words in the room if there is enough.
+// What was found of the key, with its words in the room if there is enough.
 #[inline(always)]
-fn written<W: Word>(found: Found<'_>, room: &mut [W]) -> Option<Looked>
+fn written<W: Word>(key: &Key, found: Found<'_>, room: &mut [W]) -> Option<Looked>
     requires { FindsObject found }
-    ensures got { option_map (λ got. got.1) result ≡ changes_at found.entry }
+    ensures got { option_map (λ got. got.2) result ≡ changes_at found.entry }
+    ensures key { IfSome result (λ got. got.0 ≡ key.now) }
     ensures words { IfSome result (λ got. WritesFound W.word (value_found found.entry)
-        room.old got.0 room.new) }
+        room.old got.1 room.new) }
     ensures width { IfSome (value_found found.entry) IsObject }
     ensures none { result ≡ None → room.new ≡ room.old }
 {
@@ -285,11 +309,13 @@ fn written<W: Word>(found: Found<'_>, room: &mut [W]) -> Option<Looked>
                 write_words(room, words);
             }
             Some(Looked {
+                about: AboutKey::new(key),
                 word_count: Some(words.len()),
                 at,
             })
         }
         Found::Gone(at) => Some(Looked {
+            about: AboutKey::new(key),
             word_count: None,
             at,
         }),
@@ -311,8 +337,9 @@ pub fn set_in<L: Log>(
     words: &[u128],
 ) -> Result<Option<Outcome>, AllocError>
     ensures set { IfOk result (λ set. (what : Replaced)
-        × Sets shard.old key.now words.now what shard.new × (set ≡ set_told what)) }
-    ensures done { IfOk result (λ set. IfSome set (λ outcome. outcome.0
+        × Sets shard.old key.now words.now what shard.new × (set ≡ set_told key.now what)) }
+    ensures key { IfOk result (λ set. IfSome set (λ outcome. outcome.0 ≡ key.now)) }
+    ensures done { IfOk result (λ set. IfSome set (λ outcome. outcome.1
         ≡ plain.may_set (shown shard.old) key.now words.now)) }
     ensures plain { IfOk result (λ set. shown shard.new ≡ (if is_done set
         then plain.with_value (shown shard.old) key.now words.now else shown shard.old)) }
@@ -321,7 +348,7 @@ pub fn set_in<L: Log>(
     ensures err { OnErr result (shard.new ≡ shard.old) }
 {
     let replaced = shard.set(key, words)?;
-    Ok(outcome_of_set(replaced))
+    Ok(outcome_of_set(key, replaced))
 }
 
 /// Sets the key's object to these words in the pool, as [`set_in`] does in a shard.
@@ -337,8 +364,9 @@ pub fn set_pool<L: Log>(
     words: &[u128],
 ) -> Result<Option<Outcome>, AllocError>
     ensures set { IfOk result (λ set. (what : Replaced)
-        × SetsPooled pool.old key.now words.now what pool.new × (set ≡ set_told what)) }
-    ensures done { IfOk result (λ set. IfSome set (λ outcome. outcome.0
+        × SetsPooled pool.old key.now words.now what pool.new × (set ≡ set_told key.now what)) }
+    ensures key { IfOk result (λ set. IfSome set (λ outcome. outcome.0 ≡ key.now)) }
+    ensures done { IfOk result (λ set. IfSome set (λ outcome. outcome.1
         ≡ plain.may_set (shown_by_pool pool.old) key.now words.now)) }
     ensures plain { IfOk result (λ set. shown_by_pool pool.new ≡ (if is_done set
         then plain.with_value (shown_by_pool pool.old) key.now words.now
@@ -349,7 +377,7 @@ pub fn set_pool<L: Log>(
     ensures err { OnErr result (pool.new ≡ pool.old) }
 {
     let replaced = pool.set(key, words)?;
-    Ok(outcome_of_set(replaced))
+    Ok(outcome_of_set(key, replaced))
 }
 
 /// Frees the key in the shard, as [`Shard::free`] does. The answer is `None` exactly if the shard
@@ -357,50 +385,54 @@ pub fn set_pool<L: Log>(
 #[inline(always)]
 pub fn free_in<L: Log>(shard: &mut Shard<L>, key: &Key) -> Option<Outcome>
     ensures freed { (what : Freed) × Frees shard.old key.now what shard.new
-        × (result ≡ free_told what) }
-    ensures done { IfSome result (λ outcome. outcome.0
+        × (result ≡ free_told key.now what) }
+    ensures key { IfSome result (λ outcome. outcome.0 ≡ key.now) }
+    ensures done { IfSome result (λ outcome. outcome.1
         ≡ is_some ((shown shard.old).value_of key.now)) }
     ensures plain { shown shard.new ≡ (if is_done result then plain.without
         (shown shard.old) key.now else shown shard.old) }
     ensures sound { IsSound shard.new }
 {
-    outcome_of_free(shard.free(key))
+    outcome_of_free(key, shard.free(key))
 }
 
 /// Frees the key in the pool, as [`free_in`] does in a shard.
 #[inline(never)]
 pub fn free_pool<L: Log>(pool: &mut Pool<L>, key: &Key) -> Option<Outcome>
     ensures freed { (what : Freed) × FreesPooled pool.old key.now what pool.new
-        × (result ≡ free_told what) }
-    ensures done { IfSome result (λ outcome. outcome.0
+        × (result ≡ free_told key.now what) }
+    ensures key { IfSome result (λ outcome. outcome.0 ≡ key.now) }
+    ensures done { IfSome result (λ outcome. outcome.1
         ≡ is_some ((shown_by_pool pool.old).value_of key.now)) }
     ensures plain { shown_by_pool pool.new ≡ (if is_done result then plain.without
         (shown_by_pool pool.old) key.now else shown_by_pool pool.old) }
     ensures sound { IsSoundPool pool.new }
 {
-    outcome_of_free(pool.free(key))
+    outcome_of_free(key, pool.free(key))
 }
 
 // What a set came to, if the span is there.
 #[inline(always)]
-fn outcome_of_set(replaced: Replaced) -> Option<Outcome>
-    ensures { result ≡ set_told replaced }
+fn outcome_of_set(key: &Key, replaced: Replaced) -> Option<Outcome>
+    ensures told { result ≡ set_told key.now replaced }
+    ensures key { IfSome result (λ outcome. outcome.0 ≡ key.now) }
 {
     match replaced {
-        Replaced::Yes(at) => Some(Outcome { done: true, at }),
-        Replaced::No(at) => Some(Outcome { done: false, at }),
+        Replaced::Yes(at) => Some(Outcome::new(key, true, at)),
+        Replaced::No(at) => Some(Outcome::new(key, false, at)),
         Replaced::NotHere => None,
     }
 }
 
 // What a free came to, if the span is there.
 #[inline(always)]
-fn outcome_of_free(freed: Freed) -> Option<Outcome>
-    ensures { result ≡ free_told freed }
+fn outcome_of_free(key: &Key, freed: Freed) -> Option<Outcome>
+    ensures told { result ≡ free_told key.now freed }
+    ensures key { IfSome result (λ outcome. outcome.0 ≡ key.now) }
 {
     match freed {
-        Freed::Yes(at) => Some(Outcome { done: true, at }),
-        Freed::No(at) => Some(Outcome { done: false, at }),
+        Freed::Yes(at) => Some(Outcome::new(key, true, at)),
+        Freed::No(at) => Some(Outcome::new(key, false, at)),
         Freed::NotHere => None,
     }
 }

@@ -124,6 +124,7 @@ impl<G: Gate, L: Log> Session<G, L> {
     /// of the place that may, or the span is not there either. Nothing is written then.
     #[inline(always)]
     pub fn try_get<W: Word>(&mut self, key: &Key, room: &mut [W]) -> Result<Looked, Busy>
+        ensures key { IfOk result (λ got. got.0 ≡ key.now) }
         ensures told { (what : Found) × Gets self.old.shard.value.value key.now what
             × LooksUpOwn W.word (changes_at what) ((shown self.old.shard.value.value).value_of
             key.now)
@@ -152,9 +153,10 @@ impl<G: Gate, L: Log> Session<G, L> {
         key: &Key,
         words: &[u128],
     ) -> Result<Result<Outcome, AllocError>, Busy>
+        ensures key { IfOk result (λ made. IfOk made (λ set. set.0 ≡ key.now)) }
         ensures told { IfOk result (λ set. IfOk set (λ told. (what : Replaced)
             × Sets self.old.shard.value.value key.now words.now what self.new.shard.value.value
-            × TellsOwn (set_told what) told)) }
+            × TellsOwn (set_told key.now what) told)) }
         ensures refused { IfOk result (λ set. OnErr set
             ((IsElsewhere self.old.shard.value.value.groups key.now.span → ⊥)
             → plain.may_set (shown self.old.shard.value.value) key.now words.now ≡ true)) }
@@ -181,9 +183,10 @@ impl<G: Gate, L: Log> Session<G, L> {
     /// [`Busy`] as that of [`Session::try_get`].
     #[inline(always)]
     pub fn try_free(&mut self, key: &Key) -> Result<Outcome, Busy>
+        ensures key { IfOk result (λ freed. freed.0 ≡ key.now) }
         ensures told { IfOk result (λ told. (what : Freed)
             × Frees self.old.shard.value.value key.now what self.new.shard.value.value
-            × TellsOwn (free_told what) told) }
+            × TellsOwn (free_told key.now what) told) }
         ensures seat { OnOk result (CountsCall self.old.seat self.new.seat) }
         ensures elsewhere { OnErr result
             (IsElsewhere self.old.shard.value.value.groups key.now.span) }
@@ -251,8 +254,10 @@ fn look_up<G: Gate, L: Log, W: Word>(
     key: &Key,
     room: &mut [W],
 ) -> Result<Looked, Busy>
-    ensures { (what : Found) × Gets shard.now key.now what × LooksUpOwn W.word (changes_at what)
-        ((shown shard.now).value_of key.now) room.old result room.new }
+    ensures key { IfOk result (λ got. got.0 ≡ key.now) }
+    ensures told { (what : Found) × Gets shard.now key.now what
+        × LooksUpOwn W.word (changes_at what) ((shown shard.now).value_of key.now)
+        room.old result room.new }
 {
     match get_in(shard, key, room) {
         Some(got) => Ok(got),
@@ -269,8 +274,10 @@ fn set<G: Gate, L: Log>(
     key: &Key,
     words: &[u128],
 ) -> Result<Result<Outcome, AllocError>, Busy>
+    ensures key { IfOk result (λ made. IfOk made (λ set. set.0 ≡ key.now)) }
     ensures told { IfOk result (λ set. IfOk set (λ told. (what : Replaced)
-        × Sets shard.old key.now words.now what shard.new × TellsOwn (set_told what) told)) }
+        × Sets shard.old key.now words.now what shard.new
+        × TellsOwn (set_told key.now what) told)) }
     ensures refused { IfOk result (λ set. OnErr set ((IsElsewhere shard.old.groups key.now.span → ⊥)
         → plain.may_set (shown shard.old) key.now words.now ≡ true)) }
     ensures err { IfOk result (λ set. OnErr set (shard.new ≡ shard.old)) }
@@ -292,8 +299,9 @@ fn free<G: Gate, L: Log>(
     shard: &mut Shard<L>,
     key: &Key,
 ) -> Result<Outcome, Busy>
+    ensures key { IfOk result (λ freed. freed.0 ≡ key.now) }
     ensures told { IfOk result (λ told. (what : Freed) × Frees shard.old key.now what shard.new
-        × TellsOwn (free_told what) told) }
+        × TellsOwn (free_told key.now what) told) }
     ensures elsewhere { OnErr result (IsElsewhere shard.old.groups key.now.span) }
     ensures busy { OnErr result (shard.new ≡ shard.old) }
 {

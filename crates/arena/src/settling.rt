@@ -84,7 +84,7 @@ impl<G: Gate, L: Log> Arena<G, L> {
         ensures err { OnErr result (AreSameSeats seats.old seats.new
             × (map K.told receipts.new ≡ map K.told receipts.old)) }
     {
-        // There are 64 shards at most.
+        // For the prover: there are 64 shards at most.
         let _ = self.limits.shards();
         know_rings(seats);
         let counts = make_room(self.alloc, seats, receipts)?;

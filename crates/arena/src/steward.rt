@@ -1,26 +1,38 @@
 // Who keeps the open plan.
-ghost use Rattle.std.specs.Prelude.{◌≡◌, ◌↔◌, ◌≤◌, IfOk, IsSome, IsTrue, None, Some, false, is_some, length, map, option_map};
+ghost use Rattle.std.specs.Prelude.{◌≡◌, ◌≢◌, ◌↔◌, ◌≤◌, Err, IfOk, IsSome, IsTrue, None, OnErr, OnOk, Some, false, is_some, length, map, option_map, true};
+ghost use Rattle.arena.specs.Sights.{IsSeen};
 ghost use Rattle.arena.specs.Stewards.{begun};
-ghost use Rattle.marks.specs.Closings.{reopened};
+ghost use Rattle.certificate.specs.Plans.{IsBestPlanOf, IsCertificateOf, IsShortOf};
+ghost use Rattle.certificate.specs.Text.{IsWritable};
+ghost use Rattle.marks.specs.Closings.{closing, reopened};
 ghost use Rattle.marks.specs.Plans.{next_pair, with_next_done};
-ghost use Rattle.mesh_graph.specs.declared.build.TheConstants.{MOST_GROUPS};
+ghost use Rattle.marks.specs.Seen.{with_plan_told};
 
 use crate::arena::Arena;
 use crate::gate::Gate;
 use crate::locks::{LockedShard, reopen_all};
+use certificate::Certificate;
 use latch::LatchGuard;
-use marks::{CurrentPlan, Limits};
+use marks::{CurrentPlan, Limits, MarkError, mark_in, mark_some_in};
+use mesh_graph::Runner;
 use pool::Pool;
 use span::{Log, SpanId};
 use std::alloc::{AllocError, Global};
 use std::marker::Model;
+
+// What a mark sees: every group with a page, or of each side those with the fewest live slots.
+#[derive(Clone, Copy)]
+pub(crate) enum Sight {
+    All,
+    Sparsest,
+}
 
 /// The keeper of an arena's open plan of folds, in room for 4,096 pairs that is made with the
 /// arena. It is lent to each mark, step and close, so that no two of these meet.
 #[derive(Drop)]
 pub struct Steward {
     pub(crate) limits: Limits,
-    // Only this module ends it: under the locks of the pool and of all shards.
+    // Only this module begins it, and ends it: under the locks of the pool and of all shards.
     plan: CurrentPlan,
 }
 
@@ -74,13 +86,41 @@ impl Steward {
         self.plan.advance();
     }
 
-    // Keeps the plan of these pairs.
-    pub(crate) fn begin(&mut self, pairs: &[(SpanId, SpanId)])
+    // A mark of what is in sight of the pool and of all shards, which are lent, if it has no plan.
+    // It keeps the plan. No other call begins one.
+    pub(crate) fn mark<G: Gate, L: Log, N: Runner>(
+        &mut self,
+        arena: &Arena<G, L>,
+        runner: &N,
+        sight: Sight,
+        pool: &mut LatchGuard<'_, Pool<L>>,
+        shards: &mut [LockedShard<'_, L>],
+    ) -> Result<Certificate, MarkError>
         requires none { self.old.plan ≡ None }
-        requires few { length pairs.now ≤ MOST_GROUPS }
-        ensures { self.new ≡ begun self.old pairs.now }
+        requires pool { pool.old.latch.now ≡ arena.now.pool }
+        requires lent { map (λ shard. shard.guard.latch.now) shards.old ≡ arena.now.shards.items }
+        requires runner { N.ready runner.now }
+        // What it gives is of all that is lent.
+        ensures best { IfOk result (λ found. IsBestPlanOf found.snapshot found.plan) }
+        ensures short { IfOk result (λ found. IsShortOf found.snapshot found.plan found.short) }
+        ensures certificate { IfOk result (λ found. IsCertificateOf found.snapshot found.plan
+            found.short) }
+        ensures writable { IfOk result IsWritable }
+        ensures seen { IfOk result (IsSeen sight pool.old.value.value
+            (map (λ shard. shard.guard.value.value) shards.old)) }
+        // What it keeps and changes of it.
+        ensures begun { IfOk result (λ found. self.new ≡ begun self.old found.plan) }
+        ensures closed { IfOk result (λ found. map (λ shard. shard.guard.value.value) shards.new
+            ≡ map (closing found.plan) (map (λ shard. shard.guard.value.value) shards.old)) }
+        ensures opened { OnOk result
+            (pool.new.value.value ≡ with_plan_told pool.old.value.value true) }
+        // The refusals.
+        ensures too_many { sight ≡ Sight.Sparsest → result ≢ Err MarkError.TooMany }
+        ensures err { OnErr result (self.new ≡ self.old) }
     {
-        self.plan.begin(pairs);
+        let found = see(runner, arena.alloc, sight, &mut *pool.value, shards)?;
+        self.plan.begin(found.plan.pairs());
+        Ok(found)
     }
 
     // Ends the plan, and opens all groups, where the pool and all shards are lent.
@@ -102,5 +142,33 @@ impl Steward {
         reopen_all(shards);
         pool.value.plan_closed();
         self.plan.end();
+    }
+}
+
+// A mark of what is in sight of the pool and the shards.
+fn see<L: Log, N: Runner>(
+    runner: &N,
+    alloc: Global,
+    sight: Sight,
+    pool: &mut Pool<L>,
+    shards: &mut [LockedShard<'_, L>],
+) -> Result<Certificate, MarkError>
+    requires some { 1 ≤ length shards.old }
+    requires runner { N.ready runner.now }
+    ensures best { IfOk result (λ found. IsBestPlanOf found.snapshot found.plan) }
+    ensures short { IfOk result (λ found. IsShortOf found.snapshot found.plan found.short) }
+    ensures certificate { IfOk result (λ found. IsCertificateOf found.snapshot found.plan
+        found.short) }
+    ensures writable { IfOk result IsWritable }
+    ensures seen { IfOk result
+        (IsSeen sight pool.old (map (λ shard. shard.guard.value.value) shards.old)) }
+    ensures closed { IfOk result (λ found. map (λ shard. shard.guard.value.value) shards.new
+        ≡ map (closing found.plan) (map (λ shard. shard.guard.value.value) shards.old)) }
+    ensures opened { OnOk result (pool.new ≡ with_plan_told pool.old true) }
+    ensures too_many { sight ≡ Sight.Sparsest → result ≢ Err MarkError.TooMany }
+{
+    match sight {
+        Sight::All => mark_in(runner, alloc, pool, shards),
+        Sight::Sparsest => mark_some_in(runner, alloc, pool, shards),
     }
 }

@@ -70,7 +70,7 @@ impl Unlocked {
 // Takes what is behind the locks of the arena, which its caller has to itself, and which has no
 // span afterwards. Memory is taken before the first of them leaves.
 pub(crate) fn unlock<G: Gate>(arena: &Arena<G>) -> Result<Unlocked, AllocError> {
-    // There are 64 shards at most.
+    // For the prover: there are 64 shards at most.
     let _ = arena.limits.shards();
     let alloc = arena.alloc;
     // A guard borrows the arena, so that no thread has one, unless it was forgotten.

@@ -1,12 +1,13 @@
 // A walk over the live keys of an arena, beside the threads that change them.
-ghost use Rattle.std.specs.Prelude.{◌≡◌, ◌≤◌, ◌<◌, ◌^◌, IfOk, IfSome, OnErr};
+ghost use Rattle.std.specs.Prelude.{◌≡◌, ◌≤◌, ◌<◌, ◌^◌, IfOk, IfSome, None, OnErr};
+ghost use Rattle.arena.specs.KeyCalls.{FindsFirstIn, FindsFirstInPool};
 ghost use Rattle.arena.specs.Walks.{HasGoneOn, IsAhead, walk_after};
 ghost use Rattle.span.specs.declared.limits.TheConstants.{MOST_SHARDS};
 
 use crate::arena::Arena;
 use crate::calling::{CallsKeys, KeyCall};
-use crate::finding::Nowhere;
 use crate::gate::Gate;
+use crate::nowhere::Nowhere;
 use crate::patience::{Tries, Waits};
 use latch::Busy;
 use pool::Pool;
@@ -143,6 +144,14 @@ impl KeyCall<u128> for First {
     type Answer = Option<Key>;
 
     ghost id = { λ call. call.id };
+
+    ghost in_shard_does = { λ call old before answer new after.
+        FindsFirstIn call.id call.slot old answer new × (after ≡ before) };
+
+    ghost in_pool_does = { λ call old before answer new after.
+        FindsFirstInPool call.id call.slot old answer new × (after ≡ before) };
+
+    ghost nowhere_is = { λ call first. first ≡ None };
 
     ghost does = { λ call _ first _. IfSome first
         (λ key. (key.span ≡ call.id) × (call.slot ≤ key.slot)) };

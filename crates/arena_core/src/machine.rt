@@ -275,7 +275,7 @@ impl<L: Log> Core<L> {
         ensures err { OnErr result (self.new ≡ self.old) }
         ensures err_replies { OnErr result (replies.new.items ≡ replies.old.items) }
     {
-        // The core is sound where no event comes too.
+        // For the prover: the core is sound, also if no event comes.
         let _ = &self.shards;
         replies.reserve(events.len())?;
         for event in events {

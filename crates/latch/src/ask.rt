@@ -8,10 +8,10 @@ pub trait Ask<T, W> {
     /// What it answers.
     type Answer;
 
-    /// What it does, by what the room has before and after.
-    ghost does: { Self → List W → Self.Answer → List W → Type 0 };
+    /// What it does, by the value and what the room has before, and by both after.
+    ghost does: { Self → T → List W → Self.Answer → T → List W → Type 0 };
 
     /// Makes the call.
     fn ask(&self, value: &mut T, room: &mut [W]) -> Self::Answer
-        ensures { does self.now room.old result room.new };
+        ensures { does self.now value.old room.old result value.new room.new };
 }

@@ -139,7 +139,8 @@ impl<T: Drop> Latch<T> {
     /// [`Busy`] where another thread has the value at each look. The call is not made then.
     #[inline(always)]
     pub fn try_ask<W, C: Ask<T, W>>(&self, call: &C, room: &mut [W]) -> Result<C::Answer, Busy>
-        ensures does { IfOk result (λ answer. C.does call.now room.old answer room.new) }
+        ensures does { IfOk result (λ answer. (before : T) × (after : T)
+            × C.does call.now before room.old answer after room.new) }
         ensures busy { OnErr result (room.new ≡ room.old) }
     {
         let mut seat = self.seat()?;
@@ -241,7 +242,8 @@ impl<T: Drop> Latch<T> {
     ) -> C::Answer
         requires { (seat.old.table_id ≡ self.now) × HasSlot seat.old.me.1 }
         ensures seat { (seat.new.table_id ≡ self.now) × HasSlot seat.new.me.1 }
-        ensures does { C.does call.now room.old result room.new }
+        ensures does { (before : T) × (after : T)
+            × C.does call.now before room.old result after room.new }
     {
         let Some(value) = seat.slot_mut(&self.table.shared, SLOT) else {
             unreachable!()

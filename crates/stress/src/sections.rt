@@ -1,5 +1,7 @@
 //! What is done under a lock, without one: that the calls succeed, and that the numbers of a run of
 //! them are those of its log.
+ghost use Rattle.std.specs.Prelude.{◌≡◌, IfSome};
+
 use arena::Outcome;
 use arena::sections::{free_in, free_pool, get_in, get_pool, set_in, set_pool};
 use pool::Pool;
@@ -35,7 +37,9 @@ fn got_pooled(pool: &Pool, key: &Key) -> Option<Receipt> {
 }
 
 // The receipt of a free that was answered so.
-fn freed(outcome: Option<Outcome>, key: &Key) -> Option<Receipt> {
+fn freed(outcome: Option<Outcome>, key: &Key) -> Option<Receipt>
+    requires { IfSome outcome (λ outcome. outcome.0 ≡ key.now) }
+{
     Some(outcome?.free_receipt(3, 2, key))
 }
 
@@ -71,7 +75,9 @@ fn tells_each_call(rt: HostRuntime) -> Result<(), Fail> {
 }
 
 // The receipt of a set to the object that was answered so.
-fn told_set(outcome: Option<Outcome>, key: &Key, value: Object) -> Option<Receipt> {
+fn told_set(outcome: Option<Outcome>, key: &Key, value: Object) -> Option<Receipt>
+    requires { IfSome outcome (λ outcome. outcome.0 ≡ key.now) }
+{
     Some(outcome?.set_receipt(3, 2, key, value))
 }
 

@@ -1,6 +1,6 @@
 -- Answers of a seat, with the receipts that they stand for.
 use mathlib.Core.Logic.{inl, inr}
-use Rattle.std.proofs.Common.{◌≡◌, ◌∙◌, ℕ, Bool, true, false, List, ap, arith, length, refl}
+use Rattle.std.proofs.Common.{◌≡◌, ◌∙◌, ℕ, Bool, true, false, List, ap, arith, length, refl, subst}
 use Rattle.std.specs.Prelude.{◌⊎◌, IfOk, Option, Result, Ok, Err, OnErr, OnOk, Some, None}
 use Rattle.std.specs.declared.alloc.AllocError.{AllocError}
 use Rattle.span.specs.Log.{Value}
@@ -19,7 +19,7 @@ use Rattle.teurlaks_c.specs.declared.replies.WordsReply.{WordsReply}
 use Rattle.teurlaks_c.specs.declared.share.Share.{Share}
 use Rattle.teurlaks_c.specs.Calls.{SaysWords}
 use Rattle.teurlaks_c.specs.Recorded.{AtRecorded, asked_of}
-use Rattle.teurlaks_c.specs.SeatCalls.{Asks, AsksTold, Gets, OrNoRoom, SaysFreed, SaysGot, SaysLooked, SaysPut, SaysSet, free_told, put_told, set_told}
+use Rattle.teurlaks_c.specs.SeatCalls.{Asks, AsksTold, Frees, Gets, OrNoRoom, SaysFreed, SaysGot, SaysLooked, SaysPut, SaysSet, Sets, free_told, put_told, set_told}
 use Rattle.teurlaks_c.specs.SessionCalls.{AnswersOwn, Held, InSession}
 use Rattle.teurlaks_c.specs.Words.{word_of}
 
@@ -57,55 +57,67 @@ SaysPut-told value says seat (Err b) is = is
 SaysPut-told value says seat (Ok (Err error)) is = is
 SaysPut-told value says seat (Ok (Ok put)) is = is
 
-pub SaysSet-told : (key : Key) (value : Value) (says : ℕ) (seat : SeatState) (answer : Result (Result (Bool × ℕ) AllocError) Busy)
-    → SaysSet says (Some answer) → SaysSet says (Some (set_told key value seat answer))
-SaysSet-told key value says seat (Err b) is = is
-SaysSet-told key value says seat (Ok (Err error)) is = is
-SaysSet-told key value says seat (Ok (Ok (true, at))) is = is
-SaysSet-told key value says seat (Ok (Ok (false, at))) is = is
+pub SaysSet-told : (value : Value) (says : ℕ) (seat : SeatState) (answer : Result (Result (Key × Bool × ℕ) AllocError) Busy)
+    → SaysSet says (Some answer) → SaysSet says (Some (set_told value seat answer))
+SaysSet-told value says seat (Err b) is = is
+SaysSet-told value says seat (Ok (Err error)) is = is
+SaysSet-told value says seat (Ok (Ok (key, true, at))) is = is
+SaysSet-told value says seat (Ok (Ok (key, false, at))) is = is
 
-pub SaysFreed-told : (key : Key) (says : ℕ) (seat : SeatState) (answer : Result (Bool × ℕ) Busy)
-    → SaysFreed says (Some answer) → SaysFreed says (Some (free_told key seat answer))
-SaysFreed-told key says seat (Err b) is = is
-SaysFreed-told key says seat (Ok (true, at)) is = is
-SaysFreed-told key says seat (Ok (false, at)) is = is
+pub SaysFreed-told : (says : ℕ) (seat : SeatState) (answer : Result (Key × Bool × ℕ) Busy)
+    → SaysFreed says (Some answer) → SaysFreed says (Some (free_told seat answer))
+SaysFreed-told says seat (Err b) is = is
+SaysFreed-told says seat (Ok (key, true, at)) is = is
+SaysFreed-told says seat (Ok (key, false, at)) is = is
+
+-- what a set or a free answers is of its key
+pub Sets-key : (key : Key) (value : Value) (before after : SeatState) (answer : Result (Result (Key × Bool × ℕ) AllocError) Busy) (set : Key × Bool × ℕ)
+    → answer ≡ Ok (Ok set) → Sets key value before (set_told value before answer) after → set.0 ≡ key
+Sets-key key value before after answer set is sets = (subst (λ answer. Sets key value before (set_told value before answer) after) is sets).0.0
+
+pub Frees-key : (key : Key) (before after : SeatState) (answer : Result (Key × Bool × ℕ) Busy) (freed : Key × Bool × ℕ)
+    → answer ≡ Ok freed → Frees key before (free_told before answer) after → freed.0 ≡ key
+Frees-key key before after answer freed is frees = (subst (λ answer. Frees key before (free_told before answer) after) is frees).0.0
 
 -- what C reads of a look-up that found this, whose words stand in the room
-pub SaysWords-looked : (room room_new : List RawWord) (says : WordsReply) (found : Option Value) (told : Option ℕ) (at : ℕ)
-    → WritesFound word_of found room told room_new → SaysLooked (length room) says (Ok (told, at)) → SaysWords room says room_new found
-SaysWords-looked room room_new says None None at (told, same) (len, status) = (len, status, same)
-SaysWords-looked room room_new says (Some words) None at (told, writes) looked = absurd cc
-SaysWords-looked room room_new says None (Some count) at (told, same) looked = absurd cc
-SaysWords-looked room room_new says (Some words) (Some count) at (told, inl (fits, is)) (len, inl (most, status)) =
+pub SaysWords-looked : (room room_new : List RawWord) (says : WordsReply) (found : Option Value) (key : Key) (told : Option ℕ) (at : ℕ)
+    → WritesFound word_of found room told room_new → SaysLooked (length room) says (Ok (key, told, at)) → SaysWords room says room_new found
+SaysWords-looked room room_new says None key None at (told, same) (len, status) = (len, status, same)
+SaysWords-looked room room_new says (Some words) key None at (told, writes) looked = absurd cc
+SaysWords-looked room room_new says None key (Some count) at (told, same) looked = absurd cc
+SaysWords-looked room room_new says (Some words) key (Some count) at (told, inl (fits, is)) (len, inl (most, status)) =
     let counts : count ≡ length words = cc in
     (len ∙ counts, inl (fits, status, is))
-SaysWords-looked room room_new says (Some words) (Some count) at (told, inl (fits, is)) (len, inr (most, status)) =
+SaysWords-looked room room_new says (Some words) key (Some count) at (told, inl (fits, is)) (len, inr (most, status)) =
     let counts : count ≡ length words = cc in
     absurd (omega (arith, counts, fits, most))
-SaysWords-looked room room_new says (Some words) (Some count) at (told, inr (narrow, same)) (len, inl (most, status)) =
+SaysWords-looked room room_new says (Some words) key (Some count) at (told, inr (narrow, same)) (len, inl (most, status)) =
     let counts : count ≡ length words = cc in
     absurd (omega (arith, counts, narrow, most))
-SaysWords-looked room room_new says (Some words) (Some count) at (told, inr (narrow, same)) (len, inr (most, status)) =
+SaysWords-looked room room_new says (Some words) key (Some count) at (told, inr (narrow, same)) (len, inr (most, status)) =
     let counts : count ≡ length words = cc in
     (len ∙ counts, inr (narrow, status, same))
 
 -- what a look-up by words tells is what C reads of the look-up that found this, with its receipt
-pub SaysGot-looked : (key : Key) (before after : SeatState) (room room_new : List RawWord) (says : WordsReply) (answer : Result (Option ℕ × ℕ) Busy)
-    → IfOk answer (λ got. LooksUp word_of room got.0 room_new)
+pub SaysGot-looked : (key : Key) (before after : SeatState) (room room_new : List RawWord) (says : WordsReply) (answer : Result (Key × Option ℕ × ℕ) Busy)
+    → IfOk answer (λ got. got.0 ≡ key) → IfOk answer (λ got. LooksUp word_of room got.1 room_new)
     → OnOk answer (CountsCall before after) → OnErr answer ((after ≡ before) × (room_new ≡ room)) → SaysLooked (length room) says answer
     → (told : Result (Option Value × Receipt) Busy) × Gets key before told after × SaysGot room says room_new (Some told)
-SaysGot-looked key before after room room_new says (Err b) wrote ok (same, room_same) (status, len) = (Err b, (tt, (tt, same)), (status, len, room_same))
-SaysGot-looked key before after room room_new says (Ok (told, at)) (found, object, wrote) ok err looked =
-    (Ok (found, get_receipt before.worker before.section key found at), (refl, (ok, tt)), SaysWords-looked room room_new says found told at wrote looked)
+SaysGot-looked key before after room room_new says (Err b) about wrote ok (same, room_same) (status, len) = (Err b, (tt, (tt, same)), (status, len, room_same))
+SaysGot-looked key before after room room_new says (Ok (asked, told, at)) about (found, object, wrote) ok err looked = (
+  Ok (found, get_receipt before.worker before.section asked found at),
+  (ap (λ asked. get_receipt before.worker before.section asked found at) about, (ok, tt)),
+  SaysWords-looked room room_new says found asked told at wrote looked,
+)
 
 -- the same in a session, whose own shard shows this value of the key
 pub SaysGot-held : (own : Option ℕ) (value : Option Value) (Counts Stays : Type 0)
-    (room room_new : List RawWord) (says : WordsReply) (answer : Result (Option ℕ × ℕ) Busy)
+    (room room_new : List RawWord) (says : WordsReply) (answer : Result (Key × Option ℕ × ℕ) Busy)
     → LooksUpOwn word_of own value room answer room_new → OnOk answer Counts → OnErr answer Stays → SaysLooked (length room) says answer
     → (told : Result (Option Value × ℕ) Busy) × (AnswersOwn own value told × OnOk told Counts × OnErr told Stays) × SaysGot room says room_new (Some told)
 SaysGot-held (Some at) value Counts Stays room room_new says (Err b) looks counts stays looked = absurd looks
 SaysGot-held None value Counts Stays room room_new says (Err b) same counts stays (status, len) = (Err b, (tt, tt, stays), (status, len, same))
-SaysGot-held (Some own) value Counts Stays room room_new says (Ok (told, at)) (is, wrote) counts stays looked =
-    (Ok (value, at), (ap (λ at. Ok (value, at)) is, counts, tt), SaysWords-looked room room_new says value told at wrote looked)
-SaysGot-held None value Counts Stays room room_new says (Ok (told, at)) (found, object, wrote) counts stays looked =
-    (Ok (found, at), (tt, counts, tt), SaysWords-looked room room_new says found told at wrote looked)
+SaysGot-held (Some own) value Counts Stays room room_new says (Ok (asked, told, at)) (is, wrote) counts stays looked =
+    (Ok (value, at), (ap (λ at. Ok (value, at)) is, counts, tt), SaysWords-looked room room_new says value asked told at wrote looked)
+SaysGot-held None value Counts Stays room room_new says (Ok (asked, told, at)) (found, object, wrote) counts stays looked =
+    (Ok (found, at), (tt, counts, tt), SaysWords-looked room room_new says found asked told at wrote looked)

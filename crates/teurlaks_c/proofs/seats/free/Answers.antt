@@ -7,5 +7,5 @@ pub returns : goal.returns
 returns c =
     let says = c.tell_at_seat.result in
     let told = c.tell_at_seat.ensures in
-    AsksTold-told (free_told c.args.key) (Frees c.args.key) (FreesHeld c.args.key) freed_kept says (SaysFreed says) (SaysFreed says) (λ none. none)
-    (SaysFreed-told c.args.key says) c.args.handle.now.share c.tell_at_seat.new.handle.share told.0 told.1 told.2
+    AsksTold-told free_told (Frees c.args.key) (FreesHeld c.args.key) freed_kept says (SaysFreed says) (SaysFreed says) (λ none. none)
+    (SaysFreed-told says) c.args.handle.now.share c.tell_at_seat.new.handle.share told.0 told.1 told.2

@@ -3,4 +3,4 @@ use Rattle.arena.proofs.Elsewhere.{Gets-elsewhere}
 use Rattle.arena.proofs.key_calls.GetKeyCall.in_shard.Goals as goal
 
 pub returns-clause-elsewhere : goal.returns-clause-elsewhere
-returns-clause-elsewhere g c = λ none. Gets-elsewhere c.args.shard.now c.args.self.now.key.now _ c.get_in.ensures.got (ap (option_map (λ got. got.1)) none)
+returns-clause-elsewhere g c = λ none. Gets-elsewhere c.args.shard.now c.args.self.now.key.now _ c.get_in.ensures.got (ap (option_map (λ got. got.2)) none)
