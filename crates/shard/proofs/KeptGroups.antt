@@ -37,6 +37,7 @@ module _ {L : Type 0} (s : Inside L) (kept : IsKept s) (groups : Vec GroupState)
     room_for_entries = kept.room_for_entries;
     heads_known = rw same kept.heads_known;
     room_for_heads = kept.room_for_heads;
+    guests_noted = kept.guests_noted;
   }
 
   -- one is replaced by a group whose spans have the same ids
@@ -59,6 +60,7 @@ module _ {L : Type 0} (s : Inside L) (kept : IsKept s) (groups : Vec GroupState)
     room_for_entries = kept.room_for_entries;
     heads_known = rw same (KnowsHeads-set s.number s.groups.items s.heads kept.heads_known index group now here (head-alike group now ids));
     room_for_heads = kept.room_for_heads;
+    guests_noted = kept.guests_noted;
   }
 
 -- more indexes of heads are noted
@@ -79,4 +81,5 @@ IsKept-more_heads s kept count enough heads base same more = record {
   room_for_entries = kept.room_for_entries;
   heads_known = KnowsHeads-moved (state_of s) kept.sound s.heads kept.heads_known count enough heads base same;
   room_for_heads = λ some. let room = kept.room_for_heads some in omega (arith, enough, room, more);
+  guests_noted = kept.guests_noted;
 }

@@ -1,37 +1,28 @@
 // Where the heads that a shard opened stand.
-ghost use Rattle.std.specs.Prelude.{◌≡◌, ◌+◌, ◌-◌, ◌<◌, ◌≤◌, ℕ, List, None, OnOk, Some, false, length, min, slice_get, true};
+ghost use Rattle.std.specs.Prelude.{◌≡◌, ◌+◌, ◌-◌, ◌%◌, ◌<◌, ◌≤◌, ℕ, List, None, OnOk, Some, false, length, min, slice_get, true};
+ghost use Rattle.shard.specs.declared.guest_notes.TheConstants.{HEADS};
 ghost use Rattle.shard.specs.HeadWindow.{HeadWindow, end_of, entry_of, most_entries};
 ghost use Rattle.shard.specs.Heads.{AreReady, IsNoted, KnowsHeads};
 
 use crate::group::Group;
-use span::{Log, Span, SpanId};
+use crate::guest_notes::HEADS;
+use span::{Log, SpanId};
 use std::alloc::{AllocError, Global};
 use std::marker::Model;
 
 /// How many entries are kept where there are few groups.
 pub const FEWEST: usize = 64;
-/// How many serials of heads the entry of a guest tells apart.
-const HEADS: u32 = 4_194_304;
-/// How many guests of a group have an entry.
-const GUESTS: usize = 1024;
 
 /// For each of the last spans that the shard opened, the index of its group, if it is the head of
 /// one here. So a look-up of such a head takes one step, however many groups have left. It has four
 /// bytes a span. The first serial that has an entry rises as the shard opens spans, so that the
 /// memory goes with the groups that are here and not with the spans that ever were. The index of a
 /// span that is no head here is of no account.
-///
-/// Of a guest it is noted how many guests stand before it, and the serial of its head, so that no
-/// group that comes or goes changes what is noted of the guests of others. Whoever asks must look
-/// whether the guest stands there: what is noted of one that has left is of no account.
 #[derive(Drop)]
 pub struct HeadIndexes {
     base: usize,
     // By serial, from the base on.
     indexes: Vec<u32>,
-    // The same of guests, as far as any have come: the place above, and the lowest bits of the
-    // head's serial.
-    guests: Vec<u32>,
 }
 
 impl Model for HeadIndexes {
@@ -52,7 +43,6 @@ impl HeadIndexes {
         HeadIndexes {
             base: 0,
             indexes: Vec::new(alloc),
-            guests: Vec::new(alloc),
         }
     }
 
@@ -82,20 +72,8 @@ impl HeadIndexes {
         if count.saturating_sub(self.base) > most {
             self.rise(count - most / 2);
             give_back(&mut self.indexes, most);
-            give_back(&mut self.guests, most);
         }
         grow(&mut self.indexes, count.saturating_sub(self.base))
-    }
-
-    /// Makes room for what is noted of guests, of as many serials as there are indexes.
-    ///
-    /// # Errors
-    ///
-    /// `AllocError` where memory is refused.
-    pub fn reserve_guests(&mut self) -> Result<(), AllocError>
-        ensures { self.new ≡ self.old }
-    {
-        grow(&mut self.guests, self.indexes.len())
     }
 
     // Has the base rise. The entries from there on stay, and as many as have gone are of no
@@ -109,8 +87,6 @@ impl HeadIndexes {
     {
         let gone = (base - self.base).min(self.indexes.len());
         move_down(&mut self.indexes, gone);
-        let gone = (base - self.base).min(self.guests.len());
-        move_down(&mut self.guests, gone);
         self.base = base;
     }
 
@@ -131,41 +107,20 @@ impl HeadIndexes {
         Some(self.indexes[at] as usize)
     }
 
-    /// Where the guest of this serial stands, if it is one, and what is noted of it still holds:
-    /// the index of its group, and how many guests stand before it. Where nothing is noted, the
-    /// index is past all groups.
+    /// The index that is noted for the first serial from the base on with the lowest bits that a
+    /// guest's note has of its head; past all groups where there is no such serial.
     #[inline(always)]
-    pub fn guest_at(&self, serial: u32) -> (usize, usize)
-        ensures { result.1 < 1024 }
+    pub fn index_by_note(&self, note: u32) -> usize
+        ensures { (serial index : ℕ) → self.now.base ≤ serial → serial < self.now.base + HEADS
+            → serial % HEADS ≡ note % HEADS → entry_of self.now serial ≡ Some index
+            → result ≡ index }
     {
-        let nowhere = (usize::MAX, 0);
-        let serial = serial as usize;
-        if serial < self.base || serial - self.base >= self.guests.len() {
-            return nowhere;
+        let heads = HEADS as usize;
+        let at = (note as usize + heads - self.base % heads) % heads;
+        if at >= self.indexes.len() {
+            return usize::MAX;
         }
-        let entry = self.guests[serial - self.base];
-        let head = (entry as usize + HEADS as usize - self.base % HEADS as usize) % HEADS as usize;
-        if head >= self.indexes.len() {
-            return nowhere;
-        }
-        (self.indexes[head] as usize, (entry / HEADS) as usize)
-    }
-
-    /// Notes where the guests of the head stand, from the place `first` on, counted from 0: those
-    /// that the shard of this number opened, if it opened the head too. What is noted of heads
-    /// stays. It takes no memory.
-    pub fn note_guests<L: Log>(
-        &mut self,
-        guests: &[Span<L>],
-        first: usize,
-        head: SpanId,
-        number: u32,
-    )
-        ensures { self.new ≡ self.old }
-    {
-        if is_noted(number, self.base, head) {
-            note_places(self.base, &mut self.guests, guests, first, head);
-        }
+        self.indexes[at] as usize
     }
 
     /// Notes where the heads of the shard of this number stand from the index on. It takes no
@@ -190,8 +145,8 @@ pub fn is_noted(number: u32, base: usize, head: SpanId) -> bool
     head.shard == number && base <= head.serial as usize
 }
 
-// How many entries are kept at most for the spans that were opened, beside so many groups.
-fn most_entries(groups: usize) -> usize
+/// How many entries are kept at most for the spans that were opened, beside so many groups.
+pub fn most_entries(groups: usize) -> usize
     ensures least { FEWEST ≤ result }
     ensures most { result ≤ most_entries groups }
 {
@@ -231,29 +186,6 @@ fn grow(indexes: &mut Vec<u32>, count: usize) -> Result<(), AllocError>
         return Ok(());
     }
     indexes.resize(count, 0)
-}
-
-// Notes of the guests from the place `first` on where they stand, those whose shard is that of
-// their head.
-fn note_places<L: Log>(
-    base: usize,
-    places: &mut Vec<u32>,
-    guests: &[Span<L>],
-    first: usize,
-    head: SpanId,
-)
-    ensures len { length places.new.items ≡ length places.old.items }
-{
-    for place in first..guests.len().min(GUESTS) {
-        let id = guests[place].id();
-        if !is_noted(head.shard, base, id) {
-            continue;
-        }
-        let at = id.serial as usize - base;
-        if at < places.len() {
-            places[at] = place as u32 * HEADS + head.serial % HEADS;
-        }
-    }
 }
 
 // Notes where the heads of the shard of this number stand from the index on.

@@ -12,6 +12,7 @@ ghost use Rattle.span.specs.declared.limits.TheConstants.{MOST_PAGES, MOST_SHARD
 use crate::class_rooms::ClassRooms;
 use crate::error::Config;
 use crate::group::Group;
+use crate::guest_notes::GuestNotes;
 use crate::head_indexes::HeadIndexes;
 use groups::Directory;
 use span::{Entry, Kept, Log, MOST_PAGES, MOST_SHARDS, MOST_SPANS, Span, SpanId};
@@ -60,7 +61,8 @@ pub enum Freed {
 ///
 /// It keeps that it is sound, that a group whose index is not in `rooms` has no usable slot, and
 /// that one whose index is in the set of a class is of that class. `heads` says of the last heads
-/// that it opened at which index they stand.
+/// that it opened at which index they stand, and `notes` of the last spans that it opened whether
+/// they are guests here.
 #[derive(Drop)]
 pub struct Shard<L: Log = Kept> {
     alloc: Global,
@@ -73,6 +75,7 @@ pub struct Shard<L: Log = Kept> {
     groups: Vec<Group<L>>,
     rooms: ClassRooms,
     heads: HeadIndexes,
+    notes: GuestNotes,
     directory: Directory,
     // For how many more groups of its own room is reserved, and for how many more spans.
     group_room: usize,
@@ -174,6 +177,7 @@ impl<L: Log> Shard<L> {
             span_room: 0,
             onto: None,
             guest_room: Vec::new(alloc),
+            notes: GuestNotes::new(alloc),
         })
     }
 

@@ -1,8 +1,12 @@
 // Guests that can never be live again, which a shard forgets.
-ghost use Rattle.std.specs.Prelude.{◌≡◌, ◌+◌, ◌≤◌, ℕ, Some, count_by, map, slice_get, vec_capacity, vec_len};
+ghost use Rattle.std.specs.Prelude.{◌≡◌, ◌+◌, ◌≤◌, ℕ, Some, count_by, map as map_list, slice_get, vec_capacity, vec_len};
 ghost use Rattle.span.specs.Ids.{same_span};
 ghost use Rattle.span.specs.declared.id.SpanId.{SpanId};
 ghost use Rattle.span.specs.declared.key.Key.{Key};
+ghost use Rattle.groups.specs.declared.directory.Place.{Place};
+ghost use Rattle.shard.specs.GuestNotes.{KnowsNotes};
+ghost use Rattle.shard.specs.HeadWindow.{end_of};
+ghost use Rattle.std.specs.FinMap as map;
 ghost use Rattle.groups.specs.Dead.{AreEntered, dead_among, live_among, without_dead};
 ghost use Rattle.groups.specs.Directory.{KnowsGuests, entered, struck};
 ghost use Rattle.groups.specs.Group.{Ascend};
@@ -14,7 +18,7 @@ ghost use Rattle.span.specs.declared.limits.TheConstants.{ALL_IDS};
 
 use super::Shard;
 use crate::group::Group;
-use crate::head_indexes::HeadIndexes;
+use crate::guest_notes::GuestNotes;
 use groups::Directory;
 use span::Counted;
 
@@ -33,7 +37,7 @@ impl Shard<Counted> {
         forget_all(
             &mut self.groups,
             &mut self.directory,
-            &mut self.heads,
+            &mut self.notes,
             self.number,
             self.group_room,
         );
@@ -47,22 +51,24 @@ impl Shard<Counted> {
 fn forget_all(
     groups: &mut Vec<Group<Counted>>,
     directory: &mut Directory,
-    heads: &mut HeadIndexes,
+    notes: &mut GuestNotes,
     number: u32,
     room: usize,
 )
     requires room { vec_len groups.old + room ≤ vec_capacity groups.old }
     requires known { KnowsGuests groups.old.items directory.old.entries }
     requires ascend { Ascend groups.old.items }
+    requires noted { KnowsNotes number directory.old.entries notes.old }
     requires once { (index : ℕ) (group : GroupState) → slice_get groups.old.items index ≡ Some group
         → (id : SpanId) → count_by (λ span. same_span span.id id) group.guests ≤ 1 }
-    ensures items { groups.new.items ≡ map without_dead groups.old.items }
+    ensures items { groups.new.items ≡ map_list without_dead groups.old.items }
     ensures capacity { vec_len groups.new + room ≤ vec_capacity groups.new }
     ensures known { KnowsGuests groups.new.items directory.new.entries }
     ensures room { directory.new.room ≡ directory.old.room }
-    ensures heads { heads.new ≡ heads.old }
+    ensures noted { KnowsNotes number directory.new.entries notes.new }
+    ensures end { end_of notes.new ≡ end_of notes.old }
 {
-    forget_each(groups, directory, heads, number);
+    forget_each(groups, directory, notes, number);
     give_back(groups, room);
 }
 
@@ -82,22 +88,24 @@ fn give_back(groups: &mut Vec<Group<Counted>>, room: usize)
 fn forget_each(
     groups: &mut Vec<Group<Counted>>,
     directory: &mut Directory,
-    heads: &mut HeadIndexes,
+    notes: &mut GuestNotes,
     number: u32,
 )
     requires known { KnowsGuests groups.old.items directory.old.entries }
     requires ascend { Ascend groups.old.items }
+    requires noted { KnowsNotes number directory.old.entries notes.old }
     requires once { (index : ℕ) (group : GroupState) → slice_get groups.old.items index ≡ Some group
         → (id : SpanId) → count_by (λ span. same_span span.id id) group.guests ≤ 1 }
-    ensures items { groups.new.items ≡ map without_dead groups.old.items }
+    ensures items { groups.new.items ≡ map_list without_dead groups.old.items }
     ensures len { vec_len groups.new ≡ vec_len groups.old }
     ensures capacity { vec_capacity groups.new ≡ vec_capacity groups.old }
     ensures known { KnowsGuests groups.new.items directory.new.entries }
     ensures room { directory.new.room ≡ directory.old.room }
-    ensures heads { heads.new ≡ heads.old }
+    ensures noted { KnowsNotes number directory.new.entries notes.new }
+    ensures end { end_of notes.new ≡ end_of notes.old }
 {
     for index in 0..groups.len() {
-        forget_in(&mut groups[index], directory, heads, number);
+        forget_in(&mut groups[index], directory, notes, number);
     }
 }
 
@@ -106,20 +114,25 @@ fn forget_each(
 fn forget_in(
     group: &mut Group<Counted>,
     directory: &mut Directory,
-    heads: &mut HeadIndexes,
+    notes: &mut GuestNotes,
     number: u32,
 )
-    requires { AreEntered (struck directory.old.entries (dead_among group.old.guests))
+    requires entered { AreEntered (struck directory.old.entries (dead_among group.old.guests))
         (live_among group.old.guests) }
+    requires known { KnowsNotes number directory.old.entries notes.old }
+    requires placed { (number : ℕ) (at : Place) → map.get directory.old.entries number ≡ Some at
+        → 1 ≤ at.place }
     ensures group { group.new ≡ without_dead group.old }
     ensures directory { directory.new ≡ record directory.old {
       entries = entered (struck directory.old.entries (dead_among group.old.guests))
           (live_among group.old.guests) group.old.head.id 1;
     } }
-    ensures heads { heads.new ≡ heads.old }
+    ensures noted { KnowsNotes number directory.new.entries notes.new }
+    ensures end { end_of notes.new ≡ end_of notes.old }
 {
     directory.strike_dead(group.spans().guests());
+    notes.strike_dead_guests(number, group.spans().guests());
     group.forget_guests();
     directory.move_all(group.spans().guests(), group.head_id());
-    heads.note_guests(group.spans().guests(), 0, group.head_id(), number);
+    notes.note_guests(number, 0, group.spans().guests(), group.head_id());
 }

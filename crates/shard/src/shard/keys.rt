@@ -1,15 +1,17 @@
 // Look-ups and frees, and where the span of a key stands.
-ghost use Rattle.std.specs.Prelude.{◌≡◌, ◌+◌, ◌<◌, ◌≤◌, ℕ, false, true, IfSome, MatchOption, if◌then◌else◌, is_some, length};
+ghost use Rattle.std.specs.Prelude.{◌≡◌, ◌+◌, ◌<◌, ◌≤◌, ℕ, false, true, IfSome, MatchOption, Some, if◌then◌else◌, is_some, length, slice_get};
 ghost use Rattle.span.specs.Order.{HasNoneFrom, IsFirstFrom};
 ghost use Rattle.span.specs.PlainMap as plain;
 ghost use Rattle.span.specs.State.{SpanState};
 ghost use Rattle.groups.specs.Group.{HasNoHead, IsElsewhere, IsHeadOf, IsHere};
+ghost use Rattle.groups.specs.Spans.{HasNoSpan};
 ghost use Rattle.shard.specs.Calls.{FindsObject, Frees, Gets, value_found, was_freed};
 ghost use Rattle.shard.specs.Group.{GroupState};
 ghost use Rattle.shard.specs.Shown.{shown};
 ghost use Rattle.shard.specs.Sound.{IsSound};
 
 use super::{Found, Freed, Shard, head_index};
+use crate::guest_notes::HEADS;
 use crate::head_indexes::is_noted;
 use span::{Key, Log, SpanId};
 
@@ -89,7 +91,7 @@ impl<L: Log> Shard<L> {
         if self.is_head(first, id) {
             return Some((first, 0));
         }
-        let (noted, is_noted) = self.noted_index(id);
+        let (noted, _) = self.noted_index(id);
         if self.is_head(noted, id) {
             return Some((noted, 0));
         }
@@ -97,7 +99,7 @@ impl<L: Log> Shard<L> {
         if near < self.groups.len() {
             return Some((near, place));
         }
-        let (index, place) = self.find_moved(id, is_noted);
+        let (index, place) = self.find_moved(id);
         if index >= self.groups.len() {
             return None;
         }
@@ -123,28 +125,51 @@ impl<L: Log> Shard<L> {
         ensures { result.0 < length self.now.groups → (group : GroupState) × (span : SpanState)
             × IsHere self.now.groups id result.0 result.1 group span }
     {
-        let (index, before) = self.heads.guest_at(id.serial);
-        if self.is_guest(index, before, id) {
-            return (index, before + 1);
+        let note = self.notes.note_of(id.serial);
+        let place = (note / HEADS) as usize;
+        if place == 0 {
+            return self.nowhere();
         }
+        let index = self.heads.index_by_note(note);
+        if self.is_guest(index, place, id) {
+            return (index, place);
+        }
+        self.nowhere()
+    }
+
+    // A place past all groups.
+    #[inline(always)]
+    fn nowhere(&self) -> (usize, usize)
+        ensures { length self.now.groups ≤ result.0 }
+    {
         (self.groups.len(), 0)
     }
 
-    // Whether the group at the index, if there is one, has this guest after so many others.
+    // Whether the group at the index, if there is one, has this span at the place.
     #[inline(always)]
     fn is_guest(&self, index: usize, place: usize, guest: SpanId) -> bool
-        requires { place < 1024 }
         ensures { result ≡ true → (group : GroupState) × (span : SpanState)
-            × IsHere self.now.groups guest index (place + 1) group span }
+            × IsHere self.now.groups guest index place group span }
     {
         if index >= self.groups.len() {
             return false;
         }
         let group = &self.groups[index];
-        if place + 1 >= group.len() {
+        if place >= group.len() {
             return false;
         }
-        group.span_at(place + 1).id() == guest
+        group.span_at(place).id() == guest
+    }
+
+    // Whether it is noted of the span that it is no guest here.
+    fn is_no_guest(&self, id: SpanId) -> bool
+        ensures { result ≡ true → (index : ℕ) (group : GroupState)
+            → slice_get self.now.groups index ≡ Some group → HasNoSpan group.guests id }
+    {
+        if !is_noted(self.number, self.notes.base(), id) {
+            return false;
+        }
+        self.notes.note_of(id.serial) == 0
     }
 
     // The index that is noted for the head, and whether it is one of those that the shard notes:
@@ -161,38 +186,19 @@ impl<L: Log> Shard<L> {
         }
     }
 
-    // The same of a span that is no head at the index that is noted for it; past all groups where
-    // it stands nowhere. A head that is not noted is found by halving, and all else goes by the
-    // directory. Two numbers come back in registers, and an option of them through memory, which a
-    // caller clears before it knows whether it asks.
+    // Where a span stands that no note led to: a head that is not noted is found by halving, and a
+    // guest of which no place is noted goes by the directory. Past all groups where it stands
+    // nowhere. Two numbers come back in registers, and an option of them through memory,
+    // which a caller clears before it knows whether it asks.
     #[inline(never)]
-    fn find_moved(&self, id: SpanId, is_noted: bool) -> (usize, usize)
-        requires { is_noted ≡ true → HasNoHead self.now.groups id }
+    fn find_moved(&self, id: SpanId) -> (usize, usize)
         ensures elsewhere { length self.now.groups ≤ result.0 → IsElsewhere self.now.groups id }
         ensures here { result.0 < length self.now.groups → (group : GroupState) × (span : SpanState)
             × IsHere self.now.groups id result.0 result.1 group span }
     {
-        let index = self.far_index(id, is_noted);
-        if index < self.groups.len() {
-            return (index, 0);
-        }
-        self.find_guest(id)
-    }
-
-    // The index of the head, if it is none of those that the shard notes; past all groups where
-    // none has it.
-    fn far_index(&self, head: SpanId, is_noted: bool) -> usize
-        requires { is_noted ≡ true → HasNoHead self.now.groups head }
-        ensures elsewhere { length self.now.groups ≤ result → HasNoHead self.now.groups head }
-        ensures here { result < length self.now.groups
-            → (group : GroupState) × IsHeadOf self.now.groups head result group }
-    {
-        if is_noted {
-            return self.groups.len();
-        }
-        match head_index(self.groups.as_slice(), head) {
-            Some(index) => index,
-            None => self.groups.len(),
+        match self.find_head(id) {
+            Some(index) => (index, 0),
+            None => self.find_guest(id),
         }
     }
 
@@ -203,6 +209,9 @@ impl<L: Log> Shard<L> {
         ensures here { result.0 < length self.now.groups → (group : GroupState) × (span : SpanState)
             × IsHere self.now.groups id result.0 result.1 group span }
     {
+        if self.is_no_guest(id) {
+            return (self.groups.len(), 0);
+        }
         let Some(at) = self.directory.place_of(id) else {
             return (self.groups.len(), 0);
         };
@@ -219,9 +228,12 @@ impl<L: Log> Shard<L> {
         ensures within { IfSome result (λ index. index < length self.now.groups) }
         ensures sound { IsSound self.now }
     {
-        let (noted, _) = self.noted_index(head);
+        let (noted, is_noted) = self.noted_index(head);
         if self.is_head(noted, head) {
             return Some(noted);
+        }
+        if is_noted {
+            return None;
         }
         head_index(self.groups.as_slice(), head)
     }

@@ -32,6 +32,7 @@ impl<L: Log> Shard<L> {
         let place = Group::left_by(self.alloc, group.head_id(), group.class(), self.gens);
         let (spans, page) = replace(group, place).into_parts();
         self.directory.strike_all(spans.guests());
+        self.notes.strike_guests(self.number, spans.guests());
         self.onto = None;
         Some(Whole::new(spans, page))
     }

@@ -1,9 +1,18 @@
-use Rattle.std.proofs.Common.{◌≡◌, ◌+◌, ◌-◌, ◌∙◌, Some, length-set, set, slice_get, arith, refl, subst, sym}
+use Rattle.std.proofs.Common.{◌≡◌, ◌+◌, ◌-◌, ◌<◌, ◌∙◌, Some, length-set, set, slice_get, vec_len, arith, refl, subst, sym}
 use Rattle.std.proofs.lemmas.Option.{slice_get_read, slice_get_within}
 use Rattle.span.specs.declared.id.SpanId.{SpanId}
 use Rattle.shard.specs.Heads.{IsNoted, KnowsBelow}
 use Rattle.shard.proofs.KnownHeads.{KnowsBelow-own}
 use Rattle.shard.proofs.head_indexes.note_heads.Goals as goal
+
+pub index_mut-requires : goal.index_mut-requires
+index_mut-requires g c =
+    let here : slice_get c.args.groups.now c.loop-index.index ≡ Some c.index-groups-index.result =
+    slice_get_read c.args.groups.now _ c.loop-index.index c.index-groups-index.result refl (omega (arith, c.loop-index-test.true)) c.index-groups-index.is in
+    let own : IsNoted c.args.number c.args.base c.index-groups-index.result.head.id = subst (IsNoted c.args.number c.args.base) c.head_id-id.ensures (c.is_noted.ensures.known c.if-not-is_noted.false) in
+    let low = c.requires.fit c.loop-index.index c.index-groups-index.result here own in
+    subst (λ (id : SpanId). id.serial - c.args.base < vec_len c.loop-index.indexes) (sym c.head_id-id.ensures)
+    (omega (arith, low, c.loop-index.invariant.1))
 
 pub loop-index-preserved : goal.loop-index-preserved
 loop-index-preserved g c =

@@ -20,6 +20,7 @@ invariant_of-self g c = record {
   room_for_entries = c.self.invariant.room_for_entries;
   heads_known = c.self.invariant.heads_known;
   room_for_heads = c.self.invariant.room_for_heads;
+  guests_noted = c.self.invariant.guests_noted;
 }
 
 pub returns-clause-begun : goal.returns-clause-begun

@@ -3,7 +3,11 @@ use Rattle.groups.specs.Group.{HasNoHead, IsElsewhere}
 use Rattle.shard.specs.State.{ShardState}
 use Rattle.shard.proofs.HeadsHere.{IsHeadAt}
 use Rattle.groups.proofs.KnownGuests.{IsElsewhere-guest, Somewhere, Somewhere-guest}
+use Rattle.shard.proofs.NotedGuests.{IsElsewhere-no_guest}
 use Rattle.shard.proofs.shard.Shard.find_guest.Goals as goal
+
+pub returns-then-is_no_guest-clause-elsewhere : goal.returns-then-is_no_guest-clause-elsewhere
+returns-then-is_no_guest-clause-elsewhere g c past = IsElsewhere-no_guest c.args.self.now.groups c.args.id c.requires (c.is_no_guest.ensures c.if-is_no_guest.true)
 
 -- it is no guest, and no head either
 pub returns-in_default-clause-elsewhere : goal.returns-in_default-clause-elsewhere

@@ -1,8 +1,6 @@
-use Rattle.std.proofs.Common.{◌≡◌, ◌∙◌, ◌+◌, Some, slice_get, ap, arith, refl, subst, sym}
+use Rattle.std.proofs.Common.{◌≡◌, ◌∙◌, Some, slice_get, arith, refl, subst, sym}
 use Rattle.std.proofs.lemmas.Option.{slice_get_read}
 use Rattle.span.proofs.Ids.{same_id_from_test}
-use Rattle.span.specs.State.{SpanState}
-use Rattle.shard.specs.Group.{GroupState}
 use Rattle.shard.specs.State.{ShardState}
 use Rattle.groups.proofs.KnownGuests.{Somewhere}
 use Rattle.shard.proofs.shard.Shard.is_guest.Goals as goal
@@ -11,7 +9,7 @@ pub returns : goal.returns
 returns g c is =
     let here : slice_get c.self.inside.groups.items c.args.index ≡ Some c.index-group.result.now =
     slice_get_read c.self.inside.groups.items _ c.args.index c.index-group.result.now refl (omega (arith, c.if-index-len.false, c.len.ensures, c.self.inside.groups.ok.0)) c.index-group.ensures in
-    subst (λ (s : ShardState). Somewhere s.groups c.args.guest c.args.index (c.args.place + 1)) c.self.view_is (
+    subst (λ (s : ShardState). Somewhere s.groups c.args.guest c.args.index c.args.place) c.self.view_is (
       c.index-group.result.now,
       c.span_at.result.now,
       record {

@@ -14,6 +14,7 @@ use Rattle.shard.proofs.HeadsHere.{head_read}
 use Rattle.shard.proofs.KeptGroups.{IsKept-same}
 use Rattle.shard.proofs.Left.{HasNoHead-left, HasNoHead-swept, IsSound-left, KnowsGuests-left, stayed-left}
 use Rattle.shard.proofs.LiftedGroup.{IsSoundWhole-lifted}
+use Rattle.shard.proofs.NotedGuests.{AreNoted-changed, KnowsNotes-struck}
 use Rattle.shard.proofs.RoomBits.{HasRooms-full}
 use Rattle.shard.proofs.shard.Shard.lift_aside.Goals as goal
 
@@ -81,6 +82,10 @@ invariant_of-self-2 g c =
       heads_known = rw (place_now g c)
           (KnowsHeads-set c.self.inside.number c.self.inside.groups.items c.self.inside.heads c.self.invariant.heads_known c.in-Some.index group place here refl);
       room_for_heads = c.self.invariant.room_for_heads;
+      guests_noted = AreNoted-changed _ _ _ _ _ _ c.self.invariant.guests_noted _ c.strike_guests.new.self
+          (KnowsNotes-struck _ c.self.inside.directory.entries _ c.strike_guests.new.self _ _ (c.strike_guests.ensures.known _ c.self.invariant.guests_noted.known)
+          (c.guests-2.ensures ∙ sym c.guests.ensures) (ap (λ (d : DirectoryState). d.entries) c.strike_all.ensures))
+          c.strike_guests.ensures.end;
     }
 
 pub returns-clause-lifts : goal.returns-clause-lifts

@@ -25,6 +25,7 @@ use Rattle.shard.proofs.GuestRoom.{HasGuestRoom-none}
 use Rattle.shard.proofs.HeadPlaces.{IsPlaceFor-lower, no_head_next}
 use Rattle.shard.proofs.KeptGroups.{IsKept-more_heads, IsKept-same}
 use Rattle.shard.proofs.KnownGuests.{KnowsGuests-alone}
+use Rattle.shard.proofs.NotedGuests.{AreNoted-come}
 use Rattle.shard.proofs.PutInNew.{IsSound-put_in_new}
 use Rattle.shard.proofs.RoomBits.{HasRooms-arrived, HasRooms-arrived_other}
 use Rattle.shard.proofs.shard.Shard.put_in_new.Goals as goal
@@ -129,6 +130,7 @@ invariant_of-self-2 g c = record {
   room_for_entries = c.self.invariant.room_for_entries;
   heads_known = subst (λ gs. KnowsHeads c.self.inside.number gs c.note_from.new.self) c.as_slice-2.ensures.value c.note_from.ensures.known;
   room_for_heads = λ some. omega (arith, c.in_ok-reserve-3.ensures.ok, c.note_from.ensures.base, c.note_from.ensures.len);
+  guests_noted = AreNoted-come _ _ _ _ _ _ c.self.invariant.guests_noted _ _ c.self.invariant.guests_noted.known _ _ c.saturating_sub-self-inside.ensures;
 }
 
 pub returns-clause-ok : goal.returns-clause-ok

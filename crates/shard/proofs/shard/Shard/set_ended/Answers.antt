@@ -5,6 +5,7 @@ use Rattle.shard.specs.Kept.{state_of}
 use Rattle.shard.specs.State.{ShardState}
 use Rattle.shard.proofs.KnownHeads.{KnowsHeads-none}
 use Rattle.shard.proofs.GuestRoom.{HasGuestRoom-none}
+use Rattle.shard.proofs.NotedGuests.{KnowsNotes-none}
 use Rattle.shard.proofs.RoomBits.{HasRooms-empty}
 use Rattle.shard.proofs.Start.{IsSound-none}
 use Rattle.shard.proofs.shard.Shard.set_ended.Goals as goal
@@ -32,6 +33,12 @@ invariant_of-self g c =
       room_for_entries = omega arith;
       heads_known = KnowsHeads-none _ _ _ c.new.ensures.items;
       room_for_heads = λ some. absurd (omega (arith, some));
+      guests_noted = record {
+        known = KnowsNotes-none _ _ _ c.new-6.ensures (ap (λ (d : DirectoryState). d.entries) c.new-4.ensures);
+        one_group = omega arith;
+        for_group = λ some. absurd (omega (arith, some));
+        for_guests = λ head named. absurd cc;
+      };
     }
 
 pub returns-clause-ended : goal.returns-clause-ended

@@ -45,6 +45,7 @@ invariant_of-self g c = record {
   room_for_entries = c.self.invariant.room_for_entries;
   heads_known = subst (λ gs. KnowsHeads c.self.inside.number gs c.note_from.new.self) c.as_slice-2.ensures.value c.note_from.ensures.known;
   room_for_heads = λ some. let enough = c.self.invariant.room_for_heads some in omega (arith, enough, c.note_from.ensures.base, c.note_from.ensures.len);
+  guests_noted = c.self.invariant.guests_noted;
 }
 
 pub returns-clause-sound : goal.returns-clause-sound

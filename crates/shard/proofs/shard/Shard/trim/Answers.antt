@@ -46,6 +46,7 @@ invariant_of-self g c = record {
   room_for_entries = c.self.invariant.room_for_entries;
   heads_known = KnowsHeads-alike c.self.inside.number c.self.inside.groups.items c.trim_all.new.groups.items c.self.inside.heads (pages g c) c.self.invariant.heads_known;
   room_for_heads = c.self.invariant.room_for_heads;
+  guests_noted = c.self.invariant.guests_noted;
 }
 
 pub returns-clause-trims : goal.returns-clause-trims

@@ -6,10 +6,17 @@ use Rattle.groups.proofs.ForgottenGuests.{AreEntered-forgotten, KnowsGuests-forg
 use Rattle.shard.specs.Group.{GroupState}
 use Rattle.shard.proofs.ChangedBelow.{changed_below-all, changed_below-next, get-changed_below, length-changed_below}
 use Rattle.shard.proofs.Forgotten.{Ascend-changed_below}
+use Rattle.shard.proofs.NotedGuests.{ArePlaced-known}
 use Rattle.shard.proofs.shard.forgetting.forget_each.Goals as goal
 
-pub forget_in-requires : goal.forget_in-requires
-forget_in-requires c =
+pub forget_in-requires-clause-known : goal.forget_in-requires-clause-known
+forget_in-requires-clause-known c = c.loop-index.invariant.noted
+
+pub forget_in-requires-clause-placed : goal.forget_in-requires-clause-placed
+forget_in-requires-clause-placed c = ArePlaced-known c.loop-index.groups.items c.loop-index.directory.entries c.loop-index.invariant.known
+
+pub forget_in-requires-clause-entered : goal.forget_in-requires-clause-entered
+forget_in-requires-clause-entered c =
     let now = c.loop-index.groups.items in
     let at = c.loop-index.index in
     let group = c.index_mut.result.now in
@@ -42,7 +49,8 @@ loop-index-preserved c =
       capacity = c.loop-index.invariant.capacity;
       known = rw (c.forget_in.ensures.group, c.forget_in.ensures.directory) known;
       room = rw (c.forget_in.ensures.directory) c.loop-index.invariant.room;
-      heads = c.forget_in.ensures.heads ∙ c.loop-index.invariant.heads;
+      noted = c.forget_in.ensures.noted;
+      end = c.forget_in.ensures.end ∙ c.loop-index.invariant.end;
     }
 
 pub returns-clause-items : goal.returns-clause-items

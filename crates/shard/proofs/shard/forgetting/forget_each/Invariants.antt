@@ -2,6 +2,8 @@ use Rattle.std.proofs.Common.{◌≡◌}
 use Rattle.std.specs.Prelude.{vec_capacity}
 use Rattle.groups.specs.Dead.{without_dead}
 use Rattle.groups.specs.Directory.{KnowsGuests}
+use Rattle.shard.specs.GuestNotes.{KnowsNotes}
+use Rattle.shard.specs.HeadWindow.{end_of}
 use Rattle.shard.proofs.ChangedBelow.{changed_below}
 use Rattle.shard.proofs.shard.forgetting.forget_each.Given as goal
 
@@ -11,5 +13,6 @@ invariant-loop-index l = record {
   capacity : vec_capacity l.groups ≡ vec_capacity l.fn.groups;
   known : KnowsGuests l.groups.items l.directory.entries;
   room : l.directory.room ≡ l.fn.directory.room;
-  heads : l.heads ≡ l.fn.heads;
+  noted : KnowsNotes l.number l.directory.entries l.notes;
+  end : end_of l.notes ≡ end_of l.fn.notes;
 }

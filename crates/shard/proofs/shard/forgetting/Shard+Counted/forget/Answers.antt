@@ -11,11 +11,15 @@ use Rattle.shard.specs.Rooms.{rooms_of}
 use Rattle.shard.specs.Sound.{IsSound}
 use Rattle.shard.specs.State.{ShardState}
 use Rattle.shard.proofs.Forgotten.{KnowsHeads-without_dead}
+use Rattle.shard.proofs.NotedGuests.{AreNoted-forgotten}
 use Rattle.shard.proofs.Forgotten.{HasGuestRoom-without_dead, HasRooms-without_dead, IsSound-without_dead, guests_once}
 use Rattle.shard.proofs.shard.forgetting.Shard+Counted.forget.Goals as goal
 
 pub forget_all-requires-clause-once : goal.forget_all-requires-clause-once
 forget_all-requires-clause-once c = guests_once c.self.inside.groups.items c.self.invariant.sound.once
+
+pub forget_all-requires-clause-noted : goal.forget_all-requires-clause-noted
+forget_all-requires-clause-noted c = c.self.invariant.guests_noted.known
 
 sound_after : (c : goal.After-forget_all) → IsSound (record (state_of c.self.inside) { groups = c.forget_all.new.groups.items })
 sound_after c = rw c.forget_all.ensures.items (IsSound-without_dead (state_of c.self.inside) c.self.invariant.sound)
@@ -42,8 +46,9 @@ invariant_of-self c = record {
       (vec_capacity c.self.inside.guest_room) c.self.invariant.room_for_guests);
   guests_known = c.forget_all.ensures.known;
   room_for_entries = rw c.forget_all.ensures.room c.self.invariant.room_for_entries;
-  heads_known = rw (c.forget_all.ensures.items, c.forget_all.ensures.heads) (KnowsHeads-without_dead c.self.inside.number c.self.inside.groups.items c.self.inside.heads c.self.invariant.heads_known);
-  room_for_heads = rw c.forget_all.ensures.heads c.self.invariant.room_for_heads;
+  heads_known = rw (c.forget_all.ensures.items) (KnowsHeads-without_dead c.self.inside.number c.self.inside.groups.items c.self.inside.heads c.self.invariant.heads_known);
+  room_for_heads = c.self.invariant.room_for_heads;
+  guests_noted = AreNoted-forgotten _ _ _ _ _ _ c.self.invariant.guests_noted _ c.forget_all.new.notes c.forget_all.ensures.noted c.forget_all.ensures.end;
 }
 
 -- how many spans there are before and after
