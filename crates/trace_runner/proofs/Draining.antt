@@ -1,44 +1,23 @@
 -- Keys that are freed from rings, one after another.
-use Rattle.std.proofs.Common.{◌≡◌, ◌∙◌, ◌+◌, ◌<◌, ◌++◌, ◌∷◌, [], ℕ, Bool, true, false, List, map, length, filter, Some, None, refl, sym, ap, subst, arith, inl, inr, append_assoc, eq-eqb, length-append}
+use Rattle.std.proofs.Common.{◌≡◌, ◌∙◌, ◌+◌, ◌++◌, ◌∷◌, [], ℕ, true, false, List, map, length, filter, Some, None, refl, sym, ap, subst, arith, append_assoc, length-append}
 use Rattle.std.specs.List.{fold, range_with_len}
 use Rattle.std.proofs.lemmas.List.{append-nil}
 use Rattle.std.proofs.lemmas.List.Elements.{filter-append}
 use Rattle.span.specs.declared.key.Key.{Key}
-use Rattle.arena_core.specs.Rings.{RingState, keys_of, pending_at, ring_at, with_keys, with_ring_at}
+use Rattle.arena_core.specs.Rings.{ring_at, with_keys, with_ring_at}
 use Rattle.arena_core.specs.State.{CoreState, with_rings}
-use Rattle.arena_core.specs.Step.{CoreStep, FreesKey}
+use Rattle.arena_core.specs.Step.{CoreStep}
 use Rattle.arena_core.specs.declared.event.Event.TheVariants.{Free, Settle}
 use Rattle.arena_core.specs.declared.reply.Reply.TheVariants.{Freed, Settled}
-use Rattle.arena_core.proofs.RingsKept.{ring_at-with}
 use Rattle.trace_runner.specs.Kept.{Kept, keeping}
 use Rattle.trace_runner.specs.Made.{AreAsRequested, CalledEvent, Called, Made, Once, Request, Tends, UntilNone, keys_taken, requests_of, takes_key}
 use Rattle.trace_runner.specs.News.{News, with_called}
 use Rattle.trace_runner.specs.Recalls.{Carries, Drains, KeepsPlan, Makes, SettlesNext}
 use Rattle.trace_runner.specs.Runs.{AreSteps, IsAnswered}
-use Rattle.trace_runner.proofs.Making.{AreSteps-append, AreSteps-none}
-use Rattle.trace_runner.proofs.Serving.{KeepsPlan-same, KeepsPlan-step}
+use Rattle.trace_runner.proofs.Making.{AreSteps-append}
+use Rattle.trace_runner.proofs.Serving.{KeepsPlan-step}
 
 -- ---- one key
-
-rings-FreesKey : (old new : CoreState) (key : Key) (freed : Bool) → FreesKey old key freed new → new.rings ≡ old.rings
-rings-FreesKey old new key true (inl step) = ap (λ (core : CoreState). core.rings) step.rest
-rings-FreesKey old new key true (inr step) = ap (λ (core : CoreState). core.rings) step.rest
-rings-FreesKey old new key false step = ap (λ (core : CoreState). core.rings) step.1
-
-here-with : (rings : List (List RingState)) (worker shard : ℕ) (ring now : RingState) → ring_at rings worker shard ≡ Some ring → ring_at (with_ring_at rings worker shard now) worker shard ≡ Some now
-here-with rings worker shard ring now here = ring_at-with rings worker shard ring now here worker shard ∙ rw (eq-eqb worker worker refl, eq-eqb shard shard refl) refl
-
--- fewer keys wait than before
-pub fewer-SettlesNext : (worker shard : ℕ) (old new : CoreState) → SettlesNext worker shard old true new → length (pending_at new.rings worker shard) < length (pending_at old.rings worker shard)
-fewer-SettlesNext worker shard old new (key, steps) =
-    let settles = steps.each.0 in
-    let ring = settles.ring in
-    let rings = with_ring_at old.rings worker shard (with_keys ring settles.left) in
-    let same : new.rings ≡ rings = rings-FreesKey (with_rings old rings) new key settles.freed settles.frees in
-    let after : pending_at new.rings worker shard ≡ settles.left = ap (λ r. pending_at r worker shard) same
-    ∙ ap keys_of (here-with old.rings worker shard ring (with_keys ring settles.left) settles.here) in
-    let before : pending_at old.rings worker shard ≡ key ∷ settles.left = ap keys_of settles.here ∙ settles.oldest in
-    rw (after, before) (omega arith)
 
 -- a settling ends no shard, and leaves the plan
 pub KeepsPlan-settled : (worker shard : ℕ) (old new : CoreState) (key : Key) → CoreStep old (Settle worker shard) (Settled (Some key)) new → KeepsPlan old new
@@ -46,9 +25,6 @@ KeepsPlan-settled worker shard old new key settles =
     let mid : CoreState = with_rings old (with_ring_at old.rings worker shard (with_keys settles.ring settles.left)) in
     let keeps = KeepsPlan-step mid new (Free key) (Freed settles.freed) tt settles.frees in
     record { shards = record { limits = keeps.shards.limits; ended = keeps.shards.ended }; plan = keeps.plan }
-
-pub KeepsPlan-unsettled : (worker shard : ℕ) (old new : CoreState) → CoreStep old (Settle worker shard) (Settled None) new → KeepsPlan old new
-KeepsPlan-unsettled worker shard old new step = KeepsPlan-same old new step.1
 
 -- ---- all keys of a ring
 
@@ -58,9 +34,6 @@ pub record IsDraining (worker shard : ℕ) (old new : CoreState) (count : ℕ) :
   pub more : (rest : List CalledEvent) → AreAsRequested (UntilNone (Settle worker shard) ∷ []) rest → AreAsRequested (UntilNone (Settle worker shard) ∷ []) (called ++ rest)
   pub steps : AreSteps old called new
   pub count_is : count ≡ keys_taken called
-
-pub IsDraining-none : (worker shard : ℕ) (core : CoreState) → IsDraining worker shard core core 0
-IsDraining-none worker shard core = record { called = []; more = λ rest is. is; steps = AreSteps-none core; count_is = refl }
 
 keys_taken-append : (first second : List CalledEvent) → keys_taken (first ++ second) ≡ keys_taken first + keys_taken second
 keys_taken-append first second = ap length (filter-append takes_key first second) ∙ length-append (filter takes_key first) (filter takes_key second)
@@ -87,9 +60,6 @@ module _ (worker shard : ℕ) (old mid new : CoreState) (count : ℕ) (drains : 
       }
 
 -- ---- several rings
-
-pub Drains-none : (core : CoreState) → Drains [] core core 0
-Drains-none core = record { called = []; asked = tt; steps = AreSteps-none core; count_is = refl }
 
 AreAsRequested-append : (requests more : List Request) (first second : List CalledEvent) → AreAsRequested requests first → AreAsRequested more second
     → AreAsRequested (requests ++ more) (first ++ second)

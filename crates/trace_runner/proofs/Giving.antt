@@ -1,7 +1,7 @@
 -- What puts gave, with one put more, and how a key is found in it.
 use Rattle.std.proofs.Common.{zero, suc, ◌≡◌, ◌∙◌, ℕ, ◌+◌, ◌-◌, ◌^◌, ◌<◌, ◌≤◌, List, [], ◌∷◌, ◌++◌, Option, Some, None, ap, append_assoc, arith, drop, get_or, length, length-append, map, refl, replicate, slice_get, subst, sym, take}
 use Rattle.std.specs.List.{flat_map}
-use Rattle.std.proofs.Math.ListN.{get_or-append, get_or-eq_default, replicate-append-replicate}
+use Rattle.std.proofs.Math.ListN.{get_or-append, get_or-eq_default}
 use Rattle.std.proofs.Math.Seq.{drop-length, get_or-append_right}
 use Rattle.std.proofs.lemmas.Grind.{flat_map-append}
 use Rattle.std.proofs.lemmas.List.{append-nil, drop-append-le, length-drop, length-map, length-replicate, length-take-le, map-append, take-append-le, take_all}
@@ -200,14 +200,6 @@ get_or-beyond keys closed place above refused at row within few small beyond =
     get_or-eq_default (all_given keys closed above refused).items None (omega (arith, length-all keys closed place above refused row within, within, few, small, beyond))
 
 -- ---- one put more
-
--- one that was refused
-pub all_given-refused : (keys : List Key) (closed : List Stretch) (above refused : ℕ) → (all_given keys closed above (refused + 1)).items ≡ (all_given keys closed above refused).items ++ None ∷ []
-all_given-refused keys closed above refused =
-    let more : replicate {A = Option Key} (refused + 1) None ≡ replicate refused None ++ None ∷ [] = sym (replicate-append-replicate refused 1 None) in
-    let last : map Some (drop above keys) ++ replicate (refused + 1) None ≡ (map Some (drop above keys) ++ replicate refused None) ++ None ∷ [] =
-    ap (λ l. map Some (drop above keys) ++ l) more ∙ sym (append_assoc (map Some (drop above keys)) (replicate refused None) (None ∷ [])) in
-    ap (λ l. flat_map (given_in keys) closed ++ l) last ∙ sym (append_assoc (flat_map (given_in keys) closed) (map Some (drop above keys) ++ replicate refused None) (None ∷ []))
 
 -- a key more is none of a closed stretch
 row-key : (keys : List Key) (key : Key) (closed : List Stretch) (place above end last : ℕ) → AreInRow place above closed end last → last ≤ length keys

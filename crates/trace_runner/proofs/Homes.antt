@@ -1,5 +1,5 @@
 -- The shards that open the spans of the keys which puts give out.
-use Rattle.std.proofs.Common.{◌≡◌, ◌∙◌, ◌<◌, ◌++◌, ◌∷◌, [], ℕ, List, Option, Some, refl, sym, ap, subst, arith, inl, inr, slice_get, zero, suc}
+use Rattle.std.proofs.Common.{◌≡◌, ◌∙◌, ◌<◌, ◌++◌, ◌∷◌, [], ℕ, List, Some, refl, sym, ap, subst, arith, inl, inr, slice_get}
 use Rattle.std.specs.List.{AllByRecursion}
 use Rattle.std.proofs.lemmas.Bool.{cases_Bool}
 use Rattle.std.proofs.lemmas.Option.{slice_get_within}
@@ -84,9 +84,3 @@ AreHome-keys_of shards (m ∷ made) all =
 
 pub AreHome-answered : (old new : CoreState) (made : List Made) → IsAnswered old made new → AreHome old.limits.shards (keys_of made)
 AreHome-answered old new made answered = AreHome-keys_of old.limits.shards made (each-given old new (all_called made) answered.steps.core)
-
--- a key among them
-pub home-at : (shards : ℕ) (keys : List (Option Key)) (place : ℕ) (found : Option Key) → slice_get keys place ≡ Some found → AreHome shards keys → IsHome shards found
-home-at shards [] place found is home = cc
-home-at shards (key ∷ keys) zero found is home = let same : key ≡ found = cc in subst (IsHome shards) same home.0
-home-at shards (key ∷ keys) (suc place) found is home = home-at shards keys place found is home.1

@@ -2,7 +2,6 @@ pub mod Taken
 pub mod Recalling
 pub mod Making
 pub mod Shards
-pub mod Beginning
 pub mod Told
 pub mod Progress
 pub mod Reporting

@@ -16,13 +16,13 @@ use Rattle.span.specs.declared.class.Class.{Class}
 use Rattle.span.specs.declared.key.Key.{Key}
 use Rattle.arena_core.specs.State.{CoreState, with_shard}
 use Rattle.arena_core.specs.Step.{CoreStep}
-use Rattle.trace_runner.specs.Recalls.{EndsOne, IsAtRest, IsOpen, IsPutServed, IsServed, IsSetServed, KeepsPlan, KeepsShards, MayCall, MeetsPlan, Resumes, ended_at, reply_to_put}
+use Rattle.trace_runner.specs.Recalls.{EndsOne, IsOpen, IsPutServed, IsServed, IsSetServed, KeepsPlan, KeepsShards, MayCall, MeetsPlan, Resumes, ended_at, reply_to_put}
 use Rattle.arena_core.specs.declared.event.Event.{Event}
 use Rattle.arena_core.specs.declared.event.Event.TheVariants.{Put, Get, Set, Free, Later, Settle, End, Begin, Retire, Trim, Adopt, Mark, MarkSome, Step, Close}
 use Rattle.arena_core.specs.declared.reply.Reply.{Reply}
 use Rattle.arena_core.specs.declared.reply.Reply.TheVariants.{Issued, Found, Replaced, Freed, Sent, ShardEnded, ShardBegun, Retired, Trimmed, Adopted, Refused}
 use Rattle.arena_core.specs.declared.reply.Refusal.{Refusal}
-use Rattle.arena_core.specs.declared.reply.Refusal.TheVariants.{OutOfMemory, PagesSpent, Ended, Running, PlanOpen, NothingToAdopt, RingFull, Config}
+use Rattle.arena_core.specs.declared.reply.Refusal.TheVariants.{OutOfMemory, PagesSpent, Ended, PlanOpen, NothingToAdopt, RingFull, Config}
 
 -- the shard of this number is there and has ended
 abbrev pub ended_in : List ShardState → ℕ → Bool
@@ -170,9 +170,6 @@ clash e = cc
 has_ended-clash : (core : CoreState) (number : ℕ) (shard : ShardState) → IsOpen core number → slice_get core.shards number ≡ Some shard → shard.ended ≡ true → ⊥
 has_ended-clash core number shard is_open here ended = clash (sym ended ∙ sym (ap (λ o. option_map_or (λ (s : ShardState). s.ended) o false) here) ∙ is_open.running)
 
-runs_clash : (core : CoreState) (number : ℕ) (shard : ShardState) → IsAtRest core number → slice_get core.shards number ≡ Some shard → shard.ended ≡ false → ⊥
-runs_clash core number shard rests here runs = clash (sym rests.ended ∙ ap (λ o. option_map_or (λ (s : ShardState). s.ended) o false) here ∙ runs)
-
 pub IsServed-step : (old new : CoreState) (event : Event) (reply : Reply) → MayCall old event → CoreStep old event reply new → IsServed reply
 IsServed-step old new (Put shard value) (Refused Config) may step = omega (arith, may.within, step.0)
 IsServed-step old new (Put shard value) (Refused Ended) may step = has_ended-clash old shard step.0.0 may step.0.1 step.0.2
@@ -244,12 +241,6 @@ module _ (old : CoreState) (number : ℕ) (before after : ShardState) (here : sl
 
 pub Resumes-begin : (old new : CoreState) (shard : ℕ) → CoreStep old (Begin shard) ShardBegun new → Resumes old (λ other. shard == other) new
 Resumes-begin old new shard step = subst (Resumes old (λ other. shard == other)) (sym step.rest) (Resumes-with_shard old shard step.before (begun step.before) step.here refl)
-
--- nothing refuses it where its shard has ended
-pub Begin-refused : (old new : CoreState) (shard : ℕ) (refusal : Refusal) → IsAtRest old shard → CoreStep old (Begin shard) (Refused refusal) new → ⊥
-Begin-refused old new shard Running rests step = runs_clash old shard step.0.0 rests step.0.1.here step.0.1.running
-Begin-refused old new shard Config rests step = omega (arith, rests.within, step.0)
-Begin-refused old new shard refusal rests step = absurd step
 
 -- ---- the core's own call of a put
 

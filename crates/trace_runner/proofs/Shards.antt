@@ -20,9 +20,6 @@ pub on_ok_always : {A E P : Type 0} (result : Result A E) → P → OnOk result 
 on_ok_always (Ok a) p = p
 on_ok_always (Err e) p = tt
 
-pub KeepsShards-refl : (core : CoreState) → KeepsShards core core
-KeepsShards-refl core = record { limits = refl; ended = λ number. refl }
-
 pub KeepsShards-trans : (a b c : CoreState) → KeepsShards a b → KeepsShards b c → KeepsShards a c
 KeepsShards-trans a b c first second = record { limits = second.limits ∙ first.limits; ended = λ number. second.ended number ∙ first.ended number }
 
@@ -44,9 +41,6 @@ EndsBelow-after old mid new bound test keeps ended = record {
 pub EndsBelow-before : (old mid new : CoreState) (bound : ℕ) (test : ℕ → Bool) → EndsBelow old bound test mid → KeepsShards mid new → EndsBelow old bound test new
 EndsBelow-before old mid new bound test ended keeps = record { limits = keeps.limits ∙ ended.limits; ended = λ number. keeps.ended number ∙ ended.ended number }
 
-pub EndsBelow-none : (core : CoreState) (test : ℕ → Bool) → EndsBelow core 0 test core
-EndsBelow-none core test = record { limits = refl; ended = λ number. let e : nat_lt number 0 ≡ false = grind (arith, nat_tests) in rw e refl }
-
 -- where nothing begins again, shards turn as they end
 pub TurnsBelow-ends : (old new : CoreState) (bound : ℕ) (test : ℕ → Bool) → EndsBelow old bound test new → TurnsBelow old bound test (λ number. false) new
 TurnsBelow-ends old new bound test ended = record { limits = ended.limits; ended = ended.ended }
@@ -60,10 +54,6 @@ TurnsBelow-begins old mid new bound test resumes keeps = record {
 
 pub TurnsBelow-none : (core : CoreState) (bound : ℕ) → TurnsBelow core bound (λ number. false) (λ number. false) core
 TurnsBelow-none core bound = record { limits = refl; ended = λ number. ap (λ b. b || ended_at core number) (sym (and-false (nat_lt number bound))) }
-
--- a call that leaves shards and plan lets none begin
-pub Resumes-kept : (old new : CoreState) → KeepsPlan old new → Resumes old (λ number. false) new
-Resumes-kept old new keeps = record { limits = keeps.shards.limits; ended = keeps.shards.ended; plan = keeps.plan }
 
 module _ (old mid : CoreState) (bound : ℕ) (test : ℕ → Bool) (below : EndsBelow old bound test mid) where
   -- a shard that passes no test is open as before
