@@ -1,10 +1,9 @@
 -- A log's changes by slot, the last one of a slot before a place, and what the slot then holds.
-use Rattle.std.proofs.Common.{zero, suc, ◌≡◌, cond, ℕ, ◌+◌, ◌-◌, ◌<◌, ◌≤◌, true, false, List, [], ◌∷◌, ◌++◌, length, take, get_or, Some, None, slice_get, sym, subst, ap, refl, ◌∙◌, inl, inr, arith, eq-eqb, ltb, ltb-true, ltb-false}
+use Rattle.std.proofs.Common.{zero, suc, ◌≡◌, cond, ℕ, ◌+◌, ◌-◌, ◌<◌, ◌≤◌, true, false, List, length, take, get_or, Some, None, slice_get, sym, subst, ap, refl, ◌∙◌, inl, inr, arith, eq-eqb, ltb, ltb-true, ltb-false}
 use Rattle.std.specs.FinMap as map
 use Rattle.std.specs.List.{AllWithin}
 use Rattle.std.specs.List.Sorted.{IsNonDecreasingBy, IsPermutation}
 use Rattle.std.proofs.lemmas.Bool.{cases_lt, ne_eqb}
-use Rattle.std.proofs.lemmas.List.{length-append}
 use Rattle.std.proofs.lemmas.Option.{same_Some, slice_get_cases, slice_get_within, slice_get_read, get_or_from_slice_get}
 use Rattle.std.proofs.lemmas.List.Sorted.{Contains-permutation, IsPermutation-sym}
 use Rattle.span.specs.declared.change.Change.{Change}
@@ -14,7 +13,6 @@ use Rattle.audit.specs.declared.slot.SlotChange.{SlotChange}
 use Rattle.audit.specs.Receipts.{value_after}
 use Rattle.audit.specs.Changes.{slot_of, left_by}
 use Rattle.audit.specs.Slots.{slot_rank, change_rank, place_of, HasChanges, IsBySlot, IsQuiet, IsLast, IsSplitAt}
-use Rattle.audit.proofs.Flat.{get_left, get_right}
 use Rattle.audit.proofs.Replies.{get_none, get_taken}
 
 -- the element is the change at a place
@@ -25,25 +23,6 @@ IsFirst found k change = (x : SlotChange) × (slice_get found k ≡ Some x) × (
 pub record AreFirst (changes : List Change) (n : ℕ) (found : List SlotChange) : Type 0 where
   pub len : length found ≡ n
   pub each : (k : ℕ) (change : Change) → k < n → slice_get changes k ≡ Some change → IsFirst found k change
-
-pub AreFirst-none : (changes : List Change) → AreFirst changes 0 []
-AreFirst-none changes = record { len = refl; each = λ k change less at. absurd (omega arith) }
-
-pub AreFirst-more : (changes : List Change) (n : ℕ) (found : List SlotChange) (change : Change) (slot : ℕ) (x : SlotChange) → AreFirst changes n found
-    → slice_get changes n ≡ Some change → slot ≡ slot_of change → x.slot ≡ slot → place_of x ≡ n → AreFirst changes (n + 1) (found ++ x ∷ [])
-AreFirst-more changes n found change slot x are at is slots places = record {
-  len = let long = are.len in length-append found (x ∷ []) ∙ omega arith;
-  each = λ k other fits at_k. elim (cases_lt k n) [
-    | inl less ↦
-        let before = are.each k other less at_k in
-        (before.0, get_left found (x ∷ []) k before.0 before.1, before.2, before.3)
-    | inr high ↦
-        let last : n ≡ k = omega arith in
-        let same : change ≡ other = same_Some change other (sym at ∙ ap (λ k. slice_get changes k) last ∙ at_k) in
-        let long = are.len in
-        (x, get_right found (x ∷ []) k 0 x (omega arith) refl, slots ∙ is ∙ ap slot_of same, places ∙ last)
-  ];
-}
 
 pub HasChanges-all : (changes : List Change) (n : ℕ) (found : List SlotChange) → AreFirst changes n found → length changes ≡ n → n < 18446744073709551616 → HasChanges changes found
 HasChanges-all changes n found are long small = record {

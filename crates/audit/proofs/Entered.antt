@@ -13,7 +13,7 @@ use Rattle.span.specs.declared.receipt.Receipt.{Receipt}
 use Rattle.span.specs.declared.span_log.SpanLog.{SpanLog}
 use Rattle.audit.specs.Receipts.{log_of, makes_change}
 use Rattle.audit.specs.Agreement.{ChangesHaveReceipts, CallMakes, HaveOneSpanEach}
-use Rattle.audit.specs.Tables.{AreEntered, AreFull, AreRowsOf, IsFull, IsKnown, IsLogAt, IsRowOf, MakeChanges, WereEntered}
+use Rattle.audit.specs.Tables.{AreEntered, AreFull, IsFull, IsKnown, IsLogAt, IsRowOf, MakeChanges, WereEntered}
 use Rattle.audit.proofs.Flat.{get_left, get_right, get_cases, place, flat_at, flat_from, flat_once}
 use Rattle.audit.proofs.LogTable.{find_log}
 use Rattle.audit.proofs.Replies.{take_more}
@@ -226,12 +226,6 @@ IsRowOf-none log row long none = record {
   len = long;
   marked = λ k at r at_k makes. absurd cc;
   made = λ at section there. let e : None ≡ Some section = sym (none at) ∙ there in absurd cc;
-}
-
-pub AreEntered-none : (logs : List SpanLog) (rows : List (List (Option ℕ))) → AreRowsOf [] logs rows → AreEntered logs [] rows
-AreEntered-none logs rows are = record {
-  good = record { known = λ k r at. absurd cc; once = λ k l a b at_k at_l. absurd cc };
-  rows_are = are;
 }
 
 -- the change at a receipt's place is the one at that place of its span's log

@@ -1,9 +1,8 @@
 -- The table by which a span's log is found.
-use Rattle.std.proofs.Common.{zero, suc, ◌≡◌, ℕ, ◌+◌, ◌-◌, ◌<◌, ◌≤◌, Bool, true, false, cond, eqb, eq-eqb, List, [], ◌∷◌, ◌++◌, length, get_or, Option, Some, None, is_some, slice_get, sym, subst, ap, refl, ◌∙◌, inl, inr, ◌⊎◌, arith}
+use Rattle.std.proofs.Common.{zero, suc, ◌≡◌, ℕ, ◌+◌, ◌-◌, ◌<◌, ◌≤◌, Bool, true, false, cond, eqb, eq-eqb, List, [], ◌∷◌, length, get_or, Some, slice_get, sym, subst, ap, refl, ◌∙◌, inl, inr, ◌⊎◌, arith}
 use Rattle.std.specs.Cmp.{nat_eq_equiv}
 use Rattle.std.specs.List.Sorted.{IsNonDecreasingBy, IsPermutation}
 use Rattle.std.proofs.lemmas.Bool.{both_ways, cases_Bool, cases_lt, cases_eq, ne_eqb}
-use Rattle.std.proofs.lemmas.List.{length-append}
 use Rattle.std.proofs.lemmas.List.Sorted.{IsPermutation-sym}
 use Rattle.std.proofs.lemmas.Map.Keys.{IsDistinct-IsPermutation, IsDistinct-from_apart, apart_from_distinct}
 use Rattle.std.proofs.lemmas.Option.{same_Some, slice_get_cases, slice_get_read, slice_get_within, get_or_from_slice_get}
@@ -18,7 +17,6 @@ use Rattle.audit.specs.Tables.{AreByRank, ArePlaces, HasNoLog, HasTwice, IsLogAt
 use Rattle.audit.specs.declared.log.LogPlace.{LogPlace}
 use Rattle.audit.specs.declared.log.LogPlaces.{LogPlaces}
 use Rattle.audit.proofs.BySlot.{moved}
-use Rattle.audit.proofs.Flat.{get_left, get_right}
 
 pub same_rank : (a b : SpanId) → rank a ≡ rank b → a ≡ b
 same_rank a b ranks =
@@ -108,24 +106,6 @@ module _ (logs : List SpanLog) (table : LogPlaces) (span : SpanId) (is : IsTable
 pub record AreFirstPlaces (logs : List SpanLog) (n : ℕ) (places : List LogPlace) : Type 0 where
   pub len : length places ≡ n
   pub each : (k : ℕ) (log : SpanLog) → k < n → slice_get logs k ≡ Some log → slice_get places k ≡ Some (record { span = log.span; log = k })
-
-pub AreFirstPlaces-none : (logs : List SpanLog) → AreFirstPlaces logs 0 []
-AreFirstPlaces-none logs = record { len = refl; each = λ k log less at. absurd (omega arith) }
-
-pub AreFirstPlaces-more : (logs : List SpanLog) (n : ℕ) (places : List LogPlace) (log : SpanLog) (span : SpanId) → AreFirstPlaces logs n places → slice_get logs n ≡ Some log → span ≡ log.span
-    → AreFirstPlaces logs (n + 1) (places ++ record { span = span; log = n } ∷ [])
-AreFirstPlaces-more logs n places log span are at is = record {
-  len = let long = are.len in length-append places (record { span = span; log = n } ∷ []) ∙ omega arith;
-  each = λ k other fits at_k. elim (cases_lt k n) [
-    | inl less ↦ get_left places (record { span = span; log = n } ∷ []) k (record { span = other.span; log = k }) (are.each k other less at_k)
-    | inr high ↦
-        let last : n ≡ k = omega arith in
-        let same : log ≡ other = same_Some log other (sym at ∙ ap (λ k. slice_get logs k) last ∙ at_k) in
-        let long = are.len in
-        get_right places (record { span = span; log = n } ∷ []) k 0 (record { span = other.span; log = k }) (omega arith)
-        (λ i. Some (record { span = (is ∙ ap (λ (l : SpanLog). l.span) same) i; log = last i }))
-  ];
-}
 
 pub ArePlaces-all : (logs : List SpanLog) (n : ℕ) (places : List LogPlace) → AreFirstPlaces logs n places → length logs ≡ n → ArePlaces logs places
 ArePlaces-all logs n places are long = record {
@@ -263,11 +243,6 @@ log_of-past (x ∷ xs) span past = elim (cases_Bool (same_span x.span span)) [
       let e : suc (place_in xs span) ≡ suc (length xs) = sym (ap (λ t. cond t 0 (suc (place_in xs span))) other) ∙ past in
       ap (λ t. cond t (kept_changes x.log) (log_of xs span)) other ∙ log_of-past xs span (omega arith)
 ]
-
--- an option of which the test for a value is known
-pub some_from : {X : Type 0} (found : Option X) → is_some found ≡ true → (x : X) × (found ≡ Some x)
-some_from None is = absurd cc
-some_from (Some x) is = (x, refl)
 
 -- the changes of a log that was read at an index
 pub log_items : (logs : List SpanLog) (j : ℕ) (d log : SpanLog) → slice_get logs j ≡ Some log → kept_changes (get_or logs j d).log ≡ kept_changes log.log

@@ -132,9 +132,6 @@ module _ (logs : List SpanLog) (list : List Receipt) (n : ℕ) (left : List ℕ)
     ];
   }
 
-pub none_passed : (logs : List SpanLog) (list : List Receipt) (left : List ℕ) → ((q : ℕ) → get_or left q 0 ≡ 0) → IsLeftBelow logs list 0 left
-none_passed logs list left none = record { most = λ k r fits at. absurd (omega arith); from = λ q. inl (none q) }
-
 -- what the calls left is taken out of the table, call by call
 pub IsLeftFrom-all : (logs : List SpanLog) (list : List Receipt) (n : ℕ) (left : List ℕ) → IsLeftBelow logs list n left → IsLeftFrom logs list 0 left
 IsLeftFrom-all logs list n left is q = elim (is.from q) [

@@ -1,5 +1,5 @@
 -- Rows of sections: what is told is set in both lists, and a full row has all of its sections.
-use Rattle.std.proofs.Common.{zero, suc, ◌≡◌, ℕ, ◌<◌, ◌≤◌, Bool, true, false, if◌then◌else◌, List, [], ◌∷◌, map, length, replicate, set, get_or, Some, None, ap, refl, ◌∙◌, arith}
+use Rattle.std.proofs.Common.{zero, suc, ◌≡◌, ℕ, ◌<◌, Bool, true, false, if◌then◌else◌, List, [], ◌∷◌, map, length, replicate, set, get_or, Some, None, ap, refl, ◌∙◌, arith}
 use Rattle.audit.specs.declared.row.Row.{Row}
 use Rattle.audit.specs.Tables.{AreFull, IsFull, filled_row, told_sections}
 
@@ -58,22 +58,7 @@ pub all_same : (sections : List ℕ) (section : ℕ) → ((k : ℕ) → k < leng
 all_same [] section each = refl
 all_same (s ∷ sections) section each = λ i. each 0 (omega arith) i ∷ all_same sections section (λ k less. each (suc k) (omega arith)) i
 
-pub get_or-map_Some : (sections : List ℕ) (at d : ℕ) → at < length sections → Some (get_or sections at d) ≡ get_or (map Some sections) at None
-get_or-map_Some [] at d less = absurd (omega arith)
-get_or-map_Some (s ∷ sections) zero d less = refl
-get_or-map_Some (s ∷ sections) (suc at) d less = get_or-map_Some sections at d (omega arith)
-
-pub get_or-map_past : (sections : List ℕ) (at : ℕ) → length sections ≤ at → None ≡ get_or (map Some sections) at None
-get_or-map_past [] at past = refl
-get_or-map_past (s ∷ sections) zero past = absurd (omega arith)
-get_or-map_past (s ∷ sections) (suc at) past = get_or-map_past sections at (omega arith)
-
 pub get_or-same : (n at section : ℕ) → at < n → Some section ≡ get_or (map Some (replicate n section)) at None
 get_or-same zero at section less = absurd (omega arith)
 get_or-same (suc n) zero section less = refl
 get_or-same (suc n) (suc at) section less = get_or-same n at section (omega arith)
-
-pub get_or-same_past : (n at section : ℕ) → n ≤ at → None ≡ get_or (map Some (replicate n section)) at None
-get_or-same_past zero at section past = refl
-get_or-same_past (suc n) zero section past = absurd (omega arith)
-get_or-same_past (suc n) (suc at) section past = get_or-same_past n at section (omega arith)

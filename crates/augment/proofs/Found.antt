@@ -1,7 +1,6 @@
 -- What the last search leaves is an outcome
-use Rattle.std.proofs.Common.{ℕ, ◌<◌, ◌≡◌, Bool, true, List, length, Option, Some, None, sym, ◌∙◌, ap, subst, inl, inr, arith, get_or, zero, suc, replicate}
-use Rattle.std.proofs.lemmas.Bool.{cases_lt}
-use Rattle.std.proofs.lemmas.List.{get_or-replicate, get_or_past, get_or-map, length-map, length-replicate}
+use Rattle.std.proofs.Common.{ℕ, ◌<◌, ◌≡◌, Bool, true, List, length, Option, Some, None, sym, ◌∙◌, ap, subst, inl, inr, arith, get_or, zero, suc}
+use Rattle.std.proofs.lemmas.List.{get_or-map, length-map}
 use Rattle.std.proofs.lemmas.Option.{slice_get-get_or}
 use Rattle.span.specs.declared.id.SpanId.{SpanId}
 use Rattle.span.specs.Ids.{same_span}
@@ -85,19 +84,3 @@ outcome graph onto planned reached up_a up_b long_onto long_planned joins paired
           (λ k j a h p c m. step k j a (in_left k h) p (λ d. same k j d (in_left k h) (right a j m) ∙ c) m)
           (suc at.0) at.0 (omega arith) at.1;
     }
-
--- nobody has a mate yet
-nobody_at : (n i : ℕ) → mate (replicate n None) i ≡ None
-nobody_at n i = elim (cases_lt i n) [
-  | inl l ↦ get_or-replicate n i None None l
-  | inr l ↦ get_or_past (replicate n None) i None (let e : length (replicate {A = Option ℕ} n None) ≡ n = length-replicate n None in omega arith)
-]
-
-pub nobody_paired : (n m : ℕ) → ArePaired (replicate n None) (replicate m None)
-nobody_paired n m = record {
-  forth = λ i j h. let no : None ≡ Some j = sym (nobody_at n i) ∙ h in cc;
-  back = λ i j h. let no : None ≡ Some i = sym (nobody_at m j) ∙ h in cc;
-}
-
-pub nobody_joins : (graph : Groups) (n : ℕ) → Joins graph (replicate n None)
-nobody_joins graph n = λ i j h. let no : None ≡ Some j = sym (nobody_at n i) ∙ h in cc

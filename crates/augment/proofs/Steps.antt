@@ -1,7 +1,7 @@
 -- The loops of a search: what each keeps
-use Rattle.std.proofs.Common.{ℕ, ◌+◌, ◌<◌, ◌≤◌, ◌≡◌, ◌≢◌, Bool, true, false, List, [], ◌∷◌, ◌++◌, length, Option, Some, None, sym, ◌∙◌, ap, subst, inl, inr, arith, set, length-set, get_or-set_same, get_or-set_other, replicate}
-use Rattle.std.proofs.lemmas.Bool.{cases_eq, cases_lt, both_ways}
-use Rattle.std.proofs.lemmas.List.{get_or-replicate, get_or_past, length-replicate, length_push}
+use Rattle.std.proofs.Common.{ℕ, ◌+◌, ◌<◌, ◌≤◌, ◌≡◌, ◌≢◌, Bool, true, false, List, [], ◌∷◌, ◌++◌, length, Option, Some, None, sym, ◌∙◌, ap, subst, inl, inr, arith, set, length-set, get_or-set_same, get_or-set_other}
+use Rattle.std.proofs.lemmas.Bool.{cases_eq, cases_lt}
+use Rattle.std.proofs.lemmas.List.{length_push}
 use Rattle.augment.specs.declared.walks.Reached.{Reached}
 use Rattle.augment.specs.Mates.{mate, ArePaired}
 use Rattle.mesh_graph.specs.Groups.{Groups, compatible_at}
@@ -14,14 +14,6 @@ pub record IsStarting (onto : List (Option ℕ)) (entries : List Reached) (i : �
   pub out : (t : ℕ) → t < length entries → mate onto (group entries t) ≡ None
   pub rising : (t u : ℕ) → t < u → u < length entries → group entries t < group entries u
   pub all : (a : ℕ) → a < i → mate onto a ≡ None → IsReached entries a
-
-pub starting_none : (onto : List (Option ℕ)) → IsStarting onto [] 0
-starting_none onto = record {
-  below = λ t h. absurd (omega arith);
-  out = λ t h. absurd (omega arith);
-  rising = λ t u h k. absurd (omega arith);
-  all = λ a h m. absurd (omega arith);
-}
 
 pub starting_skip : (onto : List (Option ℕ)) (entries : List Reached) (i : ℕ) → IsStarting onto entries i → mate onto i ≢ None → IsStarting onto entries (i + 1)
 starting_skip onto entries i s m = record {
@@ -65,29 +57,6 @@ starting_push onto entries i s m =
         | inl l ↦ stands_kept entries e a (s.all a l n)
         | inr l ↦ let ai : i ≡ a = omega arith in subst (IsReached (entries ++ e ∷ [])) ai (stands_last entries e)
       ];
-    }
-
-none_passed : (n k : ℕ) → is_passed (replicate n false) k ≡ false
-none_passed n k = elim (cases_lt k n) [
-  | inl l ↦ get_or-replicate n k false false l
-  | inr l ↦ get_or_past (replicate n false) k false (let e : length (replicate n false) ≡ n = length-replicate n false in omega arith)
-]
-
-pub started : (graph : Groups) (onto : List (Option ℕ)) (entries : List Reached) (n i : ℕ) → IsStarting onto entries i → length onto ≡ i → IsSearch graph onto entries (replicate n false) 0
-started graph onto entries n i s e =
-    let no : (t k : ℕ) → t < length entries → mate onto (group entries t) ≡ Some k → ⊥ = λ t k h m. let b : None ≡ Some k = sym (s.out t h) ∙ m in cc in
-    record {
-      linked = record {
-        within = λ t h. let b : group entries t < i = s.below t h in omega arith;
-        earlier = λ t k h m. absurd (no t k h m);
-        joined_to = λ t k h m. absurd (no t k h m);
-        apart = λ t u tu h q. let r : group entries t < group entries u = s.rising t u tu h in absurd (omega arith);
-      };
-      passed = λ t k h m. absurd (no t k h m);
-      mates_stand = λ a k h m. absurd (both_ways (is_passed (replicate n false) k) (none_passed n k) h);
-      are_planned = λ k h. absurd (both_ways (is_passed (replicate n false) k) (none_passed n k) h);
-      left_out = λ a h m. s.all a (omega arith) m;
-      closed = λ t k h j. absurd (omega arith);
     }
 
 -- the partners below from of the group of entry at were passed; total counts the entries and what was not passed
@@ -138,18 +107,6 @@ reaching_push graph onto planned entries reached at g from total owned k i paire
       left = omega arith;
       places = length-set reached k true ∙ s.places;
     }
-
-pub reaching_start : (graph : Groups) (onto : List (Option ℕ)) (entries : List Reached) (reached : List Bool) (at g total owned : ℕ)
-    → IsSearch graph onto entries reached at → at < length entries → group entries at ≡ g → length entries + unpassed reached ≡ total → length reached ≡ owned
-    → IsReaching graph onto entries reached at g 0 total owned
-reaching_start graph onto entries reached at g total owned s h e l m = record {
-  search = s;
-  at_in = h;
-  group_is = e;
-  below = λ k b j. absurd (omega arith);
-  left = l;
-  places = m;
-}
 
 pub reaching_end : (graph : Groups) (onto : List (Option ℕ)) (entries : List Reached) (reached : List Bool) (at g from total owned : ℕ)
     → IsReaching graph onto entries reached at g from total owned → ((q : ℕ) → from ≤ q → compatible_at graph g q ≡ true → is_passed reached q ≡ true)

@@ -38,12 +38,6 @@ count_moved onto i j k il was =
     let old : cond {A = ℕ} (is_some (mate onto i)) 1 0 ≡ 1 = rw was refl in
     omega arith
 
-pub count_added : (onto : List (Option ℕ)) (i j : ℕ) → i < length onto → mate onto i ≡ None → pair_count (set onto i (Some j)) ≡ pair_count onto + 1
-count_added onto i j il was =
-    let sums : pair_count (set onto i (Some j)) + cond {A = ℕ} (is_some (mate onto i)) 1 0 ≡ pair_count onto + 1 = sum_by-set (λ m. cond (is_some m) 1 0) onto i (Some j) None il in
-    let old : cond {A = ℕ} (is_some (mate onto i)) 1 0 ≡ 0 = rw was refl in
-    omega arith
-
 pub turning_more : (graph : Groups) (entries : List Reached) (start start_planned onto planned planned' : List (Option ℕ)) (last free left : ℕ)
     → AreReached graph start entries → ArePaired onto planned → IsTurning graph entries start start_planned onto planned last free
     → mate onto (group entries last) ≡ Some left → length planned' ≡ length planned → mate planned' left ≡ None

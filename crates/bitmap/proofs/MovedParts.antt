@@ -11,9 +11,6 @@ use Rattle.bitmap.specs.declared.bits.TheConstants.{SLOTS}
 use Rattle.bitmap.proofs.InParts.{contains-past, contains-set_other, contains-set_same, slot_at}
 use Rattle.bitmap.proofs.Summaries.{contains-insert_other, contains-insert_same, contains-remove_other, contains-remove_same}
 
-suc-is : (q : ℕ) → 0 < q → q ≡ q - 1 + 1
-suc-is q some = omega arith
-
 apart : (b : Bool) → (b && not b) ≡ false
 apart true = refl
 apart false = refl
@@ -91,14 +88,6 @@ pub record IsBefore (old : List SlotSet) (first : Bool) (before : SlotSet) (at :
   pub start : at ≡ 0 → contains before 255 ≡ first
   pub later : 0 < at → contains before 255 ≡ contains (numbers_in old) (SLOTS * at - 1)
 
-pub IsSpread-none : (old : List SlotSet) (limit : ℕ) (first : Bool) → IsSpread old limit first old 0
-IsSpread-none old limit first = record {
-  below = λ q low. absurd (omega (arith, low));
-  above = λ q low. absurd (omega (arith, low));
-  first = λ some. absurd (omega (arith, some));
-  rest = λ q high. refl;
-}
-
 module _ (old : List SlotSet) (limit : ℕ) (first : Bool) (parts : List SlotSet) (at : ℕ) (within : at < length parts) where
   -- the part that is read
   this_at : (this : SlotSet) → this ≡ get_or parts at this → (q : ℕ) → q / SLOTS ≡ at → contains this (q % SLOTS) ≡ contains (numbers_in parts) q
@@ -162,13 +151,6 @@ pub record IsGathered (old : List SlotSet) (limit : ℕ) (new : List SlotSet) (a
   pub below : (q : ℕ) → q < SLOTS * at → q < limit → contains (numbers_in new) q ≡ contains (numbers_in old) q
   pub above : (q : ℕ) → q < SLOTS * at → limit ≤ q → contains (numbers_in new) q ≡ contains (numbers_in old) (q + 1)
   pub rest : (q : ℕ) → SLOTS * at ≤ q → contains (numbers_in new) q ≡ contains (numbers_in old) q
-
-pub IsGathered-none : (old : List SlotSet) (limit : ℕ) → IsGathered old limit old 0
-IsGathered-none old limit = record {
-  below = λ q low. absurd (omega (arith, low));
-  above = λ q low. absurd (omega (arith, low));
-  rest = λ q high. refl;
-}
 
 module _ (old : List SlotSet) (limit : ℕ) (parts : List SlotSet) (at : ℕ) (within : at < length parts) (done : IsGathered old limit parts at)
     (after this new : SlotSet) (this_is : this ≡ get_or parts at this)

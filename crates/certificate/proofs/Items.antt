@@ -18,11 +18,6 @@ pub Reads-err : {X Y : Type 0} (f : X → Y) (e : ReadError) (said : Result Y Re
 Reads-err f OutOfMemory said h = tt
 Reads-err f (BadCertificate line cause) said h = h
 
--- a part that is refused refuses the whole
-pub Reads-then : {X Y W Z : Type 0} (f : X → Y) (g : W → Z) (e : ReadError) (said : Result Y ReadError) (next : Y → Result Z ReadError) → Reads f (Err e) said → Reads g (Err e) (said >>= next)
-Reads-then f g OutOfMemory said next h = tt
-Reads-then f g (BadCertificate line cause) said next h = ap (λ r. r >>= next) h
-
 -- the first step, and then the next one
 pub then-err : {A B E : Type 0} (r : Result A E) (next : A → Result B E) (e : E) → Err e ≡ r → (r >>= next) ≡ Err e
 then-err r next e h = ap (λ x. x >>= next) (sym h)

@@ -13,4 +13,3 @@ pub mod Serials
 pub mod Spelling
 pub mod Split
 pub mod Verdicts
-pub mod Written

@@ -1,23 +1,21 @@
 -- The partners of a short set, group by group.
 use Rattle.std.proofs.Common.{◌≡◌, ℕ, ◌+◌, ◌*◌, ◌^◌, ◌<◌, ◌≤◌, ◌==◌, ◌&&◌, ◌||◌, Bool, true, false, not, cond, List, [], ◌∷◌, ◌++◌, None, length, map, take, drop, count_by, get_or, ap, refl, sym, ◌∙◌, zero, suc, inl, inr, arith}
 use Rattle.std.specs.List.{filter, flat_map, list_any, slice_get}
-use Rattle.std.proofs.Math.Bool.{or-false}
 use Rattle.std.proofs.Math.Nat.{mul-le-mul_left, mul-suc}
 use Rattle.std.proofs.Math.Numerals.{add-one}
 use Rattle.std.proofs.Math.Seq.{take-suc}
 use Rattle.std.proofs.lemmas.Bool.{cases_Bool, or_parts}
 use Rattle.std.proofs.lemmas.Grind.{flat_map-append}
-use Rattle.std.proofs.lemmas.List.{append_assoc, append-nil, get_or_default, length-map, map-append, take-append-drop}
+use Rattle.std.proofs.lemmas.List.{append_assoc, append-nil, get_or_default, length-map, map-append}
 use Rattle.std.proofs.lemmas.List.Filters.{length-filter_more}
 use Rattle.std.proofs.lemmas.List.Concat.{flat_map-cons}
-use Rattle.std.proofs.lemmas.List.Elements.{filter-append, filter_more}
+use Rattle.std.proofs.lemmas.List.Elements.{filter_more}
 use Rattle.std.proofs.lemmas.List.Folds.{list_any-append, list_any_none}
 use Rattle.std.proofs.lemmas.List.Sums.{sum_by-cons}
 use Rattle.span.specs.declared.id.SpanId.{SpanId}
 use Rattle.span.specs.Classes.{width_of}
 use Rattle.span.specs.Ids.{same_span}
 use Rattle.span.specs.declared.class.Class.{Class}
-use Rattle.span.specs.declared.class.Class.TheVariants.{C16, C64, C256}
 use Rattle.bitmap.specs.Slots.{SlotSet, has_bit}
 use Rattle.mesh_graph.specs.Rows.{HaveRows}
 use Rattle.lane_kernels.specs.Rows.{row_at, width_of as row_words}
@@ -172,31 +170,7 @@ passing-skip test [] n before found low fails is = absurd (omega arith)
 passing-skip test (x ∷ xs) n before found low fails is =
     passing-same test (x ∷ xs) n (get_or (x ∷ xs) n x) before found low (get_or_default (x ∷ xs) n x (get_or (x ∷ xs) n x) low) is (fails x)
 
--- the ids of a part of the groups, and then those of the others
-pub passing-parts : (test : Entry → Bool) (n : ℕ) (rest : List Entry) (found : List SpanId)
-    → (found ++ map (λ (y : Entry). y.id) (filter test (take n rest))) ++ map (λ (y : Entry). y.id) (filter test (drop n rest))
-    ≡ found ++ map (λ (y : Entry). y.id) (filter test rest)
-passing-parts test n rest found =
-    append_assoc found (map (λ (y : Entry). y.id) (filter test (take n rest))) (map (λ (y : Entry). y.id) (filter test (drop n rest)))
-    ∙ ap (λ l. found ++ l) (
-    sym (map-append (λ (y : Entry). y.id) (filter test (take n rest)) (filter test (drop n rest)))
-    ∙ ap (map (λ (y : Entry). y.id)) (sym (filter-append test (take n rest) (drop n rest)) ∙ ap (filter test) (take-append-drop n rest)))
-
 -- ---- by class
-
--- a group fits where it does among the members of one of the classes
-pub fits-by_class : (members : Members) (y : Entry) → ((fits_among C16 (members_in members C16) y || fits_among C64 (members_in members C64) y) || fits_among C256 (members_in members C256) y)
-    ≡ fits_some members y
-fits-by_class members y = by_class y.class
-  where
-    any_in : Class → Bool
-    any_in class = list_any (λ x. are_disjoint x y.occupied) (members_in members class)
-
-    by_class : (class : Class) → ((((width_of class == width_of C16) && any_in C16) || ((width_of class == width_of C64) && any_in C64)) || ((width_of class == width_of C256) && any_in C256))
-        ≡ any_in class
-    by_class C16 = or-false (any_in C16 || false) ∙ or-false (any_in C16)
-    by_class C64 = or-false (any_in C64)
-    by_class C256 = refl
 
 -- the place of an element among those that pass
 module _ {X : Type 0} (test : X → Bool) where

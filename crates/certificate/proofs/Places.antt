@@ -6,10 +6,10 @@ use Rattle.std.proofs.Math.Bool.{or-false}
 use Rattle.std.proofs.Math.Numerals.{add-one}
 use Rattle.std.proofs.Math.Seq.{take-suc}
 use Rattle.std.proofs.lemmas.Bool.{and_from, and_parts, both_ways, cases_Bool, cases_eq, cases_lt, le-ltb, ne_eqb, or_cases, or_left, or_right}
-use Rattle.std.proofs.lemmas.List.{drop-map, get_or_default, get_or-drop, get_or-replicate, get_or-take, length-drop, length-replicate, length-take-le, map-id, take_all, take-append-drop, take-map}
+use Rattle.std.proofs.lemmas.List.{drop-map, get_or_default, get_or-drop, get_or-replicate, get_or-take, length-drop, length-replicate, length-take-le, map-id, take_all, take-map}
 use Rattle.std.proofs.lemmas.List.Folds.{list_any-append, list_any_at, list_any_none}
 use Rattle.std.proofs.lemmas.List.FromFn.{sum_by-map-range_with_len_more}
-use Rattle.std.proofs.lemmas.List.Sums.{sum_by-append, sum_by-cons}
+use Rattle.std.proofs.lemmas.List.Sums.{sum_by-cons}
 use Rattle.std.proofs.lemmas.Map.Keys.{IsDistinct-from_apart, apart_from_distinct}
 use Rattle.std.proofs.lemmas.Nat.Bits.{bit_at-zero}
 use Rattle.bitmap.specs.Slots.{has_bit}
@@ -259,10 +259,6 @@ pub HasFitting-next : (abandoned : List Entry) (chosen : List SpanId) (owned : L
     → HasFitting abandoned (take k chosen ++ x ∷ []) owned words → HasFitting abandoned (take (k + 1) chosen) owned words
 HasFitting-next abandoned chosen owned k x words low is =
     subst (λ xs. HasFitting abandoned xs owned words) (sym (ap (λ n. take n chosen) (add-one k) ∙ take-suc chosen k x low ∙ ap (λ y. take k chosen ++ y ∷ []) (sym is)))
-
--- the count of a list is that of its parts
-pub count-parts : (test : Entry → Bool) (n : ℕ) (xs : List Entry) → count_by test (take n xs) + count_by test (drop n xs) ≡ count_by test xs
-count-parts test n xs = sym (sum_by-append (λ x. cond (test x) 1 0) (take n xs) (drop n xs)) ∙ ap (count_by test) (take-append-drop n xs)
 
 -- the first k groups were tested, and the bits of those that pass are in
 abbrev pub HasAdded : (Entry → Bool) → List Entry → ℕ → List ℕ → List ℕ → Type 0

@@ -1,5 +1,5 @@
 -- What a fold does to the spans of pool and shard.
-use Rattle.std.proofs.Common.{◌≡◌, ℕ, ◌+◌, ◌++◌, false, true, Bool, List, ◌∷◌, length, append_assoc, length-set, None, Some, ◌∙◌, ap, sym, refl, arith, Option, is_some, cond, set, slice_get}
+use Rattle.std.proofs.Common.{◌≡◌, ℕ, ◌+◌, ◌++◌, false, true, Bool, List, ◌∷◌, length, append_assoc, length-set, None, Some, ◌∙◌, ap, sym, refl, arith, is_some, cond, set, slice_get}
 use Rattle.std.specs.Prelude.{remove, sum_by}
 use Rattle.std.proofs.lemmas.Grind.{flat_map-append}
 use Rattle.std.proofs.lemmas.List.Sums.{length-filter, sum_by-append}

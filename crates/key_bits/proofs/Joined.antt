@@ -1,8 +1,7 @@
 -- The parts of a number: they fit, and no others make the number.
 use Rattle.std.proofs.Common.{ℕ, ◌+◌, ◌*◌, ◌/◌, ◌%◌, ◌^◌, ◌<◌, ◌≤◌, ◌≡◌, Option, Some, None, sym, subst, ◌∙◌, ap, arith}
 use Rattle.std.specs.Prelude.{IfNone}
-use Rattle.std.proofs.lemmas.Nat.{div-add-mod', div-mul-add, mod-mul-add, mul-add-lt, pow-add, pow_pos}
-use Rattle.std.proofs.Math.Nat.{mul-pos}
+use Rattle.std.proofs.lemmas.Nat.{div-add-mod', div-mul-add, mod-mul-add, mul-add-lt, pow-add}
 use Rattle.std.proofs.Math.Pow.{pow_mono}
 use Rattle.span.specs.declared.key.Key.{Key}
 use Rattle.span.proofs.Ids.{same_id}
@@ -102,14 +101,3 @@ HaveRoom-number bits key number generation shard serial slot parted low_a low_b 
 pub if_none : {X P Q : Type 0} (answer : Option X) → (P → Q) → IfNone answer P → IfNone answer Q
 if_none None next fact = next fact
 if_none (Some x) next fact = tt
-
--- a number with a generation is not 0
-product-above : (a b part : ℕ) → 0 < a → 0 < b → 0 < a * b + part
-product-above a b part l m = let more : 0 < a * b = mul-pos l m in omega (arith, more)
-
-appended-above : (number part width : ℕ) → 0 < number → 0 < number * 2 ^ width + part
-appended-above number part width some = product-above number (2 ^ width) part some (pow_pos width)
-
-pub number_of_parts-above : (bits : KeyBits) (generation shard serial slot : ℕ) → 0 < generation → 0 < number_of_parts bits generation shard serial slot
-number_of_parts-above bits generation shard serial slot some =
-    appended-above _ slot 8 (appended-above _ serial bits.serial (appended-above generation shard bits.shard some))

@@ -1,6 +1,5 @@
 -- Sixteen words of the rows of a set's slots, taken together.
 use Rattle.std.proofs.Common.{ℕ, ◌+◌, ◌-◌, ◌*◌, ◌/◌, ◌%◌, ◌^◌, ◌<◌, ◌≤◌, ◌≡◌, ◌==◌, ◌&&◌, ◌↔◌, Bool, true, false, not, max, List, length, get_or, bit_and, bit_or, ap, sym, ◌∙◌, refl, inl, inr, arith, w64, eqb-true}
-use Rattle.std.specs.Prelude.{replicate}
 use Rattle.std.specs.Int.{bit_at, bit_not, trailing_zeros}
 use Rattle.std.specs.FinSet.{contains}
 use Rattle.std.specs.Simd.Lanes.{chunk, zip2}
@@ -9,7 +8,7 @@ use Rattle.std.proofs.lemmas.Bool.{both_ways, cases_Bool, cases_eq, cases_lt}
 use Rattle.std.proofs.lemmas.List.{get_or_past}
 use Rattle.std.proofs.lemmas.Nat.{and_le_l}
 use Rattle.std.proofs.lemmas.Nat.Bits.{bit_at-lt, bit_at-trailing_zeros, bit_at-zero, bit_at_and, bit_at_clear_other, bit_at_clear_same, bit_at_not, bit_at_or}
-use Rattle.std.proofs.lemmas.Simd.{get_or-chunk, get_or-replicate, get_or-zip2, length-chunk, length-zip2}
+use Rattle.std.proofs.lemmas.Simd.{get_or-chunk, get_or-zip2, length-chunk, length-zip2}
 use Rattle.bitmap.specs.Slots.{SlotSet, ascending, has_bit, members_below}
 use Rattle.bitmap.specs.Words.{has_bit-place}
 use Rattle.lane_kernels.specs.Rows.{IsClear, IsClearIn, row_at, survives}
@@ -82,25 +81,12 @@ rows-step left first W i b block rows some fits sixteen room low =
 pub both-either : {A B C : Type 0} → A ↔ B → B ↔ C → A ↔ C
 both-either f g = (λ a. g.0 (f.0 a), λ c. f.1 (g.1 c))
 
--- no bit is left
-pub rows-done : (left word : ℕ) (block block' rows : List ℕ) (W k i b : ℕ) → left ≡ 0
-    → ((bit_at (get_or block' i 0) b ≡ 0) × IsClear left rows W k b) ↔ ((bit_at (get_or block i 0) b ≡ 0) × IsClear word rows W k b)
-    → (bit_at (get_or block' i 0) b ≡ 0) ↔ ((bit_at (get_or block i 0) b ≡ 0) × IsClear word rows W k b)
-rows-done left word block block' rows W k i b none same = (
-  λ now. same.0 (now, λ q low bit. absurd (let zeros : bit_at left q ≡ 0 = ap (λ n. bit_at n q) none ∙ bit_at-zero q in omega arith)),
-  λ then_. (same.1 then_).0,
-)
-
 -- a row's sixteen words are among the rows
 pub row-within : (W bit first n : ℕ) → bit < 64 → first + W * 63 + 16 ≤ n → first + W * bit + 16 ≤ n
 row-within W bit first n low room = let most : W * bit ≤ W * 63 = mul-le-mul_left W (omega arith) in omega arith
 
 pub length-added : (block rows : List ℕ) (from : ℕ) → length block ≡ 16 → from + 16 ≤ length rows → length (zip2 bit_or block (chunk from 16 rows)) ≡ 16
 length-added block rows from sixteen room = let both = length-chunk from 16 rows room in length-zip2 bit_or block (chunk from 16 rows) (omega arith) ∙ sixteen
-
--- nothing is in an empty block
-pub block-none : (words rows : List ℕ) (W k i b : ℕ) → i < 16 → (bit_at (get_or (replicate 16 0) i 0) b ≡ 0) ↔ IsClearIn words rows W k b 0
-block-none words rows W k i b low = (λ now q below. absurd (omega arith), λ then_. ap (λ n. bit_at n b) (get_or-replicate 16 i 0 0 low) ∙ bit_at-zero b)
 
 tested : (n : ℕ) → n ≡ 1 → (n == 1) ≡ true
 tested n is = rw is refl

@@ -48,15 +48,6 @@ module _ (W : ℕ) (words row : List ℕ) (n : ℕ) (size : length words ≡ W *
       ∙ ap (take W) (drop-append_seam words row)
       ∙ ap (λ k. take k row) (sym long) ∙ take-length row
 
--- no row yet
-pub bit_rows-none : (p q r s : List ℕ) (first : ℕ) (words : List ℕ) → AreBitRows p q r s first 0 (take (padded (width_of (length p)) * 0) words)
-bit_rows-none p q r s first words =
-    let at : padded (width_of (length p)) * 0 ≡ 0 = omega arith in
-    record {
-      size = rw at refl;
-      bits = λ k j below low. absurd (omega arith);
-    }
-
 -- one more row
 bit_rows-more : (p q r s : List ℕ) (first n : ℕ) (words row : List ℕ) → AreBitRows p q r s first n words → length row ≡ padded (width_of (length p))
     → ((j : ℕ) → j < length p → has_bit row j ≡ has_bit (column p q r s j) (first + n)) → AreBitRows p q r s first (n + 1) (words ++ row)

@@ -5,8 +5,6 @@ use Rattle.std.proofs.lemmas.List.{length-map}
 use Rattle.std.proofs.lemmas.List.Elements.{recursion_from_All}
 use Rattle.span.specs.declared.id.SpanId.{SpanId}
 use Rattle.span.specs.Ids.{same_span}
-use Rattle.shard.specs.State.{ShardState}
-use Rattle.pool.specs.State.{PoolState}
 use Rattle.span.specs.declared.entry.Entry.{Entry}
 use Rattle.mesh_graph.specs.Groups.{Groups, IsAscending, ids}
 use Rattle.certificate.specs.declared.certificate.Certificate.{Certificate}
@@ -15,13 +13,7 @@ use Rattle.certificate.specs.Sides.{IsChoice, among}
 use Rattle.certificate.specs.Text.{FitsClass, IsWritable}
 use Rattle.certificate.proofs.Members.{length-le_from_distinct}
 use Rattle.certificate.proofs.Verdicts.{tells_span}
-use Rattle.marks.specs.Seen.{IsSeenInPart}
 use Rattle.mesh_graph.specs.declared.build.TheConstants.{MOST_GROUPS}
-
--- a mark that sees a part sees few
-pub few_in_part : (pool : PoolState) (shards : List ShardState) (groups : Groups) → IsSeenInPart pool shards groups
-    → (length groups.abandoned ≤ MOST_GROUPS) × (length groups.owned ≤ MOST_GROUPS)
-few_in_part pool shards groups seen = (omega (arith, seen.abandoned.count), omega (arith, seen.owned.count))
 
 -- no more can be chosen than there are abandoned groups
 few_chosen : (groups : Groups) (chosen : List SpanId) → IsChoice same_span (ids groups.abandoned) chosen → length groups.abandoned ≤ MOST_GROUPS

@@ -49,16 +49,6 @@ rows-next abandoned sets masks n y before words have low read same wide bits =
     let cut : take (W * (n + 1)) words ≡ take (W * n) before ++ row_at W words n = ap (λ k. take k words) more ∙ take-add (W * n) W words ∙ ap (λ l. l ++ row_at W words n) same in
     subst (HaveRows abandoned sets masks (n + 1)) (sym cut) (rows-more abandoned sets masks n y (take (W * n) before) (row_at W words n) have low read wide bits)
 
--- no row yet
-pub rows-none : (abandoned : List Entry) (sets : List SlotSet) (masks : Option Masks) (words : List ℕ)
-    → HaveRows abandoned sets masks 0 (take (width_of (length sets) * 0) words)
-rows-none abandoned sets masks words =
-    let at : width_of (length sets) * 0 ≡ 0 = omega arith in
-    record {
-      size = rw at refl;
-      bits = λ i j x below. absurd (omega arith);
-    }
-
 -- all rows are written
 pub rows-all : (abandoned : List Entry) (sets : List SlotSet) (masks : Option Masks) (n : ℕ) (words : List ℕ)
     → HaveRows abandoned sets masks n (take (width_of (length sets) * n) words) → length words ≡ width_of (length sets) * n → HaveRows abandoned sets masks n words

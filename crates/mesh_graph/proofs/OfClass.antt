@@ -8,7 +8,7 @@ use Rattle.std.proofs.lemmas.Bool.{both_ways, cases_Bool, cases_eq, cases_lt, ne
 use Rattle.std.proofs.lemmas.List.{get_or_default, get_or_past}
 use Rattle.std.proofs.lemmas.List.Folds.{list_all_at}
 use Rattle.std.proofs.lemmas.Nat.Bits.{bit_at-lt, bit_at-zero, bit_at_and}
-use Rattle.std.proofs.lemmas.Option.{get_or_from_slice_get, none-some, slice_get-get_or, slice_get-map, slice_get_past, slice_get_within}
+use Rattle.std.proofs.lemmas.Option.{get_or_from_slice_get, slice_get-get_or, slice_get-map, slice_get_past, slice_get_within}
 use Rattle.bitmap.specs.Slots.{SlotSet, has_bit}
 use Rattle.lane_kernels.specs.Disjoint.{fits}
 use Rattle.span.specs.Classes.{width_of}
@@ -101,10 +101,6 @@ all-at class xs i x all at = elim (cases_Bool (width_of x.class == width_of clas
 pub AreOfOneClass-all : (class : Class) (abandoned owned : List Entry) → list_all (λ x. width_of x.class == width_of class) owned ≡ true
     → list_all (λ x. width_of x.class == width_of class) abandoned ≡ true → AreOfOneClass abandoned owned
 AreOfOneClass-all class abandoned owned all_o all_a i j x y at_x at_y = all-at class abandoned i x all_a at_x ∙ sym (all-at class owned j y all_o at_y)
-
--- where there is no owned group, none has another class
-pub AreOfOneClass-none : (abandoned owned : List Entry) → length owned ≡ 0 → AreOfOneClass abandoned owned
-AreOfOneClass-none abandoned owned none i j x y at_x at_y = absurd (none-some y (sym (slice_get_past owned j (omega arith)) ∙ at_y))
 
 -- the bits of a group's row that are kept: those of the groups with which it is compatible
 pub has_partner-kept : (abandoned owned : List Entry) (sets : List SlotSet) (masks : Option Masks) (n : ℕ) (x : Entry)

@@ -3,7 +3,7 @@ use Rattle.std.proofs.Common.{ℕ, ◌+◌, ◌<◌, ◌≤◌, ◌≡◌, ◌++
 use Rattle.std.specs.List.{All}
 use Rattle.std.specs.List.Sorted.{IsNonDecreasingBy, IsPermutation}
 use Rattle.std.proofs.lemmas.List.{append-nil, get_or_append_left, get_or-drop, get_or-take, get_or_default, length-append, length-drop, length-take-le, take-append-drop}
-use Rattle.std.proofs.lemmas.List.Sorted.{All-permutation, IsPermutation-append_left, IsPermutation-refl, IsPermutation-trans, length_permutation}
+use Rattle.std.proofs.lemmas.List.Sorted.{All-permutation, IsPermutation-append_left, IsPermutation-trans, length_permutation}
 use Rattle.span.specs.declared.entry.Entry.{Entry}
 use Rattle.mesh_graph.specs.Sparsest.{AreSparsest, occupied_count}
 
@@ -27,15 +27,6 @@ AreSparsest-first most entries by_count chosen some sorted up moved =
           (subst (λ (x : Entry). occupied_count x ≤ occupied_count (get_or by_count (most + k) b)) (sym (get_or-take most by_count i a first))
           (subst (λ (x : Entry). occupied_count x ≤ occupied_count (get_or by_count (most + k) b)) (get_or_default by_count i b a (omega arith)) (up i (most + k) b (omega arith) later))));
     }
-
--- all of them, where there are no more
-pub AreSparsest-all : (most : ℕ) (entries : List Entry) → length entries ≤ most → AreSparsest most entries entries
-AreSparsest-all most entries few = record {
-  left_out = [];
-  each = subst (IsPermutation entries) (sym (append-nil entries)) (IsPermutation-refl entries);
-  count = omega arith;
-  fewest = λ i a low k b within. absurd (omega (arith, within));
-}
 
 -- where there are no more, all are chosen
 pub permutation-few : (most : ℕ) (entries chosen : List Entry) → AreSparsest most entries chosen → length entries ≤ most → IsPermutation entries chosen

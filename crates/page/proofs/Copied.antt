@@ -23,12 +23,6 @@ abbrev among : ℕ → List ℕ → Bool
 among q [] = false
 among q (k ∷ ks) = eqb q k || among q ks
 
--- where a word of the page stands
-width-some : (class : Class) → 0 < width_of class
-width-some C16 = omega arith
-width-some C64 = omega arith
-width-some C256 = omega arith
-
 place-lt : (class : Class) (j : ℕ) → j % width_of class < width_of class
 place-lt C16 j = omega arith
 place-lt C64 j = omega arith

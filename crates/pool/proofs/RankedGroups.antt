@@ -30,13 +30,6 @@ get-take [] (suc n) at low = refl
 get-take (x ∷ xs) (suc n) zero low = refl
 get-take (x ∷ xs) (suc n) (suc at) low = get-take xs n at (omega arith)
 
-get-take_past : {X : Type 0} (xs : List X) (n at : ℕ) → n ≤ at → slice_get (take n xs) at ≡ None
-get-take_past [] zero at past = refl
-get-take_past [] (suc n) at past = refl
-get-take_past (x ∷ xs) zero at past = refl
-get-take_past (x ∷ xs) (suc n) zero past = absurd (omega arith)
-get-take_past (x ∷ xs) (suc n) (suc at) past = get-take_past xs n at (omega arith)
-
 -- a row has as many groups as the list in order
 pub length-row : (groups : List PooledState) → length groups ≡ length (in_order groups)
 length-row groups = sym (length_permutation groups (in_order groups) (IsPermutation-arranged head_rank groups))

@@ -137,11 +137,6 @@ pub first_at : (wide len start : ℕ) (runs : List ReceiptRun) (first : ReceiptR
 first_at wide len start [] first are at = absurd cc
 first_at wide len start (run ∷ runs) first are at = ap (λ (r : ReceiptRun). r.start) (sym (same_Some run first at)) ∙ are.0.0
 
--- where there is a receipt there is a run
-pub some_runs : (wide len : ℕ) (runs : List ReceiptRun) → AreRuns wide len 0 runs → 0 < len → 0 < length runs
-some_runs wide len [] are some = absurd (let e : 0 ≡ len = are in omega arith)
-some_runs wide len (run ∷ runs) are some = omega arith
-
 pub not_empty : (n : ℕ) → (n == 0) ≡ false → 0 < n
 not_empty zero is = absurd cc
 not_empty (suc n) is = omega arith

@@ -4,7 +4,7 @@ use Rattle.std.specs.Prelude.{filter, is_some, not}
 use Rattle.std.specs.List.{flat_map, range_with_len, take_while}
 use Rattle.std.specs.Option.{option_map_or}
 use Rattle.std.proofs.lemmas.Grind.{flat_map-append}
-use Rattle.std.proofs.lemmas.List.{append-nil, append_assoc, drop_all, length-append, map-append, take_all, take_more}
+use Rattle.std.proofs.lemmas.List.{append-nil, append_assoc, length-append, map-append, take_all, take_more}
 use Rattle.std.proofs.lemmas.List.FromFn.{filter_of_map_range_with_len_more}
 use Rattle.std.proofs.lemmas.List.Sums.{fold-append, take_while-cons}
 use Rattle.std.proofs.lemmas.Option.{get_or_from_slice_get, slice_get_within}
@@ -117,13 +117,6 @@ HaveCome-other lines above other minutes same come = record {
   };
 }
 
--- no mark yet
-pub HaveCome-none : (lines : List Line) (minutes : Minutes) → minutes.marks ≡ 0 → minutes.notes.items ≡ [] → minutes.certificate.items ≡ [] → HaveCome lines 0 None minutes
-HaveCome-none lines minutes marks notes certificate = record {
-  counted = marks;
-  noted = record { marks = []; each_mark = refl; carried_out = tt; notes_are = notes; certificate_is = certificate };
-}
-
 -- a mark that planned
 pub HaveCome-planned : (lines : List Line) (place pages : ℕ) (c : Certificate) (old new : Minutes) → HaveCome lines place None old → is_mark_at lines place ≡ true → IsShown c
     → new.marks ≡ old.marks + 1 → new.notes.items ≡ old.notes.items ++ note_at place (Marked (news_marked (old.marks + 1) c pages)) ∷ []
@@ -220,13 +213,6 @@ module _ (lines : List Line) (place : ℕ) (line : Line) (here : slice_get lines
       let rest = take_while (λ l. not (is_barrier l)) (drop (place + 1) lines) in
       let none : length (take_while (λ l. not (is_barrier l)) (drop place lines)) ≡ 0 = ap length (before_here ∙ ap (λ b. cond (not b) (line ∷ rest) []) begins) in
       omega arith
-
--- below the last line there is none
-pub barrier_from-end : (lines : List Line) → barrier_from lines (length lines) ≡ length lines
-barrier_from-end lines =
-    let none : length (take_while (λ l. not (is_barrier l)) (drop (length lines) lines))
-    ≡ 0 = ap (λ ls. length (take_while (λ l. not (is_barrier l)) ls)) (drop_all (length lines) lines (omega arith)) in
-    omega arith
 
 -- where an element fails the test, no more than those before it are taken
 take_while-stop : {X : Type 0} (test : X → Bool) (xs : List X) (k : ℕ) (x : X) → slice_get xs k ≡ Some x → test x ≡ false → length (take_while test xs) ≤ k

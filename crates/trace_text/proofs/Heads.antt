@@ -19,15 +19,6 @@ use Rattle.trace_text.specs.declared.cause.ParseError.{ParseError}
 use Rattle.trace_text.specs.declared.cause.ParseError.TheVariants.{BadTrace, OutOfMemory}
 use Rattle.trace_text.proofs.Lines.{chosen, same_bytes}
 
--- one line of the header more
-pub BeginWith-more : (above : List Field) (numbers : List ℕ) (field : Field) (n : ℕ) (lines rest below : List (List ℕ)) → BeginWith above numbers lines rest
-    → BeginWith (field ∷ []) (n ∷ []) rest below → BeginWith (above ++ field ∷ []) (numbers ++ n ∷ []) lines below
-BeginWith-more [] [] field n lines rest below begin next = subst (λ ls. BeginWith (field ∷ []) (n ∷ []) ls below) (sym begin) next
-BeginWith-more [] (m ∷ ms) field n lines rest below begin next = absurd begin
-BeginWith-more (f ∷ fs) [] field n lines rest below begin next = absurd begin
-BeginWith-more (f ∷ fs) (m ∷ ms) field n [] rest below begin next = absurd begin
-BeginWith-more (f ∷ fs) (m ∷ ms) field n (line ∷ lines) rest below begin next = (begin.0, BeginWith-more fs ms field n lines rest below begin.1 next)
-
 -- the line below those that begin a header is at fault
 pub FailsHeader-below : (above more : List Field) (field : Field) (numbers : List ℕ) (number : ℕ) (lines rest : List (List ℕ)) (e : ParseError)
     → fields ≡ above ++ field ∷ more → number ≡ length above + 1 → BeginWith above numbers lines rest → FailsField field number rest e → FailsHeader lines e
@@ -101,10 +92,6 @@ opening_of-same version other same =
     let digits : 48 + number_of version ≡ 48 + number_of other = sym (digit_of-opening version) ∙ ap (λ bytes. get_or bytes 5 0) same ∙ digit_of-opening other in
     let numbers : number_of version ≡ number_of other = omega (arith, digits) in
     sym (of_number_of version) ∙ ap of_number numbers ∙ of_number_of other
-
--- a line that says no version is no first line
-pub opening_fault : (lines below : List (List ℕ)) (line : List ℕ) → lines ≡ line ∷ below → ((version : Version) → line ≡ opening_of version → ⊥) → IsAtFault Opening lines cause.Header
-opening_fault lines below line split none = subst (λ ls. IsAtFault Opening ls cause.Header) (sym split) (inl (refl, λ n says. none says.0 says.1))
 
 -- a line says one number
 says_one : (field : Field) (line : List ℕ) (n m : ℕ) → SaysNumber field n line → SaysNumber field m line → n ≡ m

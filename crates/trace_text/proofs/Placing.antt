@@ -1,13 +1,9 @@
 -- The places of the lines, one line more.
-use Rattle.std.proofs.Common.{◌≡◌, ℕ, zero, suc, List, [], ◌∷◌, ◌++◌, length, take, Option, Some, None, Ok, Err, slice_get, refl, sym, ap, ◌∙◌, append_assoc}
+use Rattle.std.proofs.Common.{◌≡◌, ℕ, zero, suc, List, [], ◌∷◌, ◌++◌, take, Option, Some, None, Ok, Err, slice_get, refl, sym, ap, ◌∙◌, append_assoc}
 use Rattle.std.proofs.lemmas.List.{append-nil}
 use Rattle.trace_text.specs.Places.{place_at, places_from, unless}
 use Rattle.trace_text.specs.declared.cause.Cause.{Cause}
 use Rattle.trace_text.specs.declared.line.Line.{Line}
-
-pub length-places : (before ls : List Line) → length (places_from before ls) ≡ length ls
-length-places before [] = refl
-length-places before (l ∷ ls) = ap suc (length-places (before ++ l ∷ []) ls)
 
 places_from-push : (before ls : List Line) (l : Line) → places_from before (ls ++ l ∷ []) ≡ places_from before ls ++ place_at (before ++ ls) l ∷ []
 places_from-push before [] l = ap (λ b. place_at b l ∷ []) (sym (append-nil before))

@@ -93,10 +93,6 @@ SoFar-more h texts rest more lines bytes l far next fine = record {
   fine = AreReadAs-push h [] far.above lines bytes l far.fine fine;
 }
 
--- all texts are read
-pub SoFar-all : (h : Header) (texts rest : List (List ℕ)) (lines : List Line) → SoFar h texts rest lines → rest ≡ [] → AreReadAs h [] texts lines
-SoFar-all h texts rest lines far end = subst (λ ts. AreReadAs h [] ts lines) (sym (far.split ∙ ap (λ ls. far.above ++ ls) end ∙ append-nil far.above)) far.fine
-
 -- the first line of the rest is at fault
 pub SoFar-fault : (h : Header) (texts rest more : List (List ℕ)) (lines : List Line) (bytes : List ℕ) (n : ℕ) (c : Cause) → SoFar h texts rest lines
     → rest ≡ bytes ∷ more → HasCause h lines bytes c → n ≡ length lines + 6 → IsFirstFault h texts n c
