@@ -1,6 +1,10 @@
 //! Links the proved archive `libteurlaks_c.a`, and the three functions through which it asks for memory: those of `c/pages.c`, by which
 //! pages that are given back leave the process. Where the archive's folder has a `liblibc_c.a`, its three are taken.
 //!
+//! With the feature `bitcode` that is `libteurlaks_c_bitcode.a`, which stands beside it. A linker
+//! that reads LLVM's bitcode, as `-C linker-plugin-lto` asks of rustc, inlines its calls on one
+//! object.
+//!
 //! `TEURLAKS_ARCHIVE` names the folder where the archive lies. Where it is not set, it is `lib/` of a release, beside the crate's folder; and where
 //! there is none, the Rattle kit's `rt lib` proves and makes it in `crates/teurlaks_c` of the repository. A release's `libteurlaks.a` has the
 //! three functions in it, so that no C compiler is needed. The kit is `KIT`, or the folder above the `bin` where `rt` is found on the `PATH`, or `/opt/rattle`.
@@ -16,11 +20,12 @@ fn main() {
         Some(folder) => PathBuf::from(folder),
         None => of_release().unwrap_or_else(prove),
     };
+    let is_bitcode = env::var_os("CARGO_FEATURE_BITCODE").is_some();
     if is_release(&archive) {
-        link(&archive, "teurlaks");
+        link(&archive, if is_bitcode { "teurlaks_bitcode" } else { "teurlaks" });
         return;
     }
-    link(&archive, "teurlaks_c");
+    link(&archive, if is_bitcode { "teurlaks_c_bitcode" } else { "teurlaks_c" });
     if archive.join("liblibc_c.a").exists() {
         link(&archive, "libc_c");
     } else {

@@ -5,6 +5,8 @@ top=$(cd "$(dirname "${BASH_SOURCE[0]}")/.." && pwd)
 program="$top/crates/meshrun/out/meshrun"
 built_from="$program.sources"
 archive="$top/crates/teurlaks_c/out/libteurlaks_c.a"
+# The same as bitcode, if `tools/record` made the archive.
+bitcode="${archive%.a}_bitcode.a"
 # What a gate that passed proved: the sum of its sources.
 gate_from="$top/crates/teurlaks_c/out/gate.sources"
 # What `./check --all` passed: a sum of the sources and the edits.
@@ -183,6 +185,7 @@ make_archive() {
     if gate_is_current; then
         archive_over_gate >"$said" 2>&1 || status=$?
     else
+        rm -f "$bitcode"
         (cd "$top/crates/teurlaks_c" && "$rt" lib </dev/null) >"$said" 2>&1 || status=$?
     fi
     if [ "$status" = 0 ] && [ "$(sum_of_sources)" = "$before" ] && keep_archive_proof "$said"; then
@@ -203,5 +206,6 @@ keep_archive_proof() {
 
 # Puts an archive that was made in its place, with the verdict in a file of what was said.
 keep_archive() {
-    mkdir -p "$(dirname "$archive")" && mv "$1" "$archive" && keep_archive_proof "$2"
+    mkdir -p "$(dirname "$archive")" && mv "$1" "$archive" &&
+        mv "${1%.a}_bitcode.a" "$bitcode" && keep_archive_proof "$2"
 }

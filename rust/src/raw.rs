@@ -1,5 +1,9 @@
 //! The calls of the archive, as `crates/teurlaks_c` exports them. `tests/declarations.rs` compares the two, and `c/teurlaks.h` too. The
 //! parameter `alloc` there takes no bytes, and stands nowhere here.
+//!
+//! The calls on one object get a key and a word as two numbers each. C's convention hands a struct
+//! of 12 or 16 bytes over in the same two registers, and LLVM inlines a call only if both sides name
+//! the same types.
 
 #[repr(C)]
 pub struct Handle {
@@ -195,13 +199,25 @@ pub struct ArenaTotalsReply {
 extern "C" {
     pub fn teurlaks_new(out: *mut Handle, shards: u32, page_limit: u32, ring_capacity: u32, gens: u32) -> u32;
     pub fn teurlaks_drop(handle: *mut Handle);
-    pub fn teurlaks_put(handle: *mut Handle, shard: u32, value: RawWord) -> PutReply;
-    pub fn teurlaks_get(handle: *const Handle, key: RawKey) -> GetReply;
+    pub fn teurlaks_put(handle: *mut Handle, shard: u32, value: u64, value_high: u64) -> PutReply;
+    pub fn teurlaks_get(handle: *const Handle, key: u64, key_high: u32) -> GetReply;
     pub fn teurlaks_put_words(handle: *mut Handle, shard: u32, words: *const RawWord, words_len: usize) -> PutReply;
-    pub fn teurlaks_get_words(handle: *const Handle, key: RawKey, words: *mut RawWord, words_len: usize) -> WordsReply;
-    pub fn teurlaks_set(handle: *mut Handle, key: RawKey, value: RawWord) -> u32;
-    pub fn teurlaks_set_words(handle: *mut Handle, key: RawKey, words: *const RawWord, words_len: usize) -> u32;
-    pub fn teurlaks_free(handle: *mut Handle, key: RawKey) -> u32;
+    pub fn teurlaks_get_words(
+        handle: *const Handle,
+        key: u64,
+        key_high: u32,
+        words: *mut RawWord,
+        words_len: usize,
+    ) -> WordsReply;
+    pub fn teurlaks_set(handle: *mut Handle, key: u64, key_high: u32, value: u64, value_high: u64) -> u32;
+    pub fn teurlaks_set_words(
+        handle: *mut Handle,
+        key: u64,
+        key_high: u32,
+        words: *const RawWord,
+        words_len: usize,
+    ) -> u32;
+    pub fn teurlaks_free(handle: *mut Handle, key: u64, key_high: u32) -> u32;
     pub fn teurlaks_put_many(
         handle: *mut Handle,
         shard: u32,

@@ -1,11 +1,13 @@
 //! `library WHO KIND LIVE CALLS [BYTES]`: nanoseconds a call of one store, in a process of its own; `library WHO memory LIVE 0`: resident bytes a
 //! live value. A value is a word of 128 bits, or has 16, 64 or 240 bytes where that is said.
 
+mod reference;
 mod wide;
 
 use beside::clock;
 use beside::mixes::Store;
 use beside::random::Random;
+use reference::Reference;
 use std::hint::black_box;
 use std::process::ExitCode;
 
@@ -62,6 +64,19 @@ impl Store for SlotMap {
     }
     fn free(&mut self, key: Self::Key) -> bool {
         self.0.remove(key).is_some()
+    }
+}
+
+impl Store for Reference {
+    type Key = reference::Key;
+    fn put(&mut self, value: u128) -> Self::Key {
+        self.put(value)
+    }
+    fn get(&mut self, key: Self::Key) -> Option<u128> {
+        Reference::get(self, key)
+    }
+    fn free(&mut self, key: Self::Key) -> bool {
+        self.free(key)
     }
 }
 
@@ -138,6 +153,7 @@ fn of(who: &str, kind: &str, live: usize, calls: usize) -> Option<f64> {
             measure(Teurlaks(core), kind, live, calls)
         }
         "teurlaks-slab" => measure(Owner(teurlaks::Slab::new().ok()?), kind, live, calls),
+        "reference" => measure(Reference::new(), kind, live, calls),
         "slab" => measure(Slab(slab::Slab::new()), kind, live, calls),
         "slotmap" => measure(SlotMap(slotmap::SlotMap::new()), kind, live, calls),
         "sharded-slab" => measure(Sharded(sharded_slab::Slab::new()), kind, live, calls),

@@ -1,28 +1,9 @@
 //! `divided SLOTS`: reads pages as `bench/plans/divisions` prints them, fills a core with them,
 //! compacts it, and prints how many pages are left. Every key is then looked up.
 
-use std::io::{self, BufRead};
+use beside::pages::{self, Occupied, SHARDS, TURN};
 use std::process::ExitCode;
 use teurlaks::{Core, Key, Limits, Refused};
-
-const SHARDS: usize = 16;
-/// How many pages a shard takes until it is the turn of the next one, as in a `Store`.
-const TURN: usize = 1024;
-
-/// The occupied slots of a page.
-type Occupied = [u64; 4];
-
-fn read_pages() -> io::Result<Vec<Occupied>> {
-    let parse = |line: io::Result<String>| {
-        let words: Result<Vec<u64>, _> = line?
-            .split_whitespace()
-            .map(|word| u64::from_str_radix(word, 16))
-            .collect();
-        let words = words.map_err(io::Error::other)?;
-        Occupied::try_from(words).map_err(|_| io::Error::other("a page has four numbers"))
-    };
-    io::stdin().lock().lines().map(parse).collect()
-}
 
 /// Fills all slots of each page, and frees those that are not occupied.
 fn fill(core: &mut Core, pages: &[Occupied], slots: usize) -> Result<Vec<(Key, u128)>, Refused> {
@@ -60,7 +41,7 @@ fn main() -> ExitCode {
         eprintln!("divided 16|64|256");
         return ExitCode::from(2);
     };
-    match read_pages().map(|pages| left(&pages, slots)) {
+    match pages::read().map(|pages| left(&pages, slots)) {
         Ok(Ok(left)) => println!("{left}"),
         Ok(Err(refused)) => eprintln!("divided: {refused}"),
         Err(fault) => eprintln!("divided: {fault}"),
