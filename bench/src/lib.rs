@@ -7,6 +7,7 @@ pub mod core;
 pub mod drawn;
 pub mod ids;
 pub mod mixes;
+pub mod pages;
 pub mod plan;
 pub mod programs;
 pub mod random;

@@ -4,6 +4,7 @@ mod division;
 
 pub(crate) use division::{is_worth, Occupancy, Rounds};
 
+use crate::boxed::Late;
 use crate::core::{Core, Stepped};
 use crate::names::Group;
 use crate::refused::Refused;
@@ -110,12 +111,16 @@ pub(crate) trait Compact {
 
     /// Takes at most so many steps of a compaction, at least one.
     fn compact_some(&mut self, budget: usize) -> Result<Compacted, Refused> {
+        self.core().progress.make(Progress::default)?;
         let mut left = budget.max(1);
         let mut more = true;
         while more && left > 0 {
             more = self.compact_stage(budget, &mut left)?;
         }
         let pages = std::mem::take(&mut self.core().progress.pages);
+        if !more {
+            self.core().progress = Late::new();
+        }
         Ok(Compacted { pages, more })
     }
 
@@ -296,7 +301,7 @@ pub(crate) trait Compact {
         let mut left = usize::MAX;
         // What is refused here stays in the pool, under the keys that it had.
         let _ = self.adopt_some(&mut Turn::default(), usize::MAX, &mut left);
-        self.core().progress = Progress::default();
+        self.core().progress = Late::new();
     }
 }
 

@@ -6,19 +6,17 @@ use crate::core::MOST_GROUPS;
 /// A plan or a round that folds one of so many groups of its smaller side is worth another one.
 const WORTH: usize = 16;
 
-/// How many groups a round has in the pool at least, if there are so many: with fewer a plan looks
-/// at too few to be worth it, so such a round is retired over several calls.
+/// How many groups a round may have in the pool at least, whatever the budget is: with fewer a plan
+/// looks at too few to be worth it, so such a round is retired over several calls.
 const LEAST_ROUND: usize = 64;
 
-/// So many pages at most are divided without a look at some before, since that is cheap.
-const FEW_PAGES: usize = 512;
+/// How many pages the smallest part has into which they are halved.
+const LEAST_PART: usize = 8;
 
-/// How many quarters of the pages, the sparsest ones, a round of all retires, in turn.
-const RETIRED_QUARTERS: [usize; 3] = [4, 2, 3];
-
-/// How many quarters of the groups that a round has retired the shards adopt again, in turn. So each
-/// two quarters of them, by heads, are once on different sides of a plan.
-const KEPT_QUARTERS: [usize; 3] = [2, 3, 1];
+/// How many of the sparsest pages the first looks are at, in turn, and after how many poor ones in a
+/// row there is no more.
+const LOOKS: [usize; 4] = [8, 16, 32, 64];
+const POOR_LOOKS: usize = 2;
 
 /// How many pages there are, how many values are live on them, and how many slots a page has.
 #[derive(Clone, Copy, Debug, PartialEq, Eq)]
@@ -81,6 +79,24 @@ impl Occupancy {
         }
         self.pages.saturating_sub(count(real(self.live) / reachable))
     }
+
+    /// How many pages a round retires that has several folded onto each that stays, if so many can
+    /// be expected to go that halves could not give them; of few pages, if any can.
+    pub fn gathered(self) -> Option<usize> {
+        let expected = self.expected_folds();
+        let is_more = self.pages < LEAST_PART || expected * 5 >= self.pages * 3;
+        (expected > 0 && is_more).then_some(expected)
+    }
+
+    /// How many pages a round retires of which nothing of the kind can be expected: half of a few,
+    /// and of many some.
+    pub fn some_or_half(self) -> usize {
+        if self.pages > 8 * LEAST_ROUND {
+            LEAST_ROUND
+        } else {
+            self.pages / 2
+        }
+    }
 }
 
 // Counts of pages and values are far below 2^52.
@@ -105,13 +121,16 @@ pub(crate) struct Division {
     pub kept: usize,
 }
 
-/// The round that looks whether a few of the sparsest pages fit.
-const SOME: Division = Division {
-    retired: 2 * LEAST_ROUND,
-    kept: LEAST_ROUND,
-};
-
 impl Division {
+    /// So many of the sparsest pages, of which half is kept: so those that fit each other can be
+    /// on different sides.
+    fn halved(retired: usize) -> Division {
+        Division {
+            retired,
+            kept: retired / 2,
+        }
+    }
+
     /// How many groups of those that were retired are kept, if fewer could be than were asked for.
     pub fn kept_of(self, retired: usize) -> usize {
         self.kept * retired / self.retired.max(1)
@@ -119,64 +138,77 @@ impl Division {
 }
 
 /// The rounds of a compaction. The first leaves as few pages in the shards as can be expected to
-/// stay, so that several plans fold the others onto these. If nothing of the kind can be expected,
-/// or if it gives little, and there are many pages, the next one looks at some of the sparsest
-/// alone, and is the last unless that is worth it. Then come rounds that divide the pages by heads,
-/// until none of three in a row is worth it.
+/// stay, so that several plans fold the others onto these, if that gives more than halves could.
+/// Else some look at the 8, 16, 32 and 64 sparsest pages, and two in a row that are not worth it are
+/// the last ones: if pages fit each other, then first these. Then come rounds that retire the
+/// sparsest half, quarter, eighth and so on, each once with all of it in the pool and once with half
+/// of it, until none in a row of all of these is worth it.
 #[derive(Clone, Copy, Default)]
 pub(crate) struct Rounds {
-    // Whether any round was worth it.
-    has_paid: bool,
     has_gathered: bool,
-    // How many divisions by heads there were.
+    // Whether the looks are over, how many there were, and how many rounds by parts.
+    has_looked: bool,
+    looks: usize,
     turns: usize,
-    // How many rounds in a row were not worth it, and after how many of them the last one is over.
+    // How many looks, or rounds by parts, in a row were not worth it.
     poor: usize,
-    most_poor: usize,
 }
 
 impl Rounds {
     /// The division of the next round, if there is one. A plan of it compares at most 4,096 times
     /// so many pairs of groups as the budget is, or as 64 or 4,096 if that is out of these bounds.
     pub fn next(&mut self, pages: Occupancy, budget: usize) -> Option<Division> {
-        if pages.most_folds() == 0 || self.poor > 0 && self.poor >= self.most_poor {
+        if pages.most_folds() == 0 {
             return None;
         }
         let most = budget.clamp(LEAST_ROUND, MOST_GROUPS);
-        self.most_poor = KEPT_QUARTERS.len();
         if !std::mem::replace(&mut self.has_gathered, true) {
-            let retired = pages.expected_folds();
-            if retired > 0 && is_bounded(retired, pages.pages, most) {
+            let gathered = pages.gathered();
+            if let Some(retired) = gathered.filter(|retired| is_bounded(*retired, pages.pages, most)) {
                 return Some(Division { retired, kept: 0 });
             }
         }
-        if !self.has_paid && pages.pages > FEW_PAGES {
-            self.most_poor = 1;
-            return Some(SOME);
+        if self.has_looked {
+            return self.next_part(pages.pages, most);
         }
-        if is_bounded(pages.pages / 2, pages.pages, most) {
-            let quarters = RETIRED_QUARTERS[self.turns % RETIRED_QUARTERS.len()];
-            return self.by_heads((pages.pages * quarters / 4).max(2));
+        if self.poor >= POOR_LOOKS {
+            return None;
         }
-        self.most_poor = 1;
-        let kept = KEPT_QUARTERS[self.turns % KEPT_QUARTERS.len()];
-        self.by_heads(pages.pages.min(most * 4 / (4 - kept)))
+        // After the first one a look is at an eighth of the pages at most.
+        let is_few = |look: &&usize| self.looks == 0 || **look * 8 <= pages.pages;
+        let Some(look) = LOOKS.get(self.looks).filter(is_few) else {
+            (self.has_looked, self.poor) = (true, 0);
+            return self.next_part(pages.pages, most);
+        };
+        self.looks += 1;
+        Some(Division::halved(pages.pages.min(*look)))
     }
 
-    /// A division by heads of so many of the sparsest pages.
-    fn by_heads(&mut self, retired: usize) -> Option<Division> {
-        let quarters = KEPT_QUARTERS[self.turns % KEPT_QUARTERS.len()];
-        let kept = (retired * quarters / 4).max(1);
+    /// The next division by a part of the pages, if a part may be worth it.
+    fn next_part(&mut self, pages: usize, most: usize) -> Option<Division> {
+        let parts = (pages / LEAST_PART).max(2).ilog2() as usize;
+        if self.poor >= 2 * parts {
+            return None;
+        }
+        let (part, keeps) = (self.turns / 2 % parts, self.turns % 2 == 1);
         self.turns += 1;
-        (kept < retired).then_some(Division { retired, kept })
+        let retired = (pages >> (part + 1)).max(2).min(pages);
+        Some(if keeps {
+            Division::halved(retired.min(2 * most))
+        } else {
+            Division {
+                retired: retired.min(most),
+                kept: 0,
+            }
+        })
     }
 
     /// Notes how many groups a round folded, of so many of the smaller side of its plans.
     pub fn note(&mut self, folded: usize, smaller: usize) {
         if is_worth(folded, smaller) {
-            self.has_paid = true;
+            self.has_looked |= self.looks == 0;
             self.poor = 0;
-        } else {
+        } else if self.has_looked || self.looks > 0 {
             self.poor += 1;
         }
     }
@@ -195,7 +227,7 @@ fn is_bounded(pool: usize, pages: usize, most: usize) -> bool {
 
 #[cfg(test)]
 mod tests {
-    use super::{Occupancy, Rounds, SOME};
+    use super::{Division, Occupancy, Rounds};
 
     const FULL: Occupancy = Occupancy {
         pages: 8192,
@@ -217,6 +249,15 @@ mod tests {
         assert_eq!((FULL.most_folds(), FULL.expected_folds()), (0, 0));
         // Of half full pages none can be expected to fit another that is chosen.
         assert_eq!(thinned(2000, 50).expected_folds(), 0);
+        // A round gathers if halves could not give as much, or of few pages.
+        let gathered = |percent| thinned(2000, percent).gathered().is_some();
+        assert_eq!([10, 20, 25, 40, 50].map(gathered), [true, true, true, false, false]);
+        let few = Occupancy {
+            pages: 3,
+            live: 5,
+            slots: 256,
+        };
+        assert_eq!(few.gathered(), Some(1));
         let none = Occupancy {
             pages: 9,
             live: 0,
@@ -230,22 +271,43 @@ mod tests {
         assert_eq!(Rounds::default().next(FULL, usize::MAX), None);
         // Of what hardly fits few are looked at, and no more if that gives nothing.
         let mut rounds = Rounds::default();
-        assert_eq!(rounds.next(thinned(8000, 80), usize::MAX), Some(SOME));
-        rounds.note(0, 64);
+        for look in [8, 16] {
+            let division = rounds.next(thinned(8000, 80), usize::MAX);
+            assert_eq!(division, Some(Division::halved(look)));
+            rounds.note(0, look / 2);
+        }
         assert_eq!(rounds.next(thinned(8000, 80), usize::MAX), None);
     }
 
-    /// No two of three rounds divide the pages at one place, by how many live keys they have or by
-    /// heads.
+    /// As long as rounds are worth it, each part has its turn, with all of it in the pool and with
+    /// half.
     #[test]
     fn divides_at_several_places() {
         let mut rounds = Rounds::default();
-        let mut next = || rounds.next(thinned(400, 50), usize::MAX).unwrap();
-        let (one, two, three) = (next(), next(), next());
-        for (one, other) in [(one, two), (two, three), (one, three)] {
-            assert_ne!(one.retired, other.retired);
-            assert_ne!(one.kept * other.retired, other.kept * one.retired);
+        let mut next = || {
+            let division = rounds.next(thinned(400, 50), usize::MAX).unwrap();
+            rounds.note(division.retired, division.retired);
+            (division.retired, division.kept)
+        };
+        for look in [8, 16, 32] {
+            assert_eq!(next(), (look, look / 2));
         }
+        for part in [200, 100, 50, 25, 12, 200] {
+            assert_eq!((next(), next()), ((part, 0), (part, part / 2)));
+        }
+    }
+
+    /// Each part has its turn before a compaction ends, but no more if none is worth it.
+    #[test]
+    fn ends_once_no_part_is_worth_it() {
+        let mut rounds = Rounds::default();
+        let mut count = 0;
+        while let Some(division) = rounds.next(thinned(400, 50), usize::MAX) {
+            // Looks are worth it, and nothing else is.
+            count += usize::from(division.retired > 32 || division.kept == 0 || count > 0);
+            rounds.note(usize::from(count == 0), 1);
+        }
+        assert_eq!(count, 2 * 5);
     }
 
     /// Whatever the budget is, a plan compares at most 4,096 times so many pairs, 64 at least.
