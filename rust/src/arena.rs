@@ -10,20 +10,22 @@ mod recorded;
 mod seat;
 mod session;
 mod share;
+mod standing;
 
 pub use keys::Keys;
 pub use recorded::{AuditCause, AuditError, NotTaken};
 pub use seat::Seat;
 pub use session::Session;
 
+use crate::boxed::Late;
 use crate::bytes::MOST_BYTES;
 use crate::core::{certificate_text, done, marked, stepped, Limits, Marked, Stepped};
 use crate::raw;
 use crate::refused::Refused;
 use compaction::Part;
-use lane::Owner;
 use lanes::Lanes;
-use share::{no_wait_in_a_session, Share, Turn};
+use share::no_wait_in_a_session;
+use standing::{Numbers, Standing};
 use std::cell::Cell;
 use std::fmt;
 use std::marker::PhantomData;
@@ -86,14 +88,9 @@ const RING: u32 = 256;
 /// frees that wait for nobody, and folds between shards; in return each thread needs a seat. A look-up, a free and a put of a thread's own value take
 /// two thirds of the time that they take there, and a look-up of what other threads keep takes as long (`bench/README.md`).
 pub struct Arena<T> {
-    share: Share,
-    turn: Turn,
-    limits: Limits,
-    // The lanes that have no proved seat, in the order of the steward's seats: the last is handed out first.
-    vacant: Vec<Owner>,
-    // How many shards a seat has, and those of the next seat that are there so far, where memory was refused for the others.
-    lanes: u32,
-    next: Vec<Owner>,
+    numbers: Numbers,
+    // It comes with the first call that needs it.
+    standing: Late<Standing>,
     // Where a compaction in parts is, and the pages that went in refused calls of it.
     part: Part,
     gone: usize,
@@ -102,7 +99,7 @@ pub struct Arena<T> {
 }
 
 /// What an arena keeps, at one time.
-#[derive(Clone, Copy, Debug, PartialEq, Eq, Hash)]
+#[derive(Clone, Copy, Debug, Default, PartialEq, Eq, Hash)]
 pub struct Totals {
     /// How many pages of 4,096 bytes there are.
     pub pages: usize,
@@ -116,13 +113,14 @@ impl<T: Copy> Arena<T> {
         "a value of an arena has 1 to 256 bytes"
     );
 
-    /// An arena of these limits with no value, which has a seat for each shard.
-    /// Between each two seats there is a ring of 256 keys for [`Seat::free_later`], of 16 bytes each: 64 KB for four seats, and
-    /// 16 MB for 64, which are resident once they are used.
+    /// An arena of these limits with no value, which has a seat for each shard. It takes no memory
+    /// until its first [`Arena::seat`] or mark. Between each two seats there is a ring of 256 keys for
+    /// [`Seat::free_later`], of 16 bytes each, which comes with its first key.
     ///
     /// # Errors
     ///
-    /// [`Refused::Config`] exactly where a number is out of its range, and [`Refused::OutOfMemory`] where memory was refused.
+    /// [`Refused::Config`] exactly if a number is out of its range, or [`Limits::spans`] is below
+    /// 4,294,967,295: a shard of an arena opens pages as long as there are serial numbers.
     pub fn open(limits: Limits) -> Result<Arena<T>, Refused> {
         Arena::with_rings(limits, RING)
     }
@@ -159,39 +157,41 @@ impl<T: Copy> Arena<T> {
     /// ```
     pub fn with_lanes(limits: Limits, keys: u32, lanes: u32) -> Result<Arena<T>, Refused> {
         let () = Self::FITS;
-        let Limits {
-            shards,
-            pages,
-            generations,
-        } = limits;
-        let shards = shards.checked_mul(lanes).ok_or(Refused::Config)?;
-        // SAFETY: the handle has nothing yet.
-        let share = Share::new(|out| unsafe { raw::teurlaks_arena_open(out, shards, pages, keys, generations) });
-        Ok(Arena::of(share.map_err(Refused::of)?, limits, lanes))
+        Arena::of(Numbers {
+            limits,
+            ring_keys: keys,
+            lanes,
+            is_recorded: false,
+        })
     }
 }
 
 impl<T> Arena<T> {
-    /// The arena of a new steward, with so many shards for each seat.
-    fn of(share: Share, limits: Limits, lanes: u32) -> Arena<T> {
-        let (turn, vacant) = Turn::new(limits.shards * lanes);
-        Arena {
-            share,
-            turn,
-            limits,
-            vacant,
-            lanes,
-            next: Vec::new(),
+    /// An arena of these numbers, which takes no memory yet.
+    fn of(numbers: Numbers) -> Result<Arena<T>, Refused> {
+        numbers.check()?;
+        Ok(Arena {
+            numbers,
+            standing: Late::new(),
             part: Part::default(),
             gone: 0,
             values: PhantomData,
+        })
+    }
+
+    /// What it has once it is asked for something.
+    fn standing(&mut self) -> Result<&mut Standing, Refused> {
+        if self.standing.get().is_none() {
+            let standing = self.numbers.open()?;
+            self.standing.make(|| standing)?;
         }
+        Ok(&mut self.standing)
     }
 
     /// The numbers with which it was made.
     #[must_use]
     pub fn limits(&self) -> Limits {
-        self.limits
+        self.numbers.limits
     }
 
     /// A seat that nobody has. There are as many as the limits have shards.
@@ -201,32 +201,15 @@ impl<T> Arena<T> {
     /// - [`Refused::NoSeatLeft`]: each is handed out, and was not [taken back](Arena::take_back);
     /// - [`Refused::OutOfMemory`]: memory was refused.
     pub fn seat(&mut self) -> Result<Seat<T>, Refused> {
-        while self.next.len() < self.lanes as usize - 1 {
-            let lane = self.lane()?;
-            self.next.push(lane);
+        let lanes = self.numbers.lanes as usize;
+        let standing = self.standing()?;
+        while standing.next.len() < lanes - 1 {
+            let lane = standing.lane()?;
+            standing.next.push(lane);
         }
-        let here = self.lane()?;
-        Ok(Seat::new(
-            Lanes::new(here, mem::take(&mut self.next)),
-            self.turn.clone(),
-        ))
-    }
-
-    /// The lane of a shard that nobody has, with its proved seat.
-    fn lane(&mut self) -> Result<Owner, Refused> {
-        let lane = self.vacant.pop().ok_or(Refused::NoSeatLeft)?;
-        // SAFETY: the handle has a steward, no other call runs on it, and the other one has nothing yet.
-        let sits = lane.sit(|out| unsafe { raw::teurlaks_steward_seat(self.share.handle(), out) });
-        match sits {
-            Ok(()) => Ok(lane),
-            Err(status) => {
-                self.vacant.push(lane);
-                Err(match status {
-                    raw::NONE => Refused::NoSeatLeft,
-                    other => Refused::of(other),
-                })
-            }
-        }
+        let here = standing.lane()?;
+        let lanes = Lanes::new(here, mem::take(&mut standing.next));
+        Ok(Seat::new(lanes, standing.turn.clone()))
     }
 
     /// Plans folds of the pool's groups onto those of the shards, as many as can be, and opens the plan. Until it is closed, the groups that it
@@ -242,8 +225,8 @@ impl<T> Arena<T> {
     pub fn mark(&mut self) -> Result<Marked, Refused> {
         // SAFETY: the handle has a steward, and no other call runs on it.
         marked(
-            self.turn
-                .at_steward(|| unsafe { raw::teurlaks_steward_mark(self.share.handle()) }),
+            self.standing()?
+                .call(|share| unsafe { raw::teurlaks_steward_mark(share) }),
         )
     }
 
@@ -259,8 +242,8 @@ impl<T> Arena<T> {
     pub fn mark_some(&mut self) -> Result<Marked, Refused> {
         // SAFETY: the handle has a steward, and no other call runs on it.
         marked(
-            self.turn
-                .at_steward(|| unsafe { raw::teurlaks_steward_mark_some(self.share.handle()) }),
+            self.standing()?
+                .call(|share| unsafe { raw::teurlaks_steward_mark_some(share) }),
         )
     }
 
@@ -274,8 +257,8 @@ impl<T> Arena<T> {
     pub fn step(&mut self) -> Result<Stepped, Refused> {
         // SAFETY: as in `mark_some`.
         stepped(
-            self.turn
-                .at_steward(|| unsafe { raw::teurlaks_steward_step(self.share.handle()) }),
+            self.standing()?
+                .call(|share| unsafe { raw::teurlaks_steward_step(share) }),
         )
     }
 
@@ -287,15 +270,9 @@ impl<T> Arena<T> {
     /// - [`Refused::NoPlan`]: no plan is open;
     /// - [`Refused::Busy`]: as of [`Arena::mark`]; the plan is then still open.
     pub fn close(&mut self) -> Result<(), Refused> {
-        done(self.close_if_open())?;
+        done(self.standing.get().ok_or(Refused::NoPlan)?.close())?;
         self.note_closed();
         Ok(())
-    }
-
-    fn close_if_open(&mut self) -> u32 {
-        // SAFETY: as in `mark_some`.
-        self.turn
-            .at_steward(|| unsafe { raw::teurlaks_steward_close(self.share.handle()) })
     }
 
     /// The text of the last mark's certificate, which shows that no plan of what it saw has more folds, or `None` before the first mark.
@@ -305,8 +282,11 @@ impl<T> Arena<T> {
     ///
     /// [`Refused::OutOfMemory`] where memory was refused for the text.
     pub fn certificate(&self) -> Result<Option<String>, Refused> {
+        let Some(Standing { share, .. }) = self.standing.get() else {
+            return Ok(None);
+        };
         // SAFETY: the handle has a steward, no other call runs on it, and so many bytes stand there.
-        certificate_text(|text, len| unsafe { raw::teurlaks_steward_certificate(self.share.handle(), text, len) })
+        certificate_text(|text, len| unsafe { raw::teurlaks_steward_certificate(share.handle(), text, len) })
     }
 
     /// Marks, takes all steps and closes, and says how many folds there were, each of which gave a page back. The mark is that of
@@ -322,6 +302,9 @@ impl<T> Arena<T> {
     ///   open if its close was refused.
     pub fn mesh(&mut self) -> Result<usize, Refused> {
         let mut gone = 0;
+        if self.standing.get().is_none() {
+            return Ok(gone);
+        }
         loop {
             let marked = self.mark_some()?;
             let folded = self.take_steps();
@@ -355,10 +338,15 @@ impl<T> Arena<T> {
     /// - [`Refused::Recorded`]: the run is recorded;
     /// - [`Refused::Busy`]: as of [`Arena::mark`].
     pub fn forget(&mut self) -> Result<usize, Refused> {
+        let Some(standing) = self.standing.get() else {
+            return if self.numbers.is_recorded {
+                Err(Refused::Recorded)
+            } else {
+                Ok(0)
+            };
+        };
         // SAFETY: as in `mark_some`.
-        let raw::ForgetReply { status, count } = self
-            .turn
-            .at_steward(|| unsafe { raw::teurlaks_steward_forget(self.share.handle()) });
+        let raw::ForgetReply { status, count } = standing.call(|share| unsafe { raw::teurlaks_steward_forget(share) });
         done(status)?;
         Ok(count)
     }
@@ -380,7 +368,7 @@ impl<T> Arena<T> {
     /// # Ok::<(), teurlaks::Refused>(())
     /// ```
     pub fn keys(&self) -> Keys<'_> {
-        Keys::of_steward(&self.share, &self.turn)
+        Keys::of_arena(self.standing.get())
     }
 
     /// How many pages there are and how many keys are live, at one time: it holds all locks meanwhile.
@@ -390,10 +378,11 @@ impl<T> Arena<T> {
     /// If it would wait for a session, and its thread is in one ([`Seat::session`]).
     #[must_use]
     pub fn totals(&mut self) -> Totals {
+        let Some(standing) = self.standing.get() else {
+            return Totals::default();
+        };
         // SAFETY: as in `mark_some`.
-        let totals = self
-            .turn
-            .at_steward(|| unsafe { raw::teurlaks_steward_totals(self.share.handle()) });
+        let totals = standing.call(|share| unsafe { raw::teurlaks_steward_totals(share) });
         if totals.status == raw::BUSY {
             no_wait_in_a_session();
         }
@@ -412,8 +401,10 @@ impl<T> Drop for Arena<T> {
     fn drop(&mut self) {
         // Else the groups of its plan would take no value, and their shards could not end. When
         // that would wait for a session of this thread, who leaves the session does so.
-        if self.close_if_open() == raw::BUSY {
-            self.turn.leave_plan(self.share.take());
+        if let Some(standing) = self.standing.get_mut() {
+            if standing.close() == raw::BUSY {
+                standing.turn.leave_plan(standing.share.take());
+            }
         }
     }
 }
@@ -421,7 +412,7 @@ impl<T> Drop for Arena<T> {
 impl<T> fmt::Debug for Arena<T> {
     fn fmt(&self, f: &mut fmt::Formatter<'_>) -> fmt::Result {
         f.debug_struct("Arena")
-            .field("limits", &self.limits)
+            .field("limits", &self.limits())
             .finish_non_exhaustive()
     }
 }

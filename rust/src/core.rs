@@ -2,12 +2,15 @@
 
 mod many;
 mod meshing;
+mod worn;
 
 pub(crate) use meshing::{certificate_text, done, letting_go, marked, meshing, stepped, MOST_GROUPS};
 pub use meshing::{Marked, Stepped};
 
+use crate::boxed::Late;
 use crate::bytes::{words_for, Bytes, BytesKey, Words, MOST_BYTES, MOST_WORDS};
 use crate::compact::{Occupancy, Progress};
+use crate::key_bits::KeyBits;
 use crate::names::Key;
 use crate::raw;
 use crate::refused::Refused;
@@ -25,7 +28,12 @@ pub struct Limits {
     /// are used. Each adoption by a shard costs a step for each page that it has, so many shards of
     /// few pages are compacted sooner than one of many, where much of what is retired comes back.
     pub pages: u32,
-    /// How often a slot may be used, at least once. A slot that was used so often is never used again.
+    /// How many pages a shard may open in its life, 1 to 4,294,967,295. Each insert that finds no room
+    /// opens one, and a fold uses one up. Fewer make keys shorter ([`Limits::key_bits`]).
+    pub spans: u32,
+    /// How often a slot may be used, at least once. A slot that was used so often is never used
+    /// again. A page of such slots makes way for another one once it has no value: when an insert
+    /// finds no other room, and at each forgetting and compaction.
     pub generations: u32,
 }
 
@@ -35,16 +43,50 @@ impl Default for Limits {
         Limits {
             shards: 1,
             pages: MOST_PAGES,
+            spans: u32::MAX,
             generations: u32::MAX,
         }
     }
 }
 
 impl Limits {
+    /// Limits whose keys are numbers of 64 bits by [`KeyBits::BALANCED`]: 16 shards, each of which may
+    /// have 1,048,576 pages and open 268,435,456, and 16,777,215 generations. No key beyond them is
+    /// given out.
+    ///
+    /// ```
+    /// # use teurlaks::{Key, KeyBits, Limits, Slab};
+    /// let limits = Limits::compact_keys();
+    /// let bits = limits.key_bits().expect("they come to 64 bits");
+    /// assert_eq!(bits, KeyBits::BALANCED);
+    /// let mut slab = Slab::with_limits(limits)?;
+    /// let key = slab.insert("a")?;
+    /// let number = key.to_u64(bits).expect("each key has one");
+    /// assert_eq!(Key::from_u64(bits, number.get()), Some(key));
+    /// # Ok::<(), teurlaks::Refused>(())
+    /// ```
+    #[must_use]
+    pub const fn compact_keys() -> Limits {
+        Limits {
+            shards: SHARDS,
+            pages: MOST_PAGES,
+            spans: 1 << 28,
+            generations: (1 << 24) - 1,
+        }
+    }
+
+    /// How many bits of a number the parts of a key take, whose slot takes 8: the fewest in which each
+    /// key within these limits has one. `None` if they come to more than 64.
+    #[must_use]
+    pub fn key_bits(self) -> Option<KeyBits> {
+        KeyBits::for_limits(self.shards, self.spans, self.generations)
+    }
+
     /// That each number is in its range, as the library has it.
     pub(crate) fn check(self) -> Result<(), Refused> {
         let in_range = (1..=MOST_SHARDS as u32).contains(&self.shards)
             && (1..=MOST_PAGES).contains(&self.pages)
+            && self.spans >= 1
             && self.generations >= 1;
         if in_range {
             Ok(())
@@ -81,7 +123,7 @@ pub(crate) fn ends_turn(key: Key) -> bool {
 /// ```
 /// use teurlaks::{Core, Limits, Stepped};
 ///
-/// let mut core = Core::new(Limits { shards: 2, pages: 4, generations: 9 })?;
+/// let mut core = Core::new(Limits { shards: 2, pages: 4, generations: 9, ..Limits::default() })?;
 /// let first = core.insert(0, 10)?;
 /// let key = core.insert(0, 11)?;
 /// core.free(first);
@@ -116,18 +158,22 @@ pub struct Core {
     // and drops nothing.
     handle: raw::Handle,
     limits: Limits,
-    // How many keys are live: a put makes one live, and a free takes one away, as each tells.
-    live: usize,
-    // A bit for each shard that has ended.
-    ended: u64,
     // How many words the least object has that was put.
     least_words: u8,
     // Whose plan is open.
     plan: Plan,
     // Whether groups may be in the pool: ends and retirements leave some there.
     pool: bool,
-    /// Where a compaction in parts is.
-    pub(crate) progress: Progress,
+    // Whether a slot has got all its generations.
+    has_worn: bool,
+    // How many keys are live: a put makes one live, and a free takes one away, as each tells.
+    live: usize,
+    // A bit for each shard that has ended.
+    ended: u64,
+    // A bit for each shard of which a trim has left groups without a page since such were given up.
+    emptied: u64,
+    /// Where a compaction is, from its beginning to its end.
+    pub(crate) progress: Late<Progress>,
 }
 
 /// Whose plan is open.
@@ -149,12 +195,14 @@ impl Core {
         Ok(Core {
             handle: raw::Handle { at: ptr::null_mut() },
             limits,
-            live: 0,
-            ended: 0,
             least_words: MOST_WORDS as u8,
             plan: Plan::None,
             pool: false,
-            progress: Progress::default(),
+            has_worn: false,
+            live: 0,
+            ended: 0,
+            emptied: 0,
+            progress: Late::new(),
         })
     }
 
@@ -167,16 +215,30 @@ impl Core {
     /// Sees to it that its shards are there.
     #[cold]
     fn open(&mut self) -> Result<(), Refused> {
+        done(self.open_shards())
+    }
+
+    /// The same, by a status.
+    fn open_shards(&mut self) -> u32 {
         if self.is_open() {
-            return Ok(());
+            return raw::OK;
         }
         let Limits {
             shards,
             pages,
             generations,
+            ..
         } = self.limits;
         // SAFETY: the handle has no core yet. One that is refused stays null.
-        done(unsafe { raw::teurlaks_new(&mut self.handle, shards, pages, 1, generations) })
+        unsafe { raw::teurlaks_new(&mut self.handle, shards, pages, 1, generations) }
+    }
+
+    /// The same for a put of so many words, if the shard and the number are in their ranges.
+    fn open_for(&mut self, shard: u32, len: usize) -> u32 {
+        match self.has_shard(shard).and(is_length_of_object(len)) {
+            Ok(()) => self.open_shards(),
+            Err(_) => raw::CONFIG,
+        }
     }
 
     /// That there is such a shard.
@@ -219,20 +281,45 @@ impl Core {
     /// - [`Refused::OutOfMemory`]: none of these holds, and memory was refused.
     #[inline]
     pub fn insert(&mut self, shard: u32, word: u128) -> Result<Key, Refused> {
+        let (low, high) = halves(word);
         // SAFETY: no other call runs.
-        let put = unsafe { raw::teurlaks_put(&mut self.handle, shard, halves(word)) };
-        if put.status == raw::NO_CORE {
-            return self.insert_first(shard, word);
+        let mut put = unsafe { raw::teurlaks_put(&mut self.handle, shard, low, high) };
+        if put.status != raw::OK {
+            put = self.put_again(put.status, shard, low, high);
         }
         self.was_put(put, 1)
     }
 
-    /// As `insert`, where nothing was put before.
+    /// What a put answers that got this status at first. It comes back in registers, by the
+    /// convention of the library's puts: for an answer in memory the caller would make room each time.
     #[cold]
-    fn insert_first(&mut self, shard: u32, word: u128) -> Result<Key, Refused> {
-        self.has_shard(shard)?;
-        self.open()?;
-        self.insert(shard, word)
+    #[allow(improper_ctypes_definitions)]
+    extern "C" fn put_again(&mut self, status: u32, shard: u32, low: u64, high: u64) -> raw::PutReply {
+        self.again(status, shard, 1, |core| {
+            // SAFETY: as in `insert`.
+            unsafe { raw::teurlaks_put(&mut core.handle, shard, low, high) }
+        })
+    }
+
+    /// Makes a put of so many words again as long as there is a way for it.
+    fn again(
+        &mut self,
+        mut status: u32,
+        shard: u32,
+        len: usize,
+        mut put: impl FnMut(&mut Core) -> raw::PutReply,
+    ) -> raw::PutReply {
+        loop {
+            status = self.make_way(status, shard, len);
+            if status != raw::OK {
+                return raw::PutReply { status, key: NO_KEY };
+            }
+            let reply = put(self);
+            if reply.status == raw::OK {
+                return reply;
+            }
+            status = reply.status;
+        }
     }
 
     /// Keeps an object of 1, 4 or 16 words in the shard, and gives its key.
@@ -291,26 +378,32 @@ impl Core {
     #[inline]
     pub(crate) unsafe fn put_words(&mut self, shard: u32, first: *const u128, len: usize) -> Result<Key, Refused> {
         // SAFETY: as in `insert`, and a word is its two halves, the lower one first.
-        let put = unsafe { raw::teurlaks_put_words(&mut self.handle, shard, first.cast(), len) };
-        if put.status == raw::NO_CORE {
+        let mut put = unsafe { raw::teurlaks_put_words(&mut self.handle, shard, first.cast(), len) };
+        if put.status != raw::OK {
             // SAFETY: as of this call.
-            return unsafe { self.put_first_words(shard, first, len) };
+            put = unsafe { self.put_words_again(put.status, shard, first, len) };
         }
         self.was_put(put, len)
     }
 
-    /// As `put_words`, where nothing was put before.
+    /// As `put_again`, of words that stand there.
     ///
     /// # Safety
     ///
     /// As of [`Core::put_words`].
     #[cold]
-    unsafe fn put_first_words(&mut self, shard: u32, first: *const u128, len: usize) -> Result<Key, Refused> {
-        self.has_shard(shard)?;
-        is_length_of_object(len)?;
-        self.open()?;
-        // SAFETY: as of this call.
-        unsafe { self.put_words(shard, first, len) }
+    #[allow(improper_ctypes_definitions)]
+    unsafe extern "C" fn put_words_again(
+        &mut self,
+        status: u32,
+        shard: u32,
+        first: *const u128,
+        len: usize,
+    ) -> raw::PutReply {
+        self.again(status, shard, len, |core| {
+            // SAFETY: as of this call.
+            unsafe { raw::teurlaks_put_words(&mut core.handle, shard, first.cast(), len) }
+        })
     }
 
     // What a put of so many words answers, which makes a key live where it is done.
@@ -318,16 +411,37 @@ impl Core {
     fn was_put(&mut self, put: raw::PutReply, len: usize) -> Result<Key, Refused> {
         let key = was_put(put)?;
         self.live += 1;
+        self.note_put(key)?;
         self.least_words = self.least_words.min(len as u8);
         Ok(key)
+    }
+
+    /// Notes whether a slot has given out its last key with this one, and gives the key back if its
+    /// span is one too many.
+    #[inline]
+    fn note_put(&mut self, key: Key) -> Result<(), Refused> {
+        self.has_worn |= key.generation() >= self.limits.generations;
+        if key.serial() >= self.limits.spans {
+            return Err(self.refuse_span(key));
+        }
+        Ok(())
+    }
+
+    #[cold]
+    fn refuse_span(&mut self, key: Key) -> Refused {
+        self.free_live(key);
+        // Its shard is there.
+        let _ = self.trim(key.shard());
+        Refused::PagesSpent
     }
 
     /// The word of the key, where it is live and has an object of one word.
     #[inline]
     #[must_use]
     pub fn get(&self, key: Key) -> Option<u128> {
+        let (low, high) = key.numbers();
         // SAFETY: no call that writes runs beside this one.
-        let got = unsafe { raw::teurlaks_get(&self.handle, key.raw()) };
+        let got = unsafe { raw::teurlaks_get(&self.handle, low, high) };
         (got.status == raw::OK).then(|| u128::from(got.value.high) << 64 | u128::from(got.value.low))
     }
 
@@ -335,9 +449,10 @@ impl Core {
     #[inline]
     #[must_use]
     pub fn get_words(&self, key: Key) -> Option<Words> {
+        let (low, high) = key.numbers();
         Words::written(|first| {
             // SAFETY: as in `get`, and there is room for 16 words, of which it writes as many as it says.
-            let got = unsafe { raw::teurlaks_get_words(&self.handle, key.raw(), first.cast(), MOST_WORDS) };
+            let got = unsafe { raw::teurlaks_get_words(&self.handle, low, high, first.cast(), MOST_WORDS) };
             (got.status == raw::OK).then_some(got.len)
         })
     }
@@ -347,8 +462,9 @@ impl Core {
     pub(crate) fn read_words<R>(&self, key: Key, read: impl FnOnce(*const u128) -> R) -> Option<R> {
         let mut words = [MaybeUninit::<u128>::uninit(); MOST_WORDS];
         let first = words.as_mut_ptr().cast();
+        let (low, high) = key.numbers();
         // SAFETY: as in `get_words`.
-        let got = unsafe { raw::teurlaks_get_words(&self.handle, key.raw(), first, MOST_WORDS) };
+        let got = unsafe { raw::teurlaks_get_words(&self.handle, low, high, first, MOST_WORDS) };
         if got.status != raw::OK {
             return None;
         }
@@ -367,8 +483,9 @@ impl Core {
     #[inline]
     #[must_use]
     pub fn contains(&self, key: Key) -> bool {
+        let (low, high) = key.numbers();
         // SAFETY: as in `get`.
-        let status = unsafe { raw::teurlaks_get(&self.handle, key.raw()).status };
+        let status = unsafe { raw::teurlaks_get(&self.handle, low, high).status };
         status != raw::NONE && status != raw::NO_CORE
     }
 
@@ -391,8 +508,10 @@ impl Core {
     /// ```
     #[inline]
     pub fn set(&mut self, key: Key, word: u128) -> Result<bool, Refused> {
+        let (key, key_high) = key.numbers();
+        let (low, high) = halves(word);
         // SAFETY: as in `insert`.
-        let status = unsafe { raw::teurlaks_set(&mut self.handle, key.raw(), halves(word)) };
+        let status = unsafe { raw::teurlaks_set(&mut self.handle, key, key_high, low, high) };
         if status == raw::NO_CORE {
             return Ok(false);
         }
@@ -417,8 +536,9 @@ impl Core {
     /// As of [`Core::put_words`].
     #[inline]
     pub(crate) unsafe fn set_all_words(&mut self, key: Key, first: *const u128, len: usize) -> Result<bool, Refused> {
+        let (key, key_high) = key.numbers();
         // SAFETY: as in `put_words`.
-        let status = unsafe { raw::teurlaks_set_words(&mut self.handle, key.raw(), first.cast(), len) };
+        let status = unsafe { raw::teurlaks_set_words(&mut self.handle, key, key_high, first.cast(), len) };
         if status == raw::NO_CORE {
             return is_length_of_object(len).map(|()| false);
         }
@@ -440,8 +560,9 @@ impl Core {
     /// Frees the key, and says whether it was live. It takes no memory.
     #[inline]
     pub fn free(&mut self, key: Key) -> bool {
+        let (low, high) = key.numbers();
         // SAFETY: as in `insert`.
-        let was_live = unsafe { raw::teurlaks_free(&mut self.handle, key.raw()) == raw::OK };
+        let was_live = unsafe { raw::teurlaks_free(&mut self.handle, low, high) == raw::OK };
         if was_live {
             self.live -= 1;
         }
@@ -451,8 +572,9 @@ impl Core {
     /// Frees a key that was found live.
     #[inline]
     pub(crate) fn free_live(&mut self, key: Key) {
+        let (low, high) = key.numbers();
         // SAFETY: as in `insert`.
-        let status = unsafe { raw::teurlaks_free(&mut self.handle, key.raw()) };
+        let status = unsafe { raw::teurlaks_free(&mut self.handle, low, high) };
         debug_assert_eq!(status, raw::OK, "{key} was found live");
         self.live -= 1;
     }
@@ -634,9 +756,6 @@ pub(crate) fn was_set(status: u32) -> Result<bool, Refused> {
 
 // Each half is cut out of the word.
 #[allow(clippy::cast_possible_truncation)]
-fn halves(word: u128) -> raw::RawWord {
-    raw::RawWord {
-        low: word as u64,
-        high: (word >> 64) as u64,
-    }
+fn halves(word: u128) -> (u64, u64) {
+    (word as u64, (word >> 64) as u64)
 }

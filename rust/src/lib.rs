@@ -4,6 +4,7 @@
 pub mod arena;
 mod background;
 mod blocks;
+mod boxed;
 mod bytes;
 mod compact;
 mod core;

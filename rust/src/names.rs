@@ -146,6 +146,15 @@ impl Key {
         })
     }
 
+    /// The key as a call gets it, in two numbers: those of `raw` in the order of their bytes.
+    #[inline]
+    pub(crate) fn numbers(self) -> (u64, u32) {
+        (
+            u64::from(self.generation.get()) << 32 | u64::from(self.serial),
+            u32::from(self.slot) << 8 | u32::from(self.shard),
+        )
+    }
+
     /// The key as the library has it.
     #[inline]
     pub(crate) fn raw(self) -> RawKey {

@@ -2,7 +2,9 @@
 
 pub(crate) mod homes;
 mod iter;
+pub(crate) mod lock;
 mod shard;
+pub(crate) mod turns;
 
 pub use iter::Iter;
 
@@ -17,7 +19,8 @@ use iter::PIECE;
 use shard::Shard;
 use std::fmt;
 use std::io;
-use std::sync::{Arc, Mutex, PoisonError};
+use std::sync::Arc;
+use turns::Turns;
 
 /// Plain values of one type, 1 to 256 bytes each, that any thread keeps, reads, sets and takes out, all through `&self`; and whose pages are
 /// given back while others go on.
@@ -73,20 +76,11 @@ pub struct SharedStore<T> {
     homes: Homes,
     // Of each core by itself.
     limits: Limits,
-    // Whoever compacts by a budget has it.
-    at: Mutex<At>,
+    turns: Turns,
 }
 
 /// How many pages a shard has if it leaves the next ones to another shard at the end of its turn.
 const LARGE: usize = 512;
-
-/// Where a compaction by a budget is: in the shard of this number.
-#[derive(Default)]
-struct At {
-    shard: usize,
-    // The pages that went in calls that were refused.
-    pages: usize,
-}
 
 impl<T: Copy> SharedStore<T> {
     /// A store of 64 shards with no value, whose limits are those of memory: each shard has as many
@@ -118,7 +112,7 @@ impl<T: Copy> SharedStore<T> {
             shards: (0..limits.shards).map(|_| Shard::new()).collect(),
             homes: Homes::new(limits.shards as usize),
             limits: Limits { shards: 1, ..limits },
-            at: Mutex::default(),
+            turns: Turns::default(),
         })
     }
 
@@ -411,25 +405,14 @@ impl<T> SharedStore<T> {
     /// # Ok::<(), teurlaks::Refused>(())
     /// ```
     pub fn compact_within(&self, budget: usize) -> Result<Compacted, Refused> {
-        let mut at = self.at.lock().unwrap_or_else(PoisonError::into_inner);
-        let (mut left, mut more) = (budget.max(1), true);
-        while left > 0 && more {
-            let done = self.shards[at.shard].compact_within(&mut left)?;
-            at.pages += done.pages;
-            if !done.more {
-                at.shard = (at.shard + 1) % self.shards.len();
-                more = at.shard > 0;
-            }
-        }
-        let pages = std::mem::take(&mut at.pages);
-        Ok(Compacted { pages, more })
+        self.turns.compact_within(self.shards.len(), budget, |shard, left| {
+            self.shards[shard].compact_within(left)
+        })
     }
 
     /// Ends a compaction by a budget where it is.
     fn give_up(&self) {
-        let mut at = self.at.lock().unwrap_or_else(PoisonError::into_inner);
-        self.shards[at.shard].give_up();
-        *at = At::default();
+        self.turns.give_up(|shard| self.shards[shard].give_up());
     }
 
     /// How many pages there are, and how many of them can go at most.

@@ -55,7 +55,6 @@
 mod clear;
 mod guards;
 mod hints;
-mod lock;
 mod page;
 mod slot;
 mod table;
@@ -66,20 +65,23 @@ pub use guards::{Entry, OwnedEntry, VacantEntry};
 pub use unique::UniqueIter;
 
 use crate::background::{Background, Compacts, Policy};
+use crate::boxed::boxed;
 use crate::compact::Compacted;
 use crate::core::{ends_turn, Limits, MOST_SHARDS};
 use crate::names::Key;
 use crate::refused::{InsertError, Refused};
 use crate::shared::homes::{Home, Homes};
+use crate::shared::lock::Lock;
+use crate::shared::turns::Turns;
 use guards::Pinned;
 use hints::Hints;
-use lock::Lock;
 use page::{Owned, Page, Room};
 use slot::{Claim, Pin, Slot};
 use std::fmt;
 use std::hint;
 use std::io;
-use std::sync::{Arc, Mutex, OnceLock, PoisonError};
+use std::ops::{Deref, DerefMut};
+use std::sync::{Arc, OnceLock};
 use std::thread;
 use std::time::Duration;
 use table::{key_of, name_of, slot_of, Removed, Table};
@@ -147,7 +149,7 @@ const SLEEP: Duration = Duration::from_micros(50);
 /// No closure, no [`Clear`] and no drop of a value runs under a lock, so each may call the slab, and
 /// one that panics leaves all other values as they were: no later call panics because of it.
 pub struct SharedSlab<T> {
-    shards: Box<[Lock<Option<Table<T>>>]>,
+    shards: Box<[Shard<T>]>,
     // Of each shard.
     hints: Arc<[Hints<T>]>,
     homes: Homes,
@@ -155,16 +157,27 @@ pub struct SharedSlab<T> {
     limits: Limits,
     // How values are cleared, once one was to be.
     clear: OnceLock<fn(&mut T)>,
-    // Whoever compacts by a budget has it.
-    at: Mutex<At>,
+    turns: Turns,
 }
 
-/// Where a compaction by a budget is: in the shard of this number.
-#[derive(Default)]
-struct At {
-    shard: usize,
-    // The pages that went in calls that were refused.
-    pages: usize,
+/// The table of a shard, which comes with its first value. It has two lines of a cache to itself,
+/// since processors fetch these in pairs. No code of a user runs under its lock.
+#[repr(align(128))]
+struct Shard<T>(Lock<Option<Box<Table<T>>>>);
+
+impl<T> Deref for Shard<T> {
+    type Target = Lock<Option<Box<Table<T>>>>;
+
+    #[inline]
+    fn deref(&self) -> &Lock<Option<Box<Table<T>>>> {
+        &self.0
+    }
+}
+
+impl<T> DerefMut for Shard<T> {
+    fn deref_mut(&mut self) -> &mut Lock<Option<Box<Table<T>>>> {
+        &mut self.0
+    }
 }
 
 impl<T> SharedSlab<T> {
@@ -190,12 +203,12 @@ impl<T> SharedSlab<T> {
     pub fn with_limits(limits: Limits) -> Result<SharedSlab<T>, Refused> {
         limits.check()?;
         Ok(SharedSlab {
-            shards: (0..limits.shards).map(|_| Lock::new(None)).collect(),
+            shards: (0..limits.shards).map(|_| Shard(Lock::new(None))).collect(),
             hints: (0..limits.shards).map(|_| Hints::new()).collect(),
             homes: Homes::new(limits.shards as usize),
             limits: Limits { shards: 1, ..limits },
             clear: OnceLock::new(),
-            at: Mutex::default(),
+            turns: Turns::default(),
         })
     }
 
@@ -283,7 +296,7 @@ impl<T> SharedSlab<T> {
         let mut held = self.shards[usize::from(shard)].lock();
         let table = match &mut *held {
             Some(table) => table,
-            none => none.insert(Table::open(self.limits, &self.hints, shard)?),
+            none => none.insert(boxed(Table::open(self.limits, &self.hints, shard)?)?),
         };
         let (key, page) = table.insert_vacant()?;
         Ok((key.with_shard(shard), page))
@@ -526,7 +539,7 @@ impl<T> SharedSlab<T> {
     fn sum(&self, count: impl Fn(&Table<T>) -> usize) -> usize {
         self.shards
             .iter()
-            .map(|shard| shard.lock().as_ref().map_or(0, &count))
+            .map(|shard| shard.lock().as_deref().map_or(0, &count))
             .sum()
     }
 
@@ -555,7 +568,7 @@ impl<T> SharedSlab<T> {
     pub fn forget(&self) -> usize {
         self.shards
             .iter()
-            .map(|shard| shard.lock().as_mut().map_or(0, Table::forget))
+            .map(|shard| shard.lock().as_deref_mut().map_or(0, Table::forget))
             .sum()
     }
 
@@ -602,20 +615,11 @@ impl<T> SharedSlab<T> {
     /// [`Refused::OutOfMemory`] where memory was refused. Every key has its value, and the next call
     /// goes on from there. It also counts the pages that went in this one.
     pub fn compact_within(&self, budget: usize) -> Result<Compacted, Refused> {
-        let mut at = self.at.lock().unwrap_or_else(PoisonError::into_inner);
-        let (mut left, mut more) = (budget.max(1), true);
-        while left > 0 && more {
-            let piece = PIECE.min(left);
-            left -= piece;
-            let done = compact_piece(&self.shards[at.shard], piece)?;
-            at.pages += done.pages;
-            if !done.more {
-                at.shard = (at.shard + 1) % self.shards.len();
-                more = at.shard > 0;
-            }
-        }
-        let pages = std::mem::take(&mut at.pages);
-        Ok(Compacted { pages, more })
+        self.turns.compact_within(self.shards.len(), budget, |shard, left| {
+            let piece = PIECE.min(*left);
+            *left -= piece;
+            compact_piece(&self.shards[shard], piece)
+        })
     }
 }
 
@@ -675,7 +679,7 @@ impl<T: Send + Sync + 'static> Compacts for Arc<SharedSlab<T>> {
     fn pages_and_most_folds(&self) -> (usize, usize) {
         self.shards
             .iter()
-            .map(|shard| shard.lock().as_ref().map_or((0, 0), Table::pages_and_most_folds))
+            .map(|shard| shard.lock().as_deref().map_or((0, 0), Table::pages_and_most_folds))
             .fold((0, 0), |(pages, folds), (more, most)| (pages + more, folds + most))
     }
 
@@ -684,14 +688,12 @@ impl<T: Send + Sync + 'static> Compacts for Arc<SharedSlab<T>> {
     }
 
     fn give_up(&self) {
-        let mut at = self.at.lock().unwrap_or_else(PoisonError::into_inner);
-        give_up(&self.shards[at.shard]);
-        *at = At::default();
+        self.turns.give_up(|shard| give_up(&self.shards[shard]));
     }
 }
 
 /// Compacts one shard to its end.
-fn compact_shard<T>(shard: &Lock<Option<Table<T>>>) -> Result<usize, Refused> {
+fn compact_shard<T>(shard: &Shard<T>) -> Result<usize, Refused> {
     let mut pages = 0;
     loop {
         match compact_piece(shard, PIECE) {
@@ -710,14 +712,14 @@ fn compact_shard<T>(shard: &Lock<Option<Table<T>>>) -> Result<usize, Refused> {
 }
 
 /// Takes so many steps of the compaction of one shard, and lets others have its lock.
-fn compact_piece<T>(shard: &Lock<Option<Table<T>>>, budget: usize) -> Result<Compacted, Refused> {
+fn compact_piece<T>(shard: &Shard<T>, budget: usize) -> Result<Compacted, Refused> {
     let done = shard.lock().as_mut().map(|table| table.compact_within(budget));
     shard.let_others();
     done.unwrap_or(Ok(Compacted::default()))
 }
 
 /// Ends the compaction of one shard where it is.
-fn give_up<T>(shard: &Lock<Option<Table<T>>>) {
+fn give_up<T>(shard: &Shard<T>) {
     if let Some(table) = shard.lock().as_mut() {
         table.give_up_compaction();
     }

@@ -54,7 +54,7 @@ pub struct Slab<T> {
     core: Core,
     values: values::Values<T>,
     // The shard that an insert without a shard asks first.
-    first: u32,
+    first: u8,
     // Whether a shard with many pages leaves the next ones to the next shard.
     takes_turns: bool,
     // The key of a vacant entry, which has no value yet. It stays where such an entry is forgotten.
@@ -350,11 +350,11 @@ impl<T> Slab<T> {
     /// A key of the first shard that has one, for whose value there is room.
     #[inline]
     fn insert_key(&mut self) -> Result<(u32, Key), Refused> {
-        match self.insert_key_in(self.first) {
+        let shard = u32::from(self.first);
+        match self.insert_key_in(shard) {
             Ok(key) => {
-                let shard = self.first;
                 if self.takes_turns && ends_turn(key) {
-                    self.first = (shard + 1) % self.core.shards();
+                    self.first = ((shard + 1) % self.core.shards()) as u8;
                 }
                 Ok((shard, key))
             }
@@ -367,10 +367,11 @@ impl<T> Slab<T> {
     #[cold]
     fn insert_key_elsewhere(&mut self) -> Result<(u32, Key), Refused> {
         let mut why = Refused::Ended;
-        for shard in (self.first..self.core.shards()).chain(0..self.first) {
+        let first = u32::from(self.first);
+        for shard in (first..self.core.shards()).chain(0..first) {
             match self.insert_key_in(shard) {
                 Ok(key) => {
-                    self.first = shard;
+                    self.first = shard as u8;
                     return Ok((shard, key));
                 }
                 Err(Refused::Ended) => {}
@@ -492,7 +493,7 @@ impl<T> Slab<T> {
         let (value, page) = self.values.take(key)?;
         self.core.free_live(key);
         if self.first > 0 {
-            self.first = self.first.min(self.values.shard_of(page));
+            self.first = self.first.min(self.values.shard_of(page) as u8);
         }
         Some(value)
     }
@@ -619,7 +620,7 @@ impl<T> Slab<T> {
     pub fn adopt(&mut self, shard: u32) -> Result<Group, Refused> {
         let group = self.core.adopt(shard)?;
         self.values.note_adopted(group, shard);
-        self.first = self.first.min(shard);
+        self.first = self.first.min(shard as u8);
         Ok(group)
     }
 

@@ -26,9 +26,9 @@ pub(crate) struct Home {
 /// of as cheap a hash the look-up of a value took half as long again.
 pub(crate) struct Spans {
     // None at first, and then a power of two, of which at most half are homes.
-    places: Vec<Option<Home>>,
+    places: Box<[Option<Home>]>,
     // How many further spans there is room for.
-    room: usize,
+    room: u32,
     // By the numbers of spans, also of those that are free.
     names: Vec<Span>,
     free: Vec<u32>,
@@ -50,7 +50,7 @@ const FACTOR: u64 = 0xD780_1A74_78B1_1F29;
 impl Spans {
     pub fn new() -> Spans {
         Spans {
-            places: Vec::new(),
+            places: Box::default(),
             room: 0,
             names: Vec::new(),
             free: Vec::new(),
@@ -64,8 +64,10 @@ impl Spans {
     }
 
     /// Makes room for so many further spans. A refusal changes nothing that is seen.
+    // There is room for no more spans than there are numbers.
+    #[allow(clippy::cast_possible_truncation)]
     pub fn reserve(&mut self, additional: usize) -> Result<(), Refused> {
-        if additional <= self.room {
+        if additional <= self.room as usize {
             return Ok(());
         }
         let spans = self.len();
@@ -80,9 +82,9 @@ impl Spans {
         let mut places = Vec::new();
         make_room(&mut places, len)?;
         places.resize(len, None);
-        let homes = std::mem::replace(&mut self.places, places);
-        self.room = len / 2 - spans;
-        for home in homes.into_iter().flatten() {
+        let homes = std::mem::replace(&mut self.places, places.into_boxed_slice());
+        self.room = (len / 2 - spans) as u32;
+        for home in homes.into_vec().into_iter().flatten() {
             let place = self.free_place(home.span);
             self.places[place] = Some(home);
         }
@@ -112,7 +114,7 @@ impl Spans {
 
     /// How many homes there are.
     pub fn len(&self) -> usize {
-        self.places.len() / 2 - self.room
+        self.places.len() / 2 - self.room as usize
     }
 
     /// All homes.

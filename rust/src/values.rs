@@ -6,6 +6,7 @@
 #![allow(clippy::cast_ptr_alignment)]
 
 use crate::blocks::Blocks;
+use crate::boxed::Late;
 use crate::core::{Core, Stepped, MOST_SHARDS};
 use crate::names::{Group, Key, Span};
 use crate::refused::Refused;
@@ -44,7 +45,7 @@ pub(crate) struct Values<T> {
     spans: Spans,
     // By the number of their block.
     pages: Vec<Page>,
-    blocks: Blocks,
+    blocks: Late<Blocks>,
     // Memory for one value that does not stand in a page.
     room: Option<NonNull<T>>,
     // Whether there is room for one value, as `reserve` makes it: nothing took of it since.
@@ -125,7 +126,7 @@ impl<T> Values<T> {
         Values {
             spans: Spans::new(),
             pages: Vec::new(),
-            blocks: Blocks::new(Self::BLOCK_BYTES),
+            blocks: Late::new(),
             room: None,
             ready: false,
             owned: PhantomData,
@@ -143,7 +144,7 @@ impl<T> Values<T> {
 
     #[cold]
     fn make_ready(&mut self) -> Result<(), Refused> {
-        self.blocks.reserve()?;
+        self.make_blocks()?.reserve()?;
         if self.pages.len() < self.blocks.len() || self.spans.is_full() {
             self.grow(1)?;
         }
@@ -159,9 +160,17 @@ impl<T> Values<T> {
     /// Makes room for so many full pages of values. A refusal changes nothing that is seen.
     pub fn reserve_pages(&mut self, values: usize) -> Result<(), Refused> {
         let pages = values / Self::SLOTS + usize::from(values % Self::SLOTS != 0);
+        if pages == 0 {
+            return Ok(());
+        }
         self.ready = false;
-        self.blocks.reserve_all(pages)?;
+        self.make_blocks()?.reserve_all(pages)?;
         self.grow(pages)
+    }
+
+    /// The blocks, which come with the first one.
+    fn make_blocks(&mut self) -> Result<&mut Blocks, Refused> {
+        self.blocks.make(|| Blocks::new(Self::BLOCK_BYTES))
     }
 
     /// Makes room for each block to be a page, and for so many further spans.
@@ -388,7 +397,9 @@ impl<T> Values<T> {
 
     /// Hands the memory of all pages without a value to the system.
     pub fn cool(&mut self) {
-        self.blocks.cool();
+        if let Some(blocks) = self.blocks.get_mut() {
+            blocks.cool();
+        }
     }
 
     /// For each shard, how many of the pages with the fewest values it has, as far as that is
@@ -511,7 +522,7 @@ impl<T> Values<T> {
                 .find(|(_, value)| ptr::eq(value.as_ptr(), at))
                 .map(|(key, _)| key);
         }
-        let (number, offset) = self.blocks.find(at.cast())?;
+        let (number, offset) = self.blocks.get()?.find(at.cast())?;
         let page = self.pages.get(number).filter(|page| page.spans > 0)?;
         let slot = offset.checked_sub(Self::VALUES_AT)? / size_of::<T>();
         let is_there = slot < Self::SLOTS && ptr::eq(page.block.value::<T>(slot).as_ptr(), at);

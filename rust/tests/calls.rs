@@ -14,6 +14,7 @@ const ONE_PAGE: Limits = Limits {
     shards: 1,
     pages: 1,
     generations: 3,
+    spans: u32::MAX,
 };
 
 #[test]
@@ -172,14 +173,14 @@ fn entries_that_wait_for_their_values() -> Result<(), Refused> {
     Ok(())
 }
 
-/// Where entries are dropped again and again, each uses up a generation, and in the end the page.
+/// If entries are dropped again and again, each uses up a generation, and in the end the page, which
+/// makes way for another one.
 #[test]
 fn entries_that_are_dropped_use_up_their_slots() -> Result<(), Refused> {
     let mut slab = Slab::<u8>::with_limits(ONE_PAGE)?;
-    for _ in 0..3 * 256 {
-        drop(slab.vacant_entry()?);
+    for number in 0..4 * 3 * 256 {
+        assert_eq!(slab.vacant_entry()?.key().serial(), number / (3 * 256));
     }
-    assert_eq!(slab.vacant_entry().err(), Some(Refused::PagesSpent));
     assert!(slab.is_empty());
     Ok(())
 }
@@ -255,6 +256,7 @@ fn what_a_core_was_made_with() -> Result<(), Refused> {
         shards: 3,
         pages: 5,
         generations: 7,
+        ..Limits::default()
     };
     let mut core = Core::new(limits)?;
     let mut slab = Slab::<u8>::with_limits(limits)?;

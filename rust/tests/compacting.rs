@@ -36,6 +36,7 @@ const FEW: Limits = Limits {
     shards: 3,
     pages: 400,
     generations: u32::MAX,
+    spans: u32::MAX,
 };
 
 impl Compacts for Core {

@@ -6,6 +6,7 @@ const LIMITS: Limits = Limits {
     shards: 2,
     pages: 4,
     generations: 9,
+    spans: u32::MAX,
 };
 
 #[test]

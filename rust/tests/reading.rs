@@ -128,6 +128,7 @@ fn threads_look_up_what_folds_have_moved() -> Result<(), Refused> {
         shards: 2,
         pages: 64,
         generations: 9,
+        ..Limits::default()
     })?;
     let mut live = Vec::new();
     for word in 0..256 * 16 {

@@ -19,6 +19,7 @@ fn limits() -> Limits {
         shards: THREADS,
         pages: 256,
         generations: u32::MAX,
+        ..Limits::default()
     }
 }
 

@@ -165,6 +165,7 @@ fn trims_what_has_no_live_key() -> Result<(), Refused> {
         shards: 1,
         pages: 2,
         generations: 9,
+        ..Limits::default()
     })?;
     assert_eq!((slab.trim(0)?, slab.trim(1)), (0, Err(Refused::Config)));
     let keys = (0..2 * SLOTS)

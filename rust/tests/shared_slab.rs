@@ -735,6 +735,7 @@ fn what_is_refused() {
         shards,
         pages,
         generations: 1,
+        ..Limits::default()
     };
     for wrong in [of(0, 1), of(65, 1), of(1, 0), of(1, (1 << 20) + 1)] {
         assert!(matches!(SharedSlab::<u8>::with_limits(wrong), Err(Refused::Config)));

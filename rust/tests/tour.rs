@@ -9,6 +9,7 @@ fn core(shards: u32, pages: u32, generations: u32) -> Core {
         shards,
         pages,
         generations,
+        ..Limits::default()
     })
     .expect("the numbers are within their ranges")
 }
@@ -113,6 +114,7 @@ fn a_cache_closes_down() -> Result<(), Refused> {
         shards: 8,
         pages: 4,
         generations: 9,
+        ..Limits::default()
     })?;
     let mut kept = Vec::new();
     for worker in 0..8 {
@@ -143,6 +145,7 @@ fn refused_where_out_of_range() -> Result<(), Refused> {
             shards,
             pages,
             generations,
+            ..Limits::default()
         };
         assert_eq!(Core::new(limits).err(), Some(Refused::Config));
     }

@@ -2,7 +2,8 @@
 
 use std::mem::size_of;
 use std::panic::{RefUnwindSafe, UnwindSafe};
-use teurlaks::{Core, Key, Limits, Refused, SharedSlab, SharedStore, Slab, Store};
+use teurlaks::arena::{AuditError, Totals};
+use teurlaks::{Arena, Core, Key, Limits, Marked, Refused, SharedSlab, SharedStore, Slab, Store};
 
 /// What glibc says of its memory, of all threads.
 #[repr(C)]
@@ -50,15 +51,13 @@ fn no_value_takes_no_memory() {
         bytes_each(|| Core::new(limits)),
         bytes_each(Store::<u64>::new),
         bytes_each(|| Store::<[u64; 30]>::with_limits(limits)),
-    ] {
-        assert!(each <= 200, "{each} bytes");
-    }
-    for each in [
         bytes_each(Slab::<u64>::new),
         bytes_each(|| Slab::<[u64; 30]>::with_limits(limits)),
         bytes_each(Slab::<[u64; 1000]>::default),
+        bytes_each(|| Arena::<u64>::open(limits)),
+        bytes_each(|| Arena::<u64>::open_recorded(limits)),
     ] {
-        assert!(each <= 512, "{each} bytes");
+        assert!(each <= 200, "{each} bytes");
     }
     // Nor does what is asked of it.
     let (mut slab, mut core) = (Slab::<String>::default(), Core::new(limits).unwrap());
@@ -124,6 +123,43 @@ fn it_answers_as_one_that_had_values() -> Result<(), Refused> {
     Ok(())
 }
 
+fn an_arena_without_seats_answers() -> Result<(), Refused> {
+    let limits = Limits {
+        shards: 4,
+        ..Limits::default()
+    };
+    let mut arena = Arena::<u64>::open(limits)?;
+    assert_eq!((arena.limits(), arena.totals()), (limits, Totals::default()));
+    assert_eq!(
+        (arena.mesh(), arena.forget(), arena.close()),
+        (Ok(0), Ok(0), Err(Refused::NoPlan))
+    );
+    assert_eq!((arena.keys().next(), arena.certificate()), (None, Ok(None)));
+    let done = arena.compact_within(9)?;
+    assert!(done.pages == 0 && !done.more);
+    assert_eq!(arena.audit(), Err(AuditError::NotRecorded));
+    let nothing = Marked {
+        abandoned: 0,
+        owned: 0,
+        folds: 0,
+        short_set: 0,
+    };
+    assert_eq!((arena.mark()?, arena.forget()), (nothing, Err(Refused::PlanOpen)));
+    arena.close()?;
+    assert!((0..4).all(|_| arena.seat().is_ok()));
+    assert!(matches!(arena.seat(), Err(Refused::NoSeatLeft)));
+    let mut recorded = Arena::<u64>::open_recorded(limits)?;
+    assert_eq!((recorded.forget(), recorded.audit()), (Err(Refused::Recorded), Ok(())));
+    assert_eq!(recorded.mark(), Err(Refused::Over));
+    for (keys, lanes) in [(0, 1), (1025, 1), (1, 0), (1, 17), (1, 1 << 30)] {
+        assert!(matches!(
+            Arena::<u64>::with_lanes(limits, keys, lanes),
+            Err(Refused::Config)
+        ));
+    }
+    Ok(())
+}
+
 /// A value that was lent to a call that panicked may be used again.
 fn unwinds<T: UnwindSafe + RefUnwindSafe>(_: &T) {}
 
@@ -131,6 +167,7 @@ fn unwinds<T: UnwindSafe + RefUnwindSafe>(_: &T) {}
 fn until_used() -> Result<(), Refused> {
     no_value_takes_no_memory();
     it_answers_as_one_that_had_values()?;
+    an_arena_without_seats_answers()?;
     unwinds(&Slab::<String>::new()?);
     unwinds(&SharedSlab::<String>::new()?);
     unwinds(&(

@@ -96,6 +96,7 @@ impl<T: Made> Pair<T> {
                 shards: SHARDS,
                 pages: 12,
                 generations: 40,
+                ..Limits::default()
             })?,
             map: HashMap::new(),
             keys: Vec::new(),

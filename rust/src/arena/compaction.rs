@@ -3,12 +3,12 @@
 use super::{Arena, Seat};
 use crate::background::{Background, Compacts, Policy};
 use crate::bytes::words_for;
-use crate::compact::{Compacted, Occupancy, Rounds};
+use crate::compact::{Compacted, Occupancy};
 use crate::core::Stepped;
 use crate::refused::Refused;
 use std::io;
 use std::mem::size_of;
-use std::sync::atomic::{AtomicU32, Ordering};
+use std::sync::atomic::{AtomicBool, AtomicU32, Ordering};
 use std::sync::{Arc, Mutex, MutexGuard, PoisonError};
 
 /// What of a compaction in parts comes next.
@@ -70,7 +70,10 @@ impl<T> Arena<T> {
     /// # Ok::<(), teurlaks::Refused>(())
     /// ```
     pub fn compact_within(&mut self, budget: usize) -> Result<Compacted, Refused> {
-        let mut more = true;
+        let mut more = self.standing.get().is_some();
+        if !more {
+            return Ok(Compacted::default());
+        }
         for _ in 0..budget.max(1) {
             more = self.compact_step()?;
             if !more {
@@ -120,7 +123,21 @@ impl<T> Arena<T> {
     /// Asks each seat to retire up to so many groups, and to adopt before what the pool has: it
     /// does so when it next calls [`Seat::help_compact`].
     pub fn ask_to_retire(&mut self, most: u32) {
-        self.turn.ask(most);
+        // Before that it has no seat.
+        if let Some(standing) = self.standing.get() {
+            standing.turn.ask(most);
+        }
+    }
+
+    /// How many seats have done what was asked last.
+    fn helpers(&self) -> u32 {
+        self.standing.get().map_or(0, |standing| standing.turn.helpers())
+    }
+
+    /// Whether it has asked for something that no seat has done.
+    fn waits_for_help(&self) -> bool {
+        let asked = self.standing.get().map(|standing| standing.turn.asked());
+        asked.is_some_and(|asked| asked.most > 0) && self.helpers() == 0
     }
 }
 
@@ -177,7 +194,7 @@ impl<T: Copy + Send + 'static> Arena<T> {
         let steward = Steward {
             arena: Arc::clone(arena),
             helpers: AtomicU32::new(0),
-            rounds: Mutex::default(),
+            has_gathered: AtomicBool::new(false),
         };
         Background::begin(policy, steward)
     }
@@ -188,8 +205,8 @@ struct Steward<T> {
     arena: Arc<Mutex<Arena<T>>>,
     // How many seats had helped when that was last asked.
     helpers: AtomicU32,
-    // Which round comes next: one that gathers, and then one of a half.
-    rounds: Mutex<Rounds>,
+    // Whether the last round was one that gathers, which comes in turn with one of fewer.
+    has_gathered: AtomicBool,
 }
 
 impl<T> Steward<T> {
@@ -209,31 +226,30 @@ impl<T: Copy + Send + 'static> Compacts for Steward<T> {
     /// stay and by halves; unless they were asked before and none has helped yet.
     fn prepare(&self) {
         let mut arena = self.lock();
-        if arena.turn.asked().most > 0 && arena.turn.helpers() == 0 {
+        if arena.waits_for_help() {
             return;
         }
         let pages = arena.occupancy();
-        let mut rounds = self.rounds.lock().unwrap_or_else(PoisonError::into_inner);
-        let division = rounds.next(pages, usize::MAX);
-        let (retired, kept) = division.map_or((0, 0), |division| (division.retired, division.kept));
-        if kept > 0 || division.is_none() {
-            *rounds = Rounds::default();
-        }
-        let most = (retired - kept) / arena.limits.shards as usize;
+        let gathers = !self.has_gathered.swap(true, Ordering::Relaxed);
+        let retired = pages.gathered().filter(|_| gathers).unwrap_or_else(|| {
+            self.has_gathered.store(false, Ordering::Relaxed);
+            pages.some_or_half()
+        });
+        let most = retired / arena.limits().shards as usize;
         arena.ask_to_retire(u32::try_from(most).unwrap_or(u32::MAX));
         self.helpers.store(0, Ordering::Relaxed);
     }
 
     /// Whether some seat has helped, and no other one since this was last asked.
     fn is_prepared(&self) -> bool {
-        let helpers = self.lock().turn.helpers();
+        let helpers = self.lock().helpers();
         self.helpers.swap(helpers, Ordering::Relaxed) == helpers && helpers > 0
     }
 
     fn compact_part(&self, budget: usize) -> Result<Compacted, Refused> {
         let mut arena = self.lock();
         let done = arena.compact_within(budget)?;
-        if !done.more && arena.turn.helpers() > 0 {
+        if !done.more && arena.helpers() > 0 {
             arena.ask_to_retire(0);
         }
         Ok(done)

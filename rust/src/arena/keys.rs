@@ -1,7 +1,8 @@
 //! Walks over the live keys of an arena.
 
 use super::lane::Owner;
-use super::share::{no_wait_in_a_session, Place, Share, Turn};
+use super::share::{no_wait_in_a_session, Place, Turn};
+use super::standing::Standing;
 use crate::names::Key;
 use crate::raw;
 use std::fmt;
@@ -13,7 +14,6 @@ use std::fmt;
 #[must_use = "iterators are lazy and do nothing unless consumed"]
 pub struct Keys<'a> {
     whose: Whose<'a>,
-    turn: &'a Turn,
     // Before the next key that comes.
     walk: raw::RawWalk,
 }
@@ -21,23 +21,24 @@ pub struct Keys<'a> {
 /// Whose handle the walk goes by.
 #[derive(Clone, Copy)]
 enum Whose<'a> {
-    Seat(&'a Owner),
-    Steward(&'a Share),
+    Seat(&'a Owner, &'a Turn),
+    Steward(&'a Standing),
+    /// An arena that was asked for nothing yet.
+    Nobody,
 }
 
 impl<'a> Keys<'a> {
     pub(super) fn of_seat(lane: &'a Owner, turn: &'a Turn) -> Keys<'a> {
-        Keys::new(Whose::Seat(lane), turn)
+        Keys::new(Whose::Seat(lane, turn))
     }
 
-    pub(super) fn of_steward(share: &'a Share, turn: &'a Turn) -> Keys<'a> {
-        Keys::new(Whose::Steward(share), turn)
+    pub(super) fn of_arena(standing: Option<&'a Standing>) -> Keys<'a> {
+        Keys::new(standing.map_or(Whose::Nobody, Whose::Steward))
     }
 
-    fn new(whose: Whose<'a>, turn: &'a Turn) -> Keys<'a> {
+    fn new(whose: Whose<'a>) -> Keys<'a> {
         Keys {
             whose,
-            turn,
             walk: raw::RawWalk {
                 shard: 0,
                 serial: 0,
@@ -53,14 +54,15 @@ impl Iterator for Keys<'_> {
     fn next(&mut self) -> Option<Key> {
         let walk = &mut self.walk;
         let next = match self.whose {
-            Whose::Seat(lane) => self.turn.at_seat(lane, Place::Anywhere, |handle| {
+            Whose::Seat(lane, turn) => turn.at_seat(lane, Place::Anywhere, |handle| {
                 // SAFETY: the handle has a seat, no other call runs on it, and a walk stands there.
                 unsafe { raw::teurlaks_seat_next(handle, walk) }
             }),
-            Whose::Steward(share) => self.turn.at_steward(|| {
+            Whose::Steward(standing) => standing.call(|handle| {
                 // SAFETY: the same of a steward.
-                unsafe { raw::teurlaks_steward_next(share.handle(), walk) }
+                unsafe { raw::teurlaks_steward_next(handle, walk) }
             }),
+            Whose::Nobody => return None,
         };
         if next.status == raw::BUSY {
             no_wait_in_a_session();

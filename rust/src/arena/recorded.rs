@@ -1,6 +1,6 @@
 //! Arenas whose run is recorded, and audited when it is over.
 
-use super::share::Share;
+use super::standing::Numbers;
 use super::{Arena, Seat, RING};
 use crate::core::Limits;
 use crate::raw;
@@ -139,15 +139,12 @@ impl<T: Copy> Arena<T> {
     /// As of [`Arena::open`].
     pub fn open_recorded(limits: Limits) -> Result<Arena<T>, Refused> {
         let () = Self::FITS;
-        let Limits {
-            shards,
-            pages,
-            generations,
-        } = limits;
-        // SAFETY: the handle has nothing yet.
-        let share =
-            Share::new(|out| unsafe { raw::teurlaks_arena_open_recorded(out, shards, pages, RING, generations) });
-        Ok(Arena::of(share.map_err(Refused::of)?, limits, 1))
+        Arena::of(Numbers {
+            limits,
+            ring_keys: RING,
+            lanes: 1,
+            is_recorded: true,
+        })
     }
 }
 
@@ -159,18 +156,19 @@ impl<T> Arena<T> {
     ///
     /// [`NotTaken`] with the seat, where it is of another arena or memory was refused.
     pub fn take_back(&mut self, mut seat: Seat<T>) -> Result<(), NotTaken<T>> {
-        if !self.turn.is_of(seat.turn()) {
+        let standing = self.standing.get_mut();
+        let Some(standing) = standing.filter(|standing| standing.turn.is_of(seat.turn())) else {
             let refused = Refused::Config;
             return Err(NotTaken { seat, refused });
-        }
+        };
         // One that was forgotten.
         seat.pause();
-        let steward = self.share.handle();
+        let steward = standing.share.handle();
         // SAFETY: the one handle has a steward, the other a seat, and no other call runs on either.
         let leave = |lane| unsafe { raw::teurlaks_seat_leave(steward, lane) };
-        match seat.lanes().leave(&mut self.vacant, leave) {
+        match seat.lanes().leave(&mut standing.vacant, leave) {
             raw::OK => {
-                self.vacant.push(seat.into_lanes().into_here());
+                standing.vacant.push(seat.into_lanes().into_here());
                 Ok(())
             }
             other => Err(NotTaken {
@@ -193,11 +191,12 @@ impl<T> Arena<T> {
     /// - [`AuditError::NotRecorded`] and [`AuditError::Unfinished`], with nothing changed;
     /// - [`AuditError::OutOfMemory`]: it may be asked again.
     pub fn audit(&mut self) -> Result<(), AuditError> {
+        if !self.numbers.is_recorded {
+            return Err(AuditError::NotRecorded);
+        }
+        let standing = self.standing().map_err(|_| AuditError::OutOfMemory)?;
         // SAFETY: the handle has a steward or a run, and no other call runs on it.
-        match self
-            .turn
-            .at_steward(|| unsafe { raw::teurlaks_arena_audit(self.share.handle()) })
-        {
+        match standing.call(|share| unsafe { raw::teurlaks_arena_audit(share) }) {
             raw::OK => Ok(()),
             other => Err(AuditError::of(other)),
         }

@@ -1,6 +1,6 @@
 //! Many values by one call.
 
-use super::{Core, NO_KEY};
+use super::{done, Core, NO_KEY};
 use crate::names::Key;
 use crate::raw::{self, GetReply, RawKey, RawWord};
 use crate::refused::Refused;
@@ -36,25 +36,37 @@ impl Core {
         if keys.try_reserve(words.len()).is_err() {
             return Err(Refused::OutOfMemory);
         }
-        if !words.is_empty() {
-            self.has_shard(shard)?;
-            self.open()?;
-        }
-        for words in words.chunks(BLOCK) {
-            let mut room = [NO_KEY; BLOCK];
-            let (first, len) = (words.as_ptr().cast(), words.len());
-            // SAFETY: no other call runs, a word is its two halves, the lower one first, and so many words and places are there.
-            let reply = unsafe { raw::teurlaks_put_many(&mut self.handle, shard, first, len, room.as_mut_ptr(), len) };
-            keys.extend(room.iter().take(reply.count).filter_map(|key| Key::of(*key)));
-            self.live += reply.count;
-            if reply.count > 0 {
-                self.least_words = 1;
-            }
-            if reply.status != raw::OK {
-                return Err(Refused::of(reply.status));
+        for mut words in words.chunks(BLOCK) {
+            while !words.is_empty() {
+                let (count, status) = self.insert_some(shard, words, keys)?;
+                words = &words[count..];
+                if status != raw::OK {
+                    done(self.make_way(status, shard, 1))?;
+                }
             }
         }
         Ok(())
+    }
+
+    /// Keeps objects for a block of words until one is refused, and gives how many were kept, and the
+    /// status; or says that the shard may open no further page.
+    fn insert_some(&mut self, shard: u32, words: &[u128], keys: &mut Vec<Key>) -> Result<(usize, u32), Refused> {
+        let mut room = [NO_KEY; BLOCK];
+        let (first, len) = (words.as_ptr().cast(), words.len());
+        // SAFETY: no other call runs, a word is its two halves, the lower one first, and so many words and places are there.
+        let reply = unsafe { raw::teurlaks_put_many(&mut self.handle, shard, first, len, room.as_mut_ptr(), len) };
+        self.live += reply.count;
+        if reply.count > 0 {
+            self.least_words = 1;
+        }
+        let mut refused = None;
+        for key in room.iter().take(reply.count).filter_map(|key| Key::of(*key)) {
+            match self.note_put(key) {
+                Ok(()) => keys.push(key),
+                Err(spent) => refused = Some(spent),
+            }
+        }
+        refused.map_or(Ok((reply.count, reply.status)), Err)
     }
 
     /// Frees each of the keys that is live, in their order, and counts these: as so many calls of [`Core::free`] do. It takes no

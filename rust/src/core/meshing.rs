@@ -159,7 +159,9 @@ impl Core {
         }
         // SAFETY: as in `insert`.
         let raw::TrimReply { status, count } = unsafe { raw::teurlaks_trim(&mut self.handle, shard) };
-        done(status).map(|()| count)
+        done(status)?;
+        self.emptied |= u64::from(count > 0) << shard;
+        Ok(count)
     }
 
     /// Forgets the pages whose keys are all gone and that were folded onto others, or left to the pool, with the generations that are kept
@@ -191,6 +193,11 @@ impl Core {
         if !self.is_open() {
             return Ok(0);
         }
+        Ok(self.forget_pooled()? + self.give_up_worn())
+    }
+
+    /// Forgets what the library does by itself.
+    pub(super) fn forget_pooled(&mut self) -> Result<usize, Refused> {
         // SAFETY: as in `insert`.
         let raw::ForgetReply { status, count } = unsafe { raw::teurlaks_forget(&mut self.handle) };
         done(status).map(|()| count)
@@ -317,12 +324,12 @@ impl Core {
     ///
     /// It goes by rounds. In each some pages, of each shard those with the fewest live keys, go to
     /// the pool; as many as can be are folded onto the others, by one plan after another as long as
-    /// one folds a sixteenth of its smaller side; and the shards adopt the rest. The first leaves as
-    /// few pages in the shards as can be expected to stay by the numbers of pages and of live keys,
-    /// so that several pages are folded onto each. If no fold can be expected, or if that gives less
-    /// than a sixteenth, a round looks at 128 pages alone, where there are more than 512, and is
-    /// the last one unless that is worth it. The further rounds divide the pages by their heads,
-    /// and each at another place, until three in a row give less than a sixteenth.
+    /// one folds a sixteenth of its smaller side; and the shards adopt the rest. If several pages
+    /// can be expected to fit on each that stays, by the numbers of pages and of live keys, the
+    /// first round leaves that few in the shards. Else rounds look at the 8, 16, 32 and 64 sparsest
+    /// pages alone, and two in a row that fold less than a sixteenth are the last ones. The further
+    /// rounds take the sparsest half, quarter, eighth and so on, each once with all of it in the
+    /// pool and once with half of it, until none in a row of all of these folds a sixteenth.
     ///
     /// If what is live needs all pages even if these were full, nothing is retired or planned. What
     /// can be expected takes live keys to stand at slots at random, and all objects to be as small

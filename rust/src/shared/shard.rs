@@ -1,13 +1,11 @@
 //! One shard of a store that threads share: a store behind a lock, and its compaction in pieces, between which others have the lock.
 
+use super::lock::Lock;
 use crate::compact::Compacted;
 use crate::core::Limits;
 use crate::refused::Refused;
 use crate::store::Store;
-use std::hint;
-use std::sync::atomic::{AtomicUsize, Ordering};
-use std::sync::{Mutex, MutexGuard, PoisonError, TryLockError};
-use std::thread;
+use std::sync::{Mutex, MutexGuard, PoisonError};
 
 /// How many steps of a compaction are taken under one hold of the lock: the retirements are the
 /// longest, 0.1 to 0.4 ms.
@@ -16,19 +14,11 @@ const PIECE: usize = 16;
 /// The fewest pages for which a core gets a pool, which takes some memory of its own.
 const FEWEST_PAGES: usize = 4;
 
-/// How often a compaction lets others run where they wait for the lock, before it goes on all the same.
-const MOST_YIELDS: usize = 200;
-
-/// How often a lock is asked for again, after 1, 2, 4 and so on pauses, before a thread sleeps.
-const MOST_PAUSES: u32 = 6;
-
 /// A store behind a lock. It has two lines of a cache to itself, since processors fetch these in pairs.
 #[repr(align(128))]
 pub(super) struct Shard<T> {
     // There is none until the first insert.
-    store: Mutex<Option<Store<T>>>,
-    // How many threads wait for it, as far as they say so.
-    waiting: AtomicUsize,
+    store: Lock<Option<Store<T>>>,
     // Whoever compacts holds this lock throughout, and the one of the store piece by piece.
     pool: Mutex<Pool>,
 }
@@ -50,56 +40,22 @@ pub(super) type Held<'s, T> = MutexGuard<'s, Option<Store<T>>>;
 impl<T> Shard<T> {
     pub fn new() -> Shard<T> {
         Shard {
-            store: Mutex::new(None),
-            waiting: AtomicUsize::new(0),
+            store: Lock::new(None),
             pool: Mutex::default(),
         }
     }
 
-    /// The store, for which it waits. A thread that panicked while it had it was between two calls of the store, which is sound.
+    /// The store, for which it waits. A thread that panicked while it had it was between two calls of
+    /// the store, which is sound.
     #[inline]
     pub fn lock(&self) -> Held<'_, T> {
-        self.try_lock().unwrap_or_else(|| self.wait())
-    }
-
-    #[inline]
-    fn try_lock(&self) -> Option<Held<'_, T>> {
-        match self.store.try_lock() {
-            Ok(held) => Some(held),
-            Err(TryLockError::Poisoned(poisoned)) => Some(poisoned.into_inner()),
-            Err(TryLockError::WouldBlock) => None,
-        }
-    }
-
-    /// Asks again after longer and longer pauses, since most calls have it for some 20 ns; and then sleeps, and says so.
-    #[cold]
-    fn wait(&self) -> Held<'_, T> {
-        for pauses in (0..MOST_PAUSES).map(|times| 1 << times) {
-            (0..pauses).for_each(|_| hint::spin_loop());
-            if let Some(held) = self.try_lock() {
-                return held;
-            }
-        }
-        self.waiting.fetch_add(1, Ordering::Relaxed);
-        let held = self.store.lock().unwrap_or_else(PoisonError::into_inner);
-        self.waiting.fetch_sub(1, Ordering::Relaxed);
-        held
-    }
-
-    /// Lets those run that wait for the lock, which the one that has just let go of it would have again before they are awake.
-    fn let_others(&self) {
-        for _ in 0..MOST_YIELDS {
-            if self.waiting.load(Ordering::Relaxed) == 0 {
-                return;
-            }
-            thread::yield_now();
-        }
+        self.store.lock()
     }
 
     /// Does a piece of work on the store, where there is one, and lets others have it then.
     pub fn piece<R>(&self, work: impl FnOnce(&mut Store<T>) -> R) -> Option<R> {
         let done = self.lock().as_mut().map(work);
-        self.let_others();
+        self.store.let_others();
         done
     }
 

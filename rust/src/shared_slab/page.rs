@@ -1,9 +1,10 @@
 //! Pages of a shared slab: their slots, which stay for as long as there is the slab, and where the values of these are.
 
 use super::slot::Slot;
+use crate::boxed;
 use crate::refused::Refused;
 use crate::values::Values;
-use std::alloc::{alloc, alloc_zeroed, dealloc, Layout};
+use std::alloc::{alloc_zeroed, dealloc, Layout};
 use std::marker::PhantomData;
 use std::mem::{size_of, MaybeUninit};
 use std::ptr::NonNull;
@@ -203,25 +204,15 @@ pub(super) struct Room<T>(Option<Box<MaybeUninit<T>>>);
 impl<T> Room<T> {
     #[inline]
     pub fn new() -> Result<Room<T>, Refused> {
-        if !Values::<T>::APART {
-            return Ok(Room(None));
-        }
-        // SAFETY: such a value has bytes.
-        let at = unsafe { alloc(Layout::new::<T>()) }.cast::<MaybeUninit<T>>();
-        if at.is_null() {
-            return Err(Refused::OutOfMemory);
-        }
-        // SAFETY: the allocator gave it for this layout.
-        Ok(Room(Some(unsafe { Box::from_raw(at) })))
+        let room = Values::<T>::APART.then(boxed::room).transpose()?;
+        Ok(Room(room))
     }
 
     #[inline]
     pub fn fill(self, value: T) -> Owned<T> {
-        let Some(mut room) = self.0 else {
-            return Owned::Here(value);
-        };
-        room.write(value);
-        // SAFETY: the value was just written there.
-        Owned::Apart(unsafe { Box::from_raw(Box::into_raw(room).cast()) })
+        match self.0 {
+            None => Owned::Here(value),
+            Some(room) => Owned::Apart(boxed::fill(room, value)),
+        }
     }
 }

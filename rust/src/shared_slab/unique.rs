@@ -32,7 +32,7 @@ impl<'s, T> Iterator for UniqueIter<'s, T> {
 
     fn next(&mut self) -> Option<(Key, &'s mut T)> {
         while let Some(shard) = self.slab.shards.get_mut(self.shard) {
-            let table = shard.get_mut().as_ref();
+            let table = shard.get_mut().as_deref();
             let Some(table) = table.filter(|table| self.page < table.page_count()) else {
                 (self.shard, self.page, self.slot) = (self.shard + 1, 0, 0);
                 continue;

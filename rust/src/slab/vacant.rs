@@ -41,7 +41,7 @@ impl<T> Drop for VacantEntry<'_, T> {
     fn drop(&mut self) {
         if let Some(slab) = &mut self.slab {
             slab.give_up_vacant();
-            slab.first = slab.first.min(self.shard);
+            slab.first = slab.first.min(self.shard as u8);
         }
     }
 }

@@ -46,14 +46,14 @@ pub(crate) trait Numbers: Config {
         None => panic!("at most 24 bits are reserved"),
     };
 
-    /// Limits within which a key has a number, until a shard has opened as many pages as its part of
-    /// a number says.
+    /// Limits within which each key has a number.
     fn limits() -> Limits {
         assert!(Self::RESERVED_BITS <= 24, "at most 24 bits are reserved");
         let pages = 1 << Self::SERIAL_BITS.min(20);
         Limits {
             shards: 64,
             pages,
+            spans: 1 << Self::SERIAL_BITS,
             generations: (1 << Self::GENERATION_BITS) - 1,
         }
     }

@@ -1,217 +1,176 @@
 //! The iterators, from the lowest key on.
 
-use super::{Entry, Node, Slab};
+use super::plain::{self, Plain};
+use super::{Node, Paged, Slab, Values};
 use std::fmt;
-use std::iter::{Enumerate, FusedIterator};
-use std::{slice, vec};
+use std::iter::FusedIterator;
+use std::mem;
+use std::vec;
+use teurlaks::Key;
 
 /// Each value with its key: of [`Slab::iter`].
-pub struct Iter<'a, T> {
-    entries: Enumerate<slice::Iter<'a, Entry>>,
-    values: Option<&'a teurlaks::Slab<Node<T>>>,
-    left: usize,
+pub struct Iter<'a, T>(Borrowed<'a, T>);
+
+enum Borrowed<'a, T> {
+    InVector(plain::Iter<'a, T>),
+    InPages(plain::Iter<'a, Key>, &'a teurlaks::Slab<Node<T>>),
+}
+
+/// Each value with its key, to be changed: of [`Slab::iter_mut`].
+pub struct IterMut<'a, T>(Changed<'a, T>);
+
+enum Changed<'a, T> {
+    InVector(plain::IterMut<'a, T>),
+    InPages(vec::IntoIter<&'a mut Node<T>>),
+}
+
+/// Each value with its key, of a slab that is no more.
+pub struct IntoIter<T>(Owned<T>);
+
+enum Owned<T> {
+    InVector(plain::IntoIter<T>),
+    InPages(plain::IntoIter<Key>, Box<teurlaks::Slab<Node<T>>>),
+}
+
+/// Takes the values out: of [`Slab::drain`].
+pub struct Drain<'a, T>(Drained<'a, T>);
+
+enum Drained<'a, T> {
+    InVector(plain::Drain<'a, T>),
+    InPages(plain::Drain<'a, Key>, &'a mut teurlaks::Slab<Node<T>>),
 }
 
 impl<'a, T> Iter<'a, T> {
-    pub(super) fn new(entries: &'a [Entry], values: Option<&'a teurlaks::Slab<Node<T>>>, left: usize) -> Iter<'a, T> {
-        Iter {
-            entries: entries.iter().enumerate(),
-            values,
-            left,
-        }
-    }
-
-    fn found(&mut self, (key, entry): (usize, &Entry)) -> Option<(usize, &'a T)> {
-        let Entry::Occupied(name) = entry else { return None };
-        let node = self.values?.get(*name)?;
-        self.left -= 1;
-        Some((key, &node.value))
+    pub(super) fn new(values: &'a Values<T>) -> Iter<'a, T> {
+        Iter(match values {
+            Values::InVector(values) => Borrowed::InVector(values.iter()),
+            Values::InPages(paged) => Borrowed::InPages(paged.names.iter(), &paged.values),
+        })
     }
 }
 
 impl<T> Clone for Iter<'_, T> {
     fn clone(&self) -> Self {
-        Iter {
-            entries: self.entries.clone(),
-            ..*self
-        }
+        Iter(match &self.0 {
+            Borrowed::InVector(values) => Borrowed::InVector(values.clone()),
+            Borrowed::InPages(names, values) => Borrowed::InPages(names.clone(), values),
+        })
     }
-}
-
-impl<'a, T> Iterator for Iter<'a, T> {
-    type Item = (usize, &'a T);
-
-    fn next(&mut self) -> Option<(usize, &'a T)> {
-        loop {
-            let entry = self.entries.next()?;
-            if let Some(found) = self.found(entry) {
-                return Some(found);
-            }
-        }
-    }
-
-    fn size_hint(&self) -> (usize, Option<usize>) {
-        (self.left, Some(self.left))
-    }
-}
-
-impl<T> DoubleEndedIterator for Iter<'_, T> {
-    fn next_back(&mut self) -> Option<Self::Item> {
-        loop {
-            let entry = self.entries.next_back()?;
-            if let Some(found) = self.found(entry) {
-                return Some(found);
-            }
-        }
-    }
-}
-
-/// Each value with its key, to be changed: of [`Slab::iter_mut`].
-pub struct IterMut<'a, T> {
-    nodes: vec::IntoIter<&'a mut Node<T>>,
 }
 
 impl<'a, T> IterMut<'a, T> {
-    pub(super) fn new(values: Option<&'a mut teurlaks::Slab<Node<T>>>) -> IterMut<'a, T> {
-        let mut nodes: Vec<_> = values.into_iter().flat_map(teurlaks::Slab::values_mut).collect();
-        nodes.sort_by_key(|node| node.key);
-        IterMut {
-            nodes: nodes.into_iter(),
+    pub(super) fn new(values: &'a mut Values<T>) -> IterMut<'a, T> {
+        IterMut(match values {
+            Values::InVector(values) => Changed::InVector(values.iter_mut()),
+            Values::InPages(paged) => {
+                let mut nodes: Vec<_> = paged.values.values_mut().collect();
+                nodes.sort_by_key(|node| node.key);
+                Changed::InPages(nodes.into_iter())
+            }
+        })
+    }
+}
+
+impl<'a, T> Drain<'a, T> {
+    pub(super) fn new(values: &'a mut Values<T>) -> Drain<'a, T> {
+        Drain(match values {
+            Values::InVector(values) => Drained::InVector(values.drain()),
+            Values::InPages(Paged { names, values, .. }) => Drained::InPages(names.drain(), values),
+        })
+    }
+}
+
+impl<T> Drop for Drain<'_, T> {
+    fn drop(&mut self) {
+        if let Drained::InPages(_, values) = &mut self.0 {
+            values.clear();
         }
     }
+}
+
+/// From both ends: of the values in a vector what comes next, and of those in pages what is found of
+/// that.
+macro_rules! from_both_ends {
+    ($($name:ident<$($lifetime:lifetime)?>, $of:ident, $item:ty, $in_vector:expr, $in_pages:expr;)*) => {$(
+        impl<$($lifetime,)? T> Iterator for $name<$($lifetime,)? T> {
+            type Item = $item;
+
+            fn next(&mut self) -> Option<$item> {
+                match &mut self.0 {
+                    $of::InVector(values) => values.next().map($in_vector),
+                    $of::InPages(names, values) => names.next().and_then(|entry| $in_pages(values, entry)),
+                }
+            }
+
+            fn size_hint(&self) -> (usize, Option<usize>) {
+                match &self.0 {
+                    $of::InVector(values) => values.size_hint(),
+                    $of::InPages(names, _) => names.size_hint(),
+                }
+            }
+        }
+
+        impl<$($lifetime,)? T> DoubleEndedIterator for $name<$($lifetime,)? T> {
+            fn next_back(&mut self) -> Option<$item> {
+                match &mut self.0 {
+                    $of::InVector(values) => values.next_back().map($in_vector),
+                    $of::InPages(names, values) => names.next_back().and_then(|entry| $in_pages(values, entry)),
+                }
+            }
+        }
+
+        impl<$($lifetime,)? T> ExactSizeIterator for $name<$($lifetime,)? T> {}
+        impl<$($lifetime,)? T> FusedIterator for $name<$($lifetime,)? T> {}
+    )*};
+}
+
+/// The value of a name, under its key.
+fn found<'a, T>(values: &mut &'a teurlaks::Slab<Node<T>>, (key, name): (usize, &Key)) -> Option<(usize, &'a T)> {
+    Some((key, &values.get(*name)?.value))
+}
+
+/// The value of a name, which is taken out, under its key.
+fn taken<T>(values: &mut teurlaks::Slab<Node<T>>, (key, name): (usize, Key)) -> Option<(usize, T)> {
+    Some((key, values.remove(name)?.value))
+}
+
+from_both_ends! {
+    Iter<'a>, Borrowed, (usize, &'a T), |entry| entry, found;
+    IntoIter<>, Owned, (usize, T), |entry| entry, taken;
+    Drain<'a>, Drained, T, |(_, value)| value, |values: &mut teurlaks::Slab<Node<T>>, entry| {
+        taken(values, entry).map(|(_, value)| value)
+    };
 }
 
 impl<'a, T> Iterator for IterMut<'a, T> {
     type Item = (usize, &'a mut T);
 
     fn next(&mut self) -> Option<(usize, &'a mut T)> {
-        self.nodes.next().map(|node| (node.key, &mut node.value))
+        match &mut self.0 {
+            Changed::InVector(values) => values.next(),
+            Changed::InPages(nodes) => nodes.next().map(|node| (node.key, &mut node.value)),
+        }
     }
 
     fn size_hint(&self) -> (usize, Option<usize>) {
-        self.nodes.size_hint()
+        match &self.0 {
+            Changed::InVector(values) => values.size_hint(),
+            Changed::InPages(nodes) => nodes.size_hint(),
+        }
     }
 }
 
 impl<T> DoubleEndedIterator for IterMut<'_, T> {
     fn next_back(&mut self) -> Option<Self::Item> {
-        self.nodes.next_back().map(|node| (node.key, &mut node.value))
-    }
-}
-
-/// Each value with its key, of a slab that is no more.
-pub struct IntoIter<T> {
-    entries: Enumerate<vec::IntoIter<Entry>>,
-    values: Option<teurlaks::Slab<Node<T>>>,
-    left: usize,
-}
-
-impl<T> IntoIter<T> {
-    fn found(&mut self, (key, entry): (usize, Entry)) -> Option<(usize, T)> {
-        let Entry::Occupied(name) = entry else { return None };
-        let node = self.values.as_mut()?.remove(name)?;
-        self.left -= 1;
-        Some((key, node.value))
-    }
-}
-
-impl<T> Iterator for IntoIter<T> {
-    type Item = (usize, T);
-
-    fn next(&mut self) -> Option<(usize, T)> {
-        loop {
-            let entry = self.entries.next()?;
-            if let Some(found) = self.found(entry) {
-                return Some(found);
-            }
-        }
-    }
-
-    fn size_hint(&self) -> (usize, Option<usize>) {
-        (self.left, Some(self.left))
-    }
-}
-
-impl<T> DoubleEndedIterator for IntoIter<T> {
-    fn next_back(&mut self) -> Option<(usize, T)> {
-        loop {
-            let entry = self.entries.next_back()?;
-            if let Some(found) = self.found(entry) {
-                return Some(found);
-            }
+        match &mut self.0 {
+            Changed::InVector(values) => values.next_back(),
+            Changed::InPages(nodes) => nodes.next_back().map(|node| (node.key, &mut node.value)),
         }
     }
 }
 
-/// Takes the values out: of [`Slab::drain`].
-pub struct Drain<'a, T> {
-    entries: vec::Drain<'a, Entry>,
-    values: Option<&'a mut teurlaks::Slab<Node<T>>>,
-    left: usize,
-}
-
-impl<'a, T> Drain<'a, T> {
-    pub(super) fn new(
-        entries: vec::Drain<'a, Entry>,
-        values: Option<&'a mut teurlaks::Slab<Node<T>>>,
-        left: usize,
-    ) -> Drain<'a, T> {
-        Drain { entries, values, left }
-    }
-
-    fn found(&mut self, entry: Entry) -> Option<T> {
-        let Entry::Occupied(name) = entry else { return None };
-        let node = self.values.as_mut()?.remove(name)?;
-        self.left -= 1;
-        Some(node.value)
-    }
-}
-
-impl<T> Iterator for Drain<'_, T> {
-    type Item = T;
-
-    fn next(&mut self) -> Option<T> {
-        loop {
-            let entry = self.entries.next()?;
-            if let Some(found) = self.found(entry) {
-                return Some(found);
-            }
-        }
-    }
-
-    fn size_hint(&self) -> (usize, Option<usize>) {
-        (self.left, Some(self.left))
-    }
-}
-
-impl<T> DoubleEndedIterator for Drain<'_, T> {
-    fn next_back(&mut self) -> Option<T> {
-        loop {
-            let entry = self.entries.next_back()?;
-            if let Some(found) = self.found(entry) {
-                return Some(found);
-            }
-        }
-    }
-}
-
-impl<T> Drop for Drain<'_, T> {
-    fn drop(&mut self) {
-        if let Some(values) = &mut self.values {
-            values.clear();
-        }
-    }
-}
-
-impl<T> ExactSizeIterator for Iter<'_, T> {}
 impl<T> ExactSizeIterator for IterMut<'_, T> {}
-impl<T> ExactSizeIterator for IntoIter<T> {}
-impl<T> ExactSizeIterator for Drain<'_, T> {}
-
-impl<T> FusedIterator for Iter<'_, T> {}
 impl<T> FusedIterator for IterMut<'_, T> {}
-impl<T> FusedIterator for IntoIter<T> {}
-impl<T> FusedIterator for Drain<'_, T> {}
 
 macro_rules! debug {
     ($($type:ty, $name:literal;)*) => {$(
@@ -239,12 +198,11 @@ impl<T> IntoIterator for Slab<T> {
     type Item = (usize, T);
     type IntoIter = IntoIter<T>;
 
-    fn into_iter(self) -> IntoIter<T> {
-        IntoIter {
-            entries: self.entries.into_iter().enumerate(),
-            values: self.values,
-            left: self.len,
-        }
+    fn into_iter(mut self) -> IntoIter<T> {
+        IntoIter(match mem::replace(&mut self.0, Values::InVector(Plain::new())) {
+            Values::InVector(values) => Owned::InVector(values.into_entries()),
+            Values::InPages(paged) => Owned::InPages(paged.names.into_entries(), paged.values),
+        })
     }
 }
 

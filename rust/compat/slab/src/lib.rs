@@ -8,16 +8,18 @@
 //!
 //! let mut slab = Slab::new();
 //! let keys: Vec<_> = (0..100_000_u64).map(|n| slab.insert([n; 30])).collect();
-//! slab.retain(|_, [n, ..]| n % 11 == 0);
+//! slab.retain(|_, value| value[0] % 11 == 0);
 //! slab.shrink_to_fit(); // or by itself, in parts, while values are removed
 //! assert_eq!(slab[keys[22]], [22; 30]);
 //! ```
 #![warn(missing_docs, missing_debug_implementations)]
 
 mod iterators;
+mod plain;
 
 pub use iterators::{Drain, IntoIter, Iter, IterMut};
 
+use plain::Plain;
 use std::fmt;
 use std::mem;
 use std::ops::{Index, IndexMut};
@@ -30,23 +32,25 @@ const PART: usize = 16;
 /// Fewer values than this are not worth a compaction.
 const FEW: usize = 4096;
 
+/// Up to so many keys stand with their values in one vector, as in `slab`: hardly a page could be given
+/// back of them.
+const IN_VECTOR: usize = if cfg!(feature = "always-in-pages") { 0 } else { 256 };
+
 /// Values of one type under keys that are numbers, the lowest first.
-pub struct Slab<T> {
-    entries: Vec<Entry>,
-    len: usize,
-    // The vacant entry that is taken next, or the number of all.
-    next: usize,
-    // It comes with the first value.
-    values: Option<teurlaks::Slab<Node<T>>>,
-    // How many values were removed since the last compaction.
-    removed: usize,
+pub struct Slab<T>(Values<T>);
+
+/// Where the values stand.
+enum Values<T> {
+    InVector(Plain<T>),
+    InPages(Paged<T>),
 }
 
-/// What stands for a key: the key of its value, or the vacant entry that is taken after this one.
-#[derive(Clone, Copy)]
-enum Entry {
-    Occupied(Key),
-    Vacant(u32),
+/// Values in pages, under keys of Teurlaks.
+struct Paged<T> {
+    names: Plain<Key>,
+    values: Box<teurlaks::Slab<Node<T>>>,
+    // How many values were removed since the last compaction.
+    removed: usize,
 }
 
 /// A value and its key. The value is first, so that its address is the node's.
@@ -63,32 +67,140 @@ pub struct VacantEntry<'a, T> {
     key: usize,
 }
 
-impl<T> Slab<T> {
-    /// A slab with no value, which takes no memory.
-    #[must_use]
-    pub const fn new() -> Slab<T> {
-        Slab {
-            entries: Vec::new(),
-            len: 0,
-            next: 0,
-            values: None,
+impl<T> Paged<T> {
+    /// The values of these keys.
+    fn of(values: Plain<T>) -> Paged<T> {
+        let mut kept = Box::<teurlaks::Slab<Node<T>>>::default();
+        Paged {
+            names: values.map(|key, value| keep(&mut kept, key, value)),
+            values: kept,
             removed: 0,
         }
     }
 
-    /// A slab with room for so many keys. Values have memory as they come.
+    fn get(&self, key: usize) -> Option<&T> {
+        Some(&self.values.get(*self.names.get(key)?)?.value)
+    }
+
+    fn get_mut(&mut self, key: usize) -> Option<&mut T> {
+        Some(&mut self.values.get_mut(*self.names.get(key)?)?.value)
+    }
+
+    fn get2_mut(&mut self, key1: usize, key2: usize) -> Option<(&mut T, &mut T)> {
+        let names = [*self.names.get(key1)?, *self.names.get(key2)?];
+        let [one, two] = self.values.get_disjoint_mut(names)?;
+        Some((&mut one.value, &mut two.value))
+    }
+
+    fn insert(&mut self, value: T) -> usize {
+        self.names.reserve(1);
+        let name = keep(&mut self.values, self.names.next(), value);
+        self.names.insert(name)
+    }
+
+    fn remove(&mut self, key: usize) -> Option<T> {
+        let name = self.names.remove(key)?;
+        let node = self.values.remove(name)?;
+        self.note_removed();
+        Some(node.value)
+    }
+
+    fn compact(&mut self, mut rekey: impl FnMut(&mut T, usize, usize) -> bool) {
+        let values = &mut *self.values;
+        self.names.compact(|name, from, to| {
+            let lost = Lost { values, name: *name };
+            let node = lost.values.get_mut(*name).expect("the key has a value");
+            let agrees = rekey(&mut node.value, from, to);
+            node.key = if agrees { to } else { from };
+            mem::forget(lost);
+            agrees
+        });
+    }
+
+    /// Does a part of a compaction now and then, once as many values are gone as are left.
+    fn note_removed(&mut self) {
+        self.removed += 1;
+        if self.removed >= self.names.len().max(FEW) && self.removed % BETWEEN_PARTS == 0 {
+            // If memory is refused, it goes on later.
+            let is_done = self.values.compact_within(PART).is_ok_and(|done| !done.more);
+            if is_done {
+                self.removed = 0;
+            }
+        }
+    }
+
+    /// Gives back all pages that can be done without.
+    fn give_back(&mut self) {
+        self.removed = 0;
+        // If memory is refused, the pages stay.
+        let _ = self.values.compact();
+    }
+
+    /// The values in one vector.
+    fn into_vector(mut self) -> Plain<T> {
+        let values = &mut self.values;
+        self.names
+            .map(|_, name| values.remove(name).expect("the key has a value").value)
+    }
+}
+
+/// Keeps a value, and gives its name.
+fn keep<T>(values: &mut teurlaks::Slab<Node<T>>, key: usize, value: T) -> Key {
+    values.insert(Node { value, key }).expect("there is memory for a value")
+}
+
+/// A value that goes if the closure panics that is asked for it.
+struct Lost<'v, T> {
+    values: &'v mut teurlaks::Slab<Node<T>>,
+    name: Key,
+}
+
+impl<T> Drop for Lost<'_, T> {
+    fn drop(&mut self) {
+        self.values.remove(self.name);
+    }
+}
+
+/// Does the same wherever the values stand.
+macro_rules! either {
+    ($slab:expr, $keys:ident => $of_keys:expr) => {
+        match $slab {
+            Values::InVector($keys) => $of_keys,
+            Values::InPages(Paged { names: $keys, .. }) => $of_keys,
+        }
+    };
+    ($slab:expr, in $values:ident => $of_values:expr) => {
+        match $slab {
+            Values::InVector($values) => $of_values,
+            Values::InPages($values) => $of_values,
+        }
+    };
+}
+
+impl<T> Slab<T> {
+    /// A slab with no value, which takes no memory.
+    #[must_use]
+    pub const fn new() -> Slab<T> {
+        Slab(Values::InVector(Plain::new()))
+    }
+
+    /// A slab with room for so many keys. If these are more than 256, values have memory as they come.
     #[must_use]
     pub fn with_capacity(capacity: usize) -> Slab<T> {
-        Slab {
-            entries: Vec::with_capacity(capacity),
-            ..Slab::new()
+        if capacity <= IN_VECTOR {
+            return Slab(Values::InVector(Plain::with_capacity(capacity)));
         }
+        Slab(Values::InPages(Paged {
+            names: Plain::with_capacity(capacity),
+            values: Box::default(),
+            removed: 0,
+        }))
     }
 
     /// For how many keys there is room.
     #[must_use]
     pub fn capacity(&self) -> usize {
-        self.entries.capacity()
+        either!(&self.0, keys => keys.capacity())
     }
 
     /// Makes room for so many further keys.
@@ -97,10 +209,8 @@ impl<T> Slab<T> {
     ///
     /// If there can't be so many.
     pub fn reserve(&mut self, additional: usize) {
-        let vacant = self.entries.len() - self.len;
-        if additional > vacant {
-            self.entries.reserve(additional - vacant);
-        }
+        self.make_way(additional);
+        either!(&mut self.0, keys => keys.reserve(additional));
     }
 
     /// Makes room for so many further keys, and no more.
@@ -109,116 +219,95 @@ impl<T> Slab<T> {
     ///
     /// If there can't be so many.
     pub fn reserve_exact(&mut self, additional: usize) {
-        let vacant = self.entries.len() - self.len;
-        if additional > vacant {
-            self.entries.reserve_exact(additional - vacant);
+        self.make_way(additional);
+        either!(&mut self.0, keys => keys.reserve_exact(additional));
+    }
+
+    /// Has values stand in pages if so many further keys are too many for a vector.
+    fn make_way(&mut self, additional: usize) {
+        if let Values::InVector(values) = &mut self.0 {
+            if values.len().saturating_add(additional) > IN_VECTOR {
+                self.0 = Values::InPages(Paged::of(mem::replace(values, Plain::new())));
+            }
         }
     }
 
     /// Gives back the room of the last keys that have no value, and the pages of values that can be
     /// done without. Each value keeps its key.
     pub fn shrink_to_fit(&mut self) {
-        let before = self.entries.len();
-        while let Some(Entry::Vacant(_)) = self.entries.last() {
-            self.entries.pop();
-        }
-        if self.entries.len() != before {
-            self.list_vacant();
-        }
-        self.entries.shrink_to_fit();
+        either!(&mut self.0, keys => keys.shrink());
         self.give_back();
     }
 
     /// Moves values to lower keys, as far as the closure agrees, and gives back what is not used
     /// any more. The closure has the value, its key, and the key that it may have: as in `slab`.
     ///
-    /// No value moves in memory by that. To give memory back without other keys there is
-    /// [`Slab::shrink_to_fit`].
-    pub fn compact<F>(&mut self, mut rekey: F)
+    /// To give memory back without other keys there is [`Slab::shrink_to_fit`].
+    pub fn compact<F>(&mut self, rekey: F)
     where
         F: FnMut(&mut T, usize, usize) -> bool,
     {
-        let mut moving = Moving {
-            slab: self,
-            popped: None,
-        };
-        let mut to = 0;
-        while moving.slab.entries.len() > moving.slab.len {
-            let Some(Entry::Occupied(name)) = moving.slab.entries.pop() else {
-                continue;
-            };
-            while let Some(Entry::Occupied(_)) = moving.slab.entries.get(to) {
-                to += 1;
-            }
-            let from = moving.slab.entries.len();
-            moving.popped = Some(name);
-            let node = moving.slab.values.as_mut().and_then(|values| values.get_mut(name));
-            let node = node.expect("the key has a value");
-            let agrees = rekey(&mut node.value, from, to);
-            moving.popped = None;
-            if !agrees {
-                moving.slab.entries.push(Entry::Occupied(name));
-                break;
-            }
-            node.key = to;
-            moving.slab.entries[to] = Entry::Occupied(name);
-        }
-        drop(moving);
-        self.entries.shrink_to_fit();
+        either!(&mut self.0, in values => values.compact(rekey));
         self.give_back();
     }
 
     /// Takes all values out, and keeps the room of their keys.
     pub fn clear(&mut self) {
-        self.entries.clear();
-        (self.len, self.next) = (0, 0);
-        if let Some(values) = &mut self.values {
-            values.clear();
+        match &mut self.0 {
+            Values::InVector(values) => values.clear(),
+            Values::InPages(paged) => {
+                paged.names.clear();
+                paged.values.clear();
+                paged.give_back();
+            }
         }
-        self.give_back();
+    }
+
+    /// Gives back all pages that can be done without, and takes few values back into a vector.
+    fn give_back(&mut self) {
+        if let Values::InPages(paged) = &mut self.0 {
+            if paged.names.keys() > IN_VECTOR / 2 {
+                paged.give_back();
+            } else if let Values::InPages(few) = mem::replace(&mut self.0, Values::InVector(Plain::new())) {
+                let mut values = few.into_vector();
+                values.shrink();
+                self.0 = Values::InVector(values);
+            }
+        }
     }
 
     /// How many values there are.
     #[must_use]
     pub fn len(&self) -> usize {
-        self.len
+        either!(&self.0, keys => keys.len())
     }
 
     /// Whether there is no value.
     #[must_use]
     pub fn is_empty(&self) -> bool {
-        self.len == 0
+        self.len() == 0
     }
 
     /// Each value with its key, from the lowest key on.
     pub fn iter(&self) -> Iter<'_, T> {
-        Iter::new(&self.entries, self.values.as_ref(), self.len)
+        Iter::new(&self.0)
     }
 
     /// Each value with its key, from the lowest key on, to be changed. It takes memory for a list
-    /// of these.
+    /// of these if there are more than 256.
     pub fn iter_mut(&mut self) -> IterMut<'_, T> {
-        IterMut::new(self.values.as_mut())
-    }
-
-    fn name(&self, key: usize) -> Option<Key> {
-        match self.entries.get(key) {
-            Some(Entry::Occupied(name)) => Some(*name),
-            _ => None,
-        }
+        IterMut::new(&mut self.0)
     }
 
     /// The value of the key, if it has one.
     #[must_use]
     pub fn get(&self, key: usize) -> Option<&T> {
-        let name = self.name(key)?;
-        Some(&self.values.as_ref()?.get(name)?.value)
+        either!(&self.0, in values => values.get(key))
     }
 
     /// The value of the key, if it has one, to be changed.
     pub fn get_mut(&mut self, key: usize) -> Option<&mut T> {
-        let name = self.name(key)?;
-        Some(&mut self.values.as_mut()?.get_mut(name)?.value)
+        either!(&mut self.0, in values => values.get_mut(key))
     }
 
     /// The values of two keys, to be changed, if both have one.
@@ -228,9 +317,7 @@ impl<T> Slab<T> {
     /// If the keys are the same.
     pub fn get2_mut(&mut self, key1: usize, key2: usize) -> Option<(&mut T, &mut T)> {
         assert!(key1 != key2);
-        let names = [self.name(key1)?, self.name(key2)?];
-        let [one, two] = self.values.as_mut()?.get_disjoint_mut(names)?;
-        Some((&mut one.value, &mut two.value))
+        either!(&mut self.0, in values => values.get2_mut(key1, key2))
     }
 
     /// The value of the key. It is checked all the same.
@@ -281,11 +368,14 @@ impl<T> Slab<T> {
     #[must_use]
     pub fn key_of(&self, present_element: &T) -> usize {
         let at: *const T = present_element;
-        let node = self.values.as_ref().and_then(|values| {
-            let name = values.key_at(at.cast())?;
-            values.get(name)
-        });
-        node.expect("The reference points to a value outside this slab").key
+        let key = match &self.0 {
+            Values::InVector(values) => values.key_at(at),
+            Values::InPages(paged) => {
+                let name = paged.values.key_at(at.cast());
+                name.and_then(|name| Some(paged.values.get(name)?.key))
+            }
+        };
+        key.expect("The reference points to a value outside this slab")
     }
 
     /// Keeps a value, and gives its key.
@@ -294,59 +384,30 @@ impl<T> Slab<T> {
     ///
     /// If memory is refused for it.
     pub fn insert(&mut self, val: T) -> usize {
-        let key = self.next;
-        self.insert_at(key, val);
-        key
+        if let Values::InVector(values) = &mut self.0 {
+            if values.len() < IN_VECTOR {
+                return values.insert(val);
+            }
+            self.make_way(1);
+        }
+        either!(&mut self.0, in values => values.insert(val))
     }
 
     /// The key that the next value will have.
     #[must_use]
     pub fn vacant_key(&self) -> usize {
-        self.next
+        either!(&self.0, keys => keys.next())
     }
 
     /// A key for a value that is still to come.
     pub fn vacant_entry(&mut self) -> VacantEntry<'_, T> {
-        let key = self.next;
+        let key = self.vacant_key();
         VacantEntry { slab: self, key }
-    }
-
-    /// Keeps a value under the key that comes next.
-    fn insert_at(&mut self, key: usize, value: T) {
-        if self.entries.len() == key {
-            self.entries.reserve(1);
-        }
-        let name = self.keep(key, value);
-        self.next = match self.entries.get_mut(key) {
-            None => {
-                self.entries.push(Entry::Occupied(name));
-                key + 1
-            }
-            Some(entry) => match mem::replace(entry, Entry::Occupied(name)) {
-                Entry::Vacant(next) => next as usize,
-                Entry::Occupied(_) => unreachable!("a vacant entry is next"),
-            },
-        };
-        self.len += 1;
-    }
-
-    /// Keeps a value, and gives its name.
-    fn keep(&mut self, key: usize, value: T) -> Key {
-        // What is next after a vacant entry has 32 bits.
-        assert!(key < u32::MAX as usize, "capacity overflow");
-        let values = self.values.get_or_insert_with(teurlaks::Slab::default);
-        values.insert(Node { value, key }).expect("there is memory for a value")
     }
 
     /// Takes the value of the key out, if it has one.
     pub fn try_remove(&mut self, key: usize) -> Option<T> {
-        let name = self.name(key)?;
-        let value = self.values.as_mut()?.remove(name)?.value;
-        self.entries[key] = Entry::Vacant(self.next as u32);
-        self.next = key;
-        self.len -= 1;
-        self.note_removed();
-        Some(value)
+        either!(&mut self.0, in values => values.remove(key))
     }
 
     /// Takes the value of the key out.
@@ -362,7 +423,7 @@ impl<T> Slab<T> {
     /// Whether the key has a value.
     #[must_use]
     pub fn contains(&self, key: usize) -> bool {
-        self.name(key).is_some()
+        either!(&self.0, keys => keys.get(key).is_some())
     }
 
     /// Takes out each value that the test does not keep, from the lowest key on.
@@ -370,7 +431,7 @@ impl<T> Slab<T> {
     where
         F: FnMut(usize, &mut T) -> bool,
     {
-        for key in 0..self.entries.len() {
+        for key in 0..either!(&self.0, keys => keys.keys()) {
             let keeps = self.get_mut(key).map_or(true, |value| f(key, value));
             if !keeps {
                 self.try_remove(key);
@@ -380,66 +441,14 @@ impl<T> Slab<T> {
 
     /// Takes all values out, and gives each, from the lowest key on.
     pub fn drain(&mut self) -> Drain<'_, T> {
-        let len = mem::take(&mut self.len);
-        self.next = 0;
-        Drain::new(self.entries.drain(..), self.values.as_mut(), len)
-    }
-
-    /// Does a part of a compaction now and then, once as many values are gone as are left.
-    fn note_removed(&mut self) {
-        self.removed += 1;
-        if self.removed >= self.len.max(FEW) && self.removed % BETWEEN_PARTS == 0 {
-            if let Some(values) = &mut self.values {
-                // If memory is refused, it goes on later.
-                let is_done = values.compact_within(PART).is_ok_and(|done| !done.more);
-                if is_done {
-                    self.removed = 0;
-                }
-            }
-        }
-    }
-
-    /// Gives back all pages that can be done without.
-    fn give_back(&mut self) {
-        self.removed = 0;
-        if let Some(values) = &mut self.values {
-            // If memory is refused, the pages stay.
-            let _ = values.compact();
-        }
-    }
-
-    /// Lists the vacant entries anew, the lowest first.
-    fn list_vacant(&mut self) {
-        self.next = self.entries.len();
-        for (key, entry) in self.entries.iter_mut().enumerate().rev() {
-            if let Entry::Vacant(next) = entry {
-                *next = self.next as u32;
-                self.next = key;
-            }
-        }
-    }
-}
-
-/// A slab whose values get other keys. The value for which the closure panics goes.
-struct Moving<'s, T> {
-    slab: &'s mut Slab<T>,
-    popped: Option<Key>,
-}
-
-impl<T> Drop for Moving<'_, T> {
-    fn drop(&mut self) {
-        self.slab.len -= usize::from(self.popped.is_some());
-        self.slab.list_vacant();
-        if let (Some(name), Some(values)) = (self.popped, &mut self.slab.values) {
-            values.remove(name);
-        }
+        Drain::new(&mut self.0)
     }
 }
 
 impl<'a, T> VacantEntry<'a, T> {
     /// Keeps the value, and lends it.
     pub fn insert(self, val: T) -> &'a mut T {
-        self.slab.insert_at(self.key, val);
+        self.slab.insert(val);
         self.slab.get_mut(self.key).expect("the value was kept")
     }
 
@@ -459,16 +468,21 @@ impl<T> Default for Slab<T> {
 impl<T: Clone> Clone for Slab<T> {
     /// The values with the keys that they have here.
     fn clone(&self) -> Slab<T> {
-        let mut copy = Slab {
-            entries: self.entries.clone(),
-            len: self.len,
-            next: self.next,
-            ..Slab::new()
-        };
-        for (key, value) in self {
-            copy.entries[key] = Entry::Occupied(copy.keep(key, value.clone()));
-        }
-        copy
+        Slab(match &self.0 {
+            Values::InVector(values) => Values::InVector(values.clone()),
+            Values::InPages(paged) => {
+                let mut kept = Box::default();
+                let names = paged.names.clone().map(|key, name| {
+                    let node: &Node<T> = &paged.values[name];
+                    keep(&mut kept, key, node.value.clone())
+                });
+                Values::InPages(Paged {
+                    names,
+                    values: kept,
+                    removed: 0,
+                })
+            }
+        })
     }
 }
 
@@ -497,42 +511,24 @@ impl<T> FromIterator<(usize, T)> for Slab<T> {
         // The vacant entries are in the order in which they came until one of them is taken.
         let mut in_order = true;
         for (key, value) in pairs {
-            if let Some(name) = slab.name(key) {
-                let values = slab.values.as_mut().expect("a value has this key");
-                values[name].value = value;
+            if let Some(old) = slab.get_mut(key) {
+                *old = value;
                 continue;
             }
-            let count = slab.entries.len();
-            let name = slab.keep(key, value);
-            in_order &= key >= count;
-            for vacant in count..key {
-                slab.entries.push(Entry::Vacant(slab.next as u32));
-                slab.next = vacant;
+            // What is next after a vacant entry has 32 bits.
+            assert!(key < u32::MAX as usize, "capacity overflow");
+            in_order &= key >= either!(&slab.0, keys => keys.keys());
+            slab.make_way(if key < IN_VECTOR { 0 } else { IN_VECTOR + 1 });
+            match &mut slab.0 {
+                Values::InVector(values) => values.insert_at(key, value),
+                Values::InPages(paged) => {
+                    let name = keep(&mut paged.values, key, value);
+                    paged.names.insert_at(key, name);
+                }
             }
-            match slab.entries.get_mut(key) {
-                Some(entry) => *entry = Entry::Occupied(name),
-                None => slab.entries.push(Entry::Occupied(name)),
-            }
-            slab.len += 1;
         }
-        slab.end_vacant(in_order);
+        either!(&mut slab.0, keys => keys.end_vacant(in_order));
         slab
-    }
-}
-
-impl<T> Slab<T> {
-    /// Has the list of vacant entries, the last of which came first, end with what comes after all.
-    fn end_vacant(&mut self, in_order: bool) {
-        let count = self.entries.len();
-        if self.len == count {
-            self.next = count;
-        } else if !in_order {
-            self.list_vacant();
-        } else if let Some(Entry::Vacant(next)) =
-            self.entries.iter_mut().find(|entry| matches!(entry, Entry::Vacant(_)))
-        {
-            *next = count as u32;
-        }
     }
 }
 
@@ -542,7 +538,7 @@ impl<T: fmt::Debug> fmt::Debug for Slab<T> {
             f.debug_map().entries(self.iter()).finish()
         } else {
             f.debug_struct("Slab")
-                .field("len", &self.len)
+                .field("len", &self.len())
                 .field("cap", &self.capacity())
                 .finish()
         }

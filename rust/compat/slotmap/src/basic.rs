@@ -16,11 +16,7 @@ pub struct SlotMap<K: Key, V> {
 }
 
 /// Limits within which a key has a number, until a shard has opened 2^28 pages.
-const LIMITS: Limits = Limits {
-    shards: 16,
-    pages: 1 << 20,
-    generations: (1 << 24) - 1,
-};
+const LIMITS: Limits = Limits::compact_keys();
 
 impl<V> SlotMap<DefaultKey, V> {
     /// A map with no value, which takes no memory.

@@ -1,28 +1,25 @@
-//! The lock of a shard of a shared slab.
+//! The lock of a shard that threads share.
 
 use std::hint;
-use std::ops::{Deref, DerefMut};
 use std::sync::atomic::{AtomicUsize, Ordering};
 use std::sync::{Mutex, MutexGuard, PoisonError, TryLockError};
 use std::thread;
 
-/// How often a lock is asked for again, after 1, 2, 4 and so on pauses, before a thread sleeps.
+/// How often a lock is asked for again, after 1, 2, 4 and so on pauses, before a thread sleeps. Most
+/// calls have it for some 20 ns.
 const MOST_PAUSES: u32 = 6;
 
-/// How often a thread lets others run that wait for the lock, before it goes on all the same.
+/// How often a thread lets others run that wait for the lock, which it would have again before they
+/// are awake; then it goes on all the same.
 const MOST_YIELDS: usize = 200;
 
-/// A lock with two lines of a cache to itself, since processors fetch these in pairs. No code of a
-/// user runs under it, so that it is sound also where a thread panicked that had it.
-#[repr(align(128))]
-pub(super) struct Lock<S> {
+/// A lock whose waiters look again before they sleep. What is behind it is sound between any two calls,
+/// so a panic of a thread that had it does no harm.
+pub(crate) struct Lock<S> {
     held: Mutex<S>,
     // How many threads wait for it, as far as they say so.
     waiting: AtomicUsize,
 }
-
-/// What is behind the lock, for the thread that has it.
-pub(super) struct Held<'l, S>(MutexGuard<'l, S>);
 
 impl<S> Lock<S> {
     pub fn new(held: S) -> Lock<S> {
@@ -34,8 +31,8 @@ impl<S> Lock<S> {
 
     /// What is behind it, for which it waits.
     #[inline]
-    pub fn lock(&self) -> Held<'_, S> {
-        Held(self.try_lock().unwrap_or_else(|| self.wait()))
+    pub fn lock(&self) -> MutexGuard<'_, S> {
+        self.try_lock().unwrap_or_else(|| self.wait())
     }
 
     #[inline]
@@ -75,21 +72,5 @@ impl<S> Lock<S> {
     /// What is behind it, for whoever has it alone.
     pub fn get_mut(&mut self) -> &mut S {
         self.held.get_mut().unwrap_or_else(PoisonError::into_inner)
-    }
-}
-
-impl<S> Deref for Held<'_, S> {
-    type Target = S;
-
-    #[inline]
-    fn deref(&self) -> &S {
-        &self.0
-    }
-}
-
-impl<S> DerefMut for Held<'_, S> {
-    #[inline]
-    fn deref_mut(&mut self) -> &mut S {
-        &mut self.0
     }
 }
