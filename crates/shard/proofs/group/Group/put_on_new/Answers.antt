@@ -9,7 +9,7 @@ use Rattle.shard.proofs.group.Group.put_on_new.Goals as goal
 pub returns-in_err-page-clause-room : goal.returns-in_err-page-clause-room
 returns-in_err-page-clause-room g c =
     at_err c.from_residual.result (HasNoRoom-open c.args.class c.args.self.now c.requires.open c.requires.class
-    (subst (λ (group : GroupState). HasAllBelow (unusable group) (slots_in group.head.class) → ⊥) c.self.view_is (c.has_usable.ensures.0 c.if-not-has_usable.false)))
+    (subst (λ (group : GroupState). HasAllBelow (unusable group) (slots_in group.head.class) → ⊥) c.self.view_is (c.has_usable.ensures.usable.0 c.if-not-has_usable.false)))
 
 pub returns-in_err-placed-clause-room : goal.returns-in_err-placed-clause-room
 returns-in_err-placed-clause-room g c =
