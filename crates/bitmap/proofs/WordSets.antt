@@ -1,37 +1,36 @@
--- Sets of four words, bit by bit.
-use Rattle.std.proofs.Common.{◌≡◌, ℕ, ◌<◌, ◌*◌, ◌^◌, ◌%◌, zero, suc, Bool, true, false, bit_and, ap, ◌∙◌, refl, arith, w8}
-use Rattle.std.specs.Int.{bit_at, bit_not, trailing_zeros}
-use mir.Val.{bool_byte}
-use lib.Count.{count_trailing_zeros}
-use Rattle.std.proofs.lemmas.Nat.Bits.{bit_at-lt, bit_at-trailing_zeros, bit_at-zero, bit_at_and, bit_at_clear_other, bit_at_clear_same, bit_at_not}
+-- The first of four words, bit by bit.
+use Rattle.std.proofs.Common.{◌≡◌, ℕ, ◌<◌, bit_and, ◌∙◌, sym, inl, inr, arith, w8}
+use Rattle.std.specs.Int.{bit_at, trailing_zeros}
+use Rattle.std.proofs.lemmas.Bool.{cases_lt}
+use Rattle.std.proofs.lemmas.Nat.{and_le_r}
+use Rattle.std.proofs.lemmas.Nat.Bits.{bit_at-lt, bit_at-trailing_zeros, bit_at_above, bit_at_and, bit_at_ones}
 
-module _ (bits word : ℕ) (low : word < 4) where
-  -- bits without the word, if that is asked for
-  abbrev without : Bool → ℕ
-  without out = bit_and bits (bit_not w8 (bool_byte out * 2 ^ word % 2 ^ 8))
+module _ (bits : ℕ) where
+  abbrev four : ℕ
+  four = bit_and bits 15
 
-  pub removed-this : (out : Bool) → out ≡ true → bit_at (without out) word ≡ 0
-  removed-this true is = bit_at_clear_same w8 bits word (omega arith)
-  removed-this false is = absurd cc
+  -- the four bits are those of the four words
+  pub bit_at-four : (word : ℕ) → word < 4 → bit_at four word ≡ bit_at bits word
+  bit_at-four word low = omega (arith, bit_at_and bits 15 word, bit_at_ones 4 word low, bit_at-lt bits word)
 
-  pub removed-others : (out : Bool) (other : ℕ) → other < 4 → (out ≡ true → other ≡ word → ⊥) → bit_at (without out) other ≡ bit_at bits other
-  removed-others true other few apart = bit_at_clear_other w8 bits word (omega arith) other (omega arith) (apart refl)
-  removed-others false other few apart =
-      let none : 0 * 2 ^ word % 2 ^ 8 ≡ 0 = omega arith in
-      ap (λ m. bit_at (bit_and bits (bit_not w8 m)) other) none
-      ∙ bit_at_and bits (bit_not w8 0) other
-      ∙ omega (arith, bit_at_not w8 0 other (omega arith) (omega arith), bit_at-zero other, bit_at-lt bits other)
+  four-lt : four < 256
+  four-lt = omega (arith, and_le_r bits 15)
 
--- no bit is on below the lowest
-pub none-below : (bits word : ℕ) → bits < 256 → word < trailing_zeros w8 bits → bit_at bits word ≡ 0
-none-below zero word fits low = bit_at-zero word
-none-below (suc n) word fits low = (bit_at-trailing_zeros w8 (suc n) (omega arith) fits).2 word low
+  module _ (some : four ≡ 0 → ⊥) where
+    abbrev first : ℕ
+    first = trailing_zeros w8 four
 
-zeros-of-zero : trailing_zeros w8 0 ≡ 8
-unfolding count_trailing_zeros
-zeros-of-zero = refl
+    found : (first < 8) × (bit_at four first ≡ 1) × ((i : ℕ) → i < first → bit_at four i ≡ 0)
+    found = bit_at-trailing_zeros w8 four (omega arith) four-lt
 
--- and zero has none
-pub some-low : (bits : ℕ) → bits < 256 → trailing_zeros w8 bits < 4 → bit_at bits (trailing_zeros w8 bits) ≡ 1
-some-low zero fits low = absurd (omega (arith, low, zeros-of-zero))
-some-low (suc n) fits low = (bit_at-trailing_zeros w8 (suc n) (omega arith) fits).1
+    pub first-lt : first < 4
+    first-lt = elim (cases_lt first 4) [
+      | inl low ↦ low
+      | inr high ↦ absurd (omega (arith, found.1, bit_at_and bits 15 first, bit_at_above 15 4 first (omega arith) high))
+    ]
+
+    pub first-inside : bit_at bits first ≡ 1
+    first-inside = sym (bit_at-four first first-lt) ∙ found.1
+
+    pub first-lower : (word : ℕ) → word < first → bit_at bits word ≡ 0
+    first-lower word low = sym (bit_at-four word (omega (arith, low, first-lt))) ∙ found.2 word low

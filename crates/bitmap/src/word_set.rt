@@ -28,15 +28,15 @@ impl WordSet {
         self.bits |= 1 << word;
     }
 
-    /// Takes the word out if `out` says so, which takes no branch.
+    /// Takes the word out, which may not be in it.
     #[inline(always)]
-    pub fn remove_if(&mut self, word: usize, out: bool)
+    pub fn remove(&mut self, word: usize)
         requires { word < 4 }
-        ensures this { IsTrue out → has_word self.new word ≡ false }
-        ensures others { (other : ℕ) → other < 4 → (IsTrue out → other ≡ word → ⊥)
+        ensures this { has_word self.new word ≡ false }
+        ensures others { (other : ℕ) → other < 4 → (other ≡ word → ⊥)
             → has_word self.new other ≡ has_word self.old other }
     {
-        self.bits &= !(u8::from(out) << word);
+        self.bits &= !(1 << word);
     }
 
     /// The first word of the set.
@@ -45,10 +45,10 @@ impl WordSet {
         ensures { MatchOption result ((word : ℕ) → word < 4 → has_word self word ≡ false)
             (IsFirstWord self) }
     {
-        let word = self.bits.trailing_zeros() as usize;
-        if word >= 4 {
+        let bits = self.bits & 15;
+        if bits == 0 {
             return None;
         }
-        Some(word)
+        Some(bits.trailing_zeros() as usize)
     }
 }

@@ -3,6 +3,7 @@ ghost use Rattle.std.specs.Prelude.{[], ◌∷◌, ◌++◌, ◌≡◌, ◌<◌,
 ghost use Rattle.std.specs.Bool.{OnTrue, OnFalse};
 ghost use Rattle.std.specs.FinSet as set;
 ghost use Rattle.bitmap.specs.Slots.{AreDisjoint, HasAllBelow, HasWord, IsLowestOutside};
+ghost use Rattle.bitmap.specs.WordSets.{has_word};
 ghost use Rattle.span.specs.Classes.{slots_in, width_of};
 ghost use Rattle.span.specs.Log.{live_slots, puts_of, Holds};
 ghost use Rattle.span.specs.SpanLogs.{AreLegal, room_for_logs, span_of_log};
@@ -217,11 +218,8 @@ impl<L: Log> Spans<L> {
         };
         let key = self.head.put_at(slot, words)?;
         self.occupied.insert(slot);
-        self.open_words.remove_if(usize::from(slot / 64), is_last);
-        Ok(Some(Placed {
-            key,
-            is_full: self.open_words.first().is_none(),
-        }))
+        let is_full = shut(&mut self.open_words, usize::from(slot / 64), is_last);
+        Ok(Some(Placed { key, is_full }))
     }
 
     /// Whether a put of an object of the head's class has a slot: one that is live in no span, and
@@ -422,9 +420,24 @@ fn lowest_usable(
                 return Some(found);
             }
         }
-        open_words.remove_if(word, true);
+        open_words.remove(word);
     }
     None
+}
+
+// Takes the word out if `out` says so, and says whether none is left then.
+#[inline(always)]
+fn shut(open_words: &mut WordSet, word: usize, out: bool) -> bool
+    requires { word < 4 }
+    ensures none { IsTrue result → (other : ℕ) → other < 4 → has_word open_words.new other ≡ false }
+    ensures others { (other : ℕ) → other < 4 → (IsTrue out → other ≡ word → ⊥)
+        → has_word open_words.new other ≡ has_word open_words.old other }
+{
+    if !out {
+        return false;
+    }
+    open_words.remove(word);
+    open_words.first().is_none()
 }
 
 // Drops the guests in which no slot is live.

@@ -9,7 +9,7 @@ use Rattle.groups.specs.Spans.{SpansState, taken, union_of, with_put}
 use Rattle.groups.specs.SpansKept.{IsFullOutside}
 use Rattle.groups.proofs.FilledBy.{IsFullOutside-put}
 use Rattle.groups.proofs.Maps.{at_err}
-use Rattle.groups.proofs.OpenWords.{HasAllBelow-none, of-none, slots_in-most, taken-is}
+use Rattle.groups.proofs.OpenWords.{HasAllBelow-none, slots_in-most, taken-is}
 use Rattle.groups.proofs.Unions.{outside_left, outside_right, union-insert, AreDisjoint-insert}
 use Rattle.groups.proofs.spans.Spans.put.Goals as goal
 
@@ -61,13 +61,12 @@ invariant_of-self-2 g c =
       occupied_is = c.insert.ensures ∙ ap (λ s. set.insert s slot) c.self.invariant.occupied_is
           ∙ sym (ap (λ (s : SlotSet). set.union s (union_of inside.guests.items)) shown ∙ union-insert (live_slots inside.head.log) (union_of inside.guests.items) slot);
       apart = (subst (λ (s : SlotSet). AreDisjoint s (union_of inside.guests.items)) (sym shown) (AreDisjoint-insert _ _ slot c.self.invariant.apart.0 others), c.self.invariant.apart.1);
-      shut = subst (λ (h : SpanState). IsFullOutside c.remove_if.new.self (slots_in h.class) (taken (record spans { head = h }))) (sym put)
-          (IsFullOutside-put spans slot words (slots_in inside.head.class) c.lowest_usable-found.new.open_words c.remove_if.new.self c.in-Some.field-0.is_last
+      shut = subst (λ (h : SpanState). IsFullOutside c.shut-is_full.new.open_words (slots_in h.class) (taken (record spans { head = h }))) (sym put)
+          (IsFullOutside-put spans slot words (slots_in inside.head.class) c.lowest_usable-found.new.open_words c.shut-is_full.new.open_words c.in-Some.field-0.is_last
           (slots_in-most inside.head.class) shut (λ last. subst (λ s. HasWord (set.insert s slot) (slot / 64)) same (c.in-Some.ensures.last last))
-          (λ other few apart. c.remove_if.ensures.others other few (λ last e. apart last (e ∙ c.from.ensures))));
+          (λ other few apart. c.shut-is_full.ensures.others other few (λ last e. apart last (e ∙ c.from.ensures))));
     }
 
 pub returns-clause-full : goal.returns-clause-full
 returns-clause-full g c none =
-    HasAllBelow-none c.put_at.new.self.class _ c.remove_if.new.self (invariant_of-self-2 g c).shut
-    (of-none _ c.first.result c.is_none.result c.is_none.ensures none c.first.ensures)
+    HasAllBelow-none c.put_at.new.self.class _ c.shut-is_full.new.open_words (invariant_of-self-2 g c).shut (c.shut-is_full.ensures.none none)
