@@ -2,11 +2,11 @@
 ghost use Rattle.std.specs.Prelude.{◌≡◌, ◌<◌, ℕ, false, IfSome, IsTrue, MatchOption, true};
 ghost use Rattle.bitmap.specs.WordSets.{IsFirstWord, has_word};
 
-/// A set of the four words of a [`Bits256`](crate::Bits256), in one byte.
+/// A set of the four words of a [`Bits256`](crate::Bits256).
 #[derive(Clone, Copy, Debug)]
 pub struct WordSet {
-    // Bit k is on if word k is in the set.
-    bits: u8,
+    // Bit k is on if word k is in the set. Where it stands, a byte would take as much room.
+    bits: u64,
 }
 
 impl WordSet {
@@ -45,10 +45,10 @@ impl WordSet {
         ensures { MatchOption result ((word : ℕ) → word < 4 → has_word self word ≡ false)
             (IsFirstWord self) }
     {
-        let bits = self.bits & 15;
-        if bits == 0 {
+        let word = self.bits.trailing_zeros() as usize;
+        if word >= 4 {
             return None;
         }
-        Some(bits.trailing_zeros() as usize)
+        Some(word)
     }
 }

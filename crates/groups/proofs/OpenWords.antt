@@ -76,28 +76,10 @@ pub taken-is : (spans : SpansState) (occupied worn : SlotSet) → occupied ≡ u
     → union occupied worn ≡ taken spans
 taken-is spans occupied worn live worn_is = ap (λ s. union s worn) live ∙ ap (union (union_of (all_spans spans))) worn_is
 
-module _ (class : Class) (slots : SlotSet) (words : WordSet) (full : IsFullOutside words (slots_in class) slots) where
-  -- the least slot of the first word is the lowest
-  pub IsLowestOutside-first : (word slot : ℕ) → IsFirstWord words word → IsLowestOutsideIn slots word slot → slot < slots_in class → IsLowestOutside slots slot
-  IsLowestOutside-first word slot first least low = record {
-    outside = least.outside;
-    lower = λ q below. elim (cases_lt (q / 64) word) [
-      | inl before ↦ full q (omega (arith, below, low)) (first.lower (q / 64) before)
-      | inr from ↦ least.lower q (omega (arith, from, below, least.in_word)) below
-    ];
-  }
-
-  -- with no word there is none
-  pub HasAllBelow-none : ((word : ℕ) → word < 4 → has_word words word ≡ false) → HasAllBelow slots (slots_in class)
-  HasAllBelow-none none q below = full q below (none (q / 64) (omega (arith, below, slots_in-most class)))
-
-  -- a word with no slot below the limit leaves the set
-  pub IsFullOutside-removed : (word : ℕ) (after : WordSet) → ((q : ℕ) → q / 64 ≡ word → q < slots_in class → contains slots q ≡ true)
-      → ((other : ℕ) → other < 4 → (other ≡ word → ⊥) → has_word after other ≡ has_word words other) → IsFullOutside after (slots_in class) slots
-  IsFullOutside-removed word after all same q below out = elim (cases_eq (q / 64) word) [
-    | inl here ↦ all q here below
-    | inr apart ↦ full q below (sym (same (q / 64) (omega (arith, below, slots_in-most class)) apart) ∙ out)
-  ]
+-- with no word there is none
+pub HasAllBelow-none : (class : Class) (slots : SlotSet) (words : WordSet) → IsFullOutside words (slots_in class) slots
+    → ((word : ℕ) → word < 4 → has_word words word ≡ false) → HasAllBelow slots (slots_in class)
+HasAllBelow-none class slots words full none q below = full q below (none (q / 64) (omega (arith, below, slots_in-most class)))
 
 -- more slots are taken
 pub IsFullOutside-more : (words : WordSet) (limit : ℕ) (slots more : SlotSet) → IsFullOutside words limit slots

@@ -1,16 +1,13 @@
-use Rattle.std.proofs.Common.{◌∙◌, ap, eq-eqb, refl, sym}
-use Rattle.std.specs.Int.{bit_at}
-use Rattle.std.proofs.lemmas.Nat.Bits.{bit_at-zero}
-use Rattle.bitmap.proofs.WordSets.{bit_at-four, first-inside, first-lower, first-lt}
+use Rattle.std.proofs.Common.{arith, eq-eqb, refl}
+use Rattle.bitmap.proofs.WordSets.{none-below, some-low}
 use Rattle.bitmap.proofs.word_set.WordSet.first.Goals as goal
 
-pub returns-then-bits-eq0 : goal.returns-then-bits-eq0
-returns-then-bits-eq0 c word low =
-    rw (sym (bit_at-four c.args.self.bits word low) ∙ ap (λ b. bit_at b word) c.if-bits-eq0.true ∙ bit_at-zero word) refl
+pub returns-then-word-ge4 : goal.returns-then-word-ge4
+returns-then-word-ge4 c word low = rw (none-below c.args.self.bits word (omega arith) (omega (arith, low, c.if-word-ge4.true))) refl
 
 pub returns : goal.returns
 returns c = record {
-  fits = first-lt c.args.self.bits c.if-bits-eq0.false;
-  inside = eq-eqb _ 1 (first-inside c.args.self.bits c.if-bits-eq0.false);
-  lower = λ other less. rw (first-lower c.args.self.bits c.if-bits-eq0.false other less) refl;
+  fits = omega (arith, c.if-word-ge4.false);
+  inside = eq-eqb _ 1 (some-low c.args.self.bits (omega arith) (omega (arith, c.if-word-ge4.false)));
+  lower = λ other less. rw (none-below c.args.self.bits other (omega arith) less) refl;
 }
