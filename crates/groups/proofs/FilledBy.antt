@@ -1,9 +1,12 @@
--- Spans whose last usable slot is put at.
-use Rattle.std.proofs.Common.{◌≡◌, ℕ, ◌⊎◌, ◌+◌, ◌&&◌, ◌||◌, ◌==◌, ◌++◌, ◌∷◌, [], List, Bool, true, false, ap, sym, ◌∙◌, refl, inl, inr, eq-eqb, nat_lt}
+-- The slots that are taken after a put.
+use Rattle.std.proofs.Common.{◌≡◌, ℕ, ◌⊎◌, ◌+◌, ◌/◌, ◌<◌, ◌≤◌, arith, ◌&&◌, ◌||◌, ◌==◌, ◌++◌, ◌∷◌, [], List, Bool, true, false, ap, sym, ◌∙◌, refl, inl, inr, eq-eqb, nat_lt}
 use Rattle.std.specs.Cmp.{nat_cmp_total, unsigned_tied}
 use Rattle.std.specs.FinSet.{contains, insert, union, contains-insert, contains-union}
-use Rattle.std.proofs.lemmas.Bool.{cases_eq, ne_eqb}
-use Rattle.bitmap.specs.Slots.{SlotSet, HasAllBelow}
+use Rattle.std.specs.Ordering.{eq_by_cmp, nat_cmp}
+use Rattle.std.proofs.lemmas.Bool.{cases_Bool, cases_eq, ne_eqb, true≢false}
+use Rattle.bitmap.specs.Slots.{SlotSet, HasWord}
+use Rattle.bitmap.specs.WordSets.{has_word}
+use Rattle.bitmap.specs.declared.word_set.WordSet.{WordSet}
 use Rattle.bitmap.specs.declared.bits.TheConstants.{SLOTS}
 use Rattle.span.specs.Log.{Value, live_slots, puts_of, worn_slots}
 use Rattle.span.specs.declared.change.Change.{Change}
@@ -11,16 +14,18 @@ use Rattle.span.specs.declared.change.Change.TheVariants.{Put}
 use Rattle.span.proofs.Changes.{puts_of-put_other}
 use Rattle.span.proofs.Slots.{contains-worn_slots, live_slots-put}
 use Rattle.groups.specs.Spans.{SpansState, taken, union_of, with_put}
+use Rattle.groups.specs.SpansKept.{IsFullOutside}
+
+or_true : (x : Bool) → (x || true) ≡ true
+or_true true = refl
+or_true false = refl
 
 -- a member of either set is one of both
 left_in : (a b : SlotSet) (q : ℕ) → contains a q ≡ true → contains (union a b) q ≡ true
 left_in a b q member = contains-union nat_cmp_total a b q ∙ rw member refl
 
 right_in : (a b : SlotSet) (q : ℕ) → contains b q ≡ true → contains (union a b) q ≡ true
-right_in a b q member = contains-union nat_cmp_total a b q ∙ ap (λ other. contains a q || other) member ∙ or_true (contains a q) where
-  or_true : (x : Bool) → (x || true) ≡ true
-  or_true true = refl
-  or_true false = refl
+right_in a b q member = contains-union nat_cmp_total a b q ∙ ap (λ other. contains a q || other) member ∙ or_true (contains a q)
 
 -- and there is no other
 either : (a b : SlotSet) (q : ℕ) → contains (union a b) q ≡ true → (contains a q ≡ true) ⊎ (contains b q ≡ true)
@@ -51,13 +56,12 @@ module _ (spans : SpansState) (slot : ℕ) (value : Value) where
   live_is : live_slots log_after ≡ insert (live_slots spans.head.log) slot
   live_is = live_slots-put spans.head.log slot (puts_of slot spans.head.log + 1) value
 
-  -- where each slot but one is taken, each is once that one is put at
-  pub HasAllBelow-put : (limit : ℕ) → HasAllBelow (insert (taken spans) slot) limit
-      → HasAllBelow (taken (record spans { head = with_put spans.head slot value })) limit
-  HasAllBelow-put limit all q below = elim (cases_eq q slot) [
+  -- what is taken stays so, and the slot comes to it
+  pub taken-put : (q : ℕ) → contains (insert (taken spans) slot) q ≡ true → contains (taken (record spans { head = with_put spans.head slot value })) q ≡ true
+  taken-put q member = elim (cases_eq q slot) [
     | inl same ↦ left_in live_after worn_after q (left_in (live_slots log_after) guests q
         (rw live_is (contains-insert nat_cmp_total (live_slots spans.head.log) slot q ∙ rw (unsigned_tied q slot, eq-eqb q slot same) refl)))
-    | inr other ↦ elim (either live worn q (sym (contains-insert nat_cmp_total (taken spans) slot q ∙ rw (unsigned_tied q slot, ne_eqb q slot other) refl) ∙ all q below)) [
+    | inr other ↦ elim (either live worn q (sym (contains-insert nat_cmp_total (taken spans) slot q ∙ rw (unsigned_tied q slot, ne_eqb q slot other) refl) ∙ member)) [
       | inl occupied ↦ left_in live_after worn_after q (elim (either (live_slots spans.head.log) guests q occupied) [
         | inl head ↦ left_in (live_slots log_after) guests q
             (rw live_is (contains-insert nat_cmp_total (live_slots spans.head.log) slot q ∙ rw (unsigned_tied q slot, ne_eqb q slot other) head))
@@ -67,4 +71,20 @@ module _ (spans : SpansState) (slot : ℕ) (value : Value) where
           ∙ ap (λ n. (n == spans.head.gens) && nat_lt q SLOTS) (puts_of-put_other spans.head.log slot (puts_of slot spans.head.log + 1) value q (λ e. other (sym e)))
           ∙ sym (contains-worn_slots spans.head.gens spans.head.log q) ∙ is_worn)
     ]
+  ]
+
+  pub taken-put_old : (q : ℕ) → contains (taken spans) q ≡ true → contains (taken (record spans { head = with_put spans.head slot value })) q ≡ true
+  taken-put_old q member = taken-put q (contains-insert nat_cmp_total (taken spans) slot q ∙ ap (λ b. eq_by_cmp nat_cmp q slot || b) member ∙ or_true (eq_by_cmp nat_cmp q slot))
+
+  -- a word leaves the set if it is full once the slot is taken
+  pub IsFullOutside-put : (limit : ℕ) (words after : WordSet) (out : Bool) → limit ≤ 256 → IsFullOutside words limit (taken spans)
+      → (out ≡ true → HasWord (insert (taken spans) slot) (slot / 64))
+      → ((other : ℕ) → other < 4 → (out ≡ true → other ≡ slot / 64 → ⊥) → has_word after other ≡ has_word words other)
+      → IsFullOutside after limit (taken (record spans { head = with_put spans.head slot value }))
+  IsFullOutside-put limit words after out few full last same q below gone = elim (cases_eq (q / 64) (slot / 64)) [
+    | inl here ↦ elim (cases_Bool out) [
+      | inl is ↦ taken-put q (last is q here)
+      | inr not ↦ taken-put_old q (full q below (sym (same (q / 64) (omega (arith, below, few)) (λ is. absurd (true≢false (sym is ∙ not)))) ∙ gone))
+    ]
+    | inr apart ↦ taken-put_old q (full q below (sym (same (q / 64) (omega (arith, below, few)) (λ is. apart)) ∙ gone))
   ]

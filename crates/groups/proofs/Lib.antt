@@ -32,3 +32,4 @@ pub mod SpanCounts
 pub mod Standing
 pub mod StoredObjects
 pub mod Unions
+pub mod OpenWords

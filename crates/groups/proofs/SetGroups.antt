@@ -2,12 +2,14 @@
 use Rattle.std.proofs.Common.{zero, suc, ◌≡◌, ℕ, ◌<◌, ◌⊎◌, ◌++◌, ◌∷◌, [], length, Bool, true, false, IsTrue, ◌↔◌, List, Option, Some, None, IsSomeAnd, is_some, set, slice_get, ap, sym, subst, ◌∙◌, refl, inl, inr, eqb, eq-eqb, eqb-true, if◌then◌else◌}
 use Rattle.std.specs.Bool.{OnTrue, OnFalse}
 use Rattle.std.specs.FinMap as map
+use Rattle.std.specs.FinSet as finset
 use Rattle.std.specs.FinSet.{contains}
 use Rattle.std.proofs.lemmas.Bool.{cases_eq, false_from_ne_true, ne_eqb}
 use Rattle.bitmap.specs.Slots.{SlotSet}
+use Rattle.bitmap.specs.declared.word_set.WordSet.{WordSet}
 use Rattle.bitmap.specs.Operations.{AreDisjoint-at}
 use Rattle.span.specs.Classes.{slots_in, width_of}
-use Rattle.span.specs.Log.{Held, Holds, IsLegal, IsOfClass, Value, live_slots, replay, value_if, value_in}
+use Rattle.span.specs.Log.{Held, Holds, IsLegal, IsOfClass, Value, live_slots, replay, value_if, value_in, worn_slots}
 use Rattle.span.specs.PlainMap.{has_as_many}
 use Rattle.span.specs.State.{IsSettable, SpanState}
 use Rattle.span.specs.declared.change.Change.{Change}
@@ -15,15 +17,15 @@ use Rattle.span.specs.declared.change.Change.TheVariants.{Set}
 use Rattle.span.specs.declared.class.Class.{Class}
 use Rattle.span.proofs.Changes.{IsLegal-push, get-set}
 use Rattle.span.proofs.OfClass.{Fits-replay, Holds-on_page, IsOfClass-push}
-use Rattle.span.proofs.Slots.{contains-live_slots}
+use Rattle.span.proofs.Slots.{contains-live_slots, worn_slots-set}
 use Rattle.page.specs.Words.{Words, object_in, set_object}
 use Rattle.page.proofs.Words.{object_in-set_object_other, object_in-set_object_same}
 use Rattle.groups.specs.Group.{Group, spans_of}
 use Rattle.groups.specs.Pages.{object_at, set_group, words_of}
 use Rattle.groups.proofs.StoredObjects.{stored_in}
 use Rattle.groups.specs.Sound.{IsSoundGroup, IsStored}
-use Rattle.groups.specs.SpansKept.{IsKept}
-use Rattle.groups.specs.Spans.{AreApart, IsSpanOf, union_of, with_set_at}
+use Rattle.groups.specs.SpansKept.{IsFullOutside, IsKept}
+use Rattle.groups.specs.Spans.{AreApart, IsSpanOf, SpansState, all_spans, union_of, with_set_at, with_span_at}
 use Rattle.groups.proofs.Lists.{cases-set, same_some, set-same}
 use Rattle.groups.proofs.Standing.{AreSpansOf-with_span, spans_of-with_span}
 use Rattle.groups.proofs.Unions.{keep_held, live_if_held, member_of_union}
@@ -77,14 +79,32 @@ module _ (span : SpanState) (slot generation : ℕ) (value : Value) (of_class : 
   has_as_many-not not = false_from_ne_true (has_as_many value (value_in span.log slot generation)) (λ may. not (settable-has_as_many may))
 
 -- what is kept beside the spans stays so, whether the set was done or not
-pub IsKept-set : (spans : List SpanState) (occupied : SlotSet) → IsKept spans occupied → (place : ℕ) (span : SpanState) → slice_get spans place ≡ Some span
-    → (slot generation : ℕ) (value : Value) (done : Bool) (after : SpanState) → IsTrue done ↔ IsSettable span slot generation value
-    → OnTrue done (after ≡ with_set_at span slot generation value) → OnFalse done (after ≡ span) → IsKept (set spans place after) occupied
-IsKept-set spans occupied kept place span here slot generation value true after found is unknown =
-    let same = keep_held spans place span slot generation value here (found.0 refl).0 kept.apart in
-    subst (λ (s : SpanState). IsKept (set spans place s) occupied) (sym is) (record { occupied_is = kept.occupied_is ∙ sym same.0; apart = same.1 })
-IsKept-set spans occupied kept place span here slot generation value false after found is unknown =
-    subst (λ l. IsKept l occupied) (sym (ap (λ s. set spans place s) unknown ∙ set-same spans place span here)) kept
+module _ (spans : SpansState) (occupied : SlotSet) (open_words : WordSet) (kept : IsKept spans occupied open_words) (span : SpanState) (slot generation : ℕ) (value : Value) where
+  kept_set : (place : ℕ) → slice_get (all_spans spans) place ≡ Some span → Holds span.log slot generation
+      → IsKept (with_span_at spans place (with_set_at span slot generation value)) occupied open_words
+  kept_set zero here holds =
+      let same = keep_held (all_spans spans) zero span slot generation value here holds kept.apart in
+      record {
+        occupied_is = kept.occupied_is ∙ sym same.0;
+        apart = same.1;
+        shut = rw (same.0, worn_slots-set span.gens span.log slot generation value)
+            (subst (λ (s : SpanState). IsFullOutside open_words (slots_in s.class) (finset.union (union_of (all_spans spans)) (worn_slots s.gens s.log))) (same_some here) kept.shut);
+      }
+  kept_set (suc place) here holds =
+      let same = keep_held (all_spans spans) (suc place) span slot generation value here holds kept.apart in
+      record { occupied_is = kept.occupied_is ∙ sym same.0; apart = same.1; shut = rw same.0 kept.shut }
+
+  kept_same : (place : ℕ) → slice_get (all_spans spans) place ≡ Some span → with_span_at spans place span ≡ spans
+  kept_same zero here = ap (λ (s : SpanState). record spans { head = s }) (sym (same_some here))
+  kept_same (suc place) here = ap (λ (guests : List SpanState). record spans { guests = guests }) (set-same spans.guests place span here)
+
+  pub IsKept-set : (place : ℕ) → slice_get (all_spans spans) place ≡ Some span → (done : Bool) (after : SpanState)
+      → IsTrue done ↔ IsSettable span slot generation value → OnTrue done (after ≡ with_set_at span slot generation value) → OnFalse done (after ≡ span)
+      → IsKept (with_span_at spans place after) occupied open_words
+  IsKept-set place here true after found is unknown =
+      subst (λ (s : SpanState). IsKept (with_span_at spans place s) occupied open_words) (sym is) (kept_set place here (found.0 refl).0)
+  IsKept-set place here false after found is unknown =
+      subst (λ (s : SpansState). IsKept s occupied open_words) (sym (ap (with_span_at spans place) unknown ∙ kept_same place here)) kept
 
 module _ {Closed : Type 0} (group : Group Closed) (sound : IsSoundGroup group)
     (place : ℕ) (span : SpanState) (here : slice_get (spans_of group) place ≡ Some span) (slot generation : ℕ) (value : Value) (settable : IsSettable span slot generation value) where

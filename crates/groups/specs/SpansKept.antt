@@ -1,10 +1,20 @@
 -- What spans on one page keep beside themselves. No public clause cites this module.
-use Rattle.std.specs.Prelude.{◌≡◌, List}
+use Rattle.std.specs.Prelude.{◌≡◌, ℕ, ◌<◌, ◌/◌, true, false}
+use Rattle.std.specs.FinSet as set
 use Rattle.bitmap.specs.Slots.{SlotSet}
-use Rattle.span.specs.State.{SpanState}
-use Rattle.groups.specs.Spans.{AreApart, union_of}
+use Rattle.bitmap.specs.WordSets.{has_word}
+use Rattle.bitmap.specs.declared.word_set.WordSet.{WordSet}
+use Rattle.span.specs.Classes.{slots_in}
+use Rattle.groups.specs.Spans.{AreApart, SpansState, all_spans, taken, union_of}
 
--- the occupied set is kept, and the live sets are apart
-pub record IsKept (spans : List SpanState) (occupied : SlotSet) : Type 0 where
-  pub occupied_is : occupied ≡ union_of spans
-  pub apart : AreApart spans
+-- the set has each slot below the limit that is in none of the words
+abbrev pub IsFullOutside : WordSet → ℕ → SlotSet → Type 0
+IsFullOutside words limit slots = (slot : ℕ) → slot < limit → has_word words (slot / 64) ≡ false
+    → set.contains slots slot ≡ true
+
+-- the occupied set is kept, the live sets are apart, and the words that are not in the set have no usable
+-- slot
+pub record IsKept (spans : SpansState) (occupied : SlotSet) (words : WordSet) : Type 0 where
+  pub occupied_is : occupied ≡ union_of (all_spans spans)
+  pub apart : AreApart (all_spans spans)
+  pub shut : IsFullOutside words (slots_in spans.head.class) (taken spans)

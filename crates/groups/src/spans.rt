@@ -1,30 +1,36 @@
 // A head and its guests, whose live slots differ.
-ghost use Rattle.std.specs.Prelude.{[], ◌∷◌, ◌++◌, ◌≡◌, ◌<◌, ◌≤◌, ◌+◌, ℕ, IfOk, IfSome, OnOk, OnErr, MatchOption, Some, IsTrue, ◌↔◌, slice_get, slice_set, length, map, false, vec_len, vec_capacity};
+ghost use Rattle.std.specs.Prelude.{[], ◌∷◌, ◌++◌, ◌≡◌, ◌<◌, ◌≤◌, ◌+◌, ◌/◌, ℕ, IfOk, IfSome, OnOk, OnErr, MatchOption, Some, IsTrue, ◌↔◌, slice_get, slice_set, length, map, false, vec_len, vec_capacity};
 ghost use Rattle.std.specs.Bool.{OnTrue, OnFalse};
 ghost use Rattle.std.specs.FinSet as set;
-ghost use Rattle.bitmap.specs.Slots.{AreDisjoint, HasAllBelow, IsLowestOutside};
+ghost use Rattle.bitmap.specs.Slots.{AreDisjoint, HasAllBelow, HasWord, IsLowestOutside};
+ghost use Rattle.bitmap.specs.WordSets.{has_word};
 ghost use Rattle.span.specs.Classes.{slots_in, width_of};
 ghost use Rattle.span.specs.Log.{live_slots, puts_of, Holds};
 ghost use Rattle.span.specs.SpanLogs.{AreLegal, room_for_logs, span_of_log};
 ghost use Rattle.span.specs.State.{IsSettable, SpanState};
 ghost use Rattle.groups.specs.Dead.{live_among};
+ghost use Rattle.groups.specs.SpansKept.{IsFullOutside};
 ghost use Rattle.groups.specs.Spans.{all_spans, taken, union_of, IsSpanAt, HasNoSpan, with_put, with_set_at, with_free_at, with_span_at, live_count};
 ghost use Rattle.bitmap.specs.declared.bits.TheConstants.{SLOTS};
 
 use crate::live::is_live;
-use bitmap::{Bits256, Vacancy};
+use bitmap::{Bits256, Vacancy, WordSet};
 use span::{Class, Counted, Entry, Kept, Key, Log, Span, SpanId, SpanLog};
 use std::alloc::{AllocError, Global};
 use std::marker::Model;
 use std::mem::swap;
 
 /// A head and its guests, which are on one page: no slot is live in two of them (the idea is that
-/// of Mesh). The slots that are live in one of them are kept beside them.
+/// of Mesh). The slots that are live in one of them are kept beside them, and which of the four
+/// words of 64 slots may have one for a put.
 #[derive(Drop)]
 pub struct Spans<L: Log = Kept> {
     head: Span<L>,
     guests: Vec<Span<L>>,
     occupied: Bits256,
+    // A word that is not in it has no usable slot. One that is in it may have none, and leaves it
+    // when a put finds that.
+    open_words: WordSet,
 }
 
 /// What a put of an object did.
@@ -32,8 +38,7 @@ pub struct Spans<L: Log = Kept> {
 pub struct Placed {
     /// The key that the head gave out.
     pub key: Key,
-    /// Whether no usable slot is left, as far as that is known: of objects of 16 bytes it always
-    /// is.
+    /// Whether it is known that no usable slot is left.
     pub is_full: bool,
 }
 
@@ -45,9 +50,9 @@ impl<L: Log> Model for Spans<L> {
     ghost view = { λ s. record { head = s.head; guests = s.guests.items } };
 
     ghost use Rattle.groups.specs.SpansKept.{IsKept};
-    ghost use Rattle.std.specs.Prelude.{◌∷◌};
 
-    ghost invariant = { λ s. IsKept (s.head ∷ s.guests.items) s.occupied };
+    ghost invariant = { λ s.
+        IsKept (record { head = s.head; guests = s.guests.items }) s.occupied s.open_words };
 }
 
 impl<L: Log> Spans<L> {
@@ -60,6 +65,7 @@ impl<L: Log> Spans<L> {
             head,
             guests: Vec::new(alloc),
             occupied,
+            open_words: WordSet::all(),
         }
     }
 
@@ -200,56 +206,37 @@ impl<L: Log> Spans<L> {
             (HasAllBelow (taken self.old) (slots_in self.old.head.class) → ⊥) }
         ensures err { OnErr result (self.new ≡ self.old) }
     {
-        let Some(Vacancy { slot, is_last }) = self.lowest_usable() else {
+        let class = self.head.class();
+        let found = lowest_usable(
+            &mut self.open_words,
+            &self.occupied,
+            self.head.worn(),
+            class,
+        );
+        let Some(Vacancy { slot, is_last }) = found else {
             return Ok(None);
         };
         let key = self.head.put_at(slot, words)?;
         self.occupied.insert(slot);
-        Ok(Some(Placed {
-            key,
-            is_full: is_last,
-        }))
+        let is_full = shut(&mut self.open_words, usize::from(slot / 64), is_last);
+        Ok(Some(Placed { key, is_full }))
     }
 
     /// Whether a put of an object of the head's class has a slot: one that is live in no span, and
     /// not worn in the head.
-    pub fn has_usable(&self) -> bool
-        ensures { IsTrue result
-            ↔ (HasAllBelow (taken self.now) (slots_in self.now.head.class) → ⊥) }
+    pub fn has_usable(&mut self) -> bool
+        ensures usable { IsTrue result
+            ↔ (HasAllBelow (taken self.old) (slots_in self.old.head.class) → ⊥) }
+        ensures same { self.new ≡ self.old }
     {
-        self.lowest_usable().is_some()
-    }
-
-    // The lowest slot that the head may be put at: it is live in no span, and not worn in the head.
-    // Each slot of a set is one of class `C16`, the most frequent, of which alone it is told
-    // whether there is another.
-    #[inline(always)]
-    fn lowest_usable(&self) -> Option<Vacancy>
-        ensures lowest { MatchOption result
-            (HasAllBelow (taken self.now) (slots_in self.now.head.class))
-            (λ found. (found.slot < slots_in self.now.head.class)
-            × IsLowestOutside (taken self.now) found.slot) }
-        ensures last { IfSome result (λ found. IsTrue found.is_last
-            → HasAllBelow (set.insert (taken self.now) found.slot)
-            (slots_in self.now.head.class)) }
-    {
-        let worn = self.head.worn();
-        match self.head.class() {
-            Class::C16 => self.occupied.lowest_outside_both(&worn),
-            class => {
-                let outside = self
-                    .occupied
-                    .union(&worn)
-                    .lowest_outside_below(class.slots());
-                match outside {
-                    Some(slot) => Some(Vacancy {
-                        slot,
-                        is_last: false,
-                    }),
-                    None => None,
-                }
-            }
-        }
+        let class = self.head.class();
+        lowest_usable(
+            &mut self.open_words,
+            &self.occupied,
+            self.head.worn(),
+            class,
+        )
+        .is_some()
     }
 
     /// Sets the object of the slot in the span at the place to these words, where the slot is live
@@ -356,6 +343,7 @@ impl<L: Log> Spans<L> {
             return false;
         }
         self.occupied.remove(slot);
+        self.open_words.insert(usize::from(slot / 64));
         true
     }
 
@@ -375,6 +363,7 @@ impl<L: Log> Spans<L> {
             return false;
         }
         self.occupied.remove(slot);
+        self.open_words.insert(usize::from(slot) / 64);
         true
     }
 }
@@ -405,6 +394,50 @@ impl Spans<Counted> {
     {
         keep_live(&mut self.guests);
     }
+}
+
+// The lowest slot of the class that is in neither set; the words outside of `open_words` have none.
+// A word in which none is found leaves it, so that the next search does not look there.
+#[inline(always)]
+fn lowest_usable(
+    open_words: &mut WordSet,
+    occupied: &Bits256,
+    worn: &Bits256,
+    class: Class,
+) -> Option<Vacancy>
+    requires { IsFullOutside open_words.old (slots_in class) (set.union occupied.now worn.now) }
+    ensures lowest { MatchOption result
+        (HasAllBelow (set.union occupied.now worn.now) (slots_in class))
+        (λ found. (found.slot < slots_in class)
+        × IsLowestOutside (set.union occupied.now worn.now) found.slot) }
+    ensures last { IfSome result (λ found. IsTrue found.is_last
+        → HasWord (set.insert (set.union occupied.now worn.now) found.slot) (found.slot / 64)) }
+    ensures shut { IsFullOutside open_words.new (slots_in class) (set.union occupied.now worn.now) }
+{
+    while let Some(word) = open_words.first() {
+        if let Some(found) = occupied.lowest_outside_both_in(worn, word) {
+            if u16::from(found.slot) < class.slots() {
+                return Some(found);
+            }
+        }
+        open_words.remove(word);
+    }
+    None
+}
+
+// Takes the word out if `out` says so, and says whether none is left then.
+#[inline(always)]
+fn shut(open_words: &mut WordSet, word: usize, out: bool) -> bool
+    requires { word < 4 }
+    ensures none { IsTrue result → (other : ℕ) → other < 4 → has_word open_words.new other ≡ false }
+    ensures others { (other : ℕ) → other < 4 → (IsTrue out → other ≡ word → ⊥)
+        → has_word open_words.new other ≡ has_word open_words.old other }
+{
+    if !out {
+        return false;
+    }
+    open_words.remove(word);
+    open_words.first().is_none()
 }
 
 // Drops the guests in which no slot is live.

@@ -262,10 +262,11 @@ impl<L: Log> Span<L> {
 
     /// The slots that were given their greatest generation, and take no put again. A worn slot may
     /// be live.
-    pub fn worn(&self) -> Bits256
-        ensures { result ≡ worn_slots self.now.gens self.now.log }
+    // Lent, so that a caller that asks one word of it reads no more.
+    pub fn worn(&self) -> &Bits256
+        ensures { result.now ≡ worn_slots self.now.gens self.now.log }
     {
-        self.worn
+        &self.worn
     }
 
     /// The class of its objects.

@@ -13,4 +13,5 @@ invariant_of-self c =
     (record {
       occupied_is = c.self.invariant.occupied_is ∙ ap (union head) (sym (union_of-live guests));
       apart = (subst (AreDisjoint head) (sym (union_of-live guests)) c.self.invariant.apart.0, AreApart-live guests c.self.invariant.apart.1);
+      shut = rw (union_of-live guests) c.self.invariant.shut;
     })

@@ -1,4 +1,6 @@
-use Rattle.std.proofs.Common.{◌∙◌, sym}
+use Rattle.std.proofs.Common.{◌/◌, ◌∙◌, arith, sym}
+use Rattle.std.proofs.lemmas.Bool.{true≢false}
+use Rattle.groups.proofs.OpenWords.{slots_in-most}
 use Rattle.groups.proofs.Unions.{union-empty, AreDisjoint-empty}
 use Rattle.groups.proofs.spans.Spans.of.Goals as goal
 
@@ -6,4 +8,5 @@ pub invariant_of-result : goal.invariant_of-result
 invariant_of-result g c = record {
   occupied_is = rw c.new.ensures.items (c.live-occupied.ensures ∙ sym (union-empty _));
   apart = rw c.new.ensures.items (AreDisjoint-empty _, tt);
+  shut = λ q below out. absurd (true≢false (sym (c.all.ensures (q / 64) (omega (arith, below, slots_in-most c.args.head.class))) ∙ out));
 }
