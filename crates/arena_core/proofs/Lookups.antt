@@ -1,5 +1,5 @@
 -- What the parts of a look-up answer.
-use Rattle.std.proofs.Common.{◌≡◌, ◌≤◌, ◌∙◌, ℕ, List, [], ◌∷◌, length, None, Some, ap, refl, slice_get, sym}
+use Rattle.std.proofs.Common.{◌≡◌, ◌≤◌, ◌∙◌, ℕ, List, Some, ap, slice_get, sym}
 use Rattle.std.specs.Prelude.{IfSome}
 use Rattle.span.proofs.Next.{same_key-parts}
 use Rattle.span.specs.Classes.{IsObject}
@@ -14,22 +14,6 @@ use Rattle.arena_core.specs.Lookups.{FindsWords, words_if}
 use Rattle.arena_core.specs.Sound.{HasSoundGroups}
 use Rattle.arena_core.specs.State.{CoreState, shown}
 use Rattle.arena_core.proofs.Moved.{value-Gets}
-
--- an object has a word
-pub words_if-object : (words : List ℕ) → IsObject words → words_if words ≡ Some words
-words_if-object [] object = absurd cc
-words_if-object (word ∷ words) object = refl
-
-pub object-words_if : (words : List ℕ) → IsObject words → IfSome (words_if words) IsObject
-object-words_if words object = rw (words_if-object words object) object
-
-pub words_if-none : (words : List ℕ) → length words ≡ 0 → words_if words ≡ None
-words_if-none [] none = refl
-words_if-none (word ∷ words) none = absurd cc
-
-pub words_if-some : (words : List ℕ) → (length words ≡ 0 → ⊥) → words_if words ≡ Some words
-words_if-some [] some = absurd (some refl)
-words_if-some (word ∷ words) some = refl
 
 -- the key of these parts
 abbrev pub key_of : SpanId → (slot generation : ℕ) → 1 ≤ generation → Key
