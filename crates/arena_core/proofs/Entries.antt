@@ -1,10 +1,12 @@
 -- The entries of the whereabouts, before and after a change of their table.
-use Rattle.std.proofs.Common.{◌≡◌, ◌≢◌, ◌⊎◌, ℕ, Bool, true, false, cond, [], Option, None, Some, ap, sym, ◌∙◌, refl, inl, inr, eq-eqb, eqb, nat_eq}
+use Rattle.std.proofs.Common.{◌≡◌, ◌≢◌, ◌⊎◌, ℕ, Bool, true, false, cond, List, [], ◌∷◌, length, Option, None, Some, ap, sym, ◌∙◌, refl, inl, inr, eq-eqb, eqb, nat_cmp, nat_eq}
 use Rattle.std.specs.Cmp.{nat_cmp_total}
 use Rattle.std.specs.FinMap as map
 use Rattle.std.specs.HashMap as hash
 use Rattle.std.specs.HashMap.{HashMap}
+use Rattle.std.specs.Map.{lookup}
 use Rattle.std.proofs.lemmas.Bool.{cases_eq, ne_eqb}
+use Rattle.std.proofs.lemmas.Option.{none-some}
 use Rattle.span.specs.Ids.{rank}
 use Rattle.span.specs.declared.id.SpanId.{SpanId}
 use Rattle.groups.proofs.Maps.{Sets, Sets-number, find-lookup, get-insert, get-remove, same_nat_map}
@@ -19,6 +21,15 @@ module _ {S : Type 0} where
   pub entries_of-empty : (m : HashMap ℕ ℕ S) → m.entries ≡ [] → entries_of m ≡ map.empty
   unfolding entries_of
   entries_of-empty m none = ap map.from_entries none
+
+  -- a table whose entries are none has none
+  pub no_entries : (m : HashMap ℕ ℕ S) → entries_of m ≡ map.empty → length m.entries ≡ 0
+  no_entries m none = by_entries m.entries (λ q. sym (get-entries_of m q) ∙ ap (λ (es : Entries). map.get es q) none ∙ map.get-empty nat_cmp q)
+    where
+      by_entries : (entries : List (ℕ × ℕ)) → ((q : ℕ) → lookup (nat_eq q) entries ≡ None) → length entries ≡ 0
+      by_entries [] nowhere = refl
+      by_entries (entry ∷ entries) nowhere = absurd (none-some entry.1 (sym (nowhere entry.0)
+          ∙ ap (λ b. cond b (Some entry.1) (lookup (nat_eq entry.0) entries)) (eq-eqb entry.0 entry.0 refl)))
 
   module _ (m n : HashMap ℕ ℕ S) where
     pub entries_of-same : ((q : ℕ) → hash.get nat_eq n q ≡ hash.get nat_eq m q) → entries_of n ≡ entries_of m

@@ -15,6 +15,7 @@ pub mod Lists
 pub mod LiveKeys
 pub mod LiveKeysShown
 pub mod Logged
+pub mod Lookups
 pub mod MarkSteps
 pub mod Marking
 pub mod Moved

@@ -1,6 +1,7 @@
 pub mod Filled
 pub mod Forgets
 pub mod Kept
+pub mod Lookups
 pub mod Moved
 pub mod NextLive
 pub mod Plain

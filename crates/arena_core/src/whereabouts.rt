@@ -1,5 +1,5 @@
 // Where the spans are that left the shard which opened them.
-ghost use Rattle.std.specs.Prelude.{◌≡◌, ◌≤◌, ◌<◌, ◌+◌, ℕ, OnOk, Some, nat_eq};
+ghost use Rattle.std.specs.Prelude.{◌≡◌, ◌≤◌, ◌<◌, ◌+◌, ◌↔◌, ℕ, IsTrue, OnOk, Some, nat_eq};
 ghost use Rattle.std.specs.FinMap as map;
 ghost use Rattle.std.specs.HashMap as hash;
 ghost use Rattle.shard.specs.Sound.{IsSound};
@@ -51,7 +51,16 @@ impl Whereabouts {
         }
     }
 
+    /// Whether it names no shard for any span.
+    #[inline(always)]
+    pub fn is_empty(&self) -> bool
+        ensures { IsTrue result ↔ (self.now.entries ≡ map.empty) }
+    {
+        self.shards.is_empty()
+    }
+
     /// The number of the shard that took the span in last, if it did not open it.
+    #[inline(always)]
     pub fn shard_of(&self, id: SpanId) -> Option<usize>
         ensures { result ≡ named self.now.entries id }
     {

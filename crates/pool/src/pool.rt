@@ -11,13 +11,13 @@ ghost use Rattle.pool.specs.Calls.{Frees, Gets};
 ghost use Rattle.pool.specs.Shown.{shown};
 ghost use Rattle.pool.specs.Sound.{IsSound};
 ghost use Rattle.pool.specs.State.{paged_groups};
-ghost use Rattle.groups.specs.Group.{IsElsewhere, IsHere, live_in, summary};
+ghost use Rattle.groups.specs.Group.{HasNoHead, IsElsewhere, IsHere, live_in, summary};
 ghost use Rattle.span.specs.declared.limits.TheConstants.{ALL_IDS};
 ghost use Rattle.bitmap.specs.declared.bits.TheConstants.{SLOTS};
 
 use crate::group_table::GroupTable;
 use crate::pooled::Pooled;
-use groups::{Directory, Place};
+use groups::Directory;
 use shard::{Found, Freed};
 use span::{Entry, Kept, Key, Log, SpanId};
 use std::alloc::{AllocError, Global};
@@ -227,15 +227,31 @@ impl<L: Log> Pool<L> {
         self.groups.first_live(from)
     }
 
-    // The group that the span of the id stands in, and its place there.
+    // The group that the span of the id stands in, and its place there. Most are heads, so these
+    // are asked for first.
+    #[inline(always)]
     fn find(&self, id: SpanId) -> Option<(&Pooled<L>, usize)>
         ensures sound { IsSound self.now }
         ensures place { MatchOption result (IsElsewhere self.now.groups id)
             (λ at. (index : ℕ) × (span : SpanState)
             × IsHere self.now.groups id index at.1 at.0.now span) }
     {
-        let head = Place { head: id, place: 0 };
-        let at = self.directory.place_of(id).unwrap_or(head);
+        let Some(group) = self.groups.get(id) else {
+            return self.find_guest(id);
+        };
+        Some((group, 0))
+    }
+
+    // The same of a span that is no head here.
+    fn find_guest(&self, id: SpanId) -> Option<(&Pooled<L>, usize)>
+        requires { HasNoHead self.now.groups id }
+        ensures { MatchOption result (IsElsewhere self.now.groups id)
+            (λ at. (index : ℕ) × (span : SpanState)
+            × IsHere self.now.groups id index at.1 at.0.now span) }
+    {
+        let Some(at) = self.directory.place_of(id) else {
+            return None;
+        };
         let group = self.groups.get(at.head)?;
         Some((group, at.place))
     }

@@ -1,7 +1,8 @@
 // Puts, look-ups and frees, wherever the span of a key is.
-ghost use Rattle.std.specs.Prelude.{◌≡◌, ◌≢◌, IfSome, MatchResult, length, option_map};
+ghost use Rattle.std.specs.Prelude.{◌≡◌, ◌≢◌, ◌≤◌, IfSome, MatchResult, Some, length, option_map, slice_get};
 ghost use Rattle.span.specs.Classes.{IsObject, width_of};
 ghost use Rattle.shard.specs.Calls.{FindsObject, value_found, was_freed};
+ghost use Rattle.arena_core.specs.Lookups.{FindsWords, words_if};
 ghost use Rattle.arena_core.specs.Moved.{StandsIn, StandsInNoOther};
 ghost use Rattle.arena_core.specs.Plain.{PlainStep};
 ghost use Rattle.arena_core.specs.Sound.{IsSound};
@@ -12,8 +13,8 @@ ghost use Rattle.arena_core.specs.declared.reply.Reply.TheVariants as reply;
 
 use super::Core;
 use crate::reply::Refusal;
-use shard::{Found, Freed};
-use span::{Class, Key, Log, Object};
+use shard::{Found, Freed, Shard};
+use span::{Class, Key, Log, Object, SpanId};
 
 impl<L: Log> Core<L> {
     /// Keeps the object in the shard of this number, at the slot that the shard chooses among those
@@ -75,32 +76,165 @@ impl<L: Log> Core<L> {
         let Some(shard) = self.shards.get(key.span.shard as usize) else {
             return None;
         };
-        match shard.get(key) {
-            Found::Value(words, _) => Some(words),
-            Found::Gone(_) => None,
-            Found::NotHere => self.get_moved(*key),
+        match shard.get_first(key) {
+            Some(found) => words_of(found),
+            None => some_words(self.get_noted(shard, key.span, key.slot, key.generation)),
         }
     }
 
-    // The words of the key's object, where it is live, and the shard that opened its span does not
-    // have the span. The key comes by value, so that its parts stay in registers where this is not
-    // called.
+    // The words of the key's object, if it is live, else no word. The shard opened the span of the
+    // key, and a note of it is asked. Like the calls below it is not inlined, and takes the parts of
+    // a key and gives words in registers, so that a look-up which needs none of them saves nothing.
     #[inline(never)]
-    fn get_moved(&self, key: Key) -> Option<&[u128]>
-        requires { StandsIn self.now.shards key.span key.span.shard → ⊥ }
-        ensures value { option_map (λ words. words.now) result
-            ≡ (shown self.now).value_of key }
-        ensures object { IfSome result (λ words. IsObject words.now) }
+    fn get_noted<'a>(
+        &'a self,
+        shard: &'a Shard<L>,
+        span: SpanId,
+        slot: u8,
+        generation: u32,
+    ) -> &'a [u128]
+        requires here { slice_get self.now.shards span.shard ≡ Some shard.now }
+        requires generation { 1 ≤ generation }
+        ensures { FindsWords self.now span slot generation result.now }
     {
-        match self.get_taken_in(&key) {
-            Found::Value(words, _) => Some(words),
-            Found::Gone(_) => None,
-            Found::NotHere => words_of(self.pool.get(&key)),
+        // For the prover: the core is sound.
+        let _ = &self.shards;
+        let key = Key {
+            span,
+            slot,
+            generation,
+        };
+        match shard.get_noted(&key) {
+            Some(found) => words_in(found),
+            None => self.get_guest(shard, span, slot, generation),
         }
+    }
+
+    // The same, if no note says that the span is a head in the shard.
+    #[inline(never)]
+    fn get_guest<'a>(
+        &'a self,
+        shard: &'a Shard<L>,
+        span: SpanId,
+        slot: u8,
+        generation: u32,
+    ) -> &'a [u128]
+        requires here { slice_get self.now.shards span.shard ≡ Some shard.now }
+        requires generation { 1 ≤ generation }
+        ensures { FindsWords self.now span slot generation result.now }
+    {
+        // For the prover: the core is sound.
+        let _ = &self.shards;
+        let key = Key {
+            span,
+            slot,
+            generation,
+        };
+        match shard.get_guest(&key) {
+            Some(found) => words_in(found),
+            None => self.get_unnoted(shard, span, slot, generation),
+        }
+    }
+
+    // The same, if no note led to the span.
+    #[inline(never)]
+    fn get_unnoted<'a>(
+        &'a self,
+        shard: &'a Shard<L>,
+        span: SpanId,
+        slot: u8,
+        generation: u32,
+    ) -> &'a [u128]
+        requires here { slice_get self.now.shards span.shard ≡ Some shard.now }
+        requires generation { 1 ≤ generation }
+        ensures { FindsWords self.now span slot generation result.now }
+    {
+        // For the prover: the core is sound.
+        let _ = &self.shards;
+        if shard.is_away(span) {
+            self.get_away(span, slot, generation)
+        } else {
+            self.get_searched(shard, span, slot, generation)
+        }
+    }
+
+    // The same, if no note says that the span is elsewhere: the shard is searched.
+    #[inline(never)]
+    fn get_searched<'a>(
+        &'a self,
+        shard: &'a Shard<L>,
+        span: SpanId,
+        slot: u8,
+        generation: u32,
+    ) -> &'a [u128]
+        requires here { slice_get self.now.shards span.shard ≡ Some shard.now }
+        requires generation { 1 ≤ generation }
+        ensures { FindsWords self.now span slot generation result.now }
+    {
+        // For the prover: the core is sound.
+        let _ = &self.shards;
+        let key = Key {
+            span,
+            slot,
+            generation,
+        };
+        match shard.get_searched(&key) {
+            Found::NotHere => self.get_away(span, slot, generation),
+            found => words_in(found),
+        }
+    }
+
+    // The same, if the shard that opened the span does not have it.
+    #[inline(always)]
+    fn get_away(&self, span: SpanId, slot: u8, generation: u32) -> &[u128]
+        requires home { StandsIn self.now.shards span span.shard → ⊥ }
+        requires generation { 1 ≤ generation }
+        ensures { FindsWords self.now span slot generation result.now }
+    {
+        if self.whereabouts.is_empty() {
+            self.get_pooled(span, slot, generation)
+        } else {
+            self.get_taken_in(span, slot, generation)
+        }
+    }
+
+    // The same, if another shard may have taken the span in. That one is asked first.
+    #[inline(never)]
+    fn get_taken_in(&self, span: SpanId, slot: u8, generation: u32) -> &[u128]
+        requires home { StandsIn self.now.shards span span.shard → ⊥ }
+        requires generation { 1 ≤ generation }
+        ensures { FindsWords self.now span slot generation result.now }
+    {
+        let key = Key {
+            span,
+            slot,
+            generation,
+        };
+        match self.find_taken_in(&key) {
+            Found::NotHere => self.get_pooled(span, slot, generation),
+            found => words_in(found),
+        }
+    }
+
+    // The same, if no shard has the span: the pool is asked.
+    #[inline(never)]
+    fn get_pooled(&self, span: SpanId, slot: u8, generation: u32) -> &[u128]
+        requires home { StandsIn self.now.shards span span.shard → ⊥ }
+        requires other { StandsInNoOther self.now.shards span }
+        requires generation { 1 ≤ generation }
+        ensures { FindsWords self.now span slot generation result.now }
+    {
+        let key = Key {
+            span,
+            slot,
+            generation,
+        };
+        words_in(self.pool.get(&key))
     }
 
     // What the shard finds that took the key's span in last, if one did.
-    fn get_taken_in(&self, key: &Key) -> Found<'_>
+    #[inline(always)]
+    fn find_taken_in(&self, key: &Key) -> Found<'_>
         ensures object { FindsObject result }
         ensures value { result ≢ Found.NotHere
             → value_found result ≡ (shown self.now).value_of key.now }
@@ -112,7 +246,7 @@ impl<L: Log> Core<L> {
         let Some(shard) = self.shards.get(number) else {
             return Found::NotHere;
         };
-        shard.get(key)
+        shard.get_searched(key)
     }
 
     /// Frees the key, where it is live, and says whether it was: what [`Core::step`] does with
@@ -172,6 +306,7 @@ impl<L: Log> Core<L> {
 }
 
 // The words that were found.
+#[inline(always)]
 fn words_of(found: Found<'_>) -> Option<&[u128]>
     requires { FindsObject found }
     ensures value { option_map (λ words. words.now) result ≡ value_found found.entry }
@@ -181,6 +316,29 @@ fn words_of(found: Found<'_>) -> Option<&[u128]>
         Found::Value(value, _) => Some(value),
         Found::Gone(_) | Found::NotHere => None,
     }
+}
+
+// The words that were found, or no word. An object has at least one.
+#[inline(always)]
+fn words_in(found: Found<'_>) -> &[u128]
+    requires { FindsObject found }
+    ensures value { words_if result.now ≡ value_found found.entry }
+    ensures object { IfSome (words_if result.now) IsObject }
+{
+    match found {
+        Found::Value(value, _) => value,
+        Found::Gone(_) | Found::NotHere => &[],
+    }
+}
+
+// The words, if there is one.
+#[inline(always)]
+fn some_words(words: &[u128]) -> Option<&[u128]>
+    ensures value { option_map (λ words. words.now) result ≡ words_if words.now }
+    ensures object { IfSome (words_if words.now) IsObject
+        → IfSome result (λ words. IsObject words.now) }
+{
+    if words.is_empty() { None } else { Some(words) }
 }
 
 // Whether the free was done.

@@ -1,11 +1,11 @@
 // Look-ups and frees, and where the span of a key stands.
-ghost use Rattle.std.specs.Prelude.{◌≡◌, ◌+◌, ◌<◌, ◌≤◌, ℕ, false, true, IfSome, MatchOption, Some, if◌then◌else◌, is_some, length, slice_get};
+ghost use Rattle.std.specs.Prelude.{◌≡◌, ◌≢◌, ◌+◌, ◌<◌, ◌≤◌, ◌↔◌, ℕ, false, true, IfSome, IsSome, MatchOption, Some, if◌then◌else◌, is_some, length, slice_get};
 ghost use Rattle.span.specs.Order.{HasNoneFrom, IsFirstFrom};
 ghost use Rattle.span.specs.PlainMap as plain;
 ghost use Rattle.span.specs.State.{SpanState};
 ghost use Rattle.groups.specs.Group.{HasNoHead, IsElsewhere, IsHeadOf, IsHere};
 ghost use Rattle.groups.specs.Spans.{HasNoSpan};
-ghost use Rattle.shard.specs.Calls.{FindsObject, Frees, Gets, value_found, was_freed};
+ghost use Rattle.shard.specs.Calls.{FindsObject, Frees, Gets, StandsFirst, value_found, was_freed};
 ghost use Rattle.shard.specs.Group.{GroupState};
 ghost use Rattle.shard.specs.Shown.{shown};
 ghost use Rattle.shard.specs.Sound.{IsSound};
@@ -26,9 +26,104 @@ impl<L: Log> Shard<L> {
         ensures plain { value_found result ≡ (shown self.now).value_of key.now }
         ensures sound { IsSound self.now }
     {
-        let Some((index, place)) = self.find(key.span) else {
+        match self.find(key.span) {
+            Some((index, place)) => self.get_at(index, place, key),
+            None => Found::NotHere,
+        }
+    }
+
+    /// What [`Shard::get`] finds, if the span of the key is the head of the group at the index of
+    /// its serial, as each head is while the shard has all groups that it opened, and no other;
+    /// else `None`. A caller asks on by [`Shard::get_noted`], [`Shard::get_guest`],
+    /// [`Shard::is_away`] and [`Shard::get_searched`], each in a function that is not inlined. So
+    /// the way that mostly comes saves no registers for the others.
+    #[inline(always)]
+    pub fn get_first(&self, key: &Key) -> Option<Found<'_>>
+        ensures found { IfSome result (λ found. Gets self.now key.now found) }
+        ensures here { IfSome result (λ found. found ≢ Found.NotHere) }
+        ensures width { IfSome result FindsObject }
+        ensures plain { IfSome result (λ found. value_found found
+            ≡ (shown self.now).value_of key.now) }
+        ensures first { IsSome result ↔ StandsFirst self.now.groups key.now.span }
+    {
+        let first = key.span.serial as usize;
+        if !self.is_head(first, key.span) {
+            return None;
+        }
+        Some(self.get_at(first, 0, key))
+    }
+
+    /// What [`Shard::get`] finds, if it is noted that the span of the key is a head here, and where
+    /// it stands; else `None`.
+    #[inline(always)]
+    pub fn get_noted(&self, key: &Key) -> Option<Found<'_>>
+        ensures found { IfSome result (λ found. Gets self.now key.now found) }
+        ensures here { IfSome result (λ found. found ≢ Found.NotHere) }
+        ensures width { IfSome result FindsObject }
+        ensures plain { IfSome result (λ found. value_found found
+            ≡ (shown self.now).value_of key.now) }
+    {
+        let (noted, _) = self.noted_index(key.span);
+        if !self.is_head(noted, key.span) {
+            return None;
+        }
+        Some(self.get_at(noted, 0, key))
+    }
+
+    /// What [`Shard::get`] finds, if it is noted that the span of the key is a guest here, and
+    /// where it stands; else `None`.
+    #[inline(always)]
+    pub fn get_guest(&self, key: &Key) -> Option<Found<'_>>
+        ensures found { IfSome result (λ found. Gets self.now key.now found) }
+        ensures here { IfSome result (λ found. found ≢ Found.NotHere) }
+        ensures width { IfSome result FindsObject }
+        ensures plain { IfSome result (λ found. value_found found
+            ≡ (shown self.now).value_of key.now) }
+    {
+        match self.near_guest(key.span) {
+            Some((index, place)) => Some(self.get_at(index, place, key)),
+            None => None,
+        }
+    }
+
+    /// What [`Shard::get`] finds. No note of the span of the key is asked.
+    #[inline(always)]
+    pub fn get_searched(&self, key: &Key) -> Found<'_>
+        ensures found { Gets self.now key.now result }
+        ensures width { FindsObject result }
+        ensures plain { value_found result ≡ (shown self.now).value_of key.now }
+    {
+        let (index, place) = self.search(key.span);
+        if index >= self.groups.len() {
             return Found::NotHere;
-        };
+        }
+        self.get_at(index, place, key)
+    }
+
+    /// Whether it is noted of the span that it is neither a head nor a guest here. If not, it may
+    /// still be neither.
+    #[inline(always)]
+    pub fn is_away(&self, id: SpanId) -> bool
+        ensures { result ≡ true → IsElsewhere self.now.groups id }
+    {
+        let (noted, is_noted) = self.noted_index(id);
+        if !is_noted || self.is_head(noted, id) {
+            return false;
+        }
+        self.is_no_guest(id)
+    }
+
+    // What is found of the key in its span, which stands at the place of the group at the index.
+    #[inline(always)]
+    fn get_at(&self, index: usize, place: usize, key: &Key) -> Found<'_>
+        requires { (group : GroupState) × (span : SpanState)
+            × IsHere self.now.groups key.now.span index place group span }
+        ensures found { Gets self.now key.now result }
+        ensures here { result ≢ Found.NotHere }
+        ensures width { FindsObject result }
+        ensures plain { value_found result ≡ (shown self.now).value_of key.now }
+        ensures sound { IsSound self.now }
+    {
         let group = &self.groups[index];
         let span = group.span_at(place);
         let at = span.changes();
@@ -77,9 +172,9 @@ impl<L: Log> Shard<L> {
     }
 
     // Where the span of the id stands: its group, and its place there. Tried first is the index
-    // that a head has while the shard has all groups that it opened, and no other, and then the one
-    // that is noted for it. That much is inlined, so that the place stays in registers; a call
-    // would pass it through memory.
+    // that a head has while the shard has all groups that it opened, and no other, and then what is
+    // noted of it. That much is inlined, so that the place stays in registers; a call would pass it
+    // through memory.
     #[inline(always)]
     pub(super) fn find(&self, id: SpanId) -> Option<(usize, usize)>
         ensures sound { IsSound self.now }
@@ -95,9 +190,11 @@ impl<L: Log> Shard<L> {
         if self.is_head(noted, id) {
             return Some((noted, 0));
         }
-        let (near, place) = self.near_guest(id);
-        if near < self.groups.len() {
-            return Some((near, place));
+        if let Some(near) = self.near_guest(id) {
+            return Some(near);
+        }
+        if self.is_away(id) {
+            return None;
         }
         let (index, place) = self.find_moved(id);
         if index >= self.groups.len() {
@@ -119,22 +216,22 @@ impl<L: Log> Shard<L> {
         index < self.groups.len() && self.groups[index].head_id() == head
     }
 
-    // Where the guest stands, if what is noted of it holds; else past all groups.
+    // Where the guest stands, if what is noted of it holds.
     #[inline(always)]
-    fn near_guest(&self, id: SpanId) -> (usize, usize)
-        ensures { result.0 < length self.now.groups → (group : GroupState) × (span : SpanState)
-            × IsHere self.now.groups id result.0 result.1 group span }
+    fn near_guest(&self, id: SpanId) -> Option<(usize, usize)>
+        ensures { IfSome result (λ at. (group : GroupState) × (span : SpanState)
+            × IsHere self.now.groups id at.0 at.1 group span) }
     {
         let note = self.notes.note_of(id.serial);
         let place = (note / HEADS) as usize;
         if place == 0 {
-            return self.nowhere();
+            return None;
         }
         let index = self.heads.index_by_note(note);
-        if self.is_guest(index, place, id) {
-            return (index, place);
+        if !self.is_guest(index, place, id) {
+            return None;
         }
-        self.nowhere()
+        Some((index, place))
     }
 
     // A place past all groups.
@@ -162,6 +259,7 @@ impl<L: Log> Shard<L> {
     }
 
     // Whether it is noted of the span that it is no guest here.
+    #[inline(always)]
     fn is_no_guest(&self, id: SpanId) -> bool
         ensures { result ≡ true → (index : ℕ) (group : GroupState)
             → slice_get self.now.groups index ≡ Some group → HasNoSpan group.guests id }
@@ -186,39 +284,35 @@ impl<L: Log> Shard<L> {
         }
     }
 
-    // Where a span stands that no note led to: a head that is not noted is found by halving, and a
-    // guest of which no place is noted goes by the directory. Past all groups where it stands
-    // nowhere. Two numbers come back in registers, and an option of them through memory,
-    // which a caller clears before it knows whether it asks.
+    // Where a span stands that no note led to. Two numbers come back in registers, and an option of
+    // them through memory, which a caller clears before it knows whether it asks.
     #[inline(never)]
     fn find_moved(&self, id: SpanId) -> (usize, usize)
         ensures elsewhere { length self.now.groups ≤ result.0 → IsElsewhere self.now.groups id }
         ensures here { result.0 < length self.now.groups → (group : GroupState) × (span : SpanState)
             × IsHere self.now.groups id result.0 result.1 group span }
     {
-        match self.find_head(id) {
-            Some(index) => (index, 0),
-            None => self.find_guest(id),
-        }
+        self.search(id)
     }
 
-    // Where the span stands, which is no head; past all groups where it stands nowhere.
-    fn find_guest(&self, id: SpanId) -> (usize, usize)
-        requires { HasNoHead self.now.groups id }
+    // The same: a guest goes by the directory, and any other span is found by halving. Past all
+    // groups where it stands nowhere.
+    #[inline(always)]
+    fn search(&self, id: SpanId) -> (usize, usize)
         ensures elsewhere { length self.now.groups ≤ result.0 → IsElsewhere self.now.groups id }
         ensures here { result.0 < length self.now.groups → (group : GroupState) × (span : SpanState)
             × IsHere self.now.groups id result.0 result.1 group span }
     {
-        if self.is_no_guest(id) {
-            return (self.groups.len(), 0);
+        if let Some(at) = self.directory.place_of(id) {
+            return match self.find_head(at.head) {
+                Some(index) => (index, at.place),
+                None => self.nowhere(),
+            };
         }
-        let Some(at) = self.directory.place_of(id) else {
-            return (self.groups.len(), 0);
-        };
-        let Some(index) = self.find_head(at.head) else {
-            return (self.groups.len(), 0);
-        };
-        (index, at.place)
+        match head_index(self.groups.as_slice(), id) {
+            Some(index) => (index, 0),
+            None => self.nowhere(),
+        }
     }
 
     // Where the group of the head stands.
