@@ -1,5 +1,9 @@
 // Spans that can never be live again, which an arena forgets.
 ghost use Rattle.std.specs.Prelude.{◌≡◌, ◌↔◌, IfOk, IsErr, IsSome, Some, map, option_map};
+ghost use Rattle.pool.specs.Forgets.{left_in};
+ghost use Rattle.arena.specs.Amounts.{at_most_word};
+ghost use Rattle.arena.specs.Forgotten.{all_without_dead, gone_of_all};
+ghost use Rattle.arena.specs.Locked.{lent_by};
 
 use crate::arena::Arena;
 use crate::error::PlanOpen;
@@ -75,6 +79,12 @@ impl<G: Gate> Arena<G, Counted> {
         requires pool { pool.old.latch.now ≡ self.now.pool }
         requires lent { map (option_map (λ shard. shard.guard.latch.now)) shards.old
             ≡ map Some self.now.shards.items }
+        ensures shards { lent_by shards.new ≡ all_without_dead (lent_by shards.old) }
+        ensures pool { pool.new.value.value ≡ record pool.old.value.value {
+          groups = left_in pool.old.value.value.groups;
+        } }
+        ensures count { result
+            ≡ at_most_word (gone_of_all pool.old.value.value (lent_by shards.old)) }
     {
         let owned = forget_all(shards);
         owned.saturating_add(pool.value.forget())
