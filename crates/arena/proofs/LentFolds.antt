@@ -37,7 +37,7 @@ module _ {X : Type 0} (f : X → Option ShardState) (xs : List X) (number : ℕ)
   stays-at pool pool_new after new (Err error) here is after_is err = (
     err.0,
     map-set f xs number after
-    ∙ ap (set (map f xs) number) (after_is ∙ ap Some err.1 ∙ sym is ∙ ap f here)
-    ∙ sym (map-set f xs number (get_or xs number x))
-    ∙ ap (map f) (set-get_or xs number x),
+        ∙ ap (set (map f xs) number) (after_is ∙ ap Some err.1 ∙ sym is ∙ ap f here)
+        ∙ sym (map-set f xs number (get_or xs number x))
+        ∙ ap (map f) (set-get_or xs number x),
   )
