@@ -49,6 +49,8 @@ impl<G: Gate, L: Log> Arena<G, L> {
         ensures steps { IfOk result (λ made. MatchOption made (pool.new ≡ pool.old)
             (λ folding. IfOk folding.step (λ step. (before : ShardState) × (after : ShardState)
             × Steps pool.old before abandoned owned step pool.new after))) }
+        ensures may { IfOk result (λ made. IfSome made (λ folding. OnErr folding.step
+            ((before : ShardState) × MayFold pool.old before abandoned owned))) }
         ensures err { IfOk result (λ made. IfSome made
             (λ folding. OnErr folding.step (pool.new ≡ pool.old))) }
         ensures busy { OnErr result (pool.new ≡ pool.old) }

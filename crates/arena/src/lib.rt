@@ -73,6 +73,7 @@
 #![tactic(auto)]
 
 mod about_key;
+mod adopting;
 mod arena;
 mod calling;
 mod counting;
