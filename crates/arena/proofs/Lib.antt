@@ -2,12 +2,12 @@ pub mod Crossing
 mod CountedRings
 mod Elsewhere
 pub mod Ended
-pub mod Forgotten
 mod Frees
 mod KeptSpans
 mod KeyCalls
 mod LeftObject
 pub mod LentFolds
+pub mod LentForgets
 pub mod Linking
 mod Made
 mod OneWord

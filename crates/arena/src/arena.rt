@@ -346,8 +346,8 @@ impl<G: Gate, L: Log> Arena<G, L> {
     }
 
     /// How many pages there are and how many keys are live, counted under all locks. It takes no
-    /// memory. No clause can name what the locks guarded: that it is the sum of what `pages` and
-    /// `live` of the pool and of each shard then say, the tests show.
+    /// memory. They are the sums of what `pages` and `live` of the pool and of each shard say, as a
+    /// private contract says of what the locks lend; no clause here can name what they guarded.
     pub fn totals<R: Wait>(&self, rt: &R) -> Totals {
         let Ok(totals) = self.totals_within(&Waits { rt });
         totals.totals()

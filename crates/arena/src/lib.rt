@@ -82,6 +82,7 @@ mod error;
 mod finding;
 mod folding;
 mod forgetting;
+mod forgotten;
 mod freeing;
 mod gate;
 mod hints;

@@ -4,7 +4,7 @@
 ghost use Rattle.std.specs.Prelude.{◌≡◌, ◌≤◌, IfOk, Some, length, map, option_map};
 ghost use Rattle.marks.specs.Closings.{reopened};
 ghost use Rattle.arena.specs.Amounts.{at_most_word};
-ghost use Rattle.arena.specs.Forgotten.{all_without_dead, dead_count, dead_of_all, without_dead_guests};
+ghost use Rattle.arena.specs.LentForgets.{all_without_dead, dead_count, dead_of_all, without_dead_guests};
 ghost use Rattle.arena.specs.Locked.{lent_by};
 ghost use Rattle.span.specs.declared.limits.TheConstants.{MOST_SHARDS};
 

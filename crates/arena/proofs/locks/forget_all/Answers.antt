@@ -3,8 +3,8 @@ use Rattle.std.proofs.Math.ListN.{get_or-map}
 use Rattle.std.proofs.lemmas.List.{length-map, map-set}
 use Rattle.std.proofs.lemmas.List.Sums.{sum_by_more}
 use Rattle.marks.proofs.Closings.{written-more}
-use Rattle.arena.specs.Forgotten.{dead_count, without_dead_guests}
-use Rattle.arena.proofs.Forgotten.{get_or-written, length-written}
+use Rattle.arena.specs.LentForgets.{dead_count, without_dead_guests}
+use Rattle.arena.proofs.LentForgets.{get_or-written, length-written}
 use Rattle.arena.proofs.locks.forget_all.Goals as goal
 
 pub loop-shard-preserved : goal.loop-shard-preserved

@@ -1,6 +1,6 @@
 use Rattle.std.proofs.Common.{◌≡◌, ◌++◌, drop, map, option_map, take}
 use Rattle.arena.specs.Amounts.{at_most_word}
-use Rattle.arena.specs.Forgotten.{dead_of_all, without_dead_guests}
+use Rattle.arena.specs.LentForgets.{dead_of_all, without_dead_guests}
 use Rattle.arena.proofs.locks.forget_all.Given as goal
 
 abbrev pub invariant-loop-shard : goal.invariant-loop-shard
