@@ -6,6 +6,8 @@ mod Frees
 mod KeptSpans
 mod KeyCalls
 mod LeftObject
+pub mod LentFolds
+pub mod LentForgets
 pub mod Linking
 mod Made
 mod OneWord

@@ -1,5 +1,5 @@
 // Shards behind locks.
-ghost use Rattle.std.specs.Prelude.{◌≡◌, ◌≢◌, ◌≤◌, Err, IfOk, IsSome, None, Ok, OnErr, OnOk, Some, is_some, length, map, option_map, vec_len};
+ghost use Rattle.std.specs.Prelude.{◌≡◌, ◌≢◌, ◌≤◌, Err, IfOk, IsErr, IsOk, IsSome, None, Ok, OnErr, OnOk, Some, is_some, length, map, option_map, vec_len};
 ghost use Rattle.certificate.specs.Plans.{IsBestPlanOf, IsCertificateOf, IsShortOf};
 ghost use Rattle.certificate.specs.Text.{IsWritable};
 ghost use Rattle.marks.specs.Plans.{next_pair};
@@ -13,13 +13,13 @@ use crate::hints::{Hints, Place};
 use crate::locks::{LockedShard, LockedShards, lock_all};
 use crate::patience::{Patience, Tries, Waits};
 use crate::ring_table::RingTable;
-use crate::steward::{Sight, Steward};
-use crate::totals::{LockedTotals, owned_pages};
+use crate::steward::{Marked, Sight, Steward};
+use crate::totals::LockedTotals;
 use certificate::Certificate;
 use fold::Step;
 use latch::{Busy, Latch};
 use marks::{Limits, MarkError, Totals};
-use mesh_graph::{AtHand, MOST_GROUPS, Runner};
+use mesh_graph::{AtHand, Runner};
 use pool::Pool;
 use shard::Shard;
 use span::{Kept, Log, SpanId};
@@ -95,8 +95,8 @@ impl<G: Gate, L: Log> Arena<G, L> {
         ensures plan_open { IsSome steward.old.plan → result ≡ Err MarkError.PlanOpen }
         ensures err { OnErr result (steward.new ≡ steward.old) }
     {
-        let Ok(made) = self.mark_within(&Waits { rt }, runner, steward, Sight::All);
-        made
+        let Ok(marked) = self.mark_within(&Waits { rt }, runner, steward, Sight::All);
+        marked.into_made()
     }
 
     /// A mark that sees of each side the 4,096 groups with the fewest live slots, or all where
@@ -137,8 +137,8 @@ impl<G: Gate, L: Log> Arena<G, L> {
         ensures too_many { result ≢ Err MarkError.TooMany }
         ensures err { OnErr result (steward.new ≡ steward.old) }
     {
-        let Ok(made) = self.mark_within(&Waits { rt }, runner, steward, Sight::Sparsest);
-        made
+        let Ok(marked) = self.mark_within(&Waits { rt }, runner, steward, Sight::Sparsest);
+        marked.into_made()
     }
 
     /// What [`Arena::mark`] does, where no other thread has a lock. The thread that asks fills the
@@ -164,7 +164,8 @@ impl<G: Gate, L: Log> Arena<G, L> {
         ensures err { IfOk result (λ made. OnErr made (steward.new ≡ steward.old)) }
         ensures busy { OnErr result (steward.new ≡ steward.old) }
     {
-        self.mark_within(&Tries, &AtHand, steward, Sight::All)
+        let marked = self.mark_within(&Tries, &AtHand, steward, Sight::All)?;
+        Ok(marked.into_made())
     }
 
     /// What [`Arena::mark_some`] does, where no other thread has a lock. The thread that asks fills
@@ -194,7 +195,8 @@ impl<G: Gate, L: Log> Arena<G, L> {
         ensures err { IfOk result (λ made. OnErr made (steward.new ≡ steward.old)) }
         ensures busy { OnErr result (steward.new ≡ steward.old) }
     {
-        self.mark_within(&Tries, &AtHand, steward, Sight::Sparsest)
+        let marked = self.mark_within(&Tries, &AtHand, steward, Sight::Sparsest)?;
+        Ok(marked.into_made())
     }
 
     // A mark of what is in sight.
@@ -204,28 +206,30 @@ impl<G: Gate, L: Log> Arena<G, L> {
         runner: &N,
         steward: &mut Steward,
         sight: Sight,
-    ) -> Result<Result<Certificate, MarkError>, P::Busy>
+    ) -> Result<Marked, P::Busy>
         requires of { steward.old.limits ≡ self.now.limits }
         requires runner { N.ready runner.now }
-        ensures best { IfOk result (λ made. IfOk made
+        ensures best { IfOk result (λ marked. IfOk marked.made
             (λ found. IsBestPlanOf found.snapshot found.plan)) }
-        ensures short { IfOk result (λ made. IfOk made
+        ensures short { IfOk result (λ marked. IfOk marked.made
             (λ found. IsShortOf found.snapshot found.plan found.short)) }
-        ensures certificate { IfOk result (λ made. IfOk made
+        ensures certificate { IfOk result (λ marked. IfOk marked.made
             (λ found. IsCertificateOf found.snapshot found.plan found.short)) }
-        ensures writable { IfOk result (λ made. IfOk made IsWritable) }
-        ensures begun { IfOk result (λ made. IfOk made (λ found. (steward.old.plan ≡ None)
-            × (steward.new ≡ begun steward.old found.plan))) }
-        ensures plan_open { IsSome steward.old.plan → result ≡ Ok (Err MarkError.PlanOpen) }
-        ensures too_many { sight ≡ Sight.Sparsest → result ≢ Ok (Err MarkError.TooMany) }
-        ensures err { IfOk result (λ made. OnErr made (steward.new ≡ steward.old)) }
+        ensures writable { IfOk result (λ marked. IfOk marked.made IsWritable) }
+        ensures begun { IfOk result (λ marked. IfOk marked.made
+            (λ found. (steward.old.plan ≡ None) × (steward.new ≡ begun steward.old found.plan))) }
+        ensures plan_open { IsSome steward.old.plan
+            → (IsOk result × IfOk result (λ marked. marked.made ≡ Err MarkError.PlanOpen)) }
+        ensures too_many { sight ≡ Sight.Sparsest
+            → IfOk result (λ marked. marked.made ≢ Err MarkError.TooMany) }
+        ensures err { IfOk result (λ marked. OnErr marked.made (steward.new ≡ steward.old)) }
         ensures busy { OnErr result (steward.new ≡ steward.old) }
     {
-        if steward.has_plan() {
-            return Ok(Err(MarkError::PlanOpen));
+        if let Some(refusal) = steward.refusal() {
+            return Ok(refusal);
         }
         let Ok(mut guards) = Vec::with_capacity(self.alloc, self.shards.len()) else {
-            return Ok(Err(self.why_no_mark(patience, sight)?));
+            return self.why_no_mark(patience, sight);
         };
         let mut pool = patience.lock(&self.pool)?;
         for shard in &self.shards {
@@ -342,8 +346,8 @@ impl<G: Gate, L: Log> Arena<G, L> {
     }
 
     /// How many pages there are and how many keys are live, counted under all locks. It takes no
-    /// memory. No clause can name what the locks guarded: that it is the sum of what `pages` and
-    /// `live` of the pool and of each shard then say, the tests show.
+    /// memory. They are the sums of what `pages` and `live` of the pool and of each shard say, as a
+    /// private contract says of what the locks lend; no clause here can name what they guarded.
     pub fn totals<R: Wait>(&self, rt: &R) -> Totals {
         let Ok(totals) = self.totals_within(&Waits { rt });
         totals.totals()
@@ -375,22 +379,16 @@ impl<G: Gate, L: Log> Arena<G, L> {
         lock_all(patience, &self.shards)
     }
 
-    // Why no mark is made where there is no room for the guards of all locks: told under all locks,
+    // Why no mark is made if there is no room for the guards of all locks: told under all locks,
     // without memory.
-    fn why_no_mark<P: Patience>(&self, patience: &P, sight: Sight) -> Result<MarkError, P::Busy>
-        ensures too_many { sight ≡ Sight.Sparsest → result ≢ Ok MarkError.TooMany }
+    fn why_no_mark<P: Patience>(&self, patience: &P, sight: Sight) -> Result<Marked, P::Busy>
+        ensures too_many { sight ≡ Sight.Sparsest
+            → IfOk result (λ marked. marked.made ≢ Err MarkError.TooMany) }
+        ensures refused { IfOk result (λ marked. IsErr marked.made) }
     {
         let pool = patience.lock(&self.pool)?;
-        if pool.has_plan() {
-            return Ok(MarkError::PlanOpen);
-        }
         let shards = self.lock_all(patience)?;
-        let has_too_many = pool.pages() > MOST_GROUPS
-            || owned_pages(shards.as_slice()) > MOST_GROUPS;
-        Ok(match sight {
-            Sight::All if has_too_many => MarkError::TooMany,
-            Sight::All | Sight::Sparsest => MarkError::OutOfMemory,
-        })
+        Ok(Marked::without_memory(self, sight, &pool, shards.as_slice()))
     }
 
     // Folds the pair in the shard that has its owned group: the one that its hint names, or else

@@ -1,7 +1,9 @@
 // Folds of pairs of a plan, each under the pool's lock and that of the shard which has the owned
 // group.
-ghost use Rattle.std.specs.Prelude.{◌≡◌, ◌↔◌, ◌<◌, ◌≤◌, All, IfOk, IfSome, IsTrue, None, Some, length, map, option_map, slice_index_or};
-ghost use Rattle.fold.specs.Folds.{Steps};
+ghost use Rattle.std.specs.Prelude.{◌≡◌, ◌↔◌, ◌<◌, ◌≤◌, All, IfOk, IfSome, IsTrue, MatchOption, None, OnErr, Some, length, map, option_map, slice_index_or};
+ghost use Rattle.fold.specs.Folds.{MayFold, Steps};
+ghost use Rattle.shard.specs.State.{ShardState};
+ghost use Rattle.arena.specs.LentFolds.{MayFoldLent, StepsLent};
 ghost use Rattle.arena.specs.Locked.{HasGroup, latches_of, lent_by};
 ghost use Rattle.span.specs.declared.limits.TheConstants.{MOST_SHARDS};
 
@@ -44,6 +46,14 @@ impl<G: Gate, L: Log> Arena<G, L> {
         owned: SpanId,
     ) -> Result<Option<Folding>, P::Busy>
         requires { number < MOST_SHARDS }
+        ensures steps { IfOk result (λ made. MatchOption made (pool.new ≡ pool.old)
+            (λ folding. IfOk folding.step (λ step. (before : ShardState) × (after : ShardState)
+            × Steps pool.old before abandoned owned step pool.new after))) }
+        ensures may { IfOk result (λ made. IfSome made (λ folding. OnErr folding.step
+            ((before : ShardState) × MayFold pool.old before abandoned owned))) }
+        ensures err { IfOk result (λ made. IfSome made
+            (λ folding. OnErr folding.step (pool.new ≡ pool.old))) }
+        ensures busy { OnErr result (pool.new ≡ pool.old) }
     {
         let Some(latch) = self.shards.get(number as usize) else {
             return Ok(None);
@@ -66,6 +76,12 @@ impl<G: Gate, L: Log> Arena<G, L> {
     ) -> Folding
         requires few { length shards.old ≤ MOST_SHARDS }
         requires lent { latches_of shards.old ≡ map Some self.now.shards.items }
+        ensures steps { IfOk result.step (λ step. StepsLent pool.old (lent_by shards.old)
+            abandoned owned step pool.new (lent_by shards.new)) }
+        ensures may { OnErr result.step
+            (MayFoldLent pool.old (lent_by shards.old) abandoned owned) }
+        ensures err { OnErr result.step ((pool.new ≡ pool.old)
+            × (lent_by shards.new ≡ lent_by shards.old)) }
     {
         if let Some(number) = number_with(shards, owned) {
             if let Some(shard) = &mut shards[number] {
@@ -91,6 +107,8 @@ impl<G: Gate, L: Log> Arena<G, L> {
         requires number { number < MOST_SHARDS }
         ensures steps { IfOk result.step
             (λ step. Steps pool.old shard.old abandoned owned step pool.new shard.new) }
+        ensures may { OnErr result.step (MayFold pool.old shard.old abandoned owned) }
+        ensures err { OnErr result.step ((pool.new ≡ pool.old) × (shard.new ≡ shard.old)) }
     {
         let step = fold_one(pool, shard, abandoned, owned);
         if step.is_ok() {

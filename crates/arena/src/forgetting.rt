@@ -1,14 +1,13 @@
 // Spans that can never be live again, which an arena forgets.
-ghost use Rattle.std.specs.Prelude.{◌≡◌, ◌↔◌, IfOk, IsErr, IsSome, Some, map, option_map};
+ghost use Rattle.std.specs.Prelude.{◌≡◌, ◌↔◌, IfOk, IsErr, IsSome};
 
 use crate::arena::Arena;
 use crate::error::PlanOpen;
+use crate::forgotten::Forgotten;
 use crate::gate::Gate;
-use crate::locks::{LockedShard, forget_all};
 use crate::patience::{Patience, Tries, Waits};
 use crate::steward::Steward;
-use latch::{Busy, LatchGuard};
-use pool::Pool;
+use latch::Busy;
 use span::Counted;
 use std::sync::Wait;
 
@@ -17,8 +16,8 @@ impl<G: Gate> Arena<G, Counted> {
     /// answers how many went: each guest of the shards' groups in which no slot is live, and in the
     /// pool each such guest and all spans of groups in which no slot is live. They take no put, so
     /// none of their keys can be live again: each finds nothing, as before. Nothing else that a
-    /// caller sees changes; that this is of what the locks guard no clause can name. It asks for
-    /// memory only for a smaller table in the place of a larger one, which stays if there is none.
+    /// caller sees changes, as a private contract says of what the locks lend. It asks for memory
+    /// only for a smaller table in the place of a larger one, which stays if there is none.
     ///
     /// Only an arena whose logs are counted forgets, since an audit reads all logs. The receipt of
     /// a look-up, a set or a free of a key whose span was forgotten says that nothing was found,
@@ -32,7 +31,7 @@ impl<G: Gate> Arena<G, Counted> {
         ensures plan_open { IsErr result ↔ IsSome steward.now.plan }
     {
         let Ok(forgotten) = self.forget_within(&Waits { rt }, steward);
-        forgotten
+        Ok(forgotten?.count())
     }
 
     /// What [`Arena::forget`] does, where no other thread has a lock.
@@ -46,7 +45,10 @@ impl<G: Gate> Arena<G, Counted> {
         ensures plan_open { IfOk result
             (λ forgotten. IsErr forgotten ↔ IsSome steward.now.plan) }
     {
-        self.forget_within(&Tries, steward)
+        Ok(match self.forget_within(&Tries, steward)? {
+            Ok(spans) => Ok(spans.count()),
+            Err(refused) => Err(refused),
+        })
     }
 
     // Has the shards and the pool forget, if no plan is open, once it has all locks.
@@ -54,7 +56,7 @@ impl<G: Gate> Arena<G, Counted> {
         &self,
         patience: &P,
         steward: &Steward,
-    ) -> Result<Result<usize, PlanOpen>, P::Busy>
+    ) -> Result<Result<Forgotten, PlanOpen>, P::Busy>
         ensures plan_open { IfOk result
             (λ forgotten. IsErr forgotten ↔ IsSome steward.now.plan) }
     {
@@ -63,20 +65,6 @@ impl<G: Gate> Arena<G, Counted> {
         }
         let mut pool = patience.lock(&self.pool)?;
         let mut shards = self.lock_all(patience)?;
-        Ok(Ok(self.forget_lent(&mut pool, shards.as_mut_slice())))
-    }
-
-    // The same in the pool and in all shards, which their locks lend.
-    fn forget_lent(
-        &self,
-        pool: &mut LatchGuard<'_, Pool<Counted>>,
-        shards: &mut [Option<LockedShard<'_, Counted>>],
-    ) -> usize
-        requires pool { pool.old.latch.now ≡ self.now.pool }
-        requires lent { map (option_map (λ shard. shard.guard.latch.now)) shards.old
-            ≡ map Some self.now.shards.items }
-    {
-        let owned = forget_all(shards);
-        owned.saturating_add(pool.value.forget())
+        Ok(Ok(Forgotten::by(self, &mut pool, shards.as_mut_slice())))
     }
 }

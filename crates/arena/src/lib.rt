@@ -73,6 +73,7 @@
 #![tactic(auto)]
 
 mod about_key;
+mod adopting;
 mod arena;
 mod calling;
 mod counting;
@@ -81,6 +82,7 @@ mod error;
 mod finding;
 mod folding;
 mod forgetting;
+mod forgotten;
 mod freeing;
 mod gate;
 mod hints;

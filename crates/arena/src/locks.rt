@@ -3,6 +3,9 @@
 // that they take no memory. Each guard names the latch that lends it.
 ghost use Rattle.std.specs.Prelude.{◌≡◌, ◌≤◌, IfOk, Some, length, map, option_map};
 ghost use Rattle.marks.specs.Closings.{reopened};
+ghost use Rattle.arena.specs.Amounts.{at_most_word};
+ghost use Rattle.arena.specs.LentForgets.{all_without_dead, dead_count, dead_of_all, without_dead_guests};
+ghost use Rattle.arena.specs.Locked.{lent_by};
 ghost use Rattle.span.specs.declared.limits.TheConstants.{MOST_SHARDS};
 
 use crate::patience::Patience;
@@ -88,13 +91,30 @@ fn reopen_one<L: Log>(shard: &mut Option<LockedShard<'_, L>>)
 }
 
 /// Has the shards forget each guest in which no slot is live. It gives how many went.
-pub(crate) fn forget_all(shards: &mut [Option<LockedShard<'_, Counted>>]) -> usize {
+pub(crate) fn forget_all(shards: &mut [Option<LockedShard<'_, Counted>>]) -> usize
+    ensures shards { lent_by shards.new ≡ all_without_dead (lent_by shards.old) }
+    ensures count { result ≡ at_most_word (dead_of_all (lent_by shards.old)) }
+{
     let mut forgotten = 0usize;
     for shard in shards.iter_mut() {
-        if let Some(shard) = shard {
-            let guard = &mut shard.guard;
-            forgotten = forgotten.saturating_add(guard.value.forget());
-        }
+        forgotten = forgotten.saturating_add(forget_one(shard));
     }
     forgotten
+}
+
+// The same of the shard, if there is one.
+fn forget_one(shard: &mut Option<LockedShard<'_, Counted>>) -> usize
+    ensures shard { option_map (λ locked. locked.guard.value.value) shard.new
+        ≡ option_map without_dead_guests
+        (option_map (λ locked. locked.guard.value.value) shard.old) }
+    ensures count { result
+        ≡ dead_count (option_map (λ locked. locked.guard.value.value) shard.old) }
+{
+    match shard {
+        Some(shard) => {
+            let guard = &mut shard.guard;
+            guard.value.forget()
+        }
+        None => 0,
+    }
 }

@@ -16,7 +16,6 @@ ghost use Rattle.span.specs.declared.limits.TheConstants.{MOST_SHARDS};
 use crate::arena::Arena;
 use crate::calling::CallsKeys;
 use crate::gate::Gate;
-use crate::hints::Place;
 use crate::key_calls::{Free, Get, Set};
 use crate::outboxes::{MOST_DELAY, count_call_on, finish_on, hand_over_waiting, leave_on};
 use crate::patience::{Patience, Waits};
@@ -621,13 +620,7 @@ impl Seat {
         let mut pool = patience.lock(&arena.pool)?;
         let mut shard = patience.lock(&arena.shards[self.worker as usize])?;
         self.count_call();
-        let adopted = pool.adopt(&mut *shard);
-        if let Ok(head) = adopted {
-            arena
-                .hints
-                .note_group(&*shard, head, Place::Shard(self.worker));
-        }
-        Ok(adopted)
+        Ok(arena.adopt_in(&mut *pool, &mut *shard, self.worker))
     }
 
     // How many keys the worker sent to a shard that the shard's end has not taken. That end then

@@ -1,20 +1,23 @@
 // Who keeps the open plan.
-ghost use Rattle.std.specs.Prelude.{◌≡◌, ◌≢◌, ◌↔◌, ◌≤◌, Err, IfOk, IsSome, IsTrue, None, OnErr, OnOk, Some, false, is_some, length, map, option_map, true};
-ghost use Rattle.arena.specs.Sights.{IsSeen};
+ghost use Rattle.std.specs.Prelude.{◌≡◌, ◌≢◌, ◌↔◌, ◌≤◌, Err, IfOk, IsErr, IsSome, IsTrue, MatchOption, None, OnErr, OnOk, Some, false, is_some, length, map, option_map, true};
+ghost use Rattle.arena.specs.Amounts.{AreTooMany as AreTooManyLent};
+ghost use Rattle.arena.specs.Locked.{latches_of, lent_by};
+ghost use Rattle.arena.specs.Sights.{IsSeen, IsTooMany};
 ghost use Rattle.arena.specs.Stewards.{begun};
 ghost use Rattle.certificate.specs.Plans.{IsBestPlanOf, IsCertificateOf, IsShortOf};
 ghost use Rattle.certificate.specs.Text.{IsWritable};
 ghost use Rattle.marks.specs.Closings.{closing, reopened};
 ghost use Rattle.marks.specs.Plans.{next_pair, with_next_done};
-ghost use Rattle.marks.specs.Seen.{with_plan_told};
+ghost use Rattle.marks.specs.Seen.{AreDistinct, with_plan_told};
 
 use crate::arena::Arena;
 use crate::gate::Gate;
 use crate::locks::{LockedShard, reopen_all};
+use crate::totals::owned_totals;
 use certificate::Certificate;
 use latch::LatchGuard;
 use marks::{CurrentPlan, Limits, MarkError, mark_in, mark_some_in};
-use mesh_graph::Runner;
+use mesh_graph::{MOST_GROUPS, Runner};
 use pool::Pool;
 use span::{Log, SpanId};
 use std::alloc::{AllocError, Global};
@@ -25,6 +28,50 @@ use std::marker::Model;
 pub(crate) enum Sight {
     All,
     Sparsest,
+}
+
+/// What a mark answers. Only this module makes one: under the locks of the pool and of all shards,
+/// or if the steward has a plan.
+#[derive(Drop)]
+pub(crate) struct Marked {
+    made: Result<Certificate, MarkError>,
+}
+
+impl Marked {
+    pub(crate) fn into_made(self) -> Result<Certificate, MarkError>
+        ensures { result ≡ self.made }
+    {
+        self.made
+    }
+
+    // Why no mark is made if there is no memory for a list of the guards of all locks, of the pool
+    // and of all shards, which are lent: the first of the causes that need no memory, or that.
+    pub(crate) fn without_memory<G: Gate, L: Log>(
+        arena: &Arena<G, L>,
+        sight: Sight,
+        pool: &LatchGuard<'_, Pool<L>>,
+        shards: &[Option<LockedShard<'_, L>>],
+    ) -> Marked
+        requires pool { pool.now.latch.now ≡ arena.now.pool }
+        requires lent { latches_of shards.now ≡ map Some arena.now.shards.items }
+        ensures plan_open { (result.made ≡ Err MarkError.PlanOpen)
+            ↔ (pool.now.value.value.has_plan ≡ true) }
+        ensures too_many { (result.made ≡ Err MarkError.TooMany) ↔ ((sight ≡ Sight.All)
+            × (pool.now.value.value.has_plan ≡ false)
+            × AreTooManyLent pool.now.value.value (lent_by shards.now)) }
+        ensures doubled { result.made ≢ Err MarkError.Doubled }
+        ensures refused { IsErr result.made }
+    {
+        // For the prover: whose latches these are.
+        let _ = arena;
+        let has_too_many = has_too_many(&pool.value, shards);
+        let error = match sight {
+            _ if pool.value.has_plan() => MarkError::PlanOpen,
+            Sight::All if has_too_many => MarkError::TooMany,
+            Sight::All | Sight::Sparsest => MarkError::OutOfMemory,
+        };
+        Marked { made: Err(error) }
+    }
 }
 
 /// The keeper of an arena's open plan of folds, in room for 4,096 pairs that is made with the
@@ -69,6 +116,19 @@ impl Steward {
         self.plan.is_open()
     }
 
+    // What a mark answers if it has a plan.
+    pub(crate) fn refusal(&self) -> Option<Marked>
+        ensures { MatchOption result (self.now.plan ≡ None)
+            (λ marked. IsSome self.now.plan × (marked.made ≡ Err MarkError.PlanOpen)) }
+    {
+        if !self.plan.is_open() {
+            return None;
+        }
+        Some(Marked {
+            made: Err(MarkError::PlanOpen),
+        })
+    }
+
     // The pair that comes next, if there is one.
     pub(crate) fn next(&self) -> Option<(SpanId, SpanId)>
         ensures { result ≡ next_pair self.now.plan }
@@ -95,35 +155,49 @@ impl Steward {
         sight: Sight,
         pool: &mut LatchGuard<'_, Pool<L>>,
         shards: &mut [LockedShard<'_, L>],
-    ) -> Result<Certificate, MarkError>
+    ) -> Marked
         requires none { self.old.plan ≡ None }
         requires pool { pool.old.latch.now ≡ arena.now.pool }
         requires lent { map (λ shard. shard.guard.latch.now) shards.old ≡ arena.now.shards.items }
         requires runner { N.ready runner.now }
         // What it gives is of all that is lent.
-        ensures best { IfOk result (λ found. IsBestPlanOf found.snapshot found.plan) }
-        ensures short { IfOk result (λ found. IsShortOf found.snapshot found.plan found.short) }
-        ensures certificate { IfOk result (λ found. IsCertificateOf found.snapshot found.plan
+        ensures best { IfOk result.made (λ found. IsBestPlanOf found.snapshot found.plan) }
+        ensures short { IfOk result.made
+            (λ found. IsShortOf found.snapshot found.plan found.short) }
+        ensures certificate { IfOk result.made (λ found. IsCertificateOf found.snapshot found.plan
             found.short) }
-        ensures writable { IfOk result IsWritable }
-        ensures seen { IfOk result (IsSeen sight pool.old.value.value
+        ensures writable { IfOk result.made IsWritable }
+        ensures seen { IfOk result.made (IsSeen sight pool.old.value.value
+            (map (λ shard. shard.guard.value.value) shards.old)) }
+        ensures distinct { OnOk result.made (AreDistinct pool.old.value.value
             (map (λ shard. shard.guard.value.value) shards.old)) }
         // What it keeps and changes of it.
-        ensures begun { IfOk result (λ found. self.new ≡ begun self.old found.plan) }
-        ensures closed { IfOk result (λ found. map (λ shard. shard.guard.value.value) shards.new
-            ≡ map (closing found.plan) (map (λ shard. shard.guard.value.value) shards.old)) }
-        ensures opened { OnOk result
+        ensures begun { IfOk result.made (λ found. self.new ≡ begun self.old found.plan) }
+        ensures closed { IfOk result.made (λ found. map (λ shard. shard.guard.value.value)
+            shards.new ≡ map (closing found.plan) (map (λ shard. shard.guard.value.value)
+            shards.old)) }
+        ensures opened { OnOk result.made
             (pool.new.value.value ≡ with_plan_told pool.old.value.value true) }
-        // The refusals.
-        ensures too_many { sight ≡ Sight.Sparsest → result ≢ Err MarkError.TooMany }
-        ensures err { OnErr result (self.new ≡ self.old) }
+        // When it is refused, and that nothing has changed then.
+        ensures plan_open { (result.made ≡ Err MarkError.PlanOpen)
+            ↔ (pool.old.value.value.has_plan ≡ true) }
+        ensures too_many { (result.made ≡ Err MarkError.TooMany)
+            ↔ ((pool.old.value.value.has_plan ≡ false) × IsTooMany sight pool.old.value.value
+            (map (λ shard. shard.guard.value.value) shards.old)) }
+        ensures doubled { result.made ≡ Err MarkError.Doubled → AreDistinct pool.old.value.value
+            (map (λ shard. shard.guard.value.value) shards.old) → ⊥ }
+        ensures err { OnErr result.made (self.new ≡ self.old) }
+        ensures err_pool { OnErr result.made (pool.new.value.value ≡ pool.old.value.value) }
+        ensures err_shards { OnErr result.made (shards.new ≡ shards.old) }
     {
-        let found = see(runner, arena.alloc, sight, &mut *pool.value, shards)?;
-        self.plan.begin(found.plan.pairs());
-        Ok(found)
+        let made = see(runner, arena.alloc, sight, &mut *pool.value, shards);
+        if let Ok(found) = &made {
+            self.plan.begin(found.plan.pairs());
+        }
+        Marked { made }
     }
 
-    // Ends the plan, and opens all groups, where the pool and all shards are lent.
+    // Ends the plan, and opens all groups of all shards. These and the pool are lent.
     pub(crate) fn end<G: Gate, L: Log>(
         &mut self,
         arena: &Arena<G, L>,
@@ -162,13 +236,28 @@ fn see<L: Log, N: Runner>(
     ensures writable { IfOk result IsWritable }
     ensures seen { IfOk result
         (IsSeen sight pool.old (map (λ shard. shard.guard.value.value) shards.old)) }
+    ensures distinct { OnOk result
+        (AreDistinct pool.old (map (λ shard. shard.guard.value.value) shards.old)) }
     ensures closed { IfOk result (λ found. map (λ shard. shard.guard.value.value) shards.new
         ≡ map (closing found.plan) (map (λ shard. shard.guard.value.value) shards.old)) }
     ensures opened { OnOk result (pool.new ≡ with_plan_told pool.old true) }
-    ensures too_many { sight ≡ Sight.Sparsest → result ≢ Err MarkError.TooMany }
+    ensures plan_open { (result ≡ Err MarkError.PlanOpen) ↔ (pool.old.has_plan ≡ true) }
+    ensures too_many { (result ≡ Err MarkError.TooMany) ↔ ((pool.old.has_plan ≡ false)
+        × IsTooMany sight pool.old (map (λ shard. shard.guard.value.value) shards.old)) }
+    ensures doubled { result ≡ Err MarkError.Doubled
+        → AreDistinct pool.old (map (λ shard. shard.guard.value.value) shards.old) → ⊥ }
+    ensures err { OnErr result (pool.new ≡ pool.old) }
+    ensures err_shards { OnErr result (shards.new ≡ shards.old) }
 {
     match sight {
         Sight::All => mark_in(runner, alloc, pool, shards),
         Sight::Sparsest => mark_some_in(runner, alloc, pool, shards),
     }
+}
+
+// Whether a side has more groups with a page than a plan may have. It takes no memory.
+fn has_too_many<L: Log>(pool: &Pool<L>, shards: &[Option<LockedShard<'_, L>>]) -> bool
+    ensures { IsTrue result ↔ AreTooManyLent pool.now (lent_by shards.now) }
+{
+    pool.pages() > MOST_GROUPS || owned_totals(shards).pages > MOST_GROUPS
 }

@@ -1,6 +1,7 @@
 // How many pages and live keys an arena has, counted at one time.
-ghost use Rattle.std.specs.Prelude.{◌≡◌, Some, map};
-ghost use Rattle.arena.specs.Locked.{latches_of};
+ghost use Rattle.std.specs.Prelude.{◌≡◌, Some, map, option_map};
+ghost use Rattle.arena.specs.Amounts.{at_most_word, key_count, owned_keys, owned_pages, page_count, shard_keys, shard_pages};
+ghost use Rattle.arena.specs.Locked.{latches_of, lent_by};
 
 use crate::arena::Arena;
 use crate::gate::Gate;
@@ -26,13 +27,18 @@ impl LockedTotals {
     ) -> LockedTotals
         requires pool { pool.now.latch.now ≡ arena.now.pool }
         requires lent { latches_of shards.now ≡ map Some arena.now.shards.items }
+        ensures pages { result.totals.pages
+            ≡ at_most_word (page_count pool.now.value.value (lent_by shards.now)) }
+        ensures live { result.totals.live
+            ≡ at_most_word (key_count pool.now.value.value (lent_by shards.now)) }
     {
         // For the prover: whose latches these are.
         let _ = arena;
+        let owned = owned_totals(shards);
         LockedTotals {
             totals: Totals {
-                pages: owned_pages(shards).saturating_add(pool.value.pages()),
-                live: owned_keys(shards).saturating_add(pool.value.live()),
+                pages: owned.pages.saturating_add(pool.value.pages()),
+                live: owned.live.saturating_add(pool.value.live()),
             },
         }
     }
@@ -45,24 +51,33 @@ impl LockedTotals {
     }
 }
 
-/// How many pages the shards have.
-pub(crate) fn owned_pages<L: Log>(shards: &[Option<LockedShard<'_, L>>]) -> usize {
+/// How many pages the shards have together, and how many keys are live in them.
+pub(crate) fn owned_totals<L: Log>(shards: &[Option<LockedShard<'_, L>>]) -> Totals
+    ensures pages { result.pages ≡ at_most_word (owned_pages (lent_by shards.now)) }
+    ensures live { result.live ≡ at_most_word (owned_keys (lent_by shards.now)) }
+{
     let mut pages = 0usize;
-    for shard in shards {
-        if let Some(shard) = shard {
-            pages = pages.saturating_add(shard.shard().pages());
-        }
-    }
-    pages
-}
-
-// How many keys are live in the shards.
-fn owned_keys<L: Log>(shards: &[Option<LockedShard<'_, L>>]) -> usize {
     let mut live = 0usize;
     for shard in shards {
-        if let Some(shard) = shard {
-            live = live.saturating_add(shard.shard().live());
-        }
+        let here = totals_of(shard);
+        pages = pages.saturating_add(here.pages);
+        live = live.saturating_add(here.live);
     }
-    live
+    Totals { pages, live }
+}
+
+// What the shard has, if it is lent.
+fn totals_of<L: Log>(shard: &Option<LockedShard<'_, L>>) -> Totals
+    ensures pages { result.pages
+        ≡ shard_pages (option_map (λ locked. locked.guard.value.value) shard.now) }
+    ensures live { result.live
+        ≡ shard_keys (option_map (λ locked. locked.guard.value.value) shard.now) }
+{
+    match shard {
+        Some(locked) => Totals {
+            pages: locked.shard().pages(),
+            live: locked.shard().live(),
+        },
+        None => Totals { pages: 0, live: 0 },
+    }
 }
