@@ -46,7 +46,7 @@ WritesRunFront true text replies old new = WritesFront text replies old new
 WritesRunFront false text replies old new = WritesThreadedFront text replies old new
 
 -- where a replay came to a halt: at a sink that failed, once, with a prefix of the report taken; or
--- with nothing taken, at the fault of the text, whose file is not named yet, where an allocation was
+-- with nothing taken, at the fault of the text, without its file's name, where an allocation was
 -- refused, or, by threads alone, where a shard or the pool was not as the run had left it or the
 -- audit failed
 abbrev pub HaltsReplay : (serial : Bool) → (text : List ℕ) → (replies : Bool)
