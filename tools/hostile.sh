@@ -23,7 +23,7 @@ cut_texts() {
         case $file in */long_day.trace | *too_many_groups.trace) bytes='' ;; esac
         case $file in
             *.trace) TEXTS_TRACE=$file TEXTS_BYTES=$bytes LD_PRELOAD=$PWD/texts.so "$built" run --serial & ;;
-            *) TEXTS_CERTIFICATE=$file TEXTS_BYTES=$bytes LD_PRELOAD=$PWD/texts.so "$built" check /dev/stdin & ;;
+            *) TEXTS_CERTIFICATE=$file TEXTS_BYTES=$bytes LD_PRELOAD=$PWD/texts.so "$built" check - & ;;
         esac
     done >out 2>err
     wait
@@ -71,7 +71,7 @@ expect_end() {
 # Counts a run over this text with a line of 50 MB, of this byte, behind it: it ends in time, refused so.
 expect_refused_line() {
     local text=$1 byte=$2 under=(timeout "$LONGEST")
-    echo "$3" >said
+    of_file "$4" long "$3" >said
     shift 3
     { printf '%b' "$text" && head -c 50000000 /dev/zero | tr '\0' "$byte" && echo; } >long
     expect 1 $nothing said $nothing "$@" long
@@ -289,7 +289,7 @@ memory_by_threads() {
 interrupted_streams() {
     local under
     audited "$examples/one_fold.report" >report
-    echo 'line 1: header' >said
+    of_file run a.cert 'line 1: header' >said
     under=(env REFUSE_EINTR=1 "LD_PRELOAD=$PWD/refuse.so")
     expect 0 "$examples/one_fold.report" $nothing "$examples/one_fold.cert" run --serial a.trace --certificate f
     input=a.trace expect 0 report $nothing "$examples/one_fold.cert" run --certificate f

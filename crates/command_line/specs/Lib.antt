@@ -1,3 +1,4 @@
 pub mod Job
+pub mod Sentences
 pub mod Store
 pub mod Telling

@@ -1,5 +1,7 @@
 -- What the program says of a fault, and its status.
-use Rattle.std.specs.Prelude.{◌≡◌, ℕ, Bool, true, false, List, ◌++◌, Option, codes, if◌then◌else◌, string_bytes, ⊤}
+use Rattle.std.specs.Prelude.{◌≡◌, ℕ, Bool, true, false, List, ◌++◌, Option, Some, None, option_map, codes, if◌then◌else◌, string_bytes, ⊤}
+use Rattle.std.specs.declared.alloc.Global.{Global}
+use Rattle.std.specs.declared.string.String.{String}
 use Rattle.std.specs.Fmt.{decimal}
 use Rattle.std.specs.Io.KnownBytes.{Appends}
 use Rattle.std.specs.IoError.{error_kind}
@@ -21,36 +23,43 @@ use Rattle.trace_runner.specs.declared.fault.CheckError.{CheckError}
 use Rattle.trace_runner.specs.declared.fault.CheckError.TheVariants as check_error
 use Rattle.command_line.specs.declared.job.JobError.{JobError}
 use Rattle.command_line.specs.declared.job.JobError.TheVariants as job_error
+use Rattle.command_line.specs.Sentences as sentences
 use Rattle.command_line.specs.declared.telling.TellError.{TellError}
 use Rattle.command_line.specs.declared.telling.TellError.TheVariants as tell_error
 use Rattle.thread_runner.specs.declared.error.ThreadsError.{ThreadsError}
 use Rattle.thread_runner.specs.declared.error.ThreadsError.TheVariants as threads_error
 use Rattle.trace_runner.specs.Sink.{AppendsFront}
 
--- the program's fault where a replay stopped
+-- the program's fault where a replay stopped; no file is named yet
 abbrev pub fault_of_replay : ReplayError → Fault
 fault_of_replay replay_error.OutOfMemory = fault.OutOfMemory
-fault_of_replay (replay_error.BadTrace line c) = fault.BadTrace line c
+fault_of_replay (replay_error.BadTrace line c) = fault.BadTrace None line c
 fault_of_replay replay_error.SinkFailed = fault.SinkFailed
 
--- the program's fault where a replay by threads stopped
+-- the program's fault where a replay by threads stopped; no file is named yet
 abbrev pub fault_of_threads : ThreadsError → Fault
 fault_of_threads threads_error.OutOfMemory = fault.OutOfMemory
-fault_of_threads (threads_error.BadTrace line c) = fault.BadTrace line c
+fault_of_threads (threads_error.BadTrace line c) = fault.BadTrace None line c
 fault_of_threads threads_error.Doubled = fault.Doubled
 fault_of_threads (threads_error.AuditFault c) = fault.Audit c
 fault_of_threads threads_error.SinkFailed = fault.SinkFailed
 
--- the program's fault where a check stopped
+-- the program's fault where a check stopped; no file is named yet
 abbrev pub fault_of_check : CheckError → Fault
 fault_of_check check_error.OutOfMemory = fault.OutOfMemory
-fault_of_check (check_error.BadCertificate line c) = fault.BadCertificate line c
+fault_of_check (check_error.BadCertificate line c) = fault.BadCertificate None line c
 fault_of_check check_error.SinkFailed = fault.SinkFailed
 
 -- the program's fault where the words name no job
 abbrev pub fault_of_job : JobError → Fault
 fault_of_job job_error.OutOfMemory = fault.OutOfMemory
 fault_of_job (job_error.Words error) = fault.Words error
+
+-- the fault, where its text is from this file; a fault that is not of a text stays as it is
+abbrev pub in_file : Option (String Global) → Fault → Fault
+in_file file (fault.BadTrace _ line c) = fault.BadTrace file line c
+in_file file (fault.BadCertificate _ line c) = fault.BadCertificate file line c
+in_file file stop = stop
 
 -- the system says that memory ran out
 abbrev pub is_want_of_memory : io_kind.ErrorKind → Bool
@@ -78,8 +87,8 @@ asks_for_help _ = false
 
 -- the status with which the program ends
 abbrev pub status_of : Fault → ℕ
-status_of (fault.BadTrace line c) = 1
-status_of (fault.BadCertificate line c) = 1
+status_of (fault.BadTrace file line c) = 1
+status_of (fault.BadCertificate file line c) = 1
 status_of (fault.Words error) = if is_request (kind_of error) then 0 else 2
 status_of fault.OutOfMemory = 3
 status_of fault.Doubled = 4
@@ -92,9 +101,15 @@ abbrev pub status_where_untold : TellError → ℕ
 status_where_untold tell_error.OutOfMemory = 3
 status_where_untold tell_error.SinkFailed = 5
 
--- `line N: CAUSE`
+-- `line N: SAID`
 abbrev pub line_message : ℕ → List ℕ → List ℕ
-line_message line word = codes "line " ++ decimal line ++ codes ": " ++ word ++ codes "\n"
+line_message line said = codes "line " ++ decimal line ++ codes ": " ++ said ++ codes "\n"
+
+-- `line N: CAUSE`; if a file is named, `FILE: line N: SENTENCE` stands above it
+abbrev pub text_message : Option (List ℕ) → ℕ → (sentence word : List ℕ) → List ℕ
+text_message None line sentence word = line_message line word
+text_message (Some file) line sentence word =
+    file ++ codes ": " ++ line_message line sentence ++ line_message line word
 
 -- `audit: CAUSE`
 abbrev pub audit_message : AuditCause → List ℕ
@@ -107,9 +122,11 @@ file_message name said = codes "io: " ++ name ++ codes ": " ++ said ++ codes "\n
 -- the text is what is said of the fault; of a file the system has its own words; what is said of
 -- words is the parser's own
 abbrev pub IsMessage : Fault → List ℕ → Type 0
-IsMessage (fault.BadTrace line c) text = text ≡ line_message line (word_of c)
-IsMessage (fault.BadCertificate line c) text = text
-    ≡ line_message line (certificate_causes.word_of c)
+IsMessage (fault.BadTrace file line c) text = text
+    ≡ text_message (option_map string_bytes file) line (sentences.of_trace c) (word_of c)
+IsMessage (fault.BadCertificate file line c) text = text
+    ≡ text_message (option_map string_bytes file) line (sentences.of_certificate c)
+    (certificate_causes.word_of c)
 IsMessage (fault.Words error) text = ⊤
 IsMessage fault.OutOfMemory text = text ≡ codes "memory\n"
 IsMessage fault.Doubled text = text ≡ codes "doubled\n"

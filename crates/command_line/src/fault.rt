@@ -19,15 +19,19 @@ pub enum Fault {
     /// Memory ran out.
     #[error("memory ran out: replay a shorter trace")]
     OutOfMemory,
-    /// The text is no trace. `line` is the first line at fault, where the first line is 1.
+    /// The text is no trace. `line` is the first line at fault, where the first line is 1, and
+    /// `file` the file that has the text: none for standard input.
     #[error("line {line} of the trace is at fault: {cause}")]
     BadTrace {
+        file: Option<String>,
         line: usize,
         cause: Cause,
     },
-    /// The text is no certificate. `line` is the first line at fault, where the first line is 1.
+    /// The text is no certificate. `line` is the first line at fault, where the first line is 1,
+    /// and `file` the file that has the text: none for standard input.
     #[error("line {line} of the certificate is at fault: {cause}")]
     BadCertificate {
+        file: Option<String>,
         line: usize,
         cause: certificate::Cause,
     },
@@ -53,7 +57,7 @@ pub enum Fault {
 }
 
 impl Fault {
-    ghost use Rattle.command_line.specs.Telling.{asks_for_help, status_of};
+    ghost use Rattle.command_line.specs.Telling.{asks_for_help, in_file, status_of};
 
     /// What it comes to that what has this name could not be read: `OutOfMemory` where the system
     /// says that, or where there is no memory for the name, and else `Io`.
@@ -66,6 +70,20 @@ impl Fault {
                 Ok(file) => Fault::Io { file, error },
                 Err(_) => Fault::OutOfMemory,
             },
+        }
+    }
+
+    /// The fault, where its text is from this file, or from standard input where there is none. A
+    /// fault that is not of a text stays as it is.
+    pub fn in_file(self, file: Option<String>) -> Fault
+        ensures { result ≡ in_file file self }
+    {
+        match self {
+            Fault::BadTrace { line, cause, .. } => Fault::BadTrace { file, line, cause },
+            Fault::BadCertificate { line, cause, .. } => {
+                Fault::BadCertificate { file, line, cause }
+            }
+            stop => stop,
         }
     }
 
@@ -104,7 +122,11 @@ impl From<ReplayError> for Fault {
     fn from(error: ReplayError) -> Fault {
         match error {
             ReplayError::OutOfMemory => Fault::OutOfMemory,
-            ReplayError::BadTrace { line, cause } => Fault::BadTrace { line, cause },
+            ReplayError::BadTrace { line, cause } => Fault::BadTrace {
+                file: None,
+                line,
+                cause,
+            },
             ReplayError::SinkFailed => Fault::SinkFailed,
         }
     }
@@ -116,7 +138,11 @@ impl From<ThreadsError> for Fault {
     fn from(error: ThreadsError) -> Fault {
         match error {
             ThreadsError::OutOfMemory => Fault::OutOfMemory,
-            ThreadsError::BadTrace { line, cause } => Fault::BadTrace { line, cause },
+            ThreadsError::BadTrace { line, cause } => Fault::BadTrace {
+                file: None,
+                line,
+                cause,
+            },
             ThreadsError::Doubled => Fault::Doubled,
             ThreadsError::AuditFault(cause) => Fault::Audit(cause),
             ThreadsError::SinkFailed => Fault::SinkFailed,
@@ -130,7 +156,11 @@ impl From<CheckError> for Fault {
     fn from(error: CheckError) -> Fault {
         match error {
             CheckError::OutOfMemory => Fault::OutOfMemory,
-            CheckError::BadCertificate { line, cause } => Fault::BadCertificate { line, cause },
+            CheckError::BadCertificate { line, cause } => Fault::BadCertificate {
+                file: None,
+                line,
+                cause,
+            },
             CheckError::SinkFailed => Fault::SinkFailed,
         }
     }

@@ -30,6 +30,7 @@
 
 mod fault;
 mod job;
+mod sentences;
 mod store;
 mod telling;
 

@@ -1,10 +1,12 @@
 //! Tells what went wrong.
 
-ghost use Rattle.std.specs.Prelude.{◌≡◌, ◌<◌, ◌+◌, ◌-◌, ◌^◌, true, false, MatchBool, IfOk, OnOk, IsErrOf};
+ghost use Rattle.std.specs.Prelude.{◌≡◌, ◌<◌, ◌+◌, ◌++◌, ◌-◌, ◌^◌, true, false, MatchBool, IfOk, OnOk, IsErrOf};
 ghost use Rattle.command_line.specs.declared.telling.TellError.TheVariants as tell_error;
-ghost use Rattle.command_line.specs.Telling.{IsMessage, TakesFront, TakesMessage, asks_for_help, audit_message, file_message, line_message, status_of, status_where_untold};
+ghost use Rattle.command_line.specs.Telling.{IsMessage, TakesFront, TakesMessage, asks_for_help, audit_message, file_message, line_message, status_of, status_where_untold, text_message};
+ghost use Rattle.command_line.specs.Job.{bytes_of};
 
 use crate::fault::Fault;
+use crate::sentences;
 use audit::AuditCause;
 use itoa::Buffer;
 use std::alloc::{AllocError, Global};
@@ -50,15 +52,36 @@ impl From<SinkFailed> for TellError {
     }
 }
 
-fn line_message(alloc: Global, line: usize, word: &str) -> Result<Vec<u8>, AllocError>
-    ensures { IfOk result (λ text. text.items ≡ line_message line word.now) }
+fn push_line(text: &mut Vec<u8>, line: usize, said: &str) -> Result<(), AllocError>
+    ensures { OnOk result (text.new.items ≡ text.old.items ++ line_message line said.now) }
 {
     let mut buffer = Buffer::new();
-    let mut text = Vec::from_slice(alloc, b"line ")?;
+    text.extend_from_slice(b"line ")?;
     text.extend_from_slice(buffer.format(line).as_bytes())?;
     text.extend_from_slice(b": ")?;
-    text.extend_from_slice(word.as_bytes())?;
+    text.extend_from_slice(said.as_bytes())?;
     text.extend_from_slice(b"\n")?;
+    Ok(())
+}
+
+/// What is said of a text: to people, if it has a file, and then to programs.
+fn text_message(
+    alloc: Global,
+    file: Option<&str>,
+    line: usize,
+    sentence: &str,
+    word: &str,
+) -> Result<Vec<u8>, AllocError>
+    ensures { IfOk result (λ text. text.items
+        ≡ text_message (bytes_of file.entry) line sentence.now word.now) }
+{
+    let mut text = Vec::new(alloc);
+    if let Some(file) = file {
+        text.extend_from_slice(file.as_bytes())?;
+        text.extend_from_slice(b": ")?;
+        push_line(&mut text, line, sentence)?;
+    }
+    push_line(&mut text, line, word)?;
     Ok(text)
 }
 
@@ -86,8 +109,14 @@ fn message(alloc: Global, fault: &Fault) -> Result<Vec<u8>, AllocError>
     ensures { IfOk result (λ text. IsMessage fault.now text.items) }
 {
     match fault {
-        Fault::BadTrace { line, cause } => line_message(alloc, *line, cause.word()),
-        Fault::BadCertificate { line, cause } => line_message(alloc, *line, cause.word()),
+        Fault::BadTrace { file, line, cause } => {
+            let sentence = sentences::of_trace(*cause);
+            text_message(alloc, file.as_deref(), *line, sentence, cause.word())
+        }
+        Fault::BadCertificate { file, line, cause } => {
+            let sentence = sentences::of_certificate(*cause);
+            text_message(alloc, file.as_deref(), *line, sentence, cause.word())
+        }
         Fault::Words(error) => Ok(error.to_string(alloc)?.into_bytes()),
         Fault::OutOfMemory => Vec::from_slice(alloc, b"memory\n"),
         Fault::Doubled => Vec::from_slice(alloc, b"doubled\n"),

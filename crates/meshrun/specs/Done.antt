@@ -1,5 +1,8 @@
 -- What the program has written where it did its job, and where it came to a halt.
-use Rattle.std.specs.Prelude.{◌≡◌, ◌+◌, ◌⊎◌, ℕ, Bool, true, false, List, Option, Err, ⊤}
+use Rattle.std.specs.Prelude.{◌≡◌, ◌+◌, ◌⊎◌, ℕ, Bool, true, false, List, Option, Some, None, Err, option_map, codes, if◌then◌else◌, string_bytes, ⊤}
+use Rattle.std.specs.Str.{bytes_eq}
+use Rattle.std.specs.declared.alloc.Global.{Global}
+use Rattle.std.specs.declared.string.String.{String}
 use Rattle.clap.specs.Walk.{Text}
 use Rattle.certificate.specs.Grammar.{certificate_in}
 use Rattle.certificate.specs.declared.text.cause.ReadError.TheVariants as read_error
@@ -19,6 +22,15 @@ abbrev pub status_of_verdict : Bool → ℕ
 status_of_verdict true = 0
 status_of_verdict false = 1
 
+-- the file that a word names for a text, of which none stands for standard input, as `-` does
+abbrev pub file_of : Option Text → Option Text
+file_of None = None
+file_of (Some path) = if bytes_eq path (codes "-") then None else Some path
+
+-- the file that is named is the one that the word names
+abbrev pub IsNamed : Option Text → Option (String Global) → Type 0
+IsNamed path file = option_map string_bytes file ≡ file_of path
+
 -- a replay of the text, a serial one or one by threads, has written its report, whole, with this
 -- certificate
 abbrev pub WritesRun : (serial : Bool) → (text : List ℕ) → (replies : Bool)
@@ -34,14 +46,15 @@ WritesRunFront true text replies old new = WritesFront text replies old new
 WritesRunFront false text replies old new = WritesThreadedFront text replies old new
 
 -- where a replay came to a halt: at a sink that failed, once, with a prefix of the report taken; or
--- with nothing taken, at the fault of the text, where an allocation was refused, or, by threads
--- alone, where a shard or the pool was not as the run had left it or the audit failed
+-- with nothing taken, at the fault of the text, without its file's name, where an allocation was
+-- refused, or, by threads alone, where a shard or the pool was not as the run had left it or the
+-- audit failed
 abbrev pub HaltsReplay : (serial : Bool) → (text : List ℕ) → (replies : Bool)
     → (failures_old failures_new : ℕ) → (old new : Option (List ℕ)) → Fault → Type 0
 HaltsReplay serial text replies failures_old failures_new old new fault.SinkFailed =
     (failures_new ≡ failures_old + 1) × WritesRunFront serial text replies old new
-HaltsReplay serial text replies failures_old failures_new old new (fault.BadTrace line cause) =
-    IsFaultAt text line cause × (failures_new ≡ failures_old) × (new ≡ old)
+HaltsReplay serial text replies failures_old failures_new old new (fault.BadTrace file line cause) =
+    (file ≡ None) × IsFaultAt text line cause × (failures_new ≡ failures_old) × (new ≡ old)
 HaltsReplay serial text replies failures_old failures_new old new fault.OutOfMemory =
     (failures_new ≡ failures_old) × (new ≡ old)
 HaltsReplay serial text replies failures_old failures_new old new fault.Doubled = (serial ≡ false)
@@ -74,21 +87,22 @@ module _ {D : Type 0} (held : D → List ℕ → Option (List ℕ)) where
   IsDone old new before after status = (words : List Text) × (job : Job) × IsJobOf words job
       × DoesJob job old new before after status
 
--- where a check came to a halt: at a sink that failed, once, with a prefix of the verdict's line
--- taken; or with nothing taken, where a text was at fault, memory ran out, or the file could not be
--- read
-abbrev pub HaltsCheck : (failures_old failures_new : ℕ) → (old new : Option (List ℕ)) → Fault
-    → Type 0
-HaltsCheck failures_old failures_new old new fault.SinkFailed = (failures_new ≡ failures_old + 1)
-    × ((text : List ℕ) × WritesVerdictFront text old new)
-HaltsCheck failures_old failures_new old new (fault.BadCertificate line cause) =
-    ((text : List ℕ) × (certificate_in text ≡ Err (read_error.BadCertificate line cause)))
+-- where a check of the file came to a halt: at a sink that failed, once, with a prefix of the
+-- verdict's line taken; or with nothing taken, where a text was at fault, with its file's name,
+-- memory ran out, or the file could not be read
+abbrev pub HaltsCheck : (path : Option Text) → (failures_old failures_new : ℕ)
+    → (old new : Option (List ℕ)) → Fault → Type 0
+HaltsCheck path failures_old failures_new old new fault.SinkFailed =
+    (failures_new ≡ failures_old + 1) × ((text : List ℕ) × WritesVerdictFront text old new)
+HaltsCheck path failures_old failures_new old new (fault.BadCertificate file line cause) =
+    IsNamed path file
+    × ((text : List ℕ) × (certificate_in text ≡ Err (read_error.BadCertificate line cause)))
     × (failures_new ≡ failures_old) × (new ≡ old)
-HaltsCheck failures_old failures_new old new fault.OutOfMemory = (failures_new ≡ failures_old)
-    × (new ≡ old)
-HaltsCheck failures_old failures_new old new (fault.Io file error) = (failures_new ≡ failures_old)
-    × (new ≡ old)
-HaltsCheck failures_old failures_new old new _ = ⊥
+HaltsCheck path failures_old failures_new old new fault.OutOfMemory =
+    (failures_new ≡ failures_old) × (new ≡ old)
+HaltsCheck path failures_old failures_new old new (fault.Io file error) =
+    (failures_new ≡ failures_old) × (new ≡ old)
+HaltsCheck path failures_old failures_new old new _ = ⊥
 
 -- what keeps a file, standard input or the command line from being read: what the system said of
 -- it, or memory ran out
@@ -121,43 +135,45 @@ module _ {D : Type 0} (held : D → List ℕ → Option (List ℕ)) (failures : 
       × IsUnsaved held certificate bytes before after)
       × (failures after ≡ failures before + 1)
 
-  -- where a run came to a halt: at a sink that failed, once, with a prefix of the report taken and
-  -- no file written; at a file that could not be read, or that of the certificate, which could not
-  -- be written; or with nothing written at the fault of a text, where an allocation was refused,
-  -- or, by threads alone, where a shard or the pool was not as the run had left it or the audit
-  -- failed
-  abbrev pub HaltsRun : (serial replies : Bool) → (certificate : Option Text)
-      → (failures_old failures_new : ℕ) → (old new : Option (List ℕ)) → (before after : D) → Fault
-      → Type 0
-  HaltsRun serial replies certificate failures_old failures_new old new before after
+  -- where a run of the trace came to a halt: at a sink that failed, once, with a prefix of the
+  -- report taken and no file written; at a file that could not be read, or that of the certificate,
+  -- which could not be written; or with nothing written at the fault of a text, with its file's
+  -- name, where an allocation was refused, or, by threads alone, where a shard or the pool was not
+  -- as the run had left it or the audit failed
+  abbrev pub HaltsRun : (trace : Option Text) → (serial replies : Bool)
+      → (certificate : Option Text) → (failures_old failures_new : ℕ)
+      → (old new : Option (List ℕ)) → (before after : D) → Fault → Type 0
+  HaltsRun trace serial replies certificate failures_old failures_new old new before after
       fault.SinkFailed = (failures_new ≡ failures_old + 1)
       × ((text : List ℕ) × WritesRunFront serial text replies old new) × (after ≡ before)
-  HaltsRun serial replies certificate failures_old failures_new old new before after
+  HaltsRun trace serial replies certificate failures_old failures_new old new before after
       (fault.Io file error) =
       IsUntouched failures_old failures_new old new before after
       ⊎ IsReplayedUnsaved serial replies certificate failures_old failures_new old new before
       after
-  HaltsRun serial replies certificate failures_old failures_new old new before after
-      (fault.BadTrace line cause) = ((text : List ℕ) × IsFaultAt text line cause)
+  HaltsRun trace serial replies certificate failures_old failures_new old new before after
+      (fault.BadTrace file line cause) = IsNamed trace file
+      × ((text : List ℕ) × IsFaultAt text line cause)
       × IsUntouched failures_old failures_new old new before after
-  HaltsRun serial replies certificate failures_old failures_new old new before after
+  HaltsRun trace serial replies certificate failures_old failures_new old new before after
       fault.OutOfMemory = IsUntouched failures_old failures_new old new before after
-  HaltsRun serial replies certificate failures_old failures_new old new before after fault.Doubled =
-      (serial ≡ false) × IsUntouched failures_old failures_new old new before after
-  HaltsRun serial replies certificate failures_old failures_new old new before after
+  HaltsRun trace serial replies certificate failures_old failures_new old new before after
+      fault.Doubled = (serial ≡ false)
+      × IsUntouched failures_old failures_new old new before after
+  HaltsRun trace serial replies certificate failures_old failures_new old new before after
       (fault.Audit cause) = (serial ≡ false)
       × ((text : List ℕ) × FailsAudit text replies cause)
       × IsUntouched failures_old failures_new old new before after
-  HaltsRun serial replies certificate failures_old failures_new old new before after _ = ⊥
+  HaltsRun trace serial replies certificate failures_old failures_new old new before after _ = ⊥
 
   -- where the job came to a halt; a check writes no file
   abbrev pub Halts : Job → (failures_old failures_new : ℕ) → (old new : Option (List ℕ))
       → (before after : D) → Fault → Type 0
   Halts (Run trace serial replies certificate) failures_old failures_new old new before after stop =
-      HaltsRun serial replies (bytes_of certificate) failures_old failures_new old new before after
-      stop
+      HaltsRun (bytes_of trace) serial replies (bytes_of certificate) failures_old failures_new old
+      new before after stop
   Halts (Check file) failures_old failures_new old new before after stop =
-      HaltsCheck failures_old failures_new old new stop × (after ≡ before)
+      HaltsCheck (Some file.now) failures_old failures_new old new stop × (after ≡ before)
 
   -- no job was begun, and nothing was written; or the job that words name came to a halt
   abbrev pub IsHalted : (failures_old failures_new : ℕ) → (old new : Option (List ℕ))

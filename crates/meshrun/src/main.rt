@@ -13,7 +13,7 @@
 #![tactic(auto)]
 
 ghost use Rattle.std.specs.Prelude.{◌≡◌, ◌<◌, ◌≤◌, ◌+◌, ◌-◌, ◌^◌, ℕ, List, IfErr, IfOk, OnOk};
-ghost use Rattle.meshrun.specs.Done.{DoesJob, Halts, HaltsCheck, HaltsReplay, HaltsRun, IsDone, IsHalted, IsOfFile, IsReplayed, WritesRun, status_of_verdict};
+ghost use Rattle.meshrun.specs.Done.{DoesJob, Halts, HaltsCheck, HaltsReplay, HaltsRun, IsDone, IsHalted, IsNamed, IsOfFile, IsReplayed, WritesRun, status_of_verdict};
 ghost use Rattle.command_line.specs.Job.{bytes_of};
 ghost use Rattle.trace_runner.specs.Verdict.{WritesVerdict};
 
@@ -51,20 +51,31 @@ fn standard_input(rt: &(impl Input + AllocGlobal)) -> io::Result<Vec<u8>> {
     Ok(text)
 }
 
-/// The bytes of the file, or of standard input where no file is named or it is `-`.
-fn source_text(
-    rt: &(impl Files + Input + AllocGlobal),
-    path: Option<&str>,
-) -> Result<Vec<u8>, Fault>
-    ensures { IfErr result IsOfFile }
+/// A text, and the file that has it: none for standard input.
+#[derive(Drop)]
+struct Source {
+    file: Option<String>,
+    text: Vec<u8>,
+}
+
+/// The text of the file, or of standard input where no file is named or it is `-`.
+fn source_of(rt: &(impl Files + Input + AllocGlobal), path: Option<&str>) -> Result<Source, Fault>
+    ensures named { IfOk result (λ source. IsNamed (bytes_of path.entry) source.file) }
+    ensures err { IfErr result IsOfFile }
 {
-    let (name, text) = match path {
-        None | Some("-") => ("standard input", standard_input(rt)),
-        Some(path) => (path, fs::read(rt, path)),
-    };
-    match text {
-        Ok(text) => Ok(text),
-        Err(error) => Err(Fault::unread(rt.alloc(), name, error)),
+    match path {
+        None | Some("-") => match standard_input(rt) {
+            Ok(text) => Ok(Source { file: None, text }),
+            Err(error) => Err(Fault::unread(rt.alloc(), "standard input", error)),
+        },
+        Some(path) => match fs::read(rt, path) {
+            // What may have to be said of the file is kept before anything is written.
+            Ok(text) => Ok(Source {
+                file: Some(path.to_string(rt.alloc())?),
+                text,
+            }),
+            Err(error) => Err(Fault::unread(rt.alloc(), path, error)),
+        },
     }
 }
 
@@ -118,15 +129,17 @@ fn run_trace<R: Threads + Wait + Sync + Files + Input + AllocGlobal, S: Sink, D:
     // What became of the files.
     ensures stored { OnOk result (D.failures store.new ≡ D.failures store.old) }
     ensures store_failures { D.failures store.new ≤ D.failures store.old + 1 }
-    ensures err { IfErr result (HaltsRun D.held D.failures serial replies
+    ensures err { IfErr result (HaltsRun D.held D.failures (bytes_of path.entry) serial replies
         (bytes_of certificate.entry) (S.failures out.old) (S.failures out.new) (S.taken out.old)
         (S.taken out.new) store.old store.new) }
 {
-    let text = source_text(rt, path)?;
+    let source = source_of(rt, path)?;
     // What may have to be said of the file for the certificate is kept before anything is written.
     let file = certificate.unwrap_or("").to_string(rt.alloc())?;
     let mut bytes = Vec::new(rt.alloc());
-    replay(rt, &text, serial, replies, out, &mut bytes)?;
+    if let Err(fault) = replay(rt, &source.text, serial, replies, out, &mut bytes) {
+        return Err(fault.in_file(source.file));
+    }
     match save(store, certificate, &bytes) {
         Ok(()) => Ok(()),
         Err(StoreFailed(error)) => Err(Fault::Io { file, error }),
@@ -145,12 +158,14 @@ fn check_file<R: Files + Input + AllocGlobal, S: Sink>(
         × WritesVerdict text (S.taken out.old) (S.taken out.new) accepted) }
     ensures succeeded { OnOk result (S.failures out.new ≡ S.failures out.old) }
     ensures failures { S.failures out.new ≤ S.failures out.old + 1 }
-    ensures err { IfErr result (HaltsCheck (S.failures out.old) (S.failures out.new)
-        (S.taken out.old) (S.taken out.new)) }
+    ensures err { IfErr result (HaltsCheck (Some path.now) (S.failures out.old)
+        (S.failures out.new) (S.taken out.old) (S.taken out.new)) }
 {
-    let text = source_text(rt, Some(path))?;
-    let accepted = check_text(rt.alloc(), &text, out)?;
-    Ok(accepted)
+    let source = source_of(rt, Some(path))?;
+    match check_text(rt.alloc(), &source.text, out) {
+        Ok(accepted) => Ok(accepted),
+        Err(error) => Err(Fault::from(error).in_file(source.file)),
+    }
 }
 
 /// The status with which the program ends after a check.

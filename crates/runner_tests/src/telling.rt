@@ -31,3 +31,23 @@ fn the_last_line(rt: HostRuntime) -> Result<(), Fail> {
     );
     Ok(())
 }
+
+// A file is named to people alone.
+#[test]
+fn a_named_file(rt: HostRuntime) -> Result<(), Fail> {
+    let fault = Fault::from(ReplayError::BadTrace {
+        line: 7,
+        cause: Cause::Bound,
+    });
+    let fault = fault.in_file(Some("trace.txt".to_string(rt.alloc())?));
+    let (status, out, err) = told(rt.alloc(), &fault)?;
+    assert_eq!(rt;
+        (status, out.bytes.as_slice(), err.bytes.as_slice()),
+        (
+            1,
+            b"".as_slice(),
+            b"trace.txt: line 7: the name was bound before\nline 7: bound\n".as_slice()
+        )
+    );
+    Ok(())
+}
