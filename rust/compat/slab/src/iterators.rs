@@ -1,7 +1,7 @@
 //! The iterators, from the lowest key on.
 
 use super::plain::{self, Plain};
-use super::{Node, Paged, Slab, Values};
+use super::{drop_all, Node, Paged, Slab, Values};
 use std::fmt;
 use std::iter::FusedIterator;
 use std::mem;
@@ -83,7 +83,7 @@ impl<'a, T> Drain<'a, T> {
 impl<T> Drop for Drain<'_, T> {
     fn drop(&mut self) {
         if let Drained::InPages(_, values) = &mut self.0 {
-            values.clear();
+            drop_all(values);
         }
     }
 }

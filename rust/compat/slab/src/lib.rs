@@ -149,6 +149,17 @@ fn keep<T>(values: &mut teurlaks::Slab<Node<T>>, key: usize, value: T) -> Key {
     values.insert(Node { value, key }).expect("there is memory for a value")
 }
 
+/// Drops all values, also if the drop of one panics: none has a name any more.
+fn drop_all<T>(values: &mut teurlaks::Slab<Node<T>>) {
+    struct Rest<'v, T>(&'v mut teurlaks::Slab<Node<T>>);
+    impl<T> Drop for Rest<'_, T> {
+        fn drop(&mut self) {
+            self.0.clear();
+        }
+    }
+    Rest(values).0.clear();
+}
+
 /// A value that goes if the closure panics that is asked for it.
 struct Lost<'v, T> {
     values: &'v mut teurlaks::Slab<Node<T>>,
@@ -257,7 +268,7 @@ impl<T> Slab<T> {
             Values::InVector(values) => values.clear(),
             Values::InPages(paged) => {
                 paged.names.clear();
-                paged.values.clear();
+                drop_all(&mut paged.values);
                 paged.give_back();
             }
         }
