@@ -139,9 +139,7 @@ impl Blocks {
         let is_free = |page: usize| {
             let last = ((page + 1) * SYSTEM_PAGE - 1) / self.size;
             let blocks = page * SYSTEM_PAGE / self.size..=last.min(self.per - 1);
-            blocks
-                .into_iter()
-                .all(|block| !self.is_taken(first_block + block))
+            blocks.into_iter().all(|block| !self.is_taken(first_block + block))
         };
         let mut pages = offset / SYSTEM_PAGE..(offset + self.size - 1) / SYSTEM_PAGE + 1;
         // Those between the first and the last are this block's alone.

@@ -79,10 +79,12 @@ impl<T> Paged<T> {
         }
     }
 
+    #[inline(never)] // So that the calls on few values are short.
     fn get(&self, key: usize) -> Option<&T> {
         Some(&self.values.get(*self.names.get(key)?)?.value)
     }
 
+    #[inline(never)]
     fn get_mut(&mut self, key: usize) -> Option<&mut T> {
         Some(&mut self.values.get_mut(*self.names.get(key)?)?.value)
     }
@@ -93,12 +95,14 @@ impl<T> Paged<T> {
         Some((&mut one.value, &mut two.value))
     }
 
+    #[inline(never)]
     fn insert(&mut self, value: T) -> usize {
         self.names.reserve(1);
         let name = keep(&mut self.values, self.names.next(), value);
         self.names.insert(name)
     }
 
+    #[inline(never)]
     fn remove(&mut self, key: usize) -> Option<T> {
         let name = self.names.remove(key)?;
         let node = self.values.remove(name)?;
@@ -289,6 +293,7 @@ impl<T> Slab<T> {
     }
 
     /// How many values there are.
+    #[inline]
     #[must_use]
     pub fn len(&self) -> usize {
         either!(&self.0, keys.len())
@@ -312,12 +317,14 @@ impl<T> Slab<T> {
     }
 
     /// The value of the key, if it has one.
+    #[inline]
     #[must_use]
     pub fn get(&self, key: usize) -> Option<&T> {
         either!(&self.0, values.get(key))
     }
 
     /// The value of the key, if it has one, to be changed.
+    #[inline]
     pub fn get_mut(&mut self, key: usize) -> Option<&mut T> {
         either!(&mut self.0, values.get_mut(key))
     }
@@ -395,6 +402,7 @@ impl<T> Slab<T> {
     /// # Panics
     ///
     /// If memory is refused for it.
+    #[inline]
     pub fn insert(&mut self, val: T) -> usize {
         if let Values::InVector(values) = &mut self.0 {
             if values.len() < IN_VECTOR {
@@ -406,6 +414,7 @@ impl<T> Slab<T> {
     }
 
     /// The key that the next value will have.
+    #[inline]
     #[must_use]
     pub fn vacant_key(&self) -> usize {
         either!(&self.0, keys.next())
@@ -418,6 +427,7 @@ impl<T> Slab<T> {
     }
 
     /// Takes the value of the key out, if it has one.
+    #[inline]
     pub fn try_remove(&mut self, key: usize) -> Option<T> {
         either!(&mut self.0, values.remove(key))
     }
@@ -427,12 +437,14 @@ impl<T> Slab<T> {
     /// # Panics
     ///
     /// If it has none.
+    #[inline]
     #[track_caller]
     pub fn remove(&mut self, key: usize) -> T {
         self.try_remove(key).expect("invalid key")
     }
 
     /// Whether the key has a value.
+    #[inline]
     #[must_use]
     pub fn contains(&self, key: usize) -> bool {
         either!(&self.0, keys.get(key).is_some())
@@ -501,6 +513,7 @@ impl<T: Clone> Clone for Slab<T> {
 impl<T> Index<usize> for Slab<T> {
     type Output = T;
 
+    #[inline]
     #[track_caller]
     fn index(&self, key: usize) -> &T {
         self.get(key).expect("invalid key")
@@ -508,6 +521,7 @@ impl<T> Index<usize> for Slab<T> {
 }
 
 impl<T> IndexMut<usize> for Slab<T> {
+    #[inline]
     #[track_caller]
     fn index_mut(&mut self, key: usize) -> &mut T {
         self.get_mut(key).expect("invalid key")
