@@ -402,4 +402,19 @@ TEURLAKS_INLINE struct teurlaks_arena_totals_reply teurlaks_tested_steward_total
 
 #endif
 
+/* What a put of a core answered, if its shard may open so many spans in its life. A key of a later
+ * span is freed again, and the answer is TEURLAKS_PAGES_SPENT. So each key that stands has a number
+ * in the layout of teurlaks_key_bits(shards, spans, gens), if the core has so many shards and
+ * generations: `put = teurlaks_within(&core, spans, teurlaks_put(&core, 0, word));` */
+TEURLAKS_INLINE struct teurlaks_put_reply teurlaks_within(struct teurlaks_handle *handle,
+                                                          uint32_t spans,
+                                                          struct teurlaks_put_reply put) {
+    struct teurlaks_put_reply spent = {TEURLAKS_PAGES_SPENT, {0, 0, 0, 0, 0}};
+    if (put.status != TEURLAKS_OK || put.key.serial < spans) return put;
+    teurlaks_free(handle, put.key);
+    /* Nothing else is live on its page. */
+    teurlaks_trim(handle, put.key.shard);
+    return spent;
+}
+
 #endif

@@ -24,10 +24,13 @@ pub(crate) struct Blocks {
     // How many blocks a segment has.
     per: usize,
     segments: Vec<NonNull<u8>>,
+    // Of each block that was ever taken: those behind are new.
     taken: Vec<bool>,
-    // The free blocks, each in one of the two.
+    // The free blocks that are not new, each in one of the two.
     warm: Vec<u32>,
     cold: Vec<u32>,
+    // For how many blocks there is memory, and room on each list.
+    room: usize,
 }
 
 impl Blocks {
@@ -40,46 +43,49 @@ impl Blocks {
             taken: Vec::new(),
             warm: Vec::new(),
             cold: Vec::new(),
+            room: 0,
         }
     }
 
-    /// How many blocks there are, free and taken.
+    /// How many blocks there are, free and taken. Their numbers are below that.
     pub fn len(&self) -> usize {
-        self.taken.len()
+        self.room
     }
 
     /// Sees to it that a block is free. Where this is refused nothing has changed.
     #[inline]
     pub fn reserve(&mut self) -> Result<(), Refused> {
-        if self.warm.is_empty() && self.cold.is_empty() {
-            self.grow()?;
+        if self.warm.is_empty() && self.cold.is_empty() && self.taken.len() == self.room {
+            self.grow(1)?;
         }
         Ok(())
     }
 
     /// Sees to it that so many blocks are free. Where this is refused, those that there are by then stay.
     pub fn reserve_all(&mut self, count: usize) -> Result<(), Refused> {
-        while self.warm.len() + self.cold.len() < count {
-            self.grow()?;
+        let free = self.room - self.taken.len() + self.warm.len() + self.cold.len();
+        if free < count {
+            self.grow(count - free)?;
         }
         Ok(())
     }
 
+    /// Makes so many further blocks, and as many more as the lists have room for then.
     #[cold]
-    // Of 65,536 pages each takes a block, and for each there is at most one more that is free, and a segment.
-    #[allow(clippy::cast_possible_truncation)]
-    fn grow(&mut self) -> Result<(), Refused> {
-        let (old, new) = (self.len(), self.len() + self.per);
-        self.segments.try_reserve(1).map_err(|_| Refused::OutOfMemory)?;
-        self.taken.try_reserve(self.per).map_err(|_| Refused::OutOfMemory)?;
-        // Room for each block on both lists, so that no call that frees takes memory.
-        for list in [&mut self.warm, &mut self.cold] {
-            list.try_reserve(new).map_err(|_| Refused::OutOfMemory)?;
+    fn grow(&mut self, more: usize) -> Result<(), Refused> {
+        let blocks = self.room + more;
+        // Room for each block on all lists, so that no call that frees takes memory.
+        make_room(&mut self.taken, blocks)?;
+        make_room(&mut self.warm, blocks)?;
+        make_room(&mut self.cold, blocks)?;
+        while self.segments.len() * self.per < blocks {
+            self.segments.try_reserve(1).map_err(|_| Refused::OutOfMemory)?;
+            let segment = system::map(self.segment_bytes()).ok_or(Refused::OutOfMemory)?;
+            self.segments.push(segment);
         }
-        let segment = system::map(self.segment_bytes()).ok_or(Refused::OutOfMemory)?;
-        self.segments.push(segment);
-        self.taken.resize(new, false);
-        self.cold.extend((old as u32..new as u32).rev());
+        let lists = [self.taken.capacity(), self.warm.capacity(), self.cold.capacity()];
+        let mapped = self.segments.len() * self.per;
+        self.room = lists.into_iter().fold(mapped, usize::min);
         Ok(())
     }
 
@@ -89,15 +95,24 @@ impl Blocks {
     ///
     /// Where none is free.
     pub fn take(&mut self) -> (u32, NonNull<u8>) {
-        let number = self
-            .warm
-            .pop()
-            .or_else(|| self.cold.pop())
-            .expect("a block was reserved");
+        let number = match self.warm.pop().or_else(|| self.cold.pop()) {
+            Some(number) => number,
+            None => self.take_new(),
+        };
         self.taken[number as usize] = true;
         let (segment, offset) = self.place(number);
         // SAFETY: the block lies within its segment.
         (number, unsafe { NonNull::new_unchecked(segment.as_ptr().add(offset)) })
+    }
+
+    /// The number of the first block that was never taken.
+    // Of 1,048,576 pages in each of 64 shards each takes a block, and some more are free.
+    #[allow(clippy::cast_possible_truncation)]
+    fn take_new(&mut self) -> u32 {
+        let number = self.taken.len();
+        assert!(number < self.room, "a block was reserved");
+        self.taken.push(false);
+        number as u32
     }
 
     /// Frees a block that is taken. Takes no memory.
@@ -124,7 +139,7 @@ impl Blocks {
         let is_free = |page: usize| {
             let last = ((page + 1) * SYSTEM_PAGE - 1) / self.size;
             let blocks = page * SYSTEM_PAGE / self.size..=last.min(self.per - 1);
-            blocks.into_iter().all(|block| !self.taken[first_block + block])
+            blocks.into_iter().all(|block| !self.is_taken(first_block + block))
         };
         let mut pages = offset / SYSTEM_PAGE..(offset + self.size - 1) / SYSTEM_PAGE + 1;
         // Those between the first and the last are this block's alone.
@@ -145,14 +160,19 @@ impl Blocks {
         }
     }
 
-    /// The number of the block with this address, and how many bytes behind its beginning that is.
-    /// It looks at each segment.
+    fn is_taken(&self, number: usize) -> bool {
+        self.taken.get(number).is_some_and(|taken| *taken)
+    }
+
+    /// The number of the block with this address, and how many bytes behind its beginning that is,
+    /// if the block was ever taken. It looks at each segment.
     pub fn find(&self, at: *const u8) -> Option<(usize, usize)> {
         let bytes = self.per * self.size;
-        self.segments.iter().enumerate().find_map(|(segment, first)| {
+        let (number, offset) = self.segments.iter().enumerate().find_map(|(segment, first)| {
             let offset = (at as usize).checked_sub(first.as_ptr() as usize)?;
             (offset < bytes).then(|| (segment * self.per + offset / self.size, offset % self.size))
-        })
+        })?;
+        (number < self.taken.len()).then_some((number, offset))
     }
 
     fn place(&self, number: u32) -> (NonNull<u8>, usize) {
@@ -163,6 +183,11 @@ impl Blocks {
     fn segment_bytes(&self) -> usize {
         (self.per * self.size + SYSTEM_PAGE - 1) / SYSTEM_PAGE * SYSTEM_PAGE
     }
+}
+
+/// Sees to it that the list has room for so many in all, with some more for those that come later.
+fn make_room<E>(list: &mut Vec<E>, len: usize) -> Result<(), Refused> {
+    list.try_reserve(len - list.len()).map_err(|_| Refused::OutOfMemory)
 }
 
 impl Drop for Blocks {

@@ -40,8 +40,8 @@ pub(crate) fn number_of(mark: u64) -> u32 {
     (mark >> 32) as u32
 }
 
-/// How many places there are at least, once there are any.
-const LEAST_PLACES: usize = 16;
+/// How many places there are at least, once there are any: those of one span.
+const LEAST_PLACES: usize = 2;
 
 /// An odd number, found by trial, by which spans seldom want the same place, in shards that open them one after another, and where each second to
 /// 4,096th of these is left: where half of the places are taken, a search takes 1.07 steps on average then, and 1.5 at worst.
@@ -232,7 +232,7 @@ fn make_room<E>(list: &mut Vec<E>, len: usize) -> Result<(), Refused> {
 
 #[cfg(test)]
 mod tests {
-    use super::{number_of, Spans, LEAST_PLACES};
+    use super::{number_of, Spans};
     use crate::names::Span;
     use crate::refused::Refused;
     use crate::values::Block;
@@ -292,7 +292,7 @@ mod tests {
         }
         assert_eq!(
             (spans.places.len(), spans.names.len(), spans.iter().count()),
-            (LEAST_PLACES, 5, 4)
+            (16, 5, 4)
         );
         Ok(())
     }

@@ -1,5 +1,5 @@
 //! `many_slabs WHO VALUES`: how many bytes each of 10,000 slabs keeps resident that has so many values of 16 bytes, in a process of its own.
-//! WHO is `teurlaks-slab`, `teurlaks-store` or `slab`.
+//! WHO is `teurlaks-slab`, `teurlaks-store`, `stand-in` (rust/compat/slab) or `slab`.
 
 use std::env;
 use std::fs;
@@ -45,11 +45,14 @@ fn main() -> ExitCode {
         "teurlaks-store" => bytes_each(values, teurlaks::Store::default, |store, value| {
             store.insert(value).expect("there is memory");
         }),
+        "stand-in" => bytes_each(values, stand_in::Slab::new, |slab, value| {
+            slab.insert(value);
+        }),
         "slab" => bytes_each(values, slab::Slab::new, |slab, value| {
             slab.insert(value);
         }),
         _ => {
-            eprintln!("many_slabs teurlaks-slab|teurlaks-store|slab VALUES");
+            eprintln!("many_slabs teurlaks-slab|teurlaks-store|stand-in|slab VALUES");
             return ExitCode::FAILURE;
         }
     };

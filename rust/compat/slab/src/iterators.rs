@@ -1,7 +1,7 @@
 //! The iterators, from the lowest key on.
 
 use super::plain::{self, Plain};
-use super::{Node, Paged, Slab, Values};
+use super::{drop_all, Node, Slab, Values};
 use std::fmt;
 use std::iter::FusedIterator;
 use std::mem;
@@ -75,7 +75,7 @@ impl<'a, T> Drain<'a, T> {
     pub(super) fn new(values: &'a mut Values<T>) -> Drain<'a, T> {
         Drain(match values {
             Values::InVector(values) => Drained::InVector(values.drain()),
-            Values::InPages(Paged { names, values, .. }) => Drained::InPages(names.drain(), values),
+            Values::InPages(paged) => Drained::InPages(paged.names.drain(), &mut paged.values),
         })
     }
 }
@@ -83,7 +83,7 @@ impl<'a, T> Drain<'a, T> {
 impl<T> Drop for Drain<'_, T> {
     fn drop(&mut self) {
         if let Drained::InPages(_, values) = &mut self.0 {
-            values.clear();
+            drop_all(values);
         }
     }
 }
@@ -201,7 +201,7 @@ impl<T> IntoIterator for Slab<T> {
     fn into_iter(mut self) -> IntoIter<T> {
         IntoIter(match mem::replace(&mut self.0, Values::InVector(Plain::new())) {
             Values::InVector(values) => Owned::InVector(values.into_entries()),
-            Values::InPages(paged) => Owned::InPages(paged.names.into_entries(), paged.values),
+            Values::InPages(paged) => Owned::InPages(paged.names.into_entries(), Box::new(paged.values)),
         })
     }
 }

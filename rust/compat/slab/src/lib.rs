@@ -39,16 +39,17 @@ const IN_VECTOR: usize = if cfg!(feature = "always-in-pages") { 0 } else { 256 }
 /// Values of one type under keys that are numbers, the lowest first.
 pub struct Slab<T>(Values<T>);
 
-/// Where the values stand.
+/// Where the values stand. What only many of them need has a box, so that a slab is no larger than
+/// one of `slab`.
 enum Values<T> {
     InVector(Plain<T>),
-    InPages(Paged<T>),
+    InPages(Box<Paged<T>>),
 }
 
 /// Values in pages, under keys of Teurlaks.
 struct Paged<T> {
     names: Plain<Key>,
-    values: Box<teurlaks::Slab<Node<T>>>,
+    values: teurlaks::Slab<Node<T>>,
     // How many values were removed since the last compaction.
     removed: usize,
 }
@@ -70,7 +71,7 @@ pub struct VacantEntry<'a, T> {
 impl<T> Paged<T> {
     /// The values of these keys.
     fn of(values: Plain<T>) -> Paged<T> {
-        let mut kept = Box::<teurlaks::Slab<Node<T>>>::default();
+        let mut kept = teurlaks::Slab::default();
         Paged {
             names: values.map(|key, value| keep(&mut kept, key, value)),
             values: kept,
@@ -78,10 +79,12 @@ impl<T> Paged<T> {
         }
     }
 
+    #[inline(never)] // So that the calls on few values are short.
     fn get(&self, key: usize) -> Option<&T> {
         Some(&self.values.get(*self.names.get(key)?)?.value)
     }
 
+    #[inline(never)]
     fn get_mut(&mut self, key: usize) -> Option<&mut T> {
         Some(&mut self.values.get_mut(*self.names.get(key)?)?.value)
     }
@@ -92,12 +95,14 @@ impl<T> Paged<T> {
         Some((&mut one.value, &mut two.value))
     }
 
+    #[inline(never)]
     fn insert(&mut self, value: T) -> usize {
         self.names.reserve(1);
         let name = keep(&mut self.values, self.names.next(), value);
         self.names.insert(name)
     }
 
+    #[inline(never)]
     fn remove(&mut self, key: usize) -> Option<T> {
         let name = self.names.remove(key)?;
         let node = self.values.remove(name)?;
@@ -106,7 +111,7 @@ impl<T> Paged<T> {
     }
 
     fn compact(&mut self, mut rekey: impl FnMut(&mut T, usize, usize) -> bool) {
-        let values = &mut *self.values;
+        let values = &mut self.values;
         self.names.compact(|name, from, to| {
             let lost = Lost { values, name: *name };
             let node = lost.values.get_mut(*name).expect("the key has a value");
@@ -149,6 +154,17 @@ fn keep<T>(values: &mut teurlaks::Slab<Node<T>>, key: usize, value: T) -> Key {
     values.insert(Node { value, key }).expect("there is memory for a value")
 }
 
+/// Drops all values, also if the drop of one panics: none has a name any more.
+fn drop_all<T>(values: &mut teurlaks::Slab<Node<T>>) {
+    struct Rest<'v, T>(&'v mut teurlaks::Slab<Node<T>>);
+    impl<T> Drop for Rest<'_, T> {
+        fn drop(&mut self) {
+            self.0.clear();
+        }
+    }
+    Rest(values).0.clear();
+}
+
 /// A value that goes if the closure panics that is asked for it.
 struct Lost<'v, T> {
     values: &'v mut teurlaks::Slab<Node<T>>,
@@ -161,18 +177,18 @@ impl<T> Drop for Lost<'_, T> {
     }
 }
 
-/// Does the same wherever the values stand.
+/// Makes the same call wherever the values stand: of the keys, or of the values.
 macro_rules! either {
-    ($slab:expr, $keys:ident => $of_keys:expr) => {
+    ($slab:expr, keys.$($call:tt)*) => {
         match $slab {
-            Values::InVector($keys) => $of_keys,
-            Values::InPages(Paged { names: $keys, .. }) => $of_keys,
+            Values::InVector(values) => values.$($call)*,
+            Values::InPages(paged) => paged.names.$($call)*,
         }
     };
-    ($slab:expr, in $values:ident => $of_values:expr) => {
+    ($slab:expr, values.$($call:tt)*) => {
         match $slab {
-            Values::InVector($values) => $of_values,
-            Values::InPages($values) => $of_values,
+            Values::InVector(values) => values.$($call)*,
+            Values::InPages(paged) => paged.$($call)*,
         }
     };
 }
@@ -190,17 +206,17 @@ impl<T> Slab<T> {
         if capacity <= IN_VECTOR {
             return Slab(Values::InVector(Plain::with_capacity(capacity)));
         }
-        Slab(Values::InPages(Paged {
+        Slab(Values::InPages(Box::new(Paged {
             names: Plain::with_capacity(capacity),
-            values: Box::default(),
+            values: teurlaks::Slab::default(),
             removed: 0,
-        }))
+        })))
     }
 
     /// For how many keys there is room.
     #[must_use]
     pub fn capacity(&self) -> usize {
-        either!(&self.0, keys => keys.capacity())
+        either!(&self.0, keys.capacity())
     }
 
     /// Makes room for so many further keys.
@@ -210,7 +226,7 @@ impl<T> Slab<T> {
     /// If there can't be so many.
     pub fn reserve(&mut self, additional: usize) {
         self.make_way(additional);
-        either!(&mut self.0, keys => keys.reserve(additional));
+        either!(&mut self.0, keys.reserve(additional));
     }
 
     /// Makes room for so many further keys, and no more.
@@ -220,14 +236,14 @@ impl<T> Slab<T> {
     /// If there can't be so many.
     pub fn reserve_exact(&mut self, additional: usize) {
         self.make_way(additional);
-        either!(&mut self.0, keys => keys.reserve_exact(additional));
+        either!(&mut self.0, keys.reserve_exact(additional));
     }
 
     /// Has values stand in pages if so many further keys are too many for a vector.
     fn make_way(&mut self, additional: usize) {
         if let Values::InVector(values) = &mut self.0 {
             if values.len().saturating_add(additional) > IN_VECTOR {
-                self.0 = Values::InPages(Paged::of(mem::replace(values, Plain::new())));
+                self.0 = Values::InPages(Box::new(Paged::of(mem::replace(values, Plain::new()))));
             }
         }
     }
@@ -235,7 +251,7 @@ impl<T> Slab<T> {
     /// Gives back the room of the last keys that have no value, and the pages of values that can be
     /// done without. Each value keeps its key.
     pub fn shrink_to_fit(&mut self) {
-        either!(&mut self.0, keys => keys.shrink());
+        either!(&mut self.0, keys.shrink());
         self.give_back();
     }
 
@@ -247,7 +263,7 @@ impl<T> Slab<T> {
     where
         F: FnMut(&mut T, usize, usize) -> bool,
     {
-        either!(&mut self.0, in values => values.compact(rekey));
+        either!(&mut self.0, values.compact(rekey));
         self.give_back();
     }
 
@@ -257,7 +273,7 @@ impl<T> Slab<T> {
             Values::InVector(values) => values.clear(),
             Values::InPages(paged) => {
                 paged.names.clear();
-                paged.values.clear();
+                drop_all(&mut paged.values);
                 paged.give_back();
             }
         }
@@ -277,9 +293,10 @@ impl<T> Slab<T> {
     }
 
     /// How many values there are.
+    #[inline]
     #[must_use]
     pub fn len(&self) -> usize {
-        either!(&self.0, keys => keys.len())
+        either!(&self.0, keys.len())
     }
 
     /// Whether there is no value.
@@ -300,14 +317,16 @@ impl<T> Slab<T> {
     }
 
     /// The value of the key, if it has one.
+    #[inline]
     #[must_use]
     pub fn get(&self, key: usize) -> Option<&T> {
-        either!(&self.0, in values => values.get(key))
+        either!(&self.0, values.get(key))
     }
 
     /// The value of the key, if it has one, to be changed.
+    #[inline]
     pub fn get_mut(&mut self, key: usize) -> Option<&mut T> {
-        either!(&mut self.0, in values => values.get_mut(key))
+        either!(&mut self.0, values.get_mut(key))
     }
 
     /// The values of two keys, to be changed, if both have one.
@@ -317,7 +336,7 @@ impl<T> Slab<T> {
     /// If the keys are the same.
     pub fn get2_mut(&mut self, key1: usize, key2: usize) -> Option<(&mut T, &mut T)> {
         assert!(key1 != key2);
-        either!(&mut self.0, in values => values.get2_mut(key1, key2))
+        either!(&mut self.0, values.get2_mut(key1, key2))
     }
 
     /// The value of the key. It is checked all the same.
@@ -383,6 +402,7 @@ impl<T> Slab<T> {
     /// # Panics
     ///
     /// If memory is refused for it.
+    #[inline]
     pub fn insert(&mut self, val: T) -> usize {
         if let Values::InVector(values) = &mut self.0 {
             if values.len() < IN_VECTOR {
@@ -390,13 +410,14 @@ impl<T> Slab<T> {
             }
             self.make_way(1);
         }
-        either!(&mut self.0, in values => values.insert(val))
+        either!(&mut self.0, values.insert(val))
     }
 
     /// The key that the next value will have.
+    #[inline]
     #[must_use]
     pub fn vacant_key(&self) -> usize {
-        either!(&self.0, keys => keys.next())
+        either!(&self.0, keys.next())
     }
 
     /// A key for a value that is still to come.
@@ -406,8 +427,9 @@ impl<T> Slab<T> {
     }
 
     /// Takes the value of the key out, if it has one.
+    #[inline]
     pub fn try_remove(&mut self, key: usize) -> Option<T> {
-        either!(&mut self.0, in values => values.remove(key))
+        either!(&mut self.0, values.remove(key))
     }
 
     /// Takes the value of the key out.
@@ -415,15 +437,17 @@ impl<T> Slab<T> {
     /// # Panics
     ///
     /// If it has none.
+    #[inline]
     #[track_caller]
     pub fn remove(&mut self, key: usize) -> T {
         self.try_remove(key).expect("invalid key")
     }
 
     /// Whether the key has a value.
+    #[inline]
     #[must_use]
     pub fn contains(&self, key: usize) -> bool {
-        either!(&self.0, keys => keys.get(key).is_some())
+        either!(&self.0, keys.get(key).is_some())
     }
 
     /// Takes out each value that the test does not keep, from the lowest key on.
@@ -431,7 +455,7 @@ impl<T> Slab<T> {
     where
         F: FnMut(usize, &mut T) -> bool,
     {
-        for key in 0..either!(&self.0, keys => keys.keys()) {
+        for key in 0..either!(&self.0, keys.keys()) {
             let keeps = self.get_mut(key).map_or(true, |value| f(key, value));
             if !keeps {
                 self.try_remove(key);
@@ -471,16 +495,16 @@ impl<T: Clone> Clone for Slab<T> {
         Slab(match &self.0 {
             Values::InVector(values) => Values::InVector(values.clone()),
             Values::InPages(paged) => {
-                let mut kept = Box::default();
+                let mut kept = teurlaks::Slab::default();
                 let names = paged.names.clone().map(|key, name| {
                     let node: &Node<T> = &paged.values[name];
                     keep(&mut kept, key, node.value.clone())
                 });
-                Values::InPages(Paged {
+                Values::InPages(Box::new(Paged {
                     names,
                     values: kept,
                     removed: 0,
-                })
+                }))
             }
         })
     }
@@ -489,6 +513,7 @@ impl<T: Clone> Clone for Slab<T> {
 impl<T> Index<usize> for Slab<T> {
     type Output = T;
 
+    #[inline]
     #[track_caller]
     fn index(&self, key: usize) -> &T {
         self.get(key).expect("invalid key")
@@ -496,6 +521,7 @@ impl<T> Index<usize> for Slab<T> {
 }
 
 impl<T> IndexMut<usize> for Slab<T> {
+    #[inline]
     #[track_caller]
     fn index_mut(&mut self, key: usize) -> &mut T {
         self.get_mut(key).expect("invalid key")
@@ -517,7 +543,7 @@ impl<T> FromIterator<(usize, T)> for Slab<T> {
             }
             // What is next after a vacant entry has 32 bits.
             assert!(key < u32::MAX as usize, "capacity overflow");
-            in_order &= key >= either!(&slab.0, keys => keys.keys());
+            in_order &= key >= either!(&slab.0, keys.keys());
             slab.make_way(if key < IN_VECTOR { 0 } else { IN_VECTOR + 1 });
             match &mut slab.0 {
                 Values::InVector(values) => values.insert_at(key, value),
@@ -527,7 +553,7 @@ impl<T> FromIterator<(usize, T)> for Slab<T> {
                 }
             }
         }
-        either!(&mut slab.0, keys => keys.end_vacant(in_order));
+        either!(&mut slab.0, keys.end_vacant(in_order));
         slab
     }
 }

@@ -46,11 +46,13 @@ impl<V> Plain<V> {
     }
 
     /// How many keys have something.
+    #[inline]
     pub fn len(&self) -> usize {
         self.len
     }
 
     /// The key that comes next.
+    #[inline]
     pub fn next(&self) -> usize {
         self.next
     }
@@ -68,6 +70,7 @@ impl<V> Plain<V> {
         self.entries.reserve_exact(self.beyond(additional));
     }
 
+    #[inline]
     pub fn get(&self, key: usize) -> Option<&V> {
         match self.entries.get(key) {
             Some(Entry::Occupied(value)) => Some(value),
@@ -75,6 +78,7 @@ impl<V> Plain<V> {
         }
     }
 
+    #[inline]
     pub fn get_mut(&mut self, key: usize) -> Option<&mut V> {
         match self.entries.get_mut(key) {
             Some(Entry::Occupied(value)) => Some(value),
@@ -106,6 +110,8 @@ impl<V> Plain<V> {
     }
 
     /// Keeps it under the key that comes next, and gives that.
+    #[allow(clippy::inline_always)] // So that a large value is not copied on its way.
+    #[inline(always)]
     pub fn insert(&mut self, value: V) -> usize {
         let key = self.next;
         // What is next after a vacant entry has 32 bits.
@@ -115,16 +121,20 @@ impl<V> Plain<V> {
                 self.entries.push(Entry::Occupied(value));
                 key + 1
             }
-            Some(entry) => match mem::replace(entry, Entry::Occupied(value)) {
-                Entry::Vacant(next) => next as usize,
-                Entry::Occupied(_) => unreachable!("a vacant entry is next"),
-            },
+            Some(entry) => {
+                let Entry::Vacant(next) = *entry else {
+                    unreachable!("a vacant entry is next");
+                };
+                *entry = Entry::Occupied(value);
+                next as usize
+            }
         };
         self.len += 1;
         key
     }
 
     /// Takes out what the key has.
+    #[inline]
     pub fn remove(&mut self, key: usize) -> Option<V> {
         self.get(key)?;
         let vacant = Entry::Vacant(self.next as u32);
