@@ -51,7 +51,7 @@ pub extern "C" fn teurlaks_new(
         ring_capacity as usize,
         gens,
     ) {
-        Ok(core) => match Box::new(alloc, Held { core, last: None }) {
+        Ok(core) => match Box::new(alloc, Held::new(core)) {
             Ok(held) => {
                 *out = Handle::of(held);
                 OK
