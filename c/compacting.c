@@ -125,7 +125,7 @@ int main(void) {
     for (size_t i = 0; i < sizeof budgets / sizeof *budgets; i++) {
         for (unsigned of_a_page = 0; of_a_page <= SLOTS; of_a_page++) {
             size_t pages = pages_left(of_a_page, budgets[i]), least = (PAGES * of_a_page + SLOTS - 1) / SLOTS;
-            WANT(least <= pages && pages <= PAGES && (of_a_page > 3 || pages <= least * 3 / 2));
+            WANT(least <= pages && pages <= PAGES && (of_a_page > 3 || pages <= 2 * least));
         }
     }
     plans_of_a_caller();

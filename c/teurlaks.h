@@ -332,7 +332,7 @@ struct teurlaks_step_reply teurlaks_step(struct teurlaks_handle *handle);
 /* Closes the open plan. Takes no memory. */
 uint32_t teurlaks_close(struct teurlaks_handle *handle);
 
-/* Takes at most so many steps of a compaction, and counts the pages that went. It sends the sparsest groups of all shards to the pool, folds
+/* Takes at most so many steps of a compaction, at least one, and counts the pages that went. It sends the sparsest groups of all shards to the pool, folds
  * those that fit, and has the shards adopt the rest again, in rounds as long as one gives enough. While `more` is 1 a further call goes on;
  * with 0 it is done, no plan is open, and a further call begins anew. Calls of other kinds may come between. All keys stay what they are.
  * To retire some groups takes as many steps as they are; to trim or forget, a mark, a fold, a close and an adoption take one each.

@@ -1,7 +1,7 @@
 -- No step of a compaction makes pages more.
 use Rattle.std.proofs.Common.{◌≡◌, ◌∙◌, zero, suc, ℕ, ◌+◌, ◌≤◌, Bool, true, false, cond, List, [], ◌∷◌, length, map, insert, remove, Option, None, Some, is_some, ap, arith, inl, inr, refl, slice_get, subst, sym, set}
 use Rattle.std.specs.Prelude.{filter, sum_by}
-use Rattle.std.proofs.lemmas.List.Sums.{length-filter}
+use Rattle.std.proofs.lemmas.List.Sums.{length-filter, sum_by-cons}
 use Rattle.page.specs.Words.{Words}
 use Rattle.groups.specs.Dead.{without_dead}
 use Rattle.groups.specs.Group.{Group, paged_in}
@@ -33,10 +33,10 @@ use Rattle.compaction.specs.Compacts.{Takes, TakesAll, is_of_compaction}
 abbrev paged : {Closed : Type 0} → List (Group Closed) → ℕ
 paged groups = length (paged_in groups)
 
-is_paged : {Closed : Type 0} → Group Closed → Bool
+abbrev is_paged : {Closed : Type 0} → Group Closed → Bool
 is_paged group = is_some group.page
 
-one_if : Option Words → ℕ
+abbrev one_if : Option Words → ℕ
 one_if page = cond {A = ℕ} (is_some page) 1 0
 
 paged-remove : {Closed : Type 0} (groups : List (Group Closed)) (at : ℕ) (group : Group Closed) → slice_get groups at ≡ Some group
@@ -50,24 +50,21 @@ paged-insert groups at group = omega (arith, length-filter is_paged groups, leng
 paged-map : {Here There : Type 0} (change : Group Here → Group There) → ((group : Group Here) → is_some (change group).page ≡ true → is_some group.page ≡ true) → (groups : List (Group Here))
     → paged (map change groups) ≤ paged groups
 paged-map change fewer [] = omega arith
-paged-map change fewer (group ∷ groups) = by_pages (is_some (change group).page) (is_some group.page) (fewer group)
+paged-map change fewer (group ∷ groups) = by_pages (is_some (change group).page) (is_some group.page) (fewer group) (paged-map change fewer groups)
   where
-    rest : paged (map change groups) ≤ paged groups
-    rest = paged-map change fewer groups
-
-    by_pages : (b c : Bool) → (b ≡ true → c ≡ true)
+    by_pages : (b c : Bool) → (b ≡ true → c ≡ true) → paged (map change groups) ≤ paged groups
         → length (cond b (change group ∷ paged_in (map change groups)) (paged_in (map change groups))) ≤ length (cond c (group ∷ paged_in groups) (paged_in groups))
-    by_pages true true same = omega (arith, rest)
-    by_pages true false same = absurd (false_is_true (same refl))
+    by_pages true true same rest = omega (arith, rest)
+    by_pages true false same rest = absurd (false_is_true (same refl))
       where
         false_is_true : false ≡ true → ⊥
         false_is_true e = cc
-    by_pages false true same = omega (arith, rest)
-    by_pages false false same = rest
+    by_pages false true same rest = omega (arith, rest)
+    by_pages false false same rest = rest
 
 sum_by-map : {X : Type 0} (f : X → ℕ) (change : X → X) → ((x : X) → f (change x) ≤ f x) → (xs : List X) → sum_by f (map change xs) ≤ sum_by f xs
 sum_by-map f change fewer [] = omega arith
-sum_by-map f change fewer (x ∷ xs) = omega (arith, fewer x, sum_by-map f change fewer xs)
+sum_by-map f change fewer (x ∷ xs) = omega (arith, fewer x, sum_by-map f change fewer xs, sum_by-cons f x xs, sum_by-cons f (change x) (map change xs))
 
 -- ---- what moves
 

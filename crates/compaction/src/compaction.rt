@@ -1,5 +1,5 @@
 // A compaction of a core, in steps.
-ghost use Rattle.std.specs.Prelude.{◌≡◌, ◌+◌, ◌<◌, ◌≤◌};
+ghost use Rattle.std.specs.Prelude.{◌≡◌, ◌+◌, ◌<◌, ◌≤◌, max};
 ghost use Rattle.arena_core.specs.Sound.{IsSound};
 ghost use Rattle.arena_core.specs.State.{pages, shown};
 ghost use Rattle.compaction.specs.Compacts.{IsWithin, Leaves, Takes};
@@ -56,21 +56,21 @@ impl Compaction {
         }
     }
 
-    /// Takes steps of the compaction up to the budget. A retirement of some groups takes as much of
-    /// it as the groups are, each other step takes one.
+    /// Takes steps of the compaction up to the budget, at least one. A retirement of some groups
+    /// takes as much of it as the groups are, each other step takes one.
     ///
     /// All keys are what they were, whatever is answered. Each call of one compaction is to be
     /// given the same core: with another one, the map of that stays as well, but its rounds are
     /// those of nobody.
     pub fn go_on(&mut self, core: &mut Core<Counted>, budget: usize) -> Compacted
-        ensures steps { IsWithin budget result.standing core.old core.new }
+        ensures steps { IsWithin (max budget 1) result.standing core.old core.new }
         ensures same { shown core.new ≡ shown core.old }
         ensures pages { pages core.new + result.pages ≡ pages core.old }
         ensures stands { Leaves result.standing core.new }
         ensures sound { IsSound core.new }
     {
         let before = core.totals().pages;
-        let standing = self.take_steps(core, budget);
+        let standing = self.take_steps(core, budget.max(1));
         let after = core.totals().pages;
         Compacted {
             pages: before - after,
@@ -80,6 +80,7 @@ impl Compaction {
 
     // Takes steps up to the budget.
     fn take_steps(&mut self, core: &mut Core<Counted>, budget: usize) -> Standing
+        requires { 0 < budget }
         ensures steps { IsWithin budget result core.old core.new }
         ensures same { shown core.new ≡ shown core.old }
         ensures stands { Leaves result core.new }
@@ -89,8 +90,10 @@ impl Compaction {
         while left > 0 {
             let taken = self.take_step(core, left, budget);
             left -= taken.cost;
-            if !matches!(taken.standing, Standing::GoesOn) {
-                return taken.standing;
+            match taken.standing {
+                Standing::GoesOn => {}
+                Standing::Done => return Standing::Done,
+                Standing::Refused(refusal) => return Standing::Refused(refusal),
             }
         }
         Standing::GoesOn
@@ -159,11 +162,12 @@ impl Compaction {
         ensures sound { IsSound core.new }
     {
         let shard = self.turn.shard;
-        if core.trim(shard).is_ok() {
-            self.turn.shard = shard.saturating_add(1);
-        } else {
-            self.shards = shard;
-            self.begin_round(Round::first(), core.totals().pages, budget);
+        match core.trim(shard) {
+            Ok(_) => self.turn.shard = shard.saturating_add(1),
+            Err(_) => {
+                self.shards = shard;
+                self.begin_round(Round::first(), core.totals().pages, budget);
+            }
         }
         Standing::GoesOn
     }

@@ -1,5 +1,5 @@
 -- What a part of a compaction does.
-use Rattle.std.specs.Prelude.{◌≡◌, ◌+◌, ℕ, Option, Some}
+use Rattle.std.specs.Prelude.{◌≡◌, ◌+◌, ℕ, max, Option, Some}
 use Rattle.arena_core.specs.Sound.{IsSound}
 use Rattle.arena_core.specs.State.{pages, shown}
 use Rattle.compaction.specs.Compacts.{IsWithin, Leaves}
@@ -24,7 +24,7 @@ pub record Compacts (old : Option Held) (budget : ℕ) (says : CompactReply) (ne
   pub standing : Standing
   pub before_is : old ≡ Some before
   pub after_is : new ≡ Some after
-  pub steps : IsWithin budget standing before.core after.core
+  pub steps : IsWithin (max budget 1) standing before.core after.core
   pub plain : shown after.core ≡ shown before.core
   pub pages_are : pages after.core + says.pages ≡ pages before.core
   pub stands : Leaves standing after.core

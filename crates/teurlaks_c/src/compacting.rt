@@ -8,10 +8,11 @@ use crate::replies::CompactReply;
 use crate::status::{NO_CORE, OK, status_of};
 use compaction::{Compacted, Standing};
 
-/// Takes steps of the compaction of the core up to the budget, and counts the pages that went.
+/// Takes steps of the compaction of the core up to the budget, at least one, and counts the pages
+/// that went.
 /// Where `more` is 1 a further call goes on; where it is 0 the compaction is done, no plan is open,
 /// and a further call begins anew. A retirement of some groups takes as much of the budget as they
-/// are, each other step takes one; a budget of 0 takes no step. All keys are what they were.
+/// are, each other step takes one. All keys are what they were.
 ///
 /// Refused with `OUT_OF_MEMORY`, or with `PLAN_OPEN` while a plan of the caller is open. The steps
 /// before that were taken, and a further call tries the refused one again. The certificate of the
