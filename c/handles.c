@@ -42,6 +42,8 @@ static void each_call(struct teurlaks_handle *none, struct teurlaks_key key) {
     WANT(teurlaks_retire(none, 0, 9).status == TEURLAKS_NO_CORE && teurlaks_retire(none, 0, 9).count == 0);
     WANT(teurlaks_trim(none, 0).status == TEURLAKS_NO_CORE && teurlaks_trim(none, 0).count == 0);
     WANT(teurlaks_forget(none).status == TEURLAKS_NO_CORE && teurlaks_forget(none).count == 0);
+    struct teurlaks_compact_reply compacted = teurlaks_compact_within(none, 9);
+    WANT(compacted.status == TEURLAKS_NO_CORE && compacted.more == 0 && compacted.pages == 0);
     WANT(teurlaks_adopt(none, 0).status == TEURLAKS_NO_CORE);
     WANT(teurlaks_mark(none).status == TEURLAKS_NO_CORE);
     WANT(teurlaks_mark_some(none).status == TEURLAKS_NO_CORE);

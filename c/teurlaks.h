@@ -188,6 +188,13 @@ struct teurlaks_forget_reply {
     size_t count;
 };
 
+/* Of a part of a compaction: 1 where a further call has something to do, else 0, and how many pages went, whatever the status is. */
+struct teurlaks_compact_reply {
+    uint32_t status;
+    uint32_t more;
+    size_t pages;
+};
+
 /* The head of the adopted group, where the status is TEURLAKS_OK. */
 struct teurlaks_adopt_reply {
     uint32_t status;
@@ -324,6 +331,14 @@ struct teurlaks_step_reply teurlaks_step(struct teurlaks_handle *handle);
 
 /* Closes the open plan. Takes no memory. */
 uint32_t teurlaks_close(struct teurlaks_handle *handle);
+
+/* Takes at most so many steps of a compaction, at least one, and counts the pages that went. It sends the sparsest groups of all shards to the pool, folds
+ * those that fit, and has the shards adopt the rest again, in rounds as long as one gives enough. While `more` is 1 a further call goes on;
+ * with 0 it is done, no plan is open, and a further call begins anew. Calls of other kinds may come between. All keys stay what they are.
+ * To retire some groups takes as many steps as they are; to trim or forget, a mark, a fold, a close and an adoption take one each.
+ * TEURLAKS_OUT_OF_MEMORY, or TEURLAKS_PLAN_OPEN while a plan of the caller is open: the steps before that were taken, and a further call goes on
+ * there. The certificate of the caller's last mark is kept. */
+struct teurlaks_compact_reply teurlaks_compact_within(struct teurlaks_handle *handle, size_t budget);
 
 /* Writes the text of the last mark's certificate into the first bytes of text, where text_len bytes are room enough. There is no room at
  * NULL, by which one asks how many they are. The text is of version 2, or of version 3 if a serial

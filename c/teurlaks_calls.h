@@ -157,6 +157,11 @@ TEURLAKS_INLINE struct teurlaks_trim_reply teurlaks_tested_trim(struct teurlaks_
     return handle ? teurlaks_trim(handle, shard) : none;
 }
 
+TEURLAKS_INLINE struct teurlaks_compact_reply teurlaks_tested_compact_within(struct teurlaks_handle *handle, size_t budget) {
+    struct teurlaks_compact_reply none = {TEURLAKS_NO_CORE, 0, 0};
+    return handle ? teurlaks_compact_within(handle, budget) : none;
+}
+
 TEURLAKS_INLINE struct teurlaks_adopt_reply teurlaks_tested_adopt(struct teurlaks_handle *handle, uint32_t shard) {
     struct teurlaks_adopt_reply none = {TEURLAKS_NO_CORE, {0, 0}};
     return handle ? teurlaks_adopt(handle, shard) : none;
@@ -362,6 +367,7 @@ TEURLAKS_INLINE struct teurlaks_arena_totals_reply teurlaks_tested_steward_total
 #define teurlaks_retire teurlaks_tested_retire
 #define teurlaks_forget teurlaks_tested_forget
 #define teurlaks_trim teurlaks_tested_trim
+#define teurlaks_compact_within teurlaks_tested_compact_within
 #define teurlaks_adopt teurlaks_tested_adopt
 #define teurlaks_mark teurlaks_tested_mark
 #define teurlaks_mark_some teurlaks_tested_mark_some

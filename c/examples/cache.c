@@ -22,7 +22,7 @@
 #include <unistd.h>
 
 enum { THREADS = 4, MOST_VALUES = 40000, BUCKETS = 1 << 16, KEYS = 1000000, REQUESTS_A_SECOND = 100000 };
-enum { LEAST_BYTES = 100, MOST_BYTES = 250, SHARDS = 32, PAGES_OF_A_SHARD = 1024, SLOTS = 16, MOST_GROUPS = 4096 };
+enum { LEAST_BYTES = 100, MOST_BYTES = 250, SHARDS = 32, PAGES_OF_A_SHARD = 1024, SLOTS = 16 };
 /* So many steps of a compaction come after each so many requests. */
 enum { BUDGET = 64, REQUESTS_A_PART = 256 };
 
@@ -39,16 +39,11 @@ union name {
     void *block;
 };
 
-/* What of a compaction comes next. Each part but a rest takes at least one step. */
-enum part { REST, TRIM, RETIRE, MARK, FOLD, ADOPT };
-
-/* A compaction of a core, in parts. */
+/* When a core is compacted: not at each look, if the last time hardly paid. */
 struct compaction {
-    enum part part;
-    /* The shard that is next, and how many in a row could adopt no group. */
-    uint32_t shard, full;
-    /* How many groups are to be retired yet, how many were, and how many were folded. */
-    size_t to_retire, retired, folded;
+    bool is_under_way;
+    /* How many pages it has given back, and of how many. */
+    size_t gone, pages;
     /* After how many looks the next compaction may begin, and how many the last one that hardly paid had to wait. */
     unsigned looks, pause;
 };
@@ -104,80 +99,32 @@ static bool pays(const struct values *values) {
     return (totals.pages - needed) * 4 >= totals.pages && totals.pages > needed;
 }
 
-/* Looks whether a compaction pays. After one that hardly paid it waits for twice as many looks as before. */
-static void look(struct values *values) {
+/* Whether a compaction is to begin. */
+static bool begins(struct values *values) {
     struct compaction *at = &values->compaction;
-    if (!pays(values)) return;
+    if (!pays(values)) return false;
     if (at->looks) {
         at->looks--;
-        return;
+        return false;
     }
-    *at = (struct compaction){.part = TRIM, .pause = at->pause};
+    at->is_under_way = true;
+    at->gone = 0;
+    at->pages = teurlaks_totals(&values->core).pages;
+    return true;
 }
 
-static void trim(struct values *values) {
-    struct compaction *at = &values->compaction;
-    teurlaks_trim(&values->core, at->shard++);
-    if (at->shard < SHARDS) return;
-    at->shard = 0;
-    at->to_retire = teurlaks_totals(&values->core).pages / 2;
-    if (at->to_retire > MOST_GROUPS) at->to_retire = MOST_GROUPS;
-    at->part = RETIRE;
-}
-
-/* Moves a group with the fewest values of the next shard to the pool. */
-static void retire(struct values *values) {
-    struct compaction *at = &values->compaction;
-    struct teurlaks_retire_reply retired = teurlaks_retire(&values->core, at->shard, 1);
-    if (retired.status != TEURLAKS_OK) die("teurlaks_retire", retired.status);
-    at->full = retired.count ? 0 : at->full + 1;
-    at->retired += retired.count;
-    at->to_retire -= retired.count;
-    at->shard = (at->shard + 1) % SHARDS;
-    if (at->to_retire && at->full < SHARDS) return;
-    at->part = MARK;
-}
-
-static void mark(struct values *values) {
-    struct teurlaks_mark_reply mark = teurlaks_mark_some(&values->core);
-    if (mark.status != TEURLAKS_OK) die("teurlaks_mark_some", mark.status);
-    values->compaction.part = FOLD;
-}
-
-static void fold(struct values *values) {
-    struct compaction *at = &values->compaction;
-    uint32_t status = teurlaks_step(&values->core).status;
-    at->folded += status == TEURLAKS_OK;
-    if (status == TEURLAKS_OK || status == TEURLAKS_EMPTIED) return;
-    if (status != TEURLAKS_NO_PAIR_LEFT) die("teurlaks_step", status);
-    teurlaks_close(&values->core);
-    at->shard = at->full = 0;
-    at->part = ADOPT;
-}
-
-/* Has the next shard adopt a group, until the pool has none or no shard may have one. Groups come by ascending heads, so a shard adopts first what
- * follows on a group of its own. If the folds gave an eighth of the pages back that were retired, another round follows at once. */
-static void adopt(struct values *values) {
-    struct compaction *at = &values->compaction;
-    struct teurlaks_adopt_reply adopted = teurlaks_adopt(&values->core, at->shard);
-    if (adopted.status == TEURLAKS_OK) {
-        at->shard = adopted.head.shard;
-        at->full = 0;
-        return;
-    }
-    at->shard = (at->shard + 1) % SHARDS;
-    if (adopted.status == TEURLAKS_PAGES_SPENT && ++at->full < SHARDS) return;
-    bool again = at->folded && at->folded * 8 >= at->retired;
-    unsigned pause = again ? 0 : at->pause < 32 ? 2 * at->pause + 1 : 63;
-    *at = (struct compaction){.part = again ? TRIM : REST, .looks = pause, .pause = pause};
-    if (!again) teurlaks_forget(&values->core);
-}
-
-/* Takes so many steps of a compaction, or fewer if there is nothing to do. Every key stays valid in between. */
+/* Takes so many steps of a compaction, or none if it would not pay. Every key stays valid in between. After one that gave less than an eighth of
+ * the pages back the next waits for twice as many looks as before. */
 static void values_compact_within(struct values *values, unsigned budget) {
-    static void (*const parts[])(struct values *) = {look, trim, retire, mark, fold, adopt};
-    do parts[values->compaction.part](values);
-    while (--budget && values->compaction.part != REST);
+    struct compaction *at = &values->compaction;
+    if (!at->is_under_way && !begins(values)) return;
+    struct teurlaks_compact_reply compacted = teurlaks_compact_within(&values->core, budget);
+    if (compacted.status != TEURLAKS_OK) die("teurlaks_compact_within", compacted.status);
+    at->gone += compacted.pages;
+    if (compacted.more) return;
+    at->is_under_way = false;
+    at->pause = at->gone * 8 >= at->pages ? 0 : at->pause < 32 ? 2 * at->pause + 1 : 63;
+    at->looks = at->pause;
 }
 
 /* ---- What is asked ---- */
@@ -360,7 +307,7 @@ static void *work(void *at) {
         *mine = (struct told){.values = cache->len, .bytes = cache->bytes, .wrong = cache->wrong, .serving_ms = thread_ms() - start};
         meet(), meet();
         /* There are no requests in the rest of the second: what is under way is ended. */
-        while (in_core && compacts && cache->values.compaction.part != REST) tend(cache);
+        while (in_core && compacts && cache->values.compaction.is_under_way) tend(cache);
         mine->serving_ms -= cache->compacting_ms;
         mine->compacting_ms = cache->compacting_ms;
         mine->pages = in_core ? teurlaks_totals(&cache->values.core).pages : 0;

@@ -136,6 +136,16 @@ pub struct ForgetReply {
     pub count: usize,
 }
 
+/// C alone asks for it: a core of Rust compacts by rounds of its own.
+#[repr(C)]
+#[derive(Clone, Copy)]
+#[allow(dead_code)]
+pub struct CompactReply {
+    pub status: u32,
+    pub more: u32,
+    pub pages: usize,
+}
+
 #[repr(C)]
 #[derive(Clone, Copy)]
 pub struct AdoptReply {
@@ -244,6 +254,8 @@ extern "C" {
     pub fn teurlaks_retire(handle: *mut Handle, shard: u32, most: usize) -> RetireReply;
     pub fn teurlaks_trim(handle: *mut Handle, shard: u32) -> TrimReply;
     pub fn teurlaks_forget(handle: *mut Handle) -> ForgetReply;
+    #[allow(dead_code)]
+    pub fn teurlaks_compact_within(handle: *mut Handle, budget: usize) -> CompactReply;
     pub fn teurlaks_adopt(handle: *mut Handle, shard: u32) -> AdoptReply;
     pub fn teurlaks_mark(handle: *mut Handle) -> MarkReply;
     pub fn teurlaks_mark_some(handle: *mut Handle) -> MarkReply;

@@ -213,6 +213,7 @@ fn exported() -> Declarations {
         "replies",
         "status",
         "calls",
+        "compacting",
         "meshing",
         "seats",
         "sessions",
@@ -230,8 +231,8 @@ fn exported() -> Declarations {
             &mut declarations,
         );
     }
-    assert_eq!(declarations.functions.len(), 59);
-    assert_eq!(declarations.structs.len(), 26);
+    assert_eq!(declarations.functions.len(), 60);
+    assert_eq!(declarations.structs.len(), 27);
     for name in READING {
         let (params, _) = declarations.functions.get_mut(name).expect("an export");
         params[0].1 = "*const Handle".into();

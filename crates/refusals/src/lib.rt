@@ -28,6 +28,8 @@
 #[cfg(test)]
 mod arenas;
 #[cfg(test)]
+mod compacting;
+#[cfg(test)]
 mod cores;
 #[cfg(test)]
 mod ends;

@@ -16,6 +16,8 @@
 #![tactic(auto)]
 
 #[cfg(test)]
+mod compacting;
+#[cfg(test)]
 mod cores;
 #[cfg(test)]
 mod folds;

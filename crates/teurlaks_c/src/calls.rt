@@ -51,13 +51,16 @@ pub extern "C" fn teurlaks_new(
         ring_capacity as usize,
         gens,
     ) {
-        Ok(core) => match Box::new(alloc, Held { core, last: None }) {
-            Ok(held) => {
-                *out = Handle::of(held);
-                OK
+        Ok(core) => {
+            let held = Held::new(core);
+            match Box::new(alloc, held) {
+                Ok(held) => {
+                    *out = Handle::of(held);
+                    OK
+                }
+                Err(_) => OUT_OF_MEMORY,
             }
-            Err(_) => OUT_OF_MEMORY,
-        },
+        }
         Err(CoreError::Config) => CONFIG,
         Err(CoreError::OutOfMemory) => OUT_OF_MEMORY,
     }

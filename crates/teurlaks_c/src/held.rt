@@ -1,8 +1,10 @@
 // What a handle holds.
+ghost use Rattle.std.specs.Prelude.{◌≡◌, None};
 ghost use Rattle.certificate.specs.Text.{IsWritable};
 
 use arena_core::Core;
 use certificate::Certificate;
+use compaction::Compaction;
 use span::Counted;
 
 /// A core whose changes are only counted, and what its last mark answered, so that a caller can ask
@@ -11,8 +13,24 @@ use span::Counted;
 pub struct Held {
     /// The shards, the pool and the open plan.
     pub core: Core<Counted>,
-    /// The certificate of the last mark that was not refused.
+    /// The certificate of the last mark that was asked for and not refused.
     pub last: Option<Witness>,
+    /// Where the compaction of the core stands.
+    pub compaction: Compaction,
+}
+
+impl Held {
+    /// The core, of which no mark was made, and whose compaction has not begun.
+    pub(crate) fn new(core: Core<Counted>) -> Held
+        ensures core { result.core ≡ core }
+        ensures last { result.last ≡ None }
+    {
+        Held {
+            core,
+            last: None,
+            compaction: Compaction::new(),
+        }
+    }
 }
 
 /// A certificate that is within the grammar of texts.

@@ -8,7 +8,7 @@
 //! ```text
 //!   C, Rust, ..      struct teurlaks { void *at; }
 //!                              │
-//!   Handle                     at ────► Held { core, last }        owned as by a box
+//!   Handle                     at ────► Held { core, last, .. }    owned as by a box
 //!                                              │     │
 //!   events and replies           Core<Counted> ┘     └ the certificate of the last mark
 //! ```
@@ -51,6 +51,7 @@
 #![tactic(auto)]
 
 mod calls;
+mod compacting;
 mod handle;
 mod held;
 mod key_numbers;
@@ -79,6 +80,7 @@ pub use calls::{
     teurlaks_drop, teurlaks_free, teurlaks_get, teurlaks_get_words, teurlaks_new, teurlaks_next,
     teurlaks_put, teurlaks_put_words, teurlaks_set, teurlaks_set_words, teurlaks_totals,
 };
+pub use compacting::teurlaks_compact_within;
 pub use key_numbers::{teurlaks_key_bits, teurlaks_key_from_u64, teurlaks_key_to_u64};
 pub use leaving::teurlaks_seat_leave;
 pub use many::{teurlaks_free_many, teurlaks_get_many, teurlaks_put_many};

@@ -112,6 +112,16 @@ pub struct ForgetReply {
     pub count: usize,
 }
 
+/// What a part of a compaction answers: whether a further call has something to do (1 or 0), and
+/// how many pages went, which is told whatever the status is.
+#[repr(C)]
+#[derive(Clone, Copy)]
+pub struct CompactReply {
+    pub status: u32,
+    pub more: u32,
+    pub pages: usize,
+}
+
 /// What an adoption answers: the head of the group where the status is `OK`.
 #[repr(C)]
 #[derive(Clone, Copy)]

@@ -1,0 +1,136 @@
+/* Compactions of a core by parts of several budgets, and with each allocation failing in turn. Link it with -Wl,--wrap=malloc,--wrap=realloc. */
+#include "teurlaks.h"
+#include "wanted.h"
+#include <stdio.h>
+#include <stdlib.h>
+#include <string.h>
+
+/* Pages of 16 objects, of which some stay. */
+enum { SHARDS = 3, PAGES = 90, SLOTS = 16, OBJECTS = PAGES * SLOTS };
+
+/* How many allocations go well before one fails, and whether it has. */
+static long before_failure = -1;
+static int has_failed;
+
+void *__real_malloc(size_t size);
+void *__real_realloc(void *block, size_t size);
+
+static int fails(void) {
+    if (before_failure < 0 || before_failure-- > 0) return 0;
+    has_failed = 1;
+    return 1;
+}
+
+void *__wrap_malloc(size_t size) { return fails() ? NULL : __real_malloc(size); }
+void *__wrap_realloc(void *block, size_t size) { return fails() ? NULL : __real_realloc(block, size); }
+
+static struct teurlaks_key keys[OBJECTS];
+static int is_live[OBJECTS];
+
+/* Whether the object of this number stays: of each page so many do, at other slots than on the page before. */
+static int stays(unsigned number, unsigned of_a_page) {
+    return (number / SLOTS * 7 + number * 5) % SLOTS < of_a_page;
+}
+
+/* A core whose pages were full, and of which so many objects a page are left. */
+static void fill(struct teurlaks_handle *core, unsigned of_a_page) {
+    WANT(teurlaks_new(core, SHARDS, PAGES, 1, 9) == TEURLAKS_OK);
+    for (unsigned number = 0; number < OBJECTS; number++) {
+        struct teurlaks_word words[16] = {{number, 1}};
+        struct teurlaks_put_reply put = teurlaks_put_words(core, number / SLOTS % SHARDS, words, 16);
+        WANT(put.status == TEURLAKS_OK);
+        keys[number] = put.key;
+        is_live[number] = 1;
+    }
+    for (unsigned number = 0; number < OBJECTS; number++) {
+        if (stays(number, of_a_page)) continue;
+        WANT(teurlaks_free(core, keys[number]) == TEURLAKS_OK);
+        is_live[number] = 0;
+    }
+}
+
+/* Each key finds its own object, or nothing once it was freed. */
+static void look(struct teurlaks_handle *core) {
+    for (unsigned number = 0; number < OBJECTS; number++) {
+        struct teurlaks_word words[16];
+        struct teurlaks_words_reply got = teurlaks_get_words(core, keys[number], words, 16);
+        WANT(got.status == (is_live[number] ? TEURLAKS_OK : TEURLAKS_NONE));
+        WANT(!is_live[number] || (words[0].low == number && words[0].high == 1));
+    }
+}
+
+/* Compacts by parts, and answers how many there were. A part that is refused memory is asked for once more. The counts are those of the totals. */
+static unsigned long compact(struct teurlaks_handle *core, size_t budget) {
+    unsigned long parts = 0;
+    struct teurlaks_compact_reply compacted;
+    do {
+        size_t was = teurlaks_totals(core).pages;
+        compacted = teurlaks_compact_within(core, budget);
+        WANT(compacted.status == TEURLAKS_OK || (compacted.status == TEURLAKS_OUT_OF_MEMORY && compacted.more && has_failed));
+        WANT(was == teurlaks_totals(core).pages + compacted.pages);
+        if (parts % 16 == 0) look(core);
+        WANT(++parts < 1000000);
+    } while (compacted.more);
+    look(core);
+    WANT(teurlaks_close(core) == TEURLAKS_NO_PLAN);
+    return parts;
+}
+
+/* How many pages are left of a core by compactions within the budget. */
+static size_t pages_left(unsigned of_a_page, size_t budget) {
+    struct teurlaks_handle core = {0};
+    fill(&core, of_a_page);
+    WANT(teurlaks_totals(&core).pages == PAGES);
+    compact(&core, budget);
+    size_t pages = teurlaks_totals(&core).pages;
+    teurlaks_drop(&core);
+    return pages;
+}
+
+/* What a caller does with plans of its own. */
+static void plans_of_a_caller(void) {
+    struct teurlaks_handle core = {0};
+    fill(&core, 3);
+    WANT(teurlaks_compact_within(&core, 0).more == 1 && teurlaks_totals(&core).pages == PAGES);
+    /* A plan that is open refuses the first step, until it is closed. */
+    WANT(teurlaks_retire(&core, 0, 9).count == 9 && teurlaks_mark(&core).status == TEURLAKS_OK);
+    struct teurlaks_compact_reply compacted = teurlaks_compact_within(&core, 9);
+    WANT(compacted.status == TEURLAKS_PLAN_OPEN && compacted.more == 1 && compacted.pages == 0);
+    WANT(teurlaks_close(&core) == TEURLAKS_OK);
+    compact(&core, 50);
+    size_t pages = teurlaks_totals(&core).pages;
+    WANT(pages < PAGES / 3 && teurlaks_adopt(&core, 0).status == TEURLAKS_NOTHING_TO_ADOPT);
+    /* A shard that has ended is none for what is left, the others are. */
+    WANT(teurlaks_end(&core, 1) == TEURLAKS_OK);
+    compact(&core, 1000);
+    WANT(teurlaks_totals(&core).pages <= pages && teurlaks_adopt(&core, 0).status == TEURLAKS_NOTHING_TO_ADOPT);
+    teurlaks_drop(&core);
+}
+
+/* One compaction with an allocation failing; whether one did. */
+static int failing_after(long allocations) {
+    struct teurlaks_handle core = {0};
+    fill(&core, 2);
+    before_failure = allocations;
+    has_failed = 0;
+    compact(&core, 40);
+    before_failure = -1;
+    WANT(teurlaks_totals(&core).pages < PAGES / 3);
+    teurlaks_drop(&core);
+    return has_failed;
+}
+
+int main(void) {
+    const size_t budgets[] = {1, 7, 64, 1000, (size_t)-1};
+    for (size_t i = 0; i < sizeof budgets / sizeof *budgets; i++) {
+        for (unsigned of_a_page = 0; of_a_page <= SLOTS; of_a_page++) {
+            size_t pages = pages_left(of_a_page, budgets[i]), least = (PAGES * of_a_page + SLOTS - 1) / SLOTS;
+            WANT(least <= pages && pages <= PAGES && (of_a_page > 3 || pages <= 2 * least));
+        }
+    }
+    plans_of_a_caller();
+    long runs = 0;
+    while (failing_after(runs)) runs++;
+    printf("cores were compacted, and with each of %ld allocations failing in turn\n", runs);
+    return 0;
+}

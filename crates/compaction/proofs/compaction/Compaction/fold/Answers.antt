@@ -1,0 +1,7 @@
+use Rattle.std.proofs.Common.{refl}
+use Rattle.arena_core.specs.declared.event.Event.TheVariants as event
+use Rattle.compaction.proofs.Steps.{Takes-event}
+use Rattle.compaction.proofs.compaction.Compaction.fold.Goals as goal
+
+pub returns-clause-takes : goal.returns-clause-takes
+returns-clause-takes c = Takes-event 1 c.args.core.now c.step.new.self event.Step c.step.result refl refl c.step.ensures.exact
