@@ -5,7 +5,7 @@ ghost use Rattle.bitmap.specs.WordSets.{IsFirstWord, has_word};
 /// A set of the four words of a [`Bits256`](crate::Bits256).
 #[derive(Clone, Copy, Debug)]
 pub struct WordSet {
-    // Bit k is on if word k is in the set. Where it stands, a byte would take as much room.
+    // Bit k is on if word k is in the set. Beside other words a byte would take as much room.
     bits: u64,
 }
 

@@ -3,9 +3,9 @@ use Rattle.std.proofs.Common.{zero, suc, ◌≡◌, ℕ, ◌+◌, ◌/◌, ◌<�
 use Rattle.std.specs.Prelude.{MatchOption}
 use Rattle.std.specs.Cmp.{nat_cmp_total}
 use Rattle.std.specs.FinSet.{contains, remove, union, contains-union}
-use Rattle.std.proofs.lemmas.Bool.{cases_eq, cases_lt, true≢false}
-use Rattle.bitmap.specs.Slots.{HasAllBelow, IsLowestOutside, IsLowestOutsideIn, SlotSet}
-use Rattle.bitmap.specs.WordSets.{IsFirstWord, has_word}
+use Rattle.std.proofs.lemmas.Bool.{cases_eq, true≢false}
+use Rattle.bitmap.specs.Slots.{HasAllBelow, SlotSet}
+use Rattle.bitmap.specs.WordSets.{has_word}
 use Rattle.bitmap.specs.declared.word_set.WordSet.{WordSet}
 use Rattle.bitmap.proofs.Summaries.{contains-remove_other}
 use Rattle.span.specs.Classes.{slots_in}

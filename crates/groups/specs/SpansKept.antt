@@ -12,7 +12,7 @@ abbrev pub IsFullOutside : WordSet → ℕ → SlotSet → Type 0
 IsFullOutside words limit slots = (slot : ℕ) → slot < limit → has_word words (slot / 64) ≡ false
     → set.contains slots slot ≡ true
 
--- the occupied set is kept, the live sets are apart, and the words that are not in the set have no usable
+-- the occupied set is kept, the live sets are apart, and the words outside of these have no usable
 -- slot
 pub record IsKept (spans : SpansState) (occupied : SlotSet) (words : WordSet) : Type 0 where
   pub occupied_is : occupied ≡ union_of (all_spans spans)
