@@ -1,4 +1,5 @@
--- What a fold does in the pool and in all shards, which are lent. No public clause cites this module.
+-- What a fold does in the pool and in all shards, which are lent. No public clause cites this
+-- module.
 use Rattle.std.specs.Prelude.{◌≡◌, ◌⊎◌, ℕ, All, List, Option, Some, slice_get, slice_set}
 use Rattle.fold.specs.Folds.{MayFold, Steps}
 use Rattle.fold.specs.declared.step.Step.{Step}
