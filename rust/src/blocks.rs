@@ -254,3 +254,66 @@ mod system {
         munmap(at, len);
     }
 }
+
+#[cfg(test)]
+mod tests {
+    use super::Blocks;
+    use crate::refused::Refused;
+    use std::collections::BTreeMap;
+    use std::ptr::NonNull;
+
+    /// Blocks come and go at random. Each that is taken is its own, is found by its address, and has
+    /// what was written there; one that was never taken is not found.
+    fn come_and_go(size: usize) -> Result<(), Refused> {
+        let (mut blocks, mut taken) = (Blocks::new(size), BTreeMap::<u32, NonNull<u8>>::new());
+        let mut random = 88_172_645_463_325_252_u64;
+        for round in 0..20_000_u32 {
+            random ^= random << 13;
+            random ^= random >> 7;
+            random ^= random << 17;
+            let number = (random >> 20) as u32 % 300;
+            if let Some(at) = taken.remove(&number) {
+                // SAFETY: the block was taken, and its bytes were written.
+                let ends = unsafe { (at.as_ptr().read(), at.as_ptr().add(size - 1).read()) };
+                assert_eq!(ends, (number as u8, number as u8));
+                blocks.give(number);
+            } else if taken.len() < 290 {
+                blocks.reserve()?;
+                let (number, at) = blocks.take();
+                // SAFETY: the block is this test's.
+                unsafe { at.as_ptr().write_bytes(number as u8, size) };
+                assert!((number as usize) < blocks.len() && taken.insert(number, at).is_none());
+                let last = at.as_ptr().wrapping_add(size - 1);
+                assert_eq!(blocks.find(last), Some((number as usize, size - 1)));
+            }
+            if round % 1000 == 0 {
+                blocks.cool();
+            }
+        }
+        Ok(())
+    }
+
+    #[test]
+    fn each_is_its_own() -> Result<(), Refused> {
+        [64, 1000, 6144, 100_000].into_iter().try_for_each(come_and_go)
+    }
+
+    #[test]
+    fn lists_grow_with_what_is_taken() -> Result<(), Refused> {
+        let mut blocks = Blocks::new(6144);
+        blocks.reserve()?;
+        assert!(blocks.len() <= 4 && blocks.cold.capacity() <= 4);
+        let (_, first) = blocks.take();
+        let beyond = first.as_ptr().wrapping_add(6144);
+        assert_eq!((blocks.find(first.as_ptr()), blocks.find(beyond)), (Some((0, 0)), None));
+        blocks.give(0);
+        blocks.reserve_all(100)?;
+        let room = blocks.cold.capacity();
+        assert!(blocks.len() >= 100 && room >= 100);
+        assert!((0..100).map(|_| blocks.take().0).eq(0..100));
+        (0..100).for_each(|number| blocks.give(number));
+        blocks.cool();
+        assert_eq!((blocks.cold.len(), blocks.cold.capacity()), (100, room));
+        Ok(())
+    }
+}
