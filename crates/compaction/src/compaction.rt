@@ -128,6 +128,7 @@ impl Compaction {
     {
         match self.stage {
             Stage::Begin => self.begin(core),
+            // A retirement is no such step.
             Stage::Trim | Stage::Retire => self.trim(core, budget),
             Stage::Mark => self.mark(core),
             Stage::Fold => self.fold(core),
