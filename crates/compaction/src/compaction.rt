@@ -8,6 +8,7 @@ use crate::compacted::{Compacted, Standing};
 use crate::round::Round;
 use crate::turn::Turn;
 use arena_core::{Core, Event, Refusal, Reply};
+use certificate::Certificate;
 use fold::Step;
 use span::Counted;
 
@@ -127,6 +128,7 @@ impl Compaction {
     {
         match self.stage {
             Stage::Begin => self.begin(core),
+            // A retirement is no such step.
             Stage::Trim | Stage::Retire => self.trim(core, budget),
             Stage::Mark => self.mark(core),
             Stage::Fold => self.fold(core),
@@ -235,11 +237,21 @@ impl Compaction {
         ensures stands { Leaves result core.new }
         ensures sound { IsSound core.new }
     {
-        if let Reply::Refused(refusal) = core.step(Event::MarkSome) {
-            return Standing::Refused(refusal);
+        match core.step(Event::MarkSome) {
+            Reply::Marked(certificate) => self.note_marked(&certificate),
+            Reply::Refused(refusal) => return Standing::Refused(refusal),
+            _ => {}
         }
-        self.stage = Stage::Fold;
         Standing::GoesOn
+    }
+
+    fn note_marked(&mut self, certificate: &Certificate) {
+        let snapshot = &certificate.snapshot;
+        let smaller = snapshot.abandoned().len().min(snapshot.owned().len());
+        self.round = self
+            .round
+            .with_mark(smaller, certificate.plan.pairs().len());
+        self.stage = Stage::Fold;
     }
 
     // Folds the next pair of the plan, if one is left.
@@ -268,7 +280,11 @@ impl Compaction {
         ensures sound { IsSound core.new }
     {
         core.step(Event::Close);
-        self.begin_adoptions();
+        if self.round.is_again {
+            self.stage = Stage::Mark;
+        } else {
+            self.begin_adoptions();
+        }
         Standing::GoesOn
     }
 

@@ -3,14 +3,15 @@
 /// How many groups the first looks are at.
 const LOOKS: [usize; 2] = [16, 64];
 
-/// A round is worth it where it folds one of so many groups that it retires.
+/// A round is worth it where it folds one of so many groups that it retires, and another mark where
+/// the one before planned to fold one of so many.
 const WORTH: usize = 16;
 
-/// How many groups a round retires at most, whatever the budget is: with more than the last, a plan
-/// would not see all of them.
+/// A round may retire so many groups, or one of so many pages, whatever the budget is: each mark
+/// looks at all pages, so that rounds of few groups would take too many looks.
 const LEAST_ROUND: usize = 64;
 
-const MOST_GROUPS: usize = 4096;
+const LEAST_PART: usize = 16;
 
 /// Where the rounds of a compaction are, and what the present one has done.
 #[derive(Clone, Copy)]
@@ -21,6 +22,8 @@ pub(crate) struct Round {
     pub(crate) wanted: usize,
     retired: usize,
     folded: usize,
+    /// Whether the last mark planned so much that another one is worth it.
+    pub(crate) is_again: bool,
 }
 
 impl Round {
@@ -35,12 +38,14 @@ impl Round {
             wanted: 0,
             retired: 0,
             folded: 0,
+            is_again: false,
         }
     }
 
-    /// The round over so many pages: it retires no more groups than the budget is, or than 64.
+    /// The round over so many pages. It retires no more groups than the budget is, or than 64, or
+    /// than a sixteenth of the pages.
     pub(crate) fn over(self, pages: usize, budget: usize) -> Round {
-        let most = budget.max(LEAST_ROUND).min(MOST_GROUPS);
+        let most = budget.max(LEAST_ROUND).max(pages / LEAST_PART);
         let wanted = match self.divisor {
             0 => LOOKS[0].min(pages / 2),
             1 => LOOKS[1].min(pages / 2),
@@ -66,6 +71,14 @@ impl Round {
         }
     }
 
+    /// The round after a mark of so many groups of the smaller side planned so many folds.
+    pub(crate) fn with_mark(self, smaller: usize, folds: usize) -> Round {
+        Round {
+            is_again: is_worth(folds, smaller),
+            ..self
+        }
+    }
+
     /// The round after one more fold.
     pub(crate) fn with_fold(self) -> Round {
         Round {
@@ -76,12 +89,16 @@ impl Round {
 
     /// The round after this one, if one is worth it.
     pub(crate) fn next(self) -> Option<Round> {
-        let is_worth = self.folded > 0 && self.folded.saturating_mul(WORTH) >= self.retired;
-        match (self.divisor, is_worth) {
+        match (self.divisor, is_worth(self.folded, self.retired)) {
             (0, false) => Some(Round::by(1)),
             (1, false) => None,
             (divisor, false) => Some(Round::by(divisor.saturating_mul(2))),
             (divisor, true) => Some(Round::by(divisor.max(2))),
         }
     }
+}
+
+// Whether so many folds, of so many groups, are worth looking for more.
+fn is_worth(folds: usize, groups: usize) -> bool {
+    folds > 0 && folds.saturating_mul(WORTH) >= groups
 }
