@@ -38,9 +38,9 @@ returns-in_err-key-clause-room g c =
     let free : set.contains (taken spans) slot ≡ false = ap (λ s. set.contains s slot) (sym same) ∙ c.in-Some.ensures.lowest.1.outside in
     let low : slot < slots_in spans.head.class = subst (λ k. slot < slots_in k) c.class-class.ensures.class c.in-Some.ensures.lowest.0 in
     at_err c.from_residual.result (λ full.
-        let all : HasAllBelow (taken spans) (slots_in spans.head.class) = subst (λ (s : SpansState). HasAllBelow (taken s) (slots_in s.head.class)) (sym c.self.view_is) full in
-        let both : false ≡ true = sym free ∙ all slot low in
-        cc)
+    let all : HasAllBelow (taken spans) (slots_in spans.head.class) = subst (λ (s : SpansState). HasAllBelow (taken s) (slots_in s.head.class)) (sym c.self.view_is) full in
+    let both : false ≡ true = sym free ∙ all slot low in
+    cc)
 
 pub invariant_of-self-2 : goal.invariant_of-self-2
 invariant_of-self-2 g c =
