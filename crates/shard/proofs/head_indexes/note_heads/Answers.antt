@@ -1,6 +1,9 @@
-use Rattle.std.proofs.Common.{◌≡◌, ◌+◌, ◌-◌, ◌<◌, ◌∙◌, Some, length-set, set, slice_get, vec_len, arith, refl, subst, sym}
+use Rattle.std.proofs.Common.{◌≡◌, ◌+◌, ◌-◌, ◌<◌, ◌∙◌, Some, length-set, set, slice_get, vec_len, ap, arith, inl, inr, refl, subst, sym}
+use Rattle.std.proofs.lemmas.Bool.{cases_eq}
 use Rattle.std.proofs.lemmas.Option.{slice_get_read, slice_get_within}
 use Rattle.span.specs.declared.id.SpanId.{SpanId}
+use Rattle.groups.proofs.Lists.{same_some}
+use Rattle.shard.specs.Group.{GroupState}
 use Rattle.shard.specs.Heads.{IsNoted, KnowsBelow}
 use Rattle.shard.proofs.KnownHeads.{KnowsBelow-own}
 use Rattle.shard.proofs.head_indexes.note_heads.Goals as goal
@@ -25,6 +28,21 @@ loop-index-preserved g c =
           c.index-groups-index.result here own
           (let low = c.requires.fit c.loop-index.index c.index-groups-index.result here own in omega (arith, low, c.loop-index.invariant.1))),
       length-set c.loop-index.indexes.items (c.head_id-id.result.serial - c.args.base) c.loop-index.index ∙ c.loop-index.invariant.1,
+    )
+
+-- one that is not noted has no entry
+pub loop-index-preserved-then-not-is_noted : goal.loop-index-preserved-then-not-is_noted
+loop-index-preserved-then-not-is_noted g c =
+    let here : slice_get c.args.groups.now c.loop-index.index ≡ Some c.index-groups-index.result =
+    slice_get_read c.args.groups.now _ c.loop-index.index c.index-groups-index.result refl (omega (arith, c.loop-index-test.true)) c.index-groups-index.is in (
+      λ index group below there own. elim (cases_eq index c.loop-index.index) [
+        | inl same ↦
+            let is : group ≡ c.index-groups-index.result = same_some (sym there ∙ ap (slice_get c.args.groups.now) same ∙ here) in
+            absurd (c.is_noted.ensures.other c.if-not-is_noted.true
+                (subst (IsNoted c.args.number c.args.base) (sym c.head_id-id.ensures) (subst (λ (g : GroupState). IsNoted c.args.number c.args.base g.head.id) is own)))
+        | inr apart ↦ c.loop-index.invariant.0 index group (omega (arith, below, apart)) there own
+      ],
+      c.loop-index.invariant.1,
     )
 
 pub returns-clause-known : goal.returns-clause-known
