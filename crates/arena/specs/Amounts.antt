@@ -1,4 +1,5 @@
--- How many pages and live keys the pool and the shards have that are lent.
+-- How many pages and live keys the pool and the shards have that are lent. No public clause cites
+-- this module.
 use Rattle.std.specs.Prelude.{◌⊎◌, ℕ, ◌+◌, ◌-◌, ◌<◌, ◌^◌, List, Option, None, Some, length, min, sum_by}
 use Rattle.groups.specs.Group.{live_in, paged_in}
 use Rattle.mesh_graph.specs.declared.build.TheConstants.{MOST_GROUPS}
