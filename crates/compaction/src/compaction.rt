@@ -89,7 +89,7 @@ impl Compaction {
     {
         let mut left = budget;
         while left > 0 {
-            let taken = self.take_step(core, left, budget);
+            let taken = self.take_step(core, left);
             left -= taken.cost;
             match taken.standing {
                 Standing::GoesOn => {}
@@ -101,7 +101,7 @@ impl Compaction {
     }
 
     // Takes the next step, which takes no more than is left of the budget.
-    fn take_step(&mut self, core: &mut Core<Counted>, left: usize, budget: usize) -> Taken
+    fn take_step(&mut self, core: &mut Core<Counted>, left: usize) -> Taken
         requires { 0 < left }
         ensures some { 0 < result.cost }
         ensures at_most { result.cost ≤ left }
@@ -115,12 +115,12 @@ impl Compaction {
         }
         Taken {
             cost: 1,
-            standing: self.take_one(core, budget),
+            standing: self.take_one(core),
         }
     }
 
     // Takes the next step, which is no retirement.
-    fn take_one(&mut self, core: &mut Core<Counted>, budget: usize) -> Standing
+    fn take_one(&mut self, core: &mut Core<Counted>) -> Standing
         ensures takes { Takes 1 core.old core.new }
         ensures same { shown core.new ≡ shown core.old }
         ensures stands { Leaves result core.new }
@@ -129,11 +129,11 @@ impl Compaction {
         match self.stage {
             Stage::Begin => self.begin(core),
             // A retirement is no such step.
-            Stage::Trim | Stage::Retire => self.trim(core, budget),
+            Stage::Trim | Stage::Retire => self.trim(core),
             Stage::Mark => self.mark(core),
             Stage::Fold => self.fold(core),
             Stage::Close => self.close(core),
-            Stage::Adopt => self.adopt(core, budget),
+            Stage::Adopt => self.adopt(core),
             Stage::End => self.end(core),
         }
     }
@@ -157,7 +157,7 @@ impl Compaction {
     }
 
     // Trims the next shard. Once there is none, the first round begins.
-    fn trim(&mut self, core: &mut Core<Counted>, budget: usize) -> Standing
+    fn trim(&mut self, core: &mut Core<Counted>) -> Standing
         ensures takes { Takes 1 core.old core.new }
         ensures same { shown core.new ≡ shown core.old }
         ensures stands { Leaves result core.new }
@@ -168,16 +168,16 @@ impl Compaction {
             Ok(_) => self.turn.shard = shard.saturating_add(1),
             Err(_) => {
                 self.shards = shard;
-                self.begin_round(Round::first(), core.totals().pages, budget);
+                self.begin_round(Round::first(), core.totals().pages);
             }
         }
         Standing::GoesOn
     }
 
     // Begins the round over so many pages, or the end, if it retires nothing.
-    fn begin_round(&mut self, round: Round, pages: usize, budget: usize) {
+    fn begin_round(&mut self, round: Round, pages: usize) {
         self.turn = Turn::first();
-        self.round = round.over(pages, budget);
+        self.round = round.over(pages);
         self.stage = if !self.round.is_any() {
             Stage::End
         } else if self.round.wanted > 0 {
@@ -294,7 +294,7 @@ impl Compaction {
     }
 
     // Has a shard adopt the next group of the pool, until there is none, or no shard may have one.
-    fn adopt(&mut self, core: &mut Core<Counted>, budget: usize) -> Standing
+    fn adopt(&mut self, core: &mut Core<Counted>) -> Standing
         ensures takes { Takes 1 core.old core.new }
         ensures same { shown core.new ≡ shown core.old }
         ensures stands { Leaves result core.new }
@@ -311,11 +311,11 @@ impl Compaction {
                 return Standing::Refused(Refusal::OutOfMemory);
             }
             Reply::Refused(Refusal::PlanOpen) => return Standing::Refused(Refusal::PlanOpen),
-            Reply::Refused(Refusal::NothingToAdopt) => self.end_round(core.totals().pages, budget),
+            Reply::Refused(Refusal::NothingToAdopt) => self.end_round(core.totals().pages),
             _ => {
                 self.turn = self.turn.after(self.shards, false);
                 if self.turn.is_over(self.shards) {
-                    self.end_round(core.totals().pages, budget);
+                    self.end_round(core.totals().pages);
                 }
             }
         }
@@ -323,9 +323,9 @@ impl Compaction {
     }
 
     // Begins the next round, or the end, if none is worth it.
-    fn end_round(&mut self, pages: usize, budget: usize) {
+    fn end_round(&mut self, pages: usize) {
         match self.round.next() {
-            Some(round) => self.begin_round(round, pages, budget),
+            Some(round) => self.begin_round(round, pages),
             None => self.stage = Stage::End,
         }
     }

@@ -17,8 +17,9 @@
 //! can be, by several marks if these plan enough, and has the shards adopt the rest again. The
 //! first two rounds look at 16 and at 64 groups: where pages fit each other, then these do. If
 //! neither is worth it, the compaction ends. Else rounds retire the sparsest half of all, as long
-//! as that is worth it, and then a quarter, an eighth and so on. A round is worth it where it folds
-//! at least one of 16 groups that it retires.
+//! as that is worth it, and then a quarter, an eighth and so on, but at most a sixteenth or 64. A
+//! round is worth it where it folds at least one of 16 groups that it retires. The budget has no
+//! part in that: it changes only when the steps are taken.
 //!
 //! The public facts (`specs/Compacts.antt`): all that a call does to the core are such steps, and
 //! they take no more than the budget, and no less while the compaction goes on. The map of keys

@@ -7,11 +7,11 @@ const LOOKS: [usize; 2] = [16, 64];
 /// the one before planned to fold one of so many.
 const WORTH: usize = 16;
 
-/// A round may retire so many groups, or one of so many pages, whatever the budget is: each mark
-/// looks at all pages, so that rounds of few groups would take too many looks.
-const LEAST_ROUND: usize = 64;
+/// A round retires at most so many groups, or one of so many pages. With more of them, sparse pages
+/// fold onto fuller ones; with fewer, too many marks look at all pages.
+const MOST_GROUPS: usize = 64;
 
-const LEAST_PART: usize = 16;
+const MOST_PART: usize = 16;
 
 /// Where the rounds of a compaction are, and what the present one has done.
 #[derive(Clone, Copy)]
@@ -42,10 +42,9 @@ impl Round {
         }
     }
 
-    /// The round over so many pages. It retires no more groups than the budget is, or than 64, or
-    /// than a sixteenth of the pages.
-    pub(crate) fn over(self, pages: usize, budget: usize) -> Round {
-        let most = budget.max(LEAST_ROUND).max(pages / LEAST_PART);
+    /// The round over so many pages.
+    pub(crate) fn over(self, pages: usize) -> Round {
+        let most = MOST_GROUPS.max(pages / MOST_PART);
         let wanted = match self.divisor {
             0 => LOOKS[0].min(pages / 2),
             1 => LOOKS[1].min(pages / 2),
