@@ -39,7 +39,7 @@ loop-index-preserved-then-not-is_noted g c =
         | inl same ↦
             let is : group ≡ c.index-groups-index.result = same_some (sym there ∙ ap (slice_get c.args.groups.now) same ∙ here) in
             absurd (c.is_noted.ensures.other c.if-not-is_noted.true
-                (subst (IsNoted c.args.number c.args.base) (sym c.head_id-id.ensures) (subst (λ (g : GroupState). IsNoted c.args.number c.args.base g.head.id) is own)))
+            (subst (IsNoted c.args.number c.args.base) (sym c.head_id-id.ensures) (subst (λ (g : GroupState). IsNoted c.args.number c.args.base g.head.id) is own)))
         | inr apart ↦ c.loop-index.invariant.0 index group (omega (arith, below, apart)) there own
       ],
       c.loop-index.invariant.1,
