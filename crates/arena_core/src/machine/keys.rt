@@ -82,9 +82,9 @@ impl<L: Log> Core<L> {
         }
     }
 
-    // The words of the key's object, if it is live, else no word. The shard opened the span of the
-    // key, and a note of it is asked. Like the calls below it is not inlined, and parts of a key and
-    // words go in registers, so that a look-up which needs none of them saves nothing.
+    // The words of the key's object, if it is live, else no word. The shard opened the span of
+    // the key, and a note of it is asked. Like the calls below it is not inlined, and parts of a
+    // key and words go in registers, so that a look-up which needs none of them saves nothing.
     #[inline(never)]
     fn get_noted<'a>(
         &'a self,
