@@ -1,4 +1,5 @@
 /* Compactions of a core by parts of several budgets, and with each allocation failing in turn. Link it with -Wl,--wrap=malloc,--wrap=realloc. */
+#include "failing.h"
 #include "teurlaks.h"
 #include "wanted.h"
 #include <stdio.h>
@@ -7,22 +8,6 @@
 
 /* Pages of 16 objects, of which some stay. */
 enum { SHARDS = 3, PAGES = 90, SLOTS = 16, OBJECTS = PAGES * SLOTS };
-
-/* How many allocations go well before one fails, and whether it has. */
-static long before_failure = -1;
-static int has_failed;
-
-void *__real_malloc(size_t size);
-void *__real_realloc(void *block, size_t size);
-
-static int fails(void) {
-    if (before_failure < 0 || before_failure-- > 0) return 0;
-    has_failed = 1;
-    return 1;
-}
-
-void *__wrap_malloc(size_t size) { return fails() ? NULL : __real_malloc(size); }
-void *__wrap_realloc(void *block, size_t size) { return fails() ? NULL : __real_realloc(block, size); }
 
 static struct teurlaks_key keys[OBJECTS];
 static int is_live[OBJECTS];

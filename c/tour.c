@@ -1,25 +1,10 @@
 /* The tour of a core from C, and of a recorded arena, with each allocation failing in turn. Link it with -Wl,--wrap=malloc,--wrap=realloc. */
+#include "failing.h"
 #include "teurlaks.h"
 #include "wanted.h"
 #include <stdio.h>
 #include <stdlib.h>
 #include <string.h>
-
-/* How many allocations go well before one fails, and whether it has. */
-static long before_failure = -1;
-static int has_failed;
-
-void *__real_malloc(size_t size);
-void *__real_realloc(void *block, size_t size);
-
-static int fails(void) {
-    if (before_failure < 0 || before_failure-- > 0) return 0;
-    has_failed = 1;
-    return 1;
-}
-
-void *__wrap_malloc(size_t size) { return fails() ? NULL : __real_malloc(size); }
-void *__wrap_realloc(void *block, size_t size) { return fails() ? NULL : __real_realloc(block, size); }
 
 /* The call, and once more where memory was refused: the totals are as they were, since a refusal changes nothing. */
 #define AGAIN(reply, status, call)                                                                                                               \

@@ -16,11 +16,10 @@ sleeps in one step, and wakes by a notice that comes later, or for no reason.
 A fault is one wrong step. Each must be found, but those that are named as harmless, with why.
 """
 
-import sys
 from pathlib import Path
 from typing import NamedTuple, Optional
 
-from code_steps import stands_as_modelled
+from code_steps import as_meant, explored, stands_as_modelled, try_faults
 
 FAULTS = {
     "ends_without_lock": "the guard says that it ends without the lock",
@@ -212,46 +211,25 @@ def wrong_with(state):
     return None
 
 
-def explored(fault):
-    """How many states there are up to the first that is wrong, and what is wrong with it."""
-    guard, thread = Guard(fault), Thread(fault)
-    seen, waiting = {State()}, [State()]
-    while waiting:
-        state = waiting.pop()
-        found = wrong_with(state)
-        if found:
-            return len(seen), found
-        next_ones = set()
-        if state.guard != "end":
-            next_ones.update(getattr(guard, state.guard)(state))
-        if state.thread != "end":
-            next_ones.update(getattr(thread, state.thread)(state))
-        if not next_ones and (state.guard, state.thread) != ("end", "end"):
-            return len(seen), "nobody can go on"
-        waiting.extend(next_ones - seen)
-        seen |= next_ones
-    return len(seen), None
-
-
 def is_as_meant(fault):
     """Explores the model with the fault, or with none, and says what came of it."""
-    states, found = explored(fault)
-    print(f"{fault or 'the agreement'}: {states} states, {found or 'nothing is wrong'}")
-    if fault in HARMLESS:
-        print(f"  harmless: {HARMLESS[fault]}")
-    return (found is None) == (fault is None or fault in HARMLESS)
+    programs = {"guard": Guard(fault), "thread": Thread(fault)}
+
+    def successors(state):
+        for name, program in programs.items():
+            at = getattr(state, name)
+            if at != "end":
+                yield from getattr(program, at)(state)
+
+    def wrong_at_end(state):
+        return None if (state.guard, state.thread) == ("end", "end") else "nobody can go on"
+
+    return as_meant(fault, *explored(State(), successors, wrong_with, wrong_at_end), HARMLESS)
 
 
 def main():
-    names = sys.argv[1:] or list(FAULTS)
-    unknown = [name for name in names if name not in FAULTS]
-    if unknown:
-        sys.exit(f"there is no such fault: {', '.join(unknown)}; there are {', '.join(FAULTS)}")
     code = Path(__file__).resolve().parent.parent / "src"
-    done = [stands_as_modelled(code, SOURCES, "background.rs", CHANGES)]
-    done += [is_as_meant(fault) for fault in [None, *names]]
-    print(f"{done.count(True)} as meant, {done.count(False)} not")
-    sys.exit(0 if all(done) else 1)
+    try_faults(FAULTS, is_as_meant, stands_as_modelled(code, SOURCES, "background.rs", CHANGES))
 
 
 if __name__ == "__main__":

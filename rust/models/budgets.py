@@ -21,11 +21,10 @@ Trusted of the system: a mutex has one owner at a time, who sees what was done u
 A fault is one wrong step. Each must be found.
 """
 
-import sys
 from pathlib import Path
 from typing import NamedTuple, Optional
 
-from code_steps import stands_as_modelled
+from code_steps import as_meant, explored, stands_as_modelled, try_faults
 
 FAULTS = {
     "works_without_lock": "a part is taken without the lock of the store",
@@ -460,29 +459,22 @@ def wrong_in_the_end(state):
     return None
 
 
-def explored(scene, is_store, fault):
-    """How many states there are up to the first that is wrong, and what is wrong with it."""
+def explored_scene(scene, is_store, fault):
+    """The states of a scene, over a store or a slab, with the fault or with none."""
     programs = [program(fault, is_store) for program in scene]
-    first = State((Shard(),) * SHARDS, (Thread(),) * len(scene))
-    seen, waiting = {first}, [first]
-    while waiting:
-        state = waiting.pop()
-        found = wrong_with(state, is_store)
-        if found:
-            return len(seen), found
-        next_ones = set()
+
+    def successors(state):
         for thread, program in enumerate(programs):
             at = state.threads[thread].at
             if at != "end":
-                next_ones.update(view.state for view in getattr(program, at)(View(state, thread)))
-        if not next_ones:
-            is_over = all(thread.at == "end" for thread in state.threads)
-            found = wrong_in_the_end(state) if is_over else "nobody can go on"
-            if found:
-                return len(seen), found
-        waiting.extend(next_ones - seen)
-        seen |= next_ones
-    return len(seen), None
+                yield from (view.state for view in getattr(program, at)(View(state, thread)))
+
+    def wrong_at_end(state):
+        is_over = all(thread.at == "end" for thread in state.threads)
+        return wrong_in_the_end(state) if is_over else "nobody can go on"
+
+    first = State((Shard(),) * SHARDS, (Thread(),) * len(scene))
+    return explored(first, successors, lambda state: wrong_with(state, is_store), wrong_at_end)
 
 
 def is_as_meant(fault):
@@ -490,27 +482,19 @@ def is_as_meant(fault):
     states, found = 0, None
     for is_store in (True, False):
         for scene in SCENES:
-            count, wrong = explored(scene, is_store, fault)
+            count, wrong = explored_scene(scene, is_store, fault)
             states += count
             if wrong and not found:
                 names = ", ".join(program.__name__ for program in scene)
                 found = f"{wrong} ({'a store' if is_store else 'a slab'}: {names})"
         if found:
             break
-    print(f"{fault or 'the agreement'}: {states} states, {found or 'nothing is wrong'}")
-    return (found is None) == (fault is None)
+    return as_meant(fault, states, found)
 
 
 def main():
-    names = sys.argv[1:] or list(FAULTS)
-    unknown = [name for name in names if name not in FAULTS]
-    if unknown:
-        sys.exit(f"there is no such fault: {', '.join(unknown)}; there are {', '.join(FAULTS)}")
     code = Path(__file__).resolve().parent.parent / "src"
-    done = [stands_as_modelled(code, SOURCES, "shared/shard.rs", CHANGES)]
-    done += [is_as_meant(fault) for fault in [None, *names]]
-    print(f"{done.count(True)} as meant, {done.count(False)} not")
-    sys.exit(0 if all(done) else 1)
+    try_faults(FAULTS, is_as_meant, stands_as_modelled(code, SOURCES, "shared/shard.rs", CHANGES))
 
 
 if __name__ == "__main__":

@@ -1,6 +1,8 @@
-"""What the models of locks share: whether the code that they model still has their steps."""
+"""What the models of locks share: whether the code that they model still has their steps, and how
+their states are gone over."""
 
 import re
+import sys
 
 
 def body_of(source, head):
@@ -35,3 +37,41 @@ def stands_as_modelled(folder, sources, counted, changes):
     for place in wrong:
         print(f"the code is not as it is modelled: {place}: look at the model anew")
     return not wrong
+
+
+def explored(first, successors, wrong_with, wrong_at_end):
+    """How many states there are up to the first that is wrong, and what is wrong with it.
+
+    What `wrong_at_end` says is asked of a state that has no successor.
+    """
+    seen, waiting = {first}, [first]
+    while waiting:
+        state = waiting.pop()
+        found = wrong_with(state)
+        next_ones = set() if found else set(successors(state))
+        if not found and not next_ones:
+            found = wrong_at_end(state)
+        if found:
+            return len(seen), found
+        waiting.extend(next_ones - seen)
+        seen |= next_ones
+    return len(seen), None
+
+
+def as_meant(fault, states, found, harmless=()):
+    """Says what came of a model with the fault, or with none, and whether it was to come."""
+    print(f"{fault or 'the agreement'}: {states} states, {found or 'nothing is wrong'}")
+    if fault in harmless:
+        print(f"  harmless: {harmless[fault]}")
+    return (found is None) == (fault is None or fault in harmless)
+
+
+def try_faults(faults, is_as_meant, has_steps):
+    """Tries a model with no fault and with those that the words name, or with all, and ends."""
+    names = sys.argv[1:] or list(faults)
+    unknown = [name for name in names if name not in faults]
+    if unknown:
+        sys.exit(f"there is no such fault: {', '.join(unknown)}; there are {', '.join(faults)}")
+    done = [has_steps, *(is_as_meant(fault) for fault in [None, *names])]
+    print(f"{done.count(True)} as meant, {done.count(False)} not")
+    sys.exit(0 if all(done) else 1)

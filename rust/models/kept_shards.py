@@ -24,11 +24,10 @@ behind it, and a light fence keeps both.
 A fault is one wrong step. Each must be found, but those that are named as harmless, with why.
 """
 
-import sys
 from pathlib import Path
 from typing import NamedTuple
 
-from code_steps import stands_as_modelled
+from code_steps import as_meant, explored, stands_as_modelled, try_faults
 
 OPEN, KEPT, WANTED = 0, 1, 2
 FREE = -1
@@ -409,46 +408,23 @@ def wrong_with(state):
     return None
 
 
-def explored(fault):
-    """How many states there are up to the first that is wrong, and what is wrong with it."""
-    programs = [Owner(fault)] + [Taker(fault)] * TAKERS
-    first = first_state()
-    seen, waiting = {first}, [first]
-    while waiting:
-        state = waiting.pop()
-        found = wrong_with(state)
-        if found:
-            return len(seen), found
-        next_ones = set(successors(state, programs))
-        if not next_ones and any(thread.at != "end" for thread in state.threads):
-            return len(seen), "nobody can go on"
-        waiting.extend(next_ones - seen)
-        seen |= next_ones
-    return len(seen), None
-
-
 def is_as_meant(fault):
     """Explores with the fault, or with none, and says what came of it."""
-    states, found = explored(fault)
-    name = fault or "the agreement"
-    print(f"{name}: {states} states, {found or 'nothing is wrong'}")
-    if fault is None:
-        return found is None
-    if fault in HARMLESS:
-        print(f"  harmless: {HARMLESS[fault]}")
-        return found is None
-    return found is not None
+    programs = [Owner(fault)] + [Taker(fault)] * TAKERS
+
+    def wrong_at_end(state):
+        is_over = all(thread.at == "end" for thread in state.threads)
+        return None if is_over else "nobody can go on"
+
+    found = explored(
+        first_state(), lambda state: successors(state, programs), wrong_with, wrong_at_end
+    )
+    return as_meant(fault, *found, HARMLESS)
 
 
 def main():
-    names = sys.argv[1:] or list(FAULTS)
-    unknown = [name for name in names if name not in FAULTS]
-    if unknown:
-        sys.exit(f"there is no such fault: {', '.join(unknown)}; there are {', '.join(FAULTS)}")
     code = Path(__file__).resolve().parent.parent / "src" / "arena"
-    done = [stands_as_modelled(code, SOURCES, "lane.rs", CHANGES)] + [is_as_meant(fault) for fault in [None, *names]]
-    print(f"{done.count(True)} as meant, {done.count(False)} not")
-    sys.exit(0 if all(done) else 1)
+    try_faults(FAULTS, is_as_meant, stands_as_modelled(code, SOURCES, "lane.rs", CHANGES))
 
 
 if __name__ == "__main__":

@@ -20,11 +20,10 @@ before the state that it finds. `stands_as_modelled` looks whether they do.
 A fault is one wrong step. Each must be found.
 """
 
-import sys
 from pathlib import Path
 from typing import NamedTuple, Optional
 
-from code_steps import stands_as_modelled
+from code_steps import as_meant, explored, stands_as_modelled, try_faults
 
 FAULTS = {
     "looks_before_it_pins": "a look-up compares the name before it pins, and not behind",
@@ -518,26 +517,6 @@ def wrong_in_the_end(state):
     return None
 
 
-def explored(scene, fault):
-    """How many states there are up to the first that is wrong, and what is wrong with it."""
-    programs = [program(fault) for program, _ in scene]
-    first = first_state(scene)
-    seen, waiting = {first}, [first]
-    while waiting:
-        state = waiting.pop()
-        found = wrong_with(state)
-        if found:
-            return len(seen), found
-        next_ones = set(successors(state, programs))
-        if not next_ones:
-            found = wrong_in_the_end(state) if is_over(state, scene) else "nobody can go on"
-            if found:
-                return len(seen), found
-        waiting.extend(next_ones - seen)
-        seen |= next_ones
-    return len(seen), None
-
-
 def is_over(state, scene):
     """Whether all are done, but an insert of a slot that nobody has freed."""
     return all(
@@ -546,28 +525,32 @@ def is_over(state, scene):
     )
 
 
+def explored_scene(scene, fault):
+    """The states of a scene, with the fault or with none."""
+    programs = [program(fault) for program, _ in scene]
+
+    def wrong_at_end(state):
+        return wrong_in_the_end(state) if is_over(state, scene) else "nobody can go on"
+
+    first = first_state(scene)
+    return explored(first, lambda state: successors(state, programs), wrong_with, wrong_at_end)
+
+
 def is_as_meant(fault):
     """Explores each scene with the fault, or with none, and says what came of it."""
     states, found = 0, None
     for name, scene in SCENES.items():
-        count, wrong = explored(scene, fault)
+        count, wrong = explored_scene(scene, fault)
         states += count
         if wrong:
             found = f"{wrong} ({name})"
             break
-    print(f"{fault or 'the agreement'}: {states} states, {found or 'nothing is wrong'}")
-    return (found is None) == (fault is None)
+    return as_meant(fault, states, found)
 
 
 def main():
-    names = sys.argv[1:] or list(FAULTS)
-    unknown = [name for name in names if name not in FAULTS]
-    if unknown:
-        sys.exit(f"there is no such fault: {', '.join(unknown)}; there are {', '.join(FAULTS)}")
     code = Path(__file__).resolve().parent.parent / "src" / "shared_slab"
-    done = [stands_as_modelled(code, SOURCES, "slot.rs", CHANGES)] + [is_as_meant(fault) for fault in [None, *names]]
-    print(f"{done.count(True)} as meant, {done.count(False)} not")
-    sys.exit(0 if all(done) else 1)
+    try_faults(FAULTS, is_as_meant, stands_as_modelled(code, SOURCES, "slot.rs", CHANGES))
 
 
 if __name__ == "__main__":
