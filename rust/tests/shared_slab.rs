@@ -2,16 +2,16 @@
 
 mod common;
 
+use common::panicking::{panics, Panics};
 use common::Random;
 use std::collections::BTreeMap;
 use std::mem;
-use std::panic::{catch_unwind, AssertUnwindSafe};
 use std::sync::atomic::{AtomicBool, AtomicUsize, Ordering};
 use std::sync::mpsc::channel;
 use std::sync::{Arc, Mutex};
 use std::thread;
 use teurlaks::shared_slab::{Entry, OwnedEntry, VacantEntry};
-use teurlaks::{Clear, Key, Limits, Refused, SharedSlab};
+use teurlaks::{Key, Limits, Refused, SharedSlab};
 
 /// A value that says which it is, and counts itself as it goes.
 #[derive(Debug)]
@@ -575,43 +575,11 @@ fn entries_go_to_other_threads() {
     assert_eq!(slab.get(key).unwrap(), 8);
 }
 
-/// A value that panics as it is dropped or cleared, where it is to.
-#[derive(Default)]
-struct Panics {
-    in_drop: bool,
-    in_clear: bool,
-    gone: Arc<AtomicUsize>,
-}
-
-impl Drop for Panics {
-    fn drop(&mut self) {
-        self.gone.fetch_add(1, Ordering::Relaxed);
-        assert!(!self.in_drop, "as it should");
-    }
-}
-
-impl Clear for Panics {
-    fn clear(&mut self) {
-        assert!(!self.in_clear, "as it should");
-    }
-}
-
-fn panics(call: impl FnOnce()) -> bool {
-    catch_unwind(AssertUnwindSafe(call)).is_err()
-}
-
 /// Two values that panic as they are dropped, and one that does not.
 fn three(gone: &Arc<AtomicUsize>) -> (SharedSlab<Panics>, [Key; 3]) {
     let slab = SharedSlab::with_limits(limits(1)).unwrap();
-    let keys = [true, true, false].map(|in_drop| {
-        let (in_clear, gone) = (false, gone.clone());
-        slab.insert(Panics {
-            in_drop,
-            in_clear,
-            gone,
-        })
-        .unwrap()
-    });
+    let insert = |in_drop| slab.insert(Panics::in_drop(in_drop, gone)).unwrap();
+    let keys = [true, true, false].map(insert);
     (slab, keys)
 }
 
@@ -661,7 +629,7 @@ fn panics_in_a_clear() {
     let clears = |in_clear| Panics {
         in_clear,
         in_drop: false,
-        gone: gone.clone(),
+        dropped: gone.clone(),
     };
     let keys = [true, true, false].map(|in_clear| slab.insert(clears(in_clear)).unwrap());
     assert!(panics(|| assert!(slab.clear(keys[0]))));
@@ -670,7 +638,7 @@ fn panics_in_a_clear() {
     assert_eq!((count(&gone), slab.len()), (2, 1)); // these are dropped
     assert!(slab.clear(keys[2]));
     assert_eq!((count(&gone), slab.len()), (2, 0)); // and this one is kept
-    slab.create_with(|value| assert!(Arc::ptr_eq(&value.gone, &gone)))
+    slab.create_with(|value| assert!(Arc::ptr_eq(&value.dropped, &gone)))
         .unwrap();
     drop(slab);
     assert_eq!(count(&gone), 3);

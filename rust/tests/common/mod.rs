@@ -2,6 +2,7 @@
 #![allow(dead_code)]
 
 pub mod numbered;
+pub mod panicking;
 
 /// Marsaglia's xorshift.
 pub struct Random(pub u64);

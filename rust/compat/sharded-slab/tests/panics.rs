@@ -1,49 +1,19 @@
 //! A panic in the drop of a value, in a `Clear`, or in a closure, loses no other value, and no later
 //! call panics because of it.
 
+#[path = "../../../tests/common/panicking.rs"]
+mod panicking;
+
+use panicking::{panics, Panics};
 use sharded_slab::{Clear, Pool, Slab};
-use std::panic::{catch_unwind, AssertUnwindSafe};
 use std::sync::atomic::{AtomicUsize, Ordering};
 use std::sync::Arc;
 use std::thread;
 
-/// A value that panics as it is dropped or cleared, if it is to. How many were dropped is counted.
-#[derive(Default)]
-struct Panics {
-    in_drop: bool,
-    in_clear: bool,
-    dropped: Arc<AtomicUsize>,
-}
-
-impl Drop for Panics {
-    fn drop(&mut self) {
-        self.dropped.fetch_add(1, Ordering::Relaxed);
-        assert!(!self.in_drop, "as it should");
-    }
-}
-
-impl Clear for Panics {
-    fn clear(&mut self) {
-        assert!(!self.in_clear, "as it should");
-    }
-}
-
-fn panics(call: impl FnOnce()) -> bool {
-    catch_unwind(AssertUnwindSafe(call)).is_err()
-}
-
-fn in_drop(in_drop: bool, dropped: &Arc<AtomicUsize>) -> Panics {
-    Panics {
-        in_drop,
-        in_clear: false,
-        dropped: dropped.clone(),
-    }
-}
-
 /// 300 values, of which each hundredth panics as it is dropped.
 fn with_three_that_panic() -> (Slab<Panics>, Vec<usize>, Arc<AtomicUsize>) {
     let (slab, dropped) = (Slab::new(), Arc::new(AtomicUsize::new(0)));
-    let keys = (0..300).map(|n| slab.insert(in_drop(n % 100 == 0, &dropped)));
+    let keys = (0..300).map(|n| slab.insert(Panics::in_drop(n % 100 == 0, &dropped)));
     let keys = keys.collect::<Option<_>>().expect("there is room");
     (slab, keys, dropped)
 }

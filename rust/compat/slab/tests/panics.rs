@@ -1,25 +1,13 @@
 //! A panic in the drop of a value, or in a closure, loses no other value, be they in a vector or in
 //! pages; and a value that is gone is not seen again.
 
+#[path = "../../panicking.rs"]
+mod panicking;
+
+use panicking::{panics, Panics};
 use slab::Slab;
 use std::cell::Cell;
-use std::panic::{catch_unwind, AssertUnwindSafe};
 use std::rc::Rc;
-
-/// A value that panics as it is dropped, if it is to. How many were dropped is counted.
-#[derive(Debug)]
-struct Panics(bool, Rc<Cell<usize>>);
-
-impl Drop for Panics {
-    fn drop(&mut self) {
-        self.1.set(self.1.get() + 1);
-        assert!(!self.0, "as it should");
-    }
-}
-
-fn panics(call: impl FnOnce()) -> bool {
-    catch_unwind(AssertUnwindSafe(call)).is_err()
-}
 
 /// So many values, of which number 50 panics: 100 stand in a vector, and 1,000 in pages.
 fn each_size(test: impl Fn(usize, Slab<Panics>, Rc<Cell<usize>>)) {

@@ -1,23 +1,12 @@
 //! A panic in the drop of a value, or in a closure, loses no other value.
 
+#[path = "../../panicking.rs"]
+mod panicking;
+
+use panicking::{panics, Panics};
 use slotmap::{DefaultKey, SlotMap};
 use std::cell::Cell;
-use std::panic::{catch_unwind, AssertUnwindSafe};
 use std::rc::Rc;
-
-/// A value that panics as it is dropped, if it is to. How many were dropped is counted.
-struct Panics(bool, Rc<Cell<usize>>);
-
-impl Drop for Panics {
-    fn drop(&mut self) {
-        self.1.set(self.1.get() + 1);
-        assert!(!self.0, "as it should");
-    }
-}
-
-fn panics(call: impl FnOnce()) -> bool {
-    catch_unwind(AssertUnwindSafe(call)).is_err()
-}
 
 type Map = SlotMap<DefaultKey, Panics>;
 
