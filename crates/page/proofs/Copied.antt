@@ -3,13 +3,14 @@ use Rattle.std.proofs.Common.{zero, suc, ◌≡◌, ℕ, ◌+◌, ◌*◌, ◌/�
 use Rattle.std.specs.Prelude.{filter}
 use Rattle.std.specs.List.{range_with_len}
 use Rattle.std.specs.FinSet.{contains}
+use Rattle.std.proofs.Math.Nat.{div-add-mod, div-le_self, mod-lt}
 use Rattle.std.proofs.lemmas.Bool.{cases_eq, ne_eqb}
 use Rattle.std.proofs.lemmas.List.FromFn.{fill_by_all, get_or-map-range_with_len}
 use Rattle.std.specs.Cmp.{second_so}
 use Rattle.bitmap.specs.Slots.{IsBelow, SlotSet, ascending, members_below}
 use Rattle.span.specs.Classes.{slots_in, width_of}
 use Rattle.span.specs.declared.class.Class.{Class}
-use Rattle.span.specs.declared.class.Class.TheVariants.{C16, C64, C256}
+use Rattle.span.proofs.Widths.{width_of-least}
 use Rattle.page.specs.Words.{Words, copied, object_in, same_words, set_object}
 use Rattle.page.proofs.Words.{get_or-object_in, get_or-set_object, length-object_in, object_in-from, on_page, slot_of_word}
 use Rattle.bitmap.specs.declared.bits.TheConstants.{SLOTS}
@@ -24,19 +25,13 @@ among q [] = false
 among q (k ∷ ks) = eqb q k || among q ks
 
 place-lt : (class : Class) (j : ℕ) → j % width_of class < width_of class
-place-lt C16 j = omega arith
-place-lt C64 j = omega arith
-place-lt C256 j = omega arith
+place-lt class j = mod-lt j (width_of-least class)
 
 whole_of : (class : Class) (j : ℕ) → width_of class * (j / width_of class) + j % width_of class ≡ j
-whole_of C16 j = omega arith
-whole_of C64 j = omega arith
-whole_of C256 j = omega arith
+whole_of class j = div-add-mod j (width_of class)
 
 slot-lt : (class : Class) (j : ℕ) → j < SLOTS → j / width_of class < SLOTS
-slot-lt C16 j low = omega (arith, low)
-slot-lt C64 j low = omega (arith, low)
-slot-lt C256 j low = omega (arith, low)
+slot-lt class j low = omega (arith, low, div-le_self j (width_of class))
 
 same_both : (b : Bool) (x : ℕ) → cond b x x ≡ x
 same_both true x = refl

@@ -1,33 +1,37 @@
 -- The objects of a page after one was written.
 use borrow.Rule.Slice.PartMut.{put_mid}
-use Rattle.std.proofs.Common.{◌≡◌, ◌⊎◌, ℕ, ◌+◌, ◌-◌, ◌*◌, ◌/◌, ◌%◌, ◌<◌, ◌≤◌, ◌==◌, ◌++◌, if◌then◌else◌, List, length, get_or, set, take, drop, ap, sym, ◌∙◌, refl, inl, inr, arith, eq-eqb}
+use Rattle.std.proofs.Common.{suc, ◌≡◌, ◌⊎◌, ℕ, ◌+◌, ◌-◌, ◌*◌, ◌/◌, ◌%◌, ◌<◌, ◌≤◌, ◌==◌, ◌++◌, if◌then◌else◌, List, length, get_or, set, take, drop, ap, sym, ◌∙◌, refl, inl, inr, arith, eq-eqb}
 use Rattle.std.specs.List.{between}
+use Rattle.std.proofs.Math.Nat.{div-add-mod, mod-lt, mul_comm, mul-le-mul_left, mul-suc, one-mul}
 use Rattle.std.proofs.lemmas.Bool.{cases_eq, cases_lt, ne_eqb}
+use Rattle.std.proofs.lemmas.Nat.{div-mul-add, mod-mul-add}
 use Rattle.std.proofs.lemmas.List.{get_or-append_right, get_or-drop, get_or-set_other, get_or-set_same, get_or-take, get_or_append_left, length-append, length-drop, length-take-le}
 use Rattle.std.proofs.lemmas.List.Edits.{get_or-between, length-between}
 use Rattle.std.proofs.lemmas.List.FromFn.{fill_by_all, get_or-map-range_with_len, length-map-range_with_len}
 use Rattle.span.specs.Classes.{slots_in, width_of}
 use Rattle.span.specs.declared.class.Class.{Class}
-use Rattle.span.specs.declared.class.Class.TheVariants.{C16, C64, C256}
+use Rattle.span.proofs.Widths.{slots_in-fit, slots_in-most, width_of-least}
 use Rattle.page.specs.Words.{Words, object_in, same_words, set_object}
 use Rattle.bitmap.specs.declared.bits.TheConstants.{SLOTS}
 
+-- the last word of a slot is on the page
+pub last_of : (class : Class) (slot : ℕ) → slot < slots_in class → width_of class * slot + width_of class ≤ SLOTS
+last_of class slot low =
+    let most : width_of class * suc slot ≤ width_of class * slots_in class = mul-le-mul_left (width_of class) (omega (arith, low)) in
+    omega (arith, most, slots_in-fit class, mul-suc (width_of class) slot)
+
 -- the slots of a class lie on the page, one after another
 pub on_page : (class : Class) (slot k : ℕ) → slot < slots_in class → k < width_of class → width_of class * slot + k < SLOTS
-on_page C16 slot k low within = omega (arith, low, within)
-on_page C64 slot k low within = omega (arith, low, within)
-on_page C256 slot k low within = omega (arith, low, within)
+on_page class slot k low within = omega (arith, last_of class slot low, within)
 
 -- a word of a slot tells the slot, and its place there
 pub slot_of_word : (class : Class) (slot k : ℕ) → k < width_of class → (width_of class * slot + k) / width_of class ≡ slot
-slot_of_word C16 slot k within = omega (arith, within)
-slot_of_word C64 slot k within = omega (arith, within)
-slot_of_word C256 slot k within = omega (arith, within)
+slot_of_word class slot k within =
+    ap (λ n. (n + k) / width_of class) (mul_comm (width_of class) slot) ∙ div-mul-add slot (width_of class) k within
 
 pub place_of_word : (class : Class) (slot k : ℕ) → k < width_of class → (width_of class * slot + k) % width_of class ≡ k
-place_of_word C16 slot k within = omega (arith, within)
-place_of_word C64 slot k within = omega (arith, within)
-place_of_word C256 slot k within = omega (arith, within)
+place_of_word class slot k within =
+    ap (λ n. (n + k) % width_of class) (mul_comm (width_of class) slot) ∙ mod-mul-add slot (width_of class) k within
 
 -- a list is an object's where it has its words
 pub object_in-from : (words : Words) (class : Class) (slot : ℕ) (object : List ℕ) → length object ≡ width_of class
@@ -76,15 +80,7 @@ module _ (words : Words) (class : Class) (slot : ℕ) (object : List ℕ) where
 
 -- a slot of a class is one of a byte
 pub on_page_slot : (class : Class) (slot : ℕ) → slot < slots_in class → slot < SLOTS
-on_page_slot C16 slot low = low
-on_page_slot C64 slot low = omega (arith, low)
-on_page_slot C256 slot low = omega (arith, low)
-
--- the last word of a slot is on the page
-pub last_of : (class : Class) (slot : ℕ) → slot < slots_in class → width_of class * slot + width_of class ≤ SLOTS
-last_of C16 slot low = omega (arith, low)
-last_of C64 slot low = omega (arith, low)
-last_of C256 slot low = omega (arith, low)
+on_page_slot class slot low = omega (arith, low, slots_in-most class)
 
 -- what is read from the first word of a slot on is its object
 pub object_in-between : (words : Words) (class : Class) (slot first : ℕ) → first ≡ width_of class * slot → slot < slots_in class
@@ -97,15 +93,16 @@ object_in-between words class slot first is low =
 
 -- the same, of an object of one word
 pub object_in-one : (words : Words) (class : Class) (slot : ℕ) → width_of class ≡ 1 → slot < slots_in class → between slot (slot + 1) words.items ≡ object_in words class slot
-object_in-one words C16 slot one low = object_in-between words C16 slot slot (omega arith) low
-object_in-one words C64 slot one low = absurd (omega (arith, one))
-object_in-one words C256 slot one low = absurd (omega (arith, one))
+object_in-one words class slot one low =
+    let first : slot ≡ width_of class * slot = sym (one-mul slot) ∙ ap (λ n. n * slot) (sym one) in
+    ap (λ n. between slot (slot + n) words.items) (sym one) ∙ object_in-between words class slot slot first low
 
 -- a word of the page that lies in a slot
 in_slot : (class : Class) (slot j : ℕ) → j / width_of class ≡ slot → (width_of class * slot ≤ j) × (j < width_of class * slot + width_of class) × (j % width_of class ≡ j - width_of class * slot)
-in_slot C16 slot j is = (omega (arith, is), omega (arith, is), omega (arith, is))
-in_slot C64 slot j is = (omega (arith, is), omega (arith, is), omega (arith, is))
-in_slot C256 slot j is = (omega (arith, is), omega (arith, is), omega (arith, is))
+in_slot class slot j is =
+    let whole : width_of class * slot + j % width_of class ≡ j = ap (λ q. width_of class * q + j % width_of class) (sym is) ∙ div-add-mod j (width_of class) in
+    let place : j % width_of class < width_of class = mod-lt j (width_of-least class) in
+    (omega (arith, whole), omega (arith, whole, place), omega (arith, whole))
 
 -- and one that lies outside
 out_of_slot : (class : Class) (slot j : ℕ) → (j / width_of class ≡ slot → ⊥) → (j < width_of class * slot) ⊎ (width_of class * slot + width_of class ≤ j)
@@ -118,9 +115,9 @@ out_of_slot class slot j apart = elim (cases_lt j (width_of class * slot)) [
 ]
   where
     within : (class : Class) (slot j : ℕ) → width_of class * slot ≤ j → j < width_of class * slot + width_of class → j / width_of class ≡ slot
-    within C16 slot j from inside = omega (arith, from, inside)
-    within C64 slot j from inside = omega (arith, from, inside)
-    within C256 slot j from inside = omega (arith, from, inside)
+    within class slot j from inside =
+        let place : width_of class * slot + (j - width_of class * slot) ≡ j = omega (arith, from) in
+        ap (λ n. n / width_of class) (sym place) ∙ slot_of_word class slot (j - width_of class * slot) (omega (arith, from, inside))
 
 -- the words with one of them written, where an object is one word
 pub set_object-word : (before words : Words) (class : Class) (slot first : ℕ) (object : List ℕ) (x : ℕ) → before ≡ words → width_of class ≡ 1 → first ≡ slot
@@ -131,7 +128,7 @@ set_object-word before words class slot first object x same one is low value aft
   where
     of_class : (class : Class) → width_of class ≡ 1 → slot < slots_in class → (j : ℕ) → j < SLOTS
         → get_or (set words.items first x) j 0 ≡ (if j / width_of class == slot then get_or object (j % width_of class) 0 else get_or words.items j 0)
-    of_class C16 one low j there = elim (cases_eq j first) [
+    of_class class one low j there = rw one (elim (cases_eq j first) [
       | inl here ↦
           let at : j / 1 ≡ slot = omega (arith, here, is) in
           let zero_th : j % 1 ≡ 0 = omega arith in
@@ -139,9 +136,7 @@ set_object-word before words class slot first object x same one is low value aft
       | inr other ↦
           let apart : j / 1 ≡ slot → ⊥ = λ e. other (omega (arith, e, is)) in
           rw (ne_eqb _ _ apart) (get_or-set_other words.items first j x 0 other)
-    ]
-    of_class C64 one low j there = absurd (omega (arith, one))
-    of_class C256 one low j there = absurd (omega (arith, one))
+    ])
 
 -- the words of a list after some were written from a place on
 module _ (xs ys : List ℕ) (a n : ℕ) (within : a + n ≤ length xs) (long : length ys ≡ n) (j : ℕ) where

@@ -12,7 +12,7 @@ use Rattle.bitmap.specs.declared.bits.TheConstants.{SLOTS}
 use Rattle.span.specs.Classes.{width_of}
 use Rattle.span.specs.declared.class.Class.{Class}
 
--- the words of a page: of one, four or sixteen words a slot, by the class of the objects on it
+-- the words of a page: of one to sixteen words a slot, by the class of the objects on it
 pub record Words : Type 0 where
   pub items : List ℕ
   pub whole : length items ≡ SLOTS

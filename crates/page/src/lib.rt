@@ -1,4 +1,4 @@
-//! A page: 256 words, which are 256 slots of one, 64 of four or 16 of sixteen.
+//! A page: 256 words, in slots of 1 to 16 words, as many as there is room for.
 //!
 //! A [`Page`] is one allocation of 4,096 bytes, and who has the page has its words: a group owns
 //! its page, moves with it from owner to owner without a word copied, and drops it, so that it goes

@@ -10,8 +10,8 @@ use span::Class;
 use std::alloc::{AllocError, Global};
 use std::marker::Model;
 
-/// 256 words, which are 256 slots of one, 64 of four or 16 of sixteen, in an allocation of their
-/// own: 4,096 bytes.
+/// 256 words, which are 256 slots of one, 16 of sixteen, and as many as there is room for between,
+/// in an allocation of their own: 4,096 bytes.
 #[derive(Drop)]
 pub struct Page {
     words: Vec<u128>,

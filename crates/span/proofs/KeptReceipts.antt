@@ -1,20 +1,23 @@
 -- A list of receipts by runs: what is added leaves the earlier receipts as they were, and where a receipt stands.
-use Rattle.std.proofs.Common.{zero, suc, ◌≡◌, ℕ, ◌+◌, ◌-◌, ◌*◌, ◌^◌, ◌<◌, ◌≤◌, ◌==◌, false, List, [], ◌∷◌, ◌++◌, get_or, length, Some, slice_get, slice_set, ap, sym, subst, ◌∙◌, refl, inl, inr, arith}
+use Rattle.std.proofs.Common.{zero, suc, ◌≡◌, ℕ, ◌+◌, ◌-◌, ◌*◌, ◌^◌, ◌<◌, ◌≤◌, ◌==◌, Bool, true, false, eqb, eqb-true, if◌then◌else◌, None, List, [], ◌∷◌, ◌++◌, get_or, length, Some, slice_get, slice_set, ap, sym, subst, ◌∙◌, refl, inl, inr, arith}
 use mathlib.Core.HLevel.{is_prop→PathP}
 use native.Mathlib.Bridge.{le_prop}
 use Rattle.std.proofs.lemmas.Bool.{cases_lt}
 use Rattle.std.proofs.lemmas.List.{append-nil, append_assoc, length-append}
 use Rattle.std.proofs.lemmas.Option.{get_or_from_slice_get, same_Some, slice_get_within}
+use Rattle.span.specs.Classes.{width_of}
 use Rattle.span.specs.Stored.{run_from}
 use Rattle.span.specs.StoredReceipts.{AreRuns, CountsOn, CountsUp, Follows, GoesOn, HasCall, HasPlace, IsCountedOf, IsLast, IsNextOf, IsRunWithin, MayCount}
 use Rattle.span.specs.StoredReceipts.{call_in, call_width, call_words, counted_form, counted_up, first_in, key_in, next_start, receipt_in, receipts_in, run_receipts, stride, with_call, with_last_call}
 use Rattle.span.proofs.Ids.{same_id}
 use Rattle.span.proofs.KeptWords.{run_from-last, run_from-more}
+use Rattle.span.proofs.Widths.{width_of-injective}
 use Rattle.span.specs.declared.limits.TheConstants.{MOST_SHARDS, MOST_SPANS}
 use Rattle.span.specs.declared.receipt.Receipt.{Receipt}
 use Rattle.span.specs.declared.stored_receipt.StoredCall.{StoredCall}
 use Rattle.span.specs.declared.stored_receipt.StoredCall.TheVariants.{Put, CountedPut, Found, NotFound, Set, CountedSet, NotSet, Freed, NotFreed}
-use Rattle.span.specs.declared.class.Class.TheVariants.{C16, C64, C256}
+use Rattle.span.specs.declared.class.Class.{Class}
+use Rattle.span.specs.declared.class.Class.TheVariants.{C16}
 use Rattle.span.specs.declared.receipt.Call.TheVariants as call
 use Rattle.span.specs.declared.stored_receipt.ReceiptRun.{ReceiptRun}
 
@@ -387,36 +390,46 @@ before_shown words run k call counted may shown = elim may [
 own_at : (words : List ℕ) (first : ℕ) → counted_up 0 (run_from words first 1) ≡ run_from words first 1 → counted_up 0 (run_from words (first + 0) 1) ≡ run_from words (first + 0) 1
 own_at words first own = let same : first ≡ first + 0 = omega arith in subst (λ n. counted_up 0 (run_from words n 1) ≡ run_from words n 1) same own
 
+-- the counted form of the calls of a class, which has one word then
+form_of_one : (class : Class) (call counted : StoredCall) → (if width_of class == 1 then Some call else None) ≡ Some counted → (call ≡ counted) × (class ≡ C16)
+form_of_one class call counted form = by_test (eqb (width_of class) 1) refl form
+  where
+    by_test : (b : Bool) → eqb (width_of class) 1 ≡ b → (if b then Some call else None) ≡ Some counted → (call ≡ counted) × (class ≡ C16)
+    by_test true one is = (same_Some call counted is, width_of-injective class C16 (eqb-true (width_of class) 1 one))
+    by_test false one is = absurd cc
+
 -- a run of one call, or a counted one, is counted where the next word counts up
 pub counted_if : (words : List ℕ) (run : ReceiptRun) (k : ℕ) (call counted : StoredCall) (receipt : Receipt) → counted_form call ≡ Some counted → MayCount run.call k call counted
     → call_in call k (call_words receipt.call) ≡ receipt.call → CountsUp words run.first k (call_words receipt.call) → Follows run k receipt → IsCountedOf words run k counted receipt
-counted_if words run k (Put C16) counted receipt form may is up follows =
-    let counts : CountedPut ≡ counted = same_Some CountedPut counted form in
-    subst (λ c. IsCountedOf words run k c receipt) counts (record {
+counted_if words run k (Put class) counted receipt form may is up follows =
+    let counts = form_of_one class CountedPut counted form in
+    let own : call_in CountedPut 0 (run_from words (first_in (with_call run CountedPut) 0) 1) ≡ call_in (Put C16) 0 (run_from words (first_in (with_call run (Put C16)) 0) 1) =
+    ap call.Put (own_at words run.first up.own) in
+    let may_one : MayCount run.call k (Put C16) CountedPut = subst (λ class. MayCount run.call k (Put class) CountedPut) counts.1 (subst (λ c. MayCount run.call k (Put class) c) (sym counts.0) may) in
+    subst (λ c. IsCountedOf words run k c receipt) counts.0 (record {
       follows = follows;
-      before = before_shown words run k (Put C16) CountedPut (subst (λ c. MayCount run.call k (Put C16) c) (sym counts) may) (ap call.Put (own_at words run.first up.own));
+      before = before_shown words run k (Put C16) CountedPut may_one own;
       one = refl;
       same = refl;
       inside = up.inside;
       told = ap call.Put up.word ∙ is;
     })
-counted_if words run k (Set C16) counted receipt form may is up follows =
-    let counts : CountedSet ≡ counted = same_Some CountedSet counted form in
-    subst (λ c. IsCountedOf words run k c receipt) counts (record {
+counted_if words run k (Set class) counted receipt form may is up follows =
+    let counts = form_of_one class CountedSet counted form in
+    let own : call_in CountedSet 0 (run_from words (first_in (with_call run CountedSet) 0) 1) ≡ call_in (Set C16) 0 (run_from words (first_in (with_call run (Set C16)) 0) 1) =
+    ap call.Set (own_at words run.first up.own) in
+    let may_one : MayCount run.call k (Set C16) CountedSet = subst (λ class. MayCount run.call k (Set class) CountedSet) counts.1 (subst (λ c. MayCount run.call k (Set class) c) (sym counts.0) may) in
+    subst (λ c. IsCountedOf words run k c receipt) counts.0 (record {
       follows = follows;
-      before = before_shown words run k (Set C16) CountedSet (subst (λ c. MayCount run.call k (Set C16) c) (sym counts) may) (ap call.Set (own_at words run.first up.own));
+      before = before_shown words run k (Set C16) CountedSet may_one own;
       one = refl;
       same = refl;
       inside = up.inside;
       told = ap call.Set up.word ∙ is;
     })
-counted_if words run k (Put C64) counted receipt form may is up follows = absurd cc
-counted_if words run k (Put C256) counted receipt form may is up follows = absurd cc
 counted_if words run k CountedPut counted receipt form may is up follows = absurd cc
 counted_if words run k (Found class) counted receipt form may is up follows = absurd cc
 counted_if words run k NotFound counted receipt form may is up follows = absurd cc
-counted_if words run k (Set C64) counted receipt form may is up follows = absurd cc
-counted_if words run k (Set C256) counted receipt form may is up follows = absurd cc
 counted_if words run k CountedSet counted receipt form may is up follows = absurd cc
 counted_if words run k (NotSet class) counted receipt form may is up follows = absurd cc
 counted_if words run k Freed counted receipt form may is up follows = absurd cc

@@ -1,15 +1,14 @@
 -- A log's lists of words and of bases: what is added leaves the earlier changes as they were.
-use Rattle.std.proofs.Common.{zero, suc, ◌≡◌, ◌⊎◌, ℕ, ◌+◌, ◌-◌, ◌*◌, ◌/◌, ◌<◌, ◌≤◌, List, [], ◌∷◌, ◌++◌, get_or, length, length-append, length-take, take, drop, Some, slice_get, ap, sym, subst, ◌∙◌, refl, inl, inr, arith}
+use Rattle.std.proofs.Common.{zero, suc, ◌≡◌, ℕ, ◌+◌, ◌-◌, ◌*◌, ◌/◌, ◌<◌, ◌≤◌, List, [], ◌∷◌, ◌++◌, get_or, length, length-append, length-take, take, drop, Some, slice_get, ap, sym, subst, ◌∙◌, refl, inl, inr, arith}
 use Rattle.std.proofs.lemmas.Bool.{cases_lt}
 use Rattle.std.proofs.lemmas.List.{append-nil, drop-append-le, get_or_append_left, take-append-le, length-drop}
 use Rattle.std.proofs.Math.Seq.{drop-append_seam, get_or-append_seam, take-length}
 use Rattle.std.proofs.lemmas.Option.{same_Some, slice_get_read, slice_get_within}
-use Rattle.span.specs.Classes.{width_of}
-use Rattle.span.specs.Stored.{AreBlocks, AreWithin, base_of, change_in, change_of, changes_in, first_of, run_from, width_in, words_of}
+use Rattle.span.specs.Stored.{AreBlocks, AreWithin, base_of, change_in, change_of, changes_in, first_of, run_from, width_in}
 use Rattle.span.proofs.Changes.{slice_get-push}
-use Rattle.span.specs.declared.change.Change.{Change}
+use Rattle.span.proofs.Widths.{width_of-most}
 use Rattle.span.specs.declared.stored.Kind.{Kind}
-use Rattle.span.specs.declared.stored.Kind.TheVariants.{Put16, Put64, Put256, Set16, Set64, Set256, Free}
+use Rattle.span.specs.declared.stored.Kind.TheVariants.{Put, Set, Free}
 use Rattle.span.specs.declared.stored.Stored.{Stored}
 use Rattle.span.specs.declared.stored.TheConstants.{BLOCK}
 
@@ -23,12 +22,8 @@ run_from-last words more width long = ap (take width) (drop-append_seam words mo
 
 -- no object has more than 16 words
 width_low : (kind : Kind) → width_in kind ≤ 16
-width_low Put16 = omega arith
-width_low Put64 = omega arith
-width_low Put256 = omega arith
-width_low Set16 = omega arith
-width_low Set64 = omega arith
-width_low Set256 = omega arith
+width_low (Put class) = width_of-most class
+width_low (Set class) = width_of-most class
 width_low Free = omega arith
 
 -- more bases leave those that are noted as they were

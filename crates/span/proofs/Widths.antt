@@ -1,13 +1,144 @@
--- Which class so many words are of.
-use Rattle.std.proofs.Common.{◌≡◌, ℕ, List, length, ap, sym, ◌∙◌, refl}
-use Rattle.span.specs.Classes.{IsObject, class_of, width_of}
+-- Which class so many words are of, and what all classes have in common.
+use Rattle.std.proofs.Common.{zero, suc, ◌≡◌, ◌&&◌, Bool, true, eqb, eqb-true, inl, inr, ◌≤◌, ◌<◌, ◌+◌, ◌*◌, ℕ, List, length, ap, sym, ◌∙◌, refl, arith}
+use Rattle.std.proofs.lemmas.Bool.{cases_eq}
+use Rattle.std.specs.Cmp.{first_so, second_so}
+use Rattle.std.proofs.Math.Nat.{mul-le-mul_right}
+use Rattle.span.specs.Classes.{IsObject, class_of, class_with, number_of, slots_in, width_of}
 use Rattle.span.specs.declared.class.Class.{Class}
-use Rattle.span.specs.declared.class.Class.TheVariants.{C16, C64, C256}
+use Rattle.span.specs.declared.class.Class.TheVariants.{C16, C32, C48, C64, C80, C96, C112, C128, C144, C160, C176, C192, C208, C224, C240, C256}
+
+pub class_with-width : (class : Class) → class_with (width_of class) ≡ class
+class_with-width C16 = refl
+class_with-width C32 = refl
+class_with-width C48 = refl
+class_with-width C64 = refl
+class_with-width C80 = refl
+class_with-width C96 = refl
+class_with-width C112 = refl
+class_with-width C128 = refl
+class_with-width C144 = refl
+class_with-width C160 = refl
+class_with-width C176 = refl
+class_with-width C192 = refl
+class_with-width C208 = refl
+class_with-width C224 = refl
+class_with-width C240 = refl
+class_with-width C256 = refl
+
+-- the test holds of each number below
+abbrev tests_below : (ℕ → Bool) → ℕ → Bool
+tests_below test zero = true
+tests_below test (suc n) = test n && tests_below test n
+
+tests_below-at : (test : ℕ → Bool) (n : ℕ) → tests_below test n ≡ true → (k : ℕ) → k < n → test k ≡ true
+tests_below-at test zero all k low = absurd (omega (arith, low))
+tests_below-at test (suc n) all k low = elim (cases_eq k n) [
+  | inl last ↦ ap test last ∙ first_so (test n) (tests_below test n) all
+  | inr other ↦ tests_below-at test n (second_so (test n) (tests_below test n) all) k (omega (arith, low, other))
+]
+
+-- each number of words from 1 to 16 is that of a class
+pub width_of-class_with : (words : ℕ) → 1 ≤ words → words ≤ 16 → width_of (class_with words) ≡ words
+width_of-class_with zero least most = absurd (omega (arith, least))
+width_of-class_with (suc words) least most =
+    eqb-true _ _ (tests_below-at (λ k. eqb (width_of (class_with (suc k))) (suc k)) 16 refl words (omega (arith, most)))
 
 pub class_of-width : (words : List ℕ) (class : Class) → length words ≡ width_of class → class_of words ≡ class
-class_of-width words C16 width = rw width refl
-class_of-width words C64 width = rw width refl
-class_of-width words C256 width = rw width refl
+class_of-width words class width = ap class_with width ∙ class_with-width class
 
 pub IsObject-width : (words : List ℕ) (class : Class) → length words ≡ width_of class → IsObject words
 IsObject-width words class width = width ∙ ap width_of (sym (class_of-width words class width))
+
+-- no two classes are equally wide
+pub width_of-injective : (a b : Class) → width_of a ≡ width_of b → a ≡ b
+width_of-injective a b same = sym (class_with-width a) ∙ ap class_with same ∙ class_with-width b
+
+pub number_of-width : (class : Class) → number_of class + 1 ≡ width_of class
+number_of-width C16 = refl
+number_of-width C32 = refl
+number_of-width C48 = refl
+number_of-width C64 = refl
+number_of-width C80 = refl
+number_of-width C96 = refl
+number_of-width C112 = refl
+number_of-width C128 = refl
+number_of-width C144 = refl
+number_of-width C160 = refl
+number_of-width C176 = refl
+number_of-width C192 = refl
+number_of-width C208 = refl
+number_of-width C224 = refl
+number_of-width C240 = refl
+number_of-width C256 = refl
+
+pub number_of-injective : (a b : Class) → number_of a ≡ number_of b → a ≡ b
+number_of-injective a b same = width_of-injective a b (sym (number_of-width a) ∙ ap (λ n. n + 1) same ∙ number_of-width b)
+
+-- an object has 1 to 16 words
+pub width_of-least : (class : Class) → 1 ≤ width_of class
+width_of-least class = omega (arith, number_of-width class)
+
+pub width_of-most : (class : Class) → width_of class ≤ 16
+width_of-most C16 = omega arith
+width_of-most C32 = omega arith
+width_of-most C48 = omega arith
+width_of-most C64 = omega arith
+width_of-most C80 = omega arith
+width_of-most C96 = omega arith
+width_of-most C112 = omega arith
+width_of-most C128 = omega arith
+width_of-most C144 = omega arith
+width_of-most C160 = omega arith
+width_of-most C176 = omega arith
+width_of-most C192 = omega arith
+width_of-most C208 = omega arith
+width_of-most C224 = omega arith
+width_of-most C240 = omega arith
+width_of-most C256 = omega arith
+
+pub number_of-most : (class : Class) → number_of class < 16
+number_of-most class = omega (arith, number_of-width class, width_of-most class)
+
+-- the slots of a page fit into its 256 words
+pub slots_in-fit : (class : Class) → width_of class * slots_in class ≤ 256
+slots_in-fit C16 = omega arith
+slots_in-fit C32 = omega arith
+slots_in-fit C48 = omega arith
+slots_in-fit C64 = omega arith
+slots_in-fit C80 = omega arith
+slots_in-fit C96 = omega arith
+slots_in-fit C112 = omega arith
+slots_in-fit C128 = omega arith
+slots_in-fit C144 = omega arith
+slots_in-fit C160 = omega arith
+slots_in-fit C176 = omega arith
+slots_in-fit C192 = omega arith
+slots_in-fit C208 = omega arith
+slots_in-fit C224 = omega arith
+slots_in-fit C240 = omega arith
+slots_in-fit C256 = omega arith
+
+-- and one more does not
+pub slots_in-full : (class : Class) → 256 < width_of class * (slots_in class + 1)
+slots_in-full C16 = omega arith
+slots_in-full C32 = omega arith
+slots_in-full C48 = omega arith
+slots_in-full C64 = omega arith
+slots_in-full C80 = omega arith
+slots_in-full C96 = omega arith
+slots_in-full C112 = omega arith
+slots_in-full C128 = omega arith
+slots_in-full C144 = omega arith
+slots_in-full C160 = omega arith
+slots_in-full C176 = omega arith
+slots_in-full C192 = omega arith
+slots_in-full C208 = omega arith
+slots_in-full C224 = omega arith
+slots_in-full C240 = omega arith
+slots_in-full C256 = omega arith
+
+pub slots_in-most : (class : Class) → slots_in class ≤ 256
+slots_in-most class = omega (arith, slots_in-fit class, mul-le-mul_right (slots_in class) (width_of-least class))
+
+pub slots_in-least : (class : Class) → 16 ≤ slots_in class
+slots_in-least class = omega (arith, slots_in-full class, mul-le-mul_right (slots_in class + 1) (width_of-most class))

@@ -1,12 +1,11 @@
 -- How a list keeps receipts: those of calls that follow one another as one, all apart from the
 -- words of their objects, and of words that count up the first alone.
-use Rattle.std.specs.Prelude.{◌≡◌, ◌⊎◌, zero, suc, ℕ, ◌+◌, ◌-◌, ◌*◌, ◌%◌, ◌^◌, ◌<◌, ◌≤◌, List, [], ◌∷◌, ◌++◌, Option, None, Some, length, map, slice_get}
+use Rattle.std.specs.Prelude.{◌≡◌, ◌⊎◌, zero, suc, ℕ, ◌==◌, ◌+◌, ◌-◌, ◌*◌, ◌%◌, ◌^◌, ◌<◌, ◌≤◌, if◌then◌else◌, List, [], ◌∷◌, ◌++◌, Option, None, Some, length, map, slice_get}
 use Rattle.std.specs.Coded.{le_prop, ×_prop, Π_prop, →_prop}
 use mathlib.Core.HLevel.{×₃_prop}
 use native.Mathlib.Nat.{ℕ_set}
 use Rattle.span.specs.Classes.{width_of}
 use Rattle.span.specs.Stored.{run_from}
-use Rattle.span.specs.declared.class.Class.TheVariants.{C16}
 use Rattle.span.specs.declared.key.Key.{Key}
 use Rattle.span.specs.declared.receipt.Call.{Call}
 use Rattle.span.specs.declared.receipt.Call.TheVariants as call
@@ -100,8 +99,8 @@ receipt_in words run k = record {
 -- what a run of these calls is where their words count up, which those of objects of one word may
 -- do
 abbrev pub counted_form : StoredCall → Option StoredCall
-counted_form (Put C16) = Some CountedPut
-counted_form (Set C16) = Some CountedSet
+counted_form (Put class) = if width_of class == 1 then Some CountedPut else None
+counted_form (Set class) = if width_of class == 1 then Some CountedSet else None
 counted_form _ = None
 
 -- the run is counted, or has one call so far, which may be either

@@ -1,8 +1,8 @@
 //! Spans, the keys of their slots, and their logs.
 //!
-//! A [`Span`] is 256 slots that one shard opened together. Their values lie on a page, which is not
-//! kept here. A span keeps which of its slots are live, the last generation that each was given,
-//! and a log of all that was done to it.
+//! A [`Span`] is the slots of a page that one shard opened together: 256 of one word each, or fewer
+//! that are wider. Their values lie on the page, which is not kept here. A span keeps which of its
+//! slots are live, the last generation that each was given, and a log of all that was done to it.
 //!
 //! ```text
 //!   log   Put 3 gen 1 ── Put 7 gen 1 ── Free 3 gen 1 ── Put 3 gen 2
@@ -22,8 +22,8 @@
 //! is legal, and each change stands at its end. So whoever has the log can tell what each key held
 //! at each time, and check what a [`Receipt`] says of a call.
 //!
-//! A log that is [`Kept`] takes 8 bytes a change, and the words of each object that was put or set,
-//! for as long as its span lives. A span that works for ever and whose log nobody reads is a
+//! A log that is [`Kept`] takes 8.5 bytes a change, and the words of each object that was put or
+//! set, for as long as its span lives. A span that works for ever and whose log nobody reads is a
 //! `Span<Counted>`: it keeps the number of changes alone, so a put and its free leave memory as it
 //! was, but once in a span's life: generations take a byte each until a slot passes 255, and 4
 //! bytes each from then on. Its contracts are the same, since they speak of the log as a list that
@@ -68,7 +68,7 @@ mod view;
 mod words;
 
 pub use change::Change;
-pub use class::Class;
+pub use class::{CLASSES, Class};
 pub use entry::Entry;
 pub use id::SpanId;
 pub use key::Key;

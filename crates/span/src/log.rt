@@ -95,7 +95,8 @@ pub trait Log: Drop {
 }
 
 /// A log that keeps all its changes, and drops none: it can be read and audited. A change takes 8
-/// bytes, and a put or a set the words of its object besides, which stand in a list of their own.
+/// bytes, 16 of them 8 more, and a put or a set the words of its object besides, which stand in a
+/// list of their own.
 #[derive(Drop)]
 pub struct Kept {
     changes: Vec<Stored>,
@@ -157,7 +158,7 @@ impl Kept {
         let first = self.words.len();
         let block = self.changes.len() / BLOCK;
         begin_block(&mut self.bases, block, first);
-        let offset = (first - base_of(self.bases.as_slice(), block)) as u16;
+        let offset = (first - base_of(self.bases.as_slice(), block)) as u8;
         push_words(&mut self.words, words);
         self.changes.push_reserved(Stored {
             kind,
@@ -195,7 +196,7 @@ impl Log for Kept {
     }
 
     fn push_put(&mut self, slot: u8, generation: u32, class: Class, words: &[u128]) {
-        self.push(Kind::put(class), slot, generation, words);
+        self.push(Kind::Put(class), slot, generation, words);
     }
 
     fn reserve_set(&mut self, more: usize, words: usize) -> Result<(), AllocError> {
@@ -204,7 +205,7 @@ impl Log for Kept {
     }
 
     fn push_set(&mut self, slot: u8, generation: u32, class: Class, words: &[u128]) {
-        self.push(Kind::set(class), slot, generation, words);
+        self.push(Kind::Set(class), slot, generation, words);
     }
 
     fn push_free(&mut self, slot: u8, generation: u32) {

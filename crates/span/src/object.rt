@@ -15,29 +15,28 @@ pub struct Object {
     kept: Words,
 }
 
-// As many words as the class has.
+// As many words as the class has. One word is by far the most frequent, and so has no others to
+// write.
 #[derive(Clone, Copy, PartialEq, Eq, Debug)]
 enum Words {
     One([u128; 1]),
-    Four([u128; 4]),
-    Sixteen([u128; 16]),
+    // More than one, and zeros behind them.
+    More { class: Class, words: [u128; 16] },
 }
 
 impl Model for Object {
     ghost use Rattle.std.specs.Prelude.{List, ℕ};
-    ghost use Rattle.span.specs.Objects.{HasItsLength, kept_of, words_in};
+    ghost use Rattle.span.specs.Objects.{IsKept, kept_of, words_in};
 
     ghost Value = { List ℕ };
 
     ghost view = { λ o. words_in o.kept };
 
-    ghost invariant = { λ o. HasItsLength o.kept };
+    ghost invariant = { λ o. IsKept o.kept };
 
     ghost inverse = { λ words. record { kept = kept_of words } };
 
-    ghost use Rattle.span.specs.Objects.{kept_of-words_in};
-
-    ghost inverse_ok = { λ o are i. record { kept = kept_of-words_in o.kept are i } };
+    ghost inverse_ok = { λ o is i. record { kept = is.1 i } };
 }
 
 impl Object {
@@ -50,16 +49,14 @@ impl Object {
         }
     }
 
-    /// The object of these words, or `None` where they are not 1, 4 or 16 words.
+    /// The object of these words, or `None` if they are none or more than 16.
     pub fn new(words: &[u128]) -> Option<Object>
         ensures some { IsSome result ↔ IsObject words.now }
         ensures words { IfSome result (λ object. object ≡ words.now) }
     {
-        match words.len() {
-            1 => Some(Object::of(Class::C16, words)),
-            4 => Some(Object::of(Class::C64, words)),
-            16 => Some(Object::of(Class::C256, words)),
-            _ => None,
+        match Class::of_words(words.len()) {
+            Some(class) => Some(Object::of(class, words)),
+            None => None,
         }
     }
 
@@ -79,22 +76,16 @@ impl Object {
         requires { length words.now ≡ width_of class }
         ensures { result ≡ words.now }
     {
-        match class {
-            Class::C16 => Object::c16(words[0]),
-            Class::C64 => {
-                let mut four = [0; 4];
-                four.copy_from_slice(words);
-                Object {
-                    kept: Words::Four(four),
-                }
-            }
-            Class::C256 => {
-                let mut sixteen = [0; 16];
-                sixteen.copy_from_slice(words);
-                Object {
-                    kept: Words::Sixteen(sixteen),
-                }
-            }
+        if words.len() == 1 {
+            return Object::c16(words[0]);
+        }
+        let mut padded = [0; 16];
+        padded[..words.len()].copy_from_slice(words);
+        Object {
+            kept: Words::More {
+                class,
+                words: padded,
+            },
         }
     }
 
@@ -105,8 +96,7 @@ impl Object {
     {
         match &self.kept {
             Words::One(_) => Class::C16,
-            Words::Four(_) => Class::C64,
-            Words::Sixteen(_) => Class::C256,
+            Words::More { class, .. } => *class,
         }
     }
 
@@ -117,8 +107,7 @@ impl Object {
     {
         match &self.kept {
             Words::One(words) => words.as_slice(),
-            Words::Four(words) => words.as_slice(),
-            Words::Sixteen(words) => words.as_slice(),
+            Words::More { class, words } => &words[..class.words()],
         }
     }
 }

@@ -7,7 +7,6 @@ ghost use Rattle.span.specs.ReceiptViews.{call_viewed, receipt_viewed};
 ghost use Rattle.span.specs.Stored.{run_from};
 ghost use Rattle.span.specs.declared.stored_receipt.ReceiptRun.{ReceiptRun};
 
-use crate::class::Class;
 use crate::id::SpanId;
 use crate::key::Key;
 use crate::object::Object;
@@ -85,8 +84,8 @@ fn counted_form(call: StoredCall) -> Option<StoredCall>
     ensures { result ≡ counted_form call }
 {
     match call {
-        StoredCall::Put(Class::C16) => Some(StoredCall::CountedPut),
-        StoredCall::Set(Class::C16) => Some(StoredCall::CountedSet),
+        StoredCall::Put(class) => (class.words() == 1).then_some(StoredCall::CountedPut),
+        StoredCall::Set(class) => (class.words() == 1).then_some(StoredCall::CountedSet),
         _ => None,
     }
 }
