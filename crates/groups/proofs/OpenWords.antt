@@ -1,5 +1,5 @@
 -- Which words of a page may have a usable slot.
-use Rattle.std.proofs.Common.{zero, suc, ◌≡◌, ℕ, ◌+◌, ◌/◌, ◌<◌, ◌≤◌, Bool, true, false, not, ◌||◌, Option, Some, None, is_some, ap, sym, ◌∙◌, refl, inl, inr, arith}
+use Rattle.std.proofs.Common.{zero, suc, ◌≡◌, ℕ, ◌+◌, ◌/◌, ◌<◌, Bool, true, false, not, ◌||◌, Option, Some, None, is_some, ap, sym, ◌∙◌, refl, inl, inr, arith}
 use Rattle.std.specs.Prelude.{MatchOption}
 use Rattle.std.specs.Cmp.{nat_cmp_total}
 use Rattle.std.specs.FinSet.{contains, remove, union, contains-union}
@@ -8,17 +8,12 @@ use Rattle.bitmap.specs.Slots.{HasAllBelow, SlotSet}
 use Rattle.bitmap.specs.WordSets.{has_word}
 use Rattle.bitmap.specs.declared.word_set.WordSet.{WordSet}
 use Rattle.bitmap.proofs.Summaries.{contains-remove_other}
+use Rattle.span.proofs.Widths.{slots_in-most}
 use Rattle.span.specs.Classes.{slots_in}
 use Rattle.span.specs.declared.class.Class.{Class}
-use Rattle.span.specs.declared.class.Class.TheVariants.{C16, C64, C256}
 use Rattle.span.specs.Log.{worn_slots}
 use Rattle.groups.specs.Spans.{SpansState, all_spans, taken, union_of}
 use Rattle.groups.specs.SpansKept.{IsFullOutside}
-
-pub slots_in-most : (class : Class) → slots_in class ≤ 256
-slots_in-most C16 = omega arith
-slots_in-most C64 = omega arith
-slots_in-most C256 = omega arith
 
 pub one : Bool → ℕ
 one true = 1

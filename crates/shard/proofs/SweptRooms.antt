@@ -53,18 +53,6 @@ pub record IsSwept (class : Class) (groups : List GroupState) (old now : SlotSet
   pub between : (q : ℕ) → next ≤ q → q < index → contains now q ≡ false
   pub rest : (q : ℕ) → index ≤ q → contains now q ≡ contains old q
 
-pub IsSwept-none : (class : Class) (groups : List GroupState) (old : SlotSet) → IsSwept class groups old old 0 0
-IsSwept-none class groups old = record {
-  done = [];
-  all = refl;
-  count = refl;
-  few = omega arith;
-  others = λ q group there. absurd cc;
-  of_class = λ q group there. absurd cc;
-  between = λ q from low. absurd (omega (arith, low));
-  rest = λ q from. refl;
-}
-
 pub HasRooms-swept : (class : Class) (groups : List GroupState) (old now : SlotSet) → HasRooms class groups old → (index next : ℕ) → length groups ≤ index
     → IsSwept class groups old now index next → HasRooms class (filter has_stayed groups) now
 HasRooms-swept class groups old now has index next end swept =

@@ -28,6 +28,9 @@ bare-trimmed group = by_test (is_idle group)
     by_test true = refl
     by_test false = refl
 
+pub class-trimmed : (group : GroupState) → (trimmed group).head.class ≡ group.head.class
+class-trimmed group = ap (λ (g : GroupState). g.head.class) (bare-trimmed group)
+
 -- a sound group that gives its page back has no live slot
 none_live : (group : GroupState) → IsSoundGroup group → is_idle group ≡ true → union_of (spans_of group) ≡ empty
 none_live group sound idle =
@@ -64,5 +67,5 @@ HasRooms-trimmed class groups rooms has = record {
       subst (HasNoRoom class) before.2 (HasNoRoom-trimmed class before.0 (has.others q before.0 before.1 out));
   of_class = λ q other there member.
       let before = before-map trimmed groups q other there in
-      ap (λ (g : GroupState). g.head.class) (sym before.2) ∙ ap (λ (g : GroupState). g.head.class) (bare-trimmed before.0) ∙ has.of_class q before.0 before.1 member;
+      ap (λ (g : GroupState). g.head.class) (sym before.2) ∙ class-trimmed before.0 ∙ has.of_class q before.0 before.1 member;
 }

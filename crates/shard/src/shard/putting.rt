@@ -96,7 +96,7 @@ impl<L: Log> Shard<L> {
         let key = head.put_at(0, words)?;
         let mut page = Page::blank(self.alloc)?;
         self.groups.reserve(1)?;
-        self.rooms.reserve(self.groups.len() + 1)?;
+        self.rooms.reserve(class, self.groups.len() + 1)?;
         self.heads
             .reserve(self.opened as usize + 1, self.groups.len() + 1)?;
         page.set_at(class, 0, words);

@@ -1,6 +1,6 @@
 use Rattle.std.proofs.Common.{◌/◌, ◌∙◌, arith, sym}
 use Rattle.std.proofs.lemmas.Bool.{true≢false}
-use Rattle.groups.proofs.OpenWords.{slots_in-most}
+use Rattle.span.proofs.Widths.{slots_in-most}
 use Rattle.groups.proofs.Unions.{union-empty, AreDisjoint-empty}
 use Rattle.groups.proofs.spans.Spans.of.Goals as goal
 

@@ -9,7 +9,8 @@ use Rattle.groups.specs.Spans.{SpansState, taken, union_of, with_put}
 use Rattle.groups.specs.SpansKept.{IsFullOutside}
 use Rattle.groups.proofs.FilledBy.{IsFullOutside-put}
 use Rattle.groups.proofs.Maps.{at_err}
-use Rattle.groups.proofs.OpenWords.{HasAllBelow-none, slots_in-most, taken-is}
+use Rattle.groups.proofs.OpenWords.{HasAllBelow-none, taken-is}
+use Rattle.span.proofs.Widths.{slots_in-most}
 use Rattle.groups.proofs.Unions.{outside_left, outside_right, union-insert, AreDisjoint-insert}
 use Rattle.groups.proofs.spans.Spans.put.Goals as goal
 

@@ -1,4 +1,4 @@
-use Rattle.std.proofs.Common.{◌<◌, length, ◌≡◌, ◌∙◌, ◌∷◌, Bool, true, false, ap, sym, refl, subst, suc, set, slice_get}
+use Rattle.std.proofs.Common.{◌<◌, length, ◌≡◌, ◌∙◌, Bool, true, false, ap, sym, refl, subst, suc, set, slice_get}
 use Rattle.std.specs.Bool.{OnTrue}
 use Rattle.std.proofs.lemmas.Option.{slice_get_read}
 use Rattle.span.specs.State.{SpanState}

@@ -1,30 +1,17 @@
-use Rattle.std.proofs.Common.{◌≡◌, ◌<◌, ◌+◌, ℕ, true}
-use Rattle.std.specs.FinSet.{contains}
+use Rattle.std.proofs.Common.{◌∷◌, List, arith, subst, suc, sym}
 use Rattle.bitmap.specs.Numbers.{NumbersState}
-use Rattle.span.specs.declared.class.Class.TheVariants.{C16, C64, C256}
-use Rattle.shard.proofs.Classes.{read_second, read_set, read_third}
+use Rattle.shard.specs.Rooms.{HasRoomAt, set_at}
+use Rattle.span.specs.Classes.{number_of}
+use Rattle.shard.proofs.Classes.{HasRoomAt-each}
+use Rattle.span.specs.declared.class.Class.{Class}
 use Rattle.shard.proofs.class_rooms.ClassRooms.shift_up.Goals as goal
 
-abbrev Fits : ℕ → NumbersState → Type 0
-Fits index s = index < s.room
+pub shift_up-requires : goal.shift_up-requires
+shift_up-requires c =
+    HasRoomAt-each c.args.index (c.self.inside.narrow ∷ c.self.inside.wider.items) (omega (arith, c.self.invariant))
+    (subst (λ (sets : List NumbersState). (class : Class) → HasRoomAt c.args.index (set_at sets (number_of class))) (sym c.self.view_is) c.requires) 0
 
-abbrev HasSpare : NumbersState → Type 0
-HasSpare s = (n : ℕ) → contains s.numbers n ≡ true → n + 1 < s.room
-
-pub shift_up-requires-clause-within : goal.shift_up-requires-clause-within
-shift_up-requires-clause-within c = read_set c.self.inside.sets c.args.self.now c.self.invariant c.self.view_is C16 _ (Fits c.args.index) (c.requires.within C16)
-
-pub shift_up-requires-clause-room : goal.shift_up-requires-clause-room
-shift_up-requires-clause-room c = read_set c.self.inside.sets c.args.self.now c.self.invariant c.self.view_is C16 _ HasSpare (c.requires.room C16)
-
-pub shift_up-requires-2-clause-within : goal.shift_up-requires-2-clause-within
-shift_up-requires-2-clause-within c = read_second c.self.inside.sets c.args.self.now c.self.invariant c.self.view_is _ _ (Fits c.args.index) (c.requires.within C64)
-
-pub shift_up-requires-2-clause-room : goal.shift_up-requires-2-clause-room
-shift_up-requires-2-clause-room c = read_second c.self.inside.sets c.args.self.now c.self.invariant c.self.view_is _ _ HasSpare (c.requires.room C64)
-
-pub shift_up-requires-3-clause-within : goal.shift_up-requires-3-clause-within
-shift_up-requires-3-clause-within c = read_third c.self.inside.sets c.args.self.now c.self.invariant c.self.view_is _ _ _ (Fits c.args.index) (c.requires.within C256)
-
-pub shift_up-requires-3-clause-room : goal.shift_up-requires-3-clause-room
-shift_up-requires-3-clause-room c = read_third c.self.inside.sets c.args.self.now c.self.invariant c.self.view_is _ _ _ HasSpare (c.requires.room C256)
+pub shift_all_up-requires : goal.shift_all_up-requires
+shift_all_up-requires c n =
+    HasRoomAt-each c.args.index (c.self.inside.narrow ∷ c.self.inside.wider.items) (omega (arith, c.self.invariant))
+    (subst (λ (sets : List NumbersState). (class : Class) → HasRoomAt c.args.index (set_at sets (number_of class))) (sym c.self.view_is) c.requires) (suc n)

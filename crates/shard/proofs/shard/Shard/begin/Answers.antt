@@ -14,6 +14,7 @@ invariant_of-self g c = record {
   rooms = c.self.invariant.rooms;
   room_for_groups = c.self.invariant.room_for_groups;
   room_for_rooms = c.self.invariant.room_for_rooms;
+  room_for_class = c.self.invariant.room_for_class;
   no_guests = c.self.invariant.no_guests;
   room_for_guests = c.self.invariant.room_for_guests;
   guests_known = c.self.invariant.guests_known;

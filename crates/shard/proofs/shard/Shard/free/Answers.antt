@@ -6,7 +6,7 @@ use Rattle.shard.specs.Group.{GroupState}
 use Rattle.groups.specs.Group.{IsHere, with_span}
 use Rattle.groups.specs.Spans.{with_free}
 use Rattle.shard.specs.Kept.{state_of}
-use Rattle.shard.specs.Rooms.{rooms_of}
+use Rattle.shard.specs.Rooms.{room_of, rooms_of}
 use Rattle.shard.specs.State.{ShardState}
 use Rattle.shard.specs.declared.shard.Freed.TheVariants.{No, NotHere, Yes}
 use Rattle.shard.proofs.Here.{found_in, here_read, read_is}
@@ -70,7 +70,16 @@ insert-requires g c =
     (ap (λ (s : ShardState). s.groups) (sym c.self.view_is)) c.in-Some.ensures.place in
     let here = here_read _ _ _ _ found.0 found.1 found.2 c.index_mut-group.result.now c.index_mut-group.ensures.value c.span_at.result.now c.span_at.ensures in
     let low = slice_get_within c.self.inside.groups.items c.in-Some.index c.index_mut-group.result.now here.group_is in
-    omega (arith, low, c.self.invariant.room_for_rooms c.class-class.result, c.self.inside.groups.ok.0)
+    let freed = (c.if-not-free.ensures {u = tt}).freed c.span_at.result.now c.span_at.ensures in
+    let same = c.class-class.ensures ∙ ap (λ (g : GroupState). g.head.class) freed
+    ∙ class-with_span c.index_mut-group.result.now c.in-Some.place c.span_at.result.now (with_free c.span_at.result.now c.args.key.now) here.span_is refl in
+    omega (
+      arith,
+      low,
+      c.self.invariant.room_for_rooms c.in-Some.index c.index_mut-group.result.now here.group_is,
+      ap (room_of c.self.inside.rooms) same,
+      c.self.inside.groups.ok.0,
+    )
 
 freed_now : (g : _) (c : goal.After-insert g) → c.free.new.self ≡ with_span c.index_mut-group.result.now c.in-Some.place (with_free c.span_at.result.now c.args.key.now)
 freed_now g c = (c.if-not-free.ensures {u = tt}).freed c.span_at.result.now c.span_at.ensures
@@ -89,6 +98,7 @@ invariant_of-self-2 g c =
     let key = c.args.key.now in
     IsKept-replaced c.self.inside kept _ c.insert.new.self c.in-Some.index group (with_span group place (with_free span key)) here.group_is
     (AreAlike-with_span group place span (with_free span key) here.span_is refl)
+    (class-with_span group place span (with_free span key) here.span_is refl)
     (ap (set c.self.inside.groups.items c.in-Some.index) (freed_now g c))
     refl
     (IsSound-free (state_of c.self.inside) kept.sound c.in-Some.index group here.group_is place span here.span_is key (held g c))

@@ -1,5 +1,3 @@
-use Rattle.std.proofs.Common.{subst}
-use Rattle.shard.specs.Sound.{IsSound}
 use Rattle.shard.specs.declared.shard.Found.TheVariants.{NotHere}
 use Rattle.shard.proofs.ShownLogs.{value_found-Gets}
 use Rattle.shard.proofs.shard.Shard.get.Goals as goal

@@ -8,6 +8,7 @@ use Rattle.shard.specs.Kept.{state_of}
 use Rattle.shard.specs.Leaving.{has_stayed, left_place, swept}
 use Rattle.shard.specs.Rooms.{rooms_of}
 use Rattle.shard.specs.State.{ShardState}
+use Rattle.shard.proofs.ClassesHere.{HaveRoom-set}
 use Rattle.shard.proofs.KnownHeads.{KnowsHeads-set}
 use Rattle.shard.proofs.GuestRoom.{HasGuestRoom-none}
 use Rattle.shard.proofs.HeadsHere.{head_read}
@@ -73,7 +74,10 @@ invariant_of-self-2 g c =
           (HasRooms-full class c.self.inside.groups.items (rooms_of c.self.inside.rooms class) (c.self.invariant.rooms class) c.in-Some.index place group here
           c.class.ensures (λ none. inl refl));
       room_for_groups = c.self.invariant.room_for_groups;
-      room_for_rooms = c.self.invariant.room_for_rooms;
+      room_for_rooms = rw (place_now g c)
+          (HaveRoom-set c.self.inside.groups.items c.self.inside.rooms _ c.self.invariant.room_for_rooms c.in-Some.index group place here c.class.ensures
+          c.self.inside.rooms _ (omega arith) (λ class. omega arith));
+      room_for_class = c.self.invariant.room_for_class;
       no_guests = c.self.invariant.no_guests;
       room_for_guests = HasGuestRoom-none _ _ _;
       guests_known = rw (place_now g c, c.strike_all.ensures, c.guests.ensures, c.into_parts-spans.ensures.spans, c.replace.ensures.value)

@@ -1,4 +1,7 @@
 use Rattle.std.proofs.Common.{◌≡◌, ℕ, ◌≤◌, ◌<◌, ◌∙◌, ◌+◌, List, [], Some, false, length, insert, ap, sym, subst, refl, inl, inr, arith}
+use Rattle.std.specs.Prelude.{vec_len}
+use Rattle.std.proofs.lemmas.Bool.{cases_lt}
+use Rattle.std.proofs.lemmas.Option.{slice_get_within}
 use Rattle.std.specs.FinSet as set
 use Rattle.std.specs.FinSet.{contains}
 use Rattle.span.proofs.LegalLogs.{puts_of-empty}
@@ -15,10 +18,11 @@ use Rattle.groups.proofs.Standing.{head_id}
 use Rattle.shard.specs.Calls.{new_group}
 use Rattle.shard.specs.Group.{GroupState, group_of}
 use Rattle.shard.specs.Kept.{state_of}
-use Rattle.shard.specs.Rooms.{rooms_of}
+use Rattle.shard.specs.Rooms.{HaveRoom, room_of, rooms_of}
 use Rattle.shard.specs.State.{ShardState}
 use Rattle.span.specs.declared.class.Class.{Class}
 use Rattle.shard.specs.Heads.{AreReady, KnowsHeads}
+use Rattle.shard.proofs.ClassesHere.{HaveRoom-insert, HaveRoom-noted}
 use Rattle.shard.proofs.KnownHeads.{AreReady-arrived, KnowsHeads-moved}
 use Rattle.shard.proofs.Classes.{cases_class}
 use Rattle.shard.proofs.GuestRoom.{HasGuestRoom-none}
@@ -82,6 +86,54 @@ above_now : (g : _) (c : goal.After-self-3-1 g) → (class : Class) (n : ℕ) �
     → contains (rooms_of c.note_arrival.new.self class) (n + 1) ≡ contains (rooms_of c.self.inside.rooms class) n
 above_now g c class n from = c.note_arrival.ensures.above class n from ∙ ap (λ s. contains s n) (c.in_ok-reserve-2.ensures.same class)
 
+-- each set that had room for the groups has room for one more
+room_before : (g : _) (c : goal.After-self-3-1 g)
+    → HaveRoom c.self.inside.groups.items c.note_arrival.new.self (vec_len c.insert_reserved.new.groups + c.saturating_sub-self-inside.result)
+room_before g c index group there =
+    let class = group.head.class in
+    let had = c.self.invariant.room_for_rooms index group there in
+    let low = slice_get_within c.self.inside.groups.items index group there in
+    let used = c.in_ok-reserve-2.ensures.used class (omega (arith, had, low, c.self.inside.groups.ok.0)) in
+    omega (
+      arith,
+      had,
+      used,
+      c.in_ok-reserve-2.ensures.more class,
+      c.note_arrival.ensures.room class,
+      c.len.ensures,
+      c.insert_reserved.ensures.len,
+      c.in_ok-reserve.ensures.len,
+      c.saturating_sub-self-inside.ensures,
+    )
+
+-- and so has that of the class
+room_here : (g : _) (c : goal.After-self-3-1 g)
+    → vec_len c.insert_reserved.new.groups + c.saturating_sub-self-inside.result ≤ room_of c.note_arrival.new.self c.args.class
+room_here g c =
+    let own = c.in_ok-reserve-2.ensures.ok c.args.class (omega arith) in
+    elim (cases_lt 0 c.self.inside.group_room) [
+      | inl some ↦ omega (
+        arith,
+        some,
+        c.self.invariant.room_for_class some c.args.class,
+        c.in_ok-reserve-2.ensures.more c.args.class,
+        c.note_arrival.ensures.room c.args.class,
+        c.insert_reserved.ensures.len,
+        c.in_ok-reserve.ensures.len,
+        c.saturating_sub-self-inside.ensures,
+      )
+      | inr none ↦ omega (
+        arith,
+        none,
+        own,
+        c.note_arrival.ensures.room c.args.class,
+        c.len.ensures,
+        c.insert_reserved.ensures.len,
+        c.in_ok-reserve.ensures.len,
+        c.saturating_sub-self-inside.ensures,
+      )
+    ]
+
 pub invariant_of-self-2 : goal.invariant_of-self-2
 invariant_of-self-2 g c = record {
   number_fits = c.self.invariant.number_fits;
@@ -111,14 +163,15 @@ invariant_of-self-2 g c = record {
     c.in_ok-reserve.ensures.capacity,
     c.saturating_sub-self-inside.ensures,
   );
-  room_for_rooms = λ class. omega (
+  room_for_rooms = rw (groups_now g c)
+      (HaveRoom-insert c.self.inside.groups.items c.note_arrival.new.self _ (room_before g c) c.lower_heads-index.result (made g c) (place_now g c).within (room_here g c));
+  room_for_class = λ some class. omega (
     arith,
-    c.self.invariant.room_for_rooms class,
+    c.self.invariant.room_for_class (omega (arith, some, c.saturating_sub-self-inside.ensures)) class,
+    some,
     c.insert_reserved.ensures.len,
     c.in_ok-reserve.ensures.len,
     c.in_ok-reserve-2.ensures.more class,
-    c.in_ok-reserve-2.ensures.ok class,
-    c.len.ensures,
     c.note_arrival.ensures.room class,
     c.saturating_sub-self-inside.ensures,
   );
@@ -157,12 +210,18 @@ invariant_of-self-in_err-reserve-2 g c =
     (λ class. omega (arith, c.in_err-reserve-2.ensures.more class))
 
 pub note_arrival-requires-clause-room : goal.note_arrival-requires-clause-room
-note_arrival-requires-clause-room g c class = omega (arith, c.in_ok-reserve-2.ensures.ok class, c.len.ensures, c.len-2.ensures, c.insert_reserved.ensures.len, c.in_ok-reserve.ensures.len)
+note_arrival-requires-clause-room g c =
+    omega (arith, c.in_ok-reserve-2.ensures.ok c.args.class (omega arith), c.len.ensures, c.len-2.ensures, c.insert_reserved.ensures.len, c.in_ok-reserve.ensures.len)
 
 pub note_arrival-requires-clause-had : goal.note_arrival-requires-clause-had
 note_arrival-requires-clause-had g c class n member =
-    let low = (c.self.invariant.rooms class).within n (ap (λ s. contains s n) (sym (c.in_ok-reserve-2.ensures.same class)) ∙ member) in
-    omega (arith, low, c.len-2.ensures, c.insert_reserved.ensures.len, c.in_ok-reserve.ensures.len, c.self.inside.groups.ok.0)
+    let noted = ap (λ s. contains s n) (sym (c.in_ok-reserve-2.ensures.same class)) ∙ member in
+    let low = (c.self.invariant.rooms class).within n noted in
+    let had = HaveRoom-noted c.self.inside.groups.items c.self.inside.rooms _ c.self.invariant.room_for_rooms class (c.self.invariant.rooms class) n noted in
+    let used = c.in_ok-reserve-2.ensures.used class (omega (arith, had, low, c.self.inside.groups.ok.0)) in (
+      omega (arith, low, c.len-2.ensures, c.insert_reserved.ensures.len, c.in_ok-reserve.ensures.len, c.self.inside.groups.ok.0),
+      omega (arith, used, c.len.ensures, c.len-2.ensures, c.insert_reserved.ensures.len, c.in_ok-reserve.ensures.len),
+    )
 
 -- where the indexes of heads could not grow, all is as it was
 pub invariant_of-self-in_err-reserve-3 : goal.invariant_of-self-in_err-reserve-3

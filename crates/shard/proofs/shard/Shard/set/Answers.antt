@@ -139,6 +139,7 @@ invariant_of-self-2 g c =
     let words = c.args.words.now in
     IsKept-replaced c.self.inside kept _ c.self.inside.rooms c.in-Some.index group (set_group group place span key.slot key.generation words) here.group_is
     (AreAlike-with_span group place span (with_set_at span key.slot key.generation words) here.span_is refl)
+    (class-with_span group place span (with_set_at span key.slot key.generation words) here.span_is refl)
     (ap (set c.self.inside.groups.items c.in-Some.index) (set_now g c))
     refl
     (IsSound-set (state_of c.self.inside) kept.sound c.in-Some.index group here.group_is place span here.span_is key.slot key.generation words (settable_now g c))

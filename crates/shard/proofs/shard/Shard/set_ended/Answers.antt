@@ -3,6 +3,7 @@ use Rattle.groups.specs.Directory.{DirectoryState}
 use Rattle.groups.proofs.GuestDirectory.{IsDirectory-none}
 use Rattle.shard.specs.Kept.{state_of}
 use Rattle.shard.specs.State.{ShardState}
+use Rattle.shard.proofs.ClassesHere.{HaveRoom-none}
 use Rattle.shard.proofs.KnownHeads.{KnowsHeads-none}
 use Rattle.shard.proofs.GuestRoom.{HasGuestRoom-none}
 use Rattle.shard.proofs.NotedGuests.{KnowsNotes-none}
@@ -26,7 +27,8 @@ invariant_of-self g c =
           }) c.self.invariant.sound.opened c.self.invariant.sound.span_limit c.self.invariant.sound.gens);
       rooms = λ class. rw (c.new.ensures.items, c.new-2.ensures class) (HasRooms-empty class);
       room_for_groups = omega (arith, c.new.result.ok.1);
-      room_for_rooms = λ class. omega (arith, c.new.ensures.len);
+      room_for_rooms = HaveRoom-none c.new.result.items c.new.ensures.items c.new-2.result _;
+      room_for_class = λ some. absurd (omega (arith, some));
       no_guests = c.new-5.ensures.items;
       room_for_guests = HasGuestRoom-none _ _ _;
       guests_known = IsDirectory-none _ _ c.new.result.items _ c.new.ensures.items (ap (λ (d : DirectoryState). d.entries) c.new-4.ensures);

@@ -2,6 +2,7 @@ use Rattle.std.proofs.Common.{◌∙◌, ap, arith, length, subst, sym}
 use Rattle.std.specs.Prelude.{vec_capacity}
 use Rattle.shard.specs.Kept.{state_of}
 use Rattle.shard.specs.Heads.{AreReady, KnowsHeads}
+use Rattle.shard.proofs.ClassesHere.{HaveRoom-same, HaveRoom-swept}
 use Rattle.shard.proofs.KnownHeads.{AreReady-swept}
 use Rattle.shard.proofs.Left.{HasGuestRoom-swept, IsSound-swept, KnowsGuests-swept, length-stayed}
 use Rattle.shard.proofs.shard.Shard.sweep.Goals as goal
@@ -10,7 +11,9 @@ pub sweep_rooms-requires-clause-has : goal.sweep_rooms-requires-clause-has
 sweep_rooms-requires-clause-has g c = rw c.as_slice.ensures.value c.self.invariant.rooms
 
 pub sweep_rooms-requires-clause-room : goal.sweep_rooms-requires-clause-room
-sweep_rooms-requires-clause-room g c class = omega (arith, c.self.invariant.room_for_rooms class, c.as_slice.ensures.len, c.self.inside.groups.ok.0)
+sweep_rooms-requires-clause-room g c =
+    HaveRoom-same c.self.inside.groups.items c.self.inside.rooms _ c.self.invariant.room_for_rooms _ c.as_slice.ensures.value c.self.inside.rooms _
+    (omega (arith, ap length c.as_slice.ensures.value, c.self.inside.groups.ok.0)) (λ class. omega arith)
 
 pub invariant_of-self : goal.invariant_of-self
 invariant_of-self g c = record {
@@ -28,9 +31,18 @@ invariant_of-self g c = record {
     c.self.inside.groups.ok.0,
     c.drop_places.new.groups.ok.0,
   );
-  room_for_rooms = λ class. omega (
+  room_for_rooms = rw c.drop_places.ensures.items
+      (HaveRoom-swept c.self.inside.groups.items c.self.inside.rooms _ c.self.invariant.room_for_rooms c.sweep_rooms.new.rooms _
+      (omega (
+        arith,
+        ap length c.drop_places.ensures.items,
+        length-stayed c.self.inside.groups.items,
+        c.self.inside.groups.ok.0,
+        c.drop_places.new.groups.ok.0,
+      )) (λ class. omega (arith, c.sweep_rooms.ensures.room class)));
+  room_for_class = λ some class. omega (
     arith,
-    c.self.invariant.room_for_rooms class,
+    c.self.invariant.room_for_class some class,
     c.sweep_rooms.ensures.room class,
     ap length c.drop_places.ensures.items,
     length-stayed c.self.inside.groups.items,

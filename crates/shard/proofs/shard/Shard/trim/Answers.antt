@@ -4,10 +4,12 @@ use Rattle.groups.specs.Sound.{AreSoundGroups}
 use Rattle.shard.specs.Kept.{state_of}
 use Rattle.shard.specs.Rooms.{rooms_of}
 use Rattle.shard.specs.Shown.{shown}
+use Rattle.shard.specs.Trims.{trimmed}
+use Rattle.shard.proofs.ClassesHere.{HaveRoom-map}
 use Rattle.shard.proofs.KnownHeads.{KnowsHeads-alike}
 use Rattle.shard.proofs.AlikeGroups.{HasGuestRoom-alike, IsSound-alike, alike, bare, shown-alike}
 use Rattle.shard.proofs.KnownGuests.{KnowsGuests-alike}
-use Rattle.shard.proofs.Trimmed.{AreSoundGroups-trimmed, HasRooms-trimmed, map_bare-trimmed}
+use Rattle.shard.proofs.Trimmed.{AreSoundGroups-trimmed, HasRooms-trimmed, class-trimmed, map_bare-trimmed}
 use Rattle.shard.proofs.shard.Shard.trim.Goals as goal
 
 -- only pages go
@@ -32,9 +34,12 @@ invariant_of-self g c = record {
     c.self.inside.groups.ok.0,
     c.trim_all.new.groups.ok.0,
   );
-  room_for_rooms = λ class. omega (
+  room_for_rooms = rw c.trim_all.ensures.items
+      (HaveRoom-map c.self.inside.groups.items c.self.inside.rooms _ c.self.invariant.room_for_rooms trimmed class-trimmed c.self.inside.rooms _
+      (omega (arith, (alike c.self.inside.groups.items c.trim_all.new.groups.items (pages g c)).many, c.self.inside.groups.ok.0, c.trim_all.new.groups.ok.0)) (λ class. omega arith));
+  room_for_class = λ some class. omega (
     arith,
-    c.self.invariant.room_for_rooms class,
+    c.self.invariant.room_for_class some class,
     (alike c.self.inside.groups.items c.trim_all.new.groups.items (pages g c)).many,
     c.self.inside.groups.ok.0,
     c.trim_all.new.groups.ok.0,

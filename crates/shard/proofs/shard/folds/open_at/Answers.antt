@@ -1,7 +1,8 @@
-use Rattle.std.proofs.Common.{◌∙◌, ap, sym, inl, inr}
+use Rattle.std.proofs.Common.{◌∙◌, List, ap, sym, subst, inl, inr}
 use Rattle.std.proofs.lemmas.Option.{slice_get_within}
 use Rattle.shard.specs.Group.{GroupState}
-use Rattle.shard.specs.Rooms.{rooms_of}
+use Rattle.shard.specs.Rooms.{HasRooms, rooms_of}
+use Rattle.groups.proofs.Lists.{set-same}
 use Rattle.shard.proofs.Classes.{cases_class}
 use Rattle.shard.proofs.RoomBits.{HasRooms-free, HasRooms-other}
 use Rattle.shard.proofs.shard.folds.open_at.Goals as goal
@@ -16,3 +17,7 @@ returns-clause-has g c groups here class has =
           (HasRooms-other class groups (rooms_of c.args.rooms.now class) has c.args.index c.reopen.new.self c.args.group.now here
           (ap (λ (g : GroupState). g.head.class) c.reopen.ensures) (λ e. apart (sym e ∙ sym c.class.ensures)))
     ]
+
+pub returns-then-not-is_closed-clause-has : goal.returns-then-not-is_closed-clause-has
+returns-then-not-is_closed-clause-has g c groups here class has =
+    subst (λ (gs : List GroupState). HasRooms class gs (rooms_of c.args.rooms.now class)) (sym (set-same groups c.args.index c.args.group.now here)) has

@@ -1,7 +1,6 @@
-use Rattle.std.proofs.Common.{◌≡◌, ◌∙◌, Some, slice_get, arith, refl, sym}
+use Rattle.std.proofs.Common.{◌≡◌, ◌∙◌, Some, slice_get, ap, arith, refl, sym}
 use Rattle.std.proofs.lemmas.Option.{slice_get_read}
-use Rattle.shard.specs.Rooms.{rooms_of}
-use Rattle.span.specs.declared.class.Class.TheVariants.{C16}
+use Rattle.shard.specs.Rooms.{room_of, rooms_of}
 use Rattle.shard.proofs.SweptRooms.{HasRooms-swept, sweep-left, sweep-stayed}
 use Rattle.shard.proofs.shard.leaving.sweep_rooms.Goals as goal
 
@@ -32,13 +31,26 @@ note-requires g c =
       arith,
       c.remove.ensures.room c.class-class.result,
       c.loop-index.invariant.1 c.class-class.result,
-      c.requires.room c.class-class.result,
+      c.requires.room c.loop-index.index c.index-groups-index.result
+          (slice_get_read c.args.groups.now _ c.loop-index.index c.index-groups-index.result refl (omega (arith, c.loop-index-test.true)) c.index-groups-index.is),
+      ap (room_of c.args.rooms.now) c.class-class.ensures,
       (c.loop-index.invariant.0 c.class-class.result).few,
       c.loop-index-test.true,
     )
 
+pub remove-requires : goal.remove-requires
+remove-requires g c =
+    omega (
+      arith,
+      c.loop-index.invariant.1 c.class-class.result,
+      c.requires.room c.loop-index.index c.index-groups-index.result
+          (slice_get_read c.args.groups.now _ c.loop-index.index c.index-groups-index.result refl (omega (arith, c.loop-index-test.true)) c.index-groups-index.is),
+      ap (room_of c.args.rooms.now) c.class-class.ensures,
+      c.loop-index-test.true,
+    )
+
 pub overflow_add-next : goal.overflow_add-next
-overflow_add-next g c = omega (arith, (c.loop-index.invariant.0 C16).few, c.loop-index-test.true, c.loop-index.auto.index-end)
+overflow_add-next g c = omega (arith, (c.loop-index.invariant.0 c.class-class.result).few, c.loop-index-test.true, c.loop-index.auto.index-end)
 
 pub returns-clause-has : goal.returns-clause-has
 returns-clause-has g c class =

@@ -10,6 +10,7 @@ use Rattle.shard.specs.Kept.{state_of}
 use Rattle.shard.specs.Rooms.{rooms_of}
 use Rattle.shard.specs.Sound.{IsSound}
 use Rattle.shard.specs.State.{ShardState}
+use Rattle.shard.proofs.ClassesHere.{HaveRoom-map}
 use Rattle.shard.proofs.Forgotten.{KnowsHeads-without_dead}
 use Rattle.shard.proofs.NotedGuests.{AreNoted-forgotten}
 use Rattle.shard.proofs.Forgotten.{HasGuestRoom-without_dead, HasRooms-without_dead, IsSound-without_dead, guests_once}
@@ -32,9 +33,18 @@ invariant_of-self c = record {
   sound = sound_after c;
   rooms = λ class. rw c.forget_all.ensures.items (HasRooms-without_dead class c.self.inside.groups.items (rooms_of c.self.inside.rooms class) (c.self.invariant.rooms class));
   room_for_groups = c.forget_all.ensures.capacity;
-  room_for_rooms = λ class. omega (
+  room_for_rooms = rw c.forget_all.ensures.items
+      (HaveRoom-map c.self.inside.groups.items c.self.inside.rooms _ c.self.invariant.room_for_rooms (without_dead {Closed = _}) (λ group. refl) c.self.inside.rooms _
+      (omega (
+        arith,
+        ap length c.forget_all.ensures.items,
+        length-map c.self.inside.groups.items (without_dead {Closed = _}),
+        c.self.inside.groups.ok.0,
+        c.forget_all.new.groups.ok.0,
+      )) (λ class. omega arith));
+  room_for_class = λ some class. omega (
     arith,
-    c.self.invariant.room_for_rooms class,
+    c.self.invariant.room_for_class some class,
     ap length c.forget_all.ensures.items,
     length-map c.self.inside.groups.items (without_dead {Closed = _}),
     c.self.inside.groups.ok.0,
