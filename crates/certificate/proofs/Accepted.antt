@@ -16,12 +16,12 @@ use Rattle.certificate.specs.declared.text.cause.ReadError.TheVariants.{BadCerti
 use Rattle.certificate.specs.declared.text.version.Version.{Version}
 use Rattle.certificate.specs.declared.text.version.Version.TheVariants.{One, Two, Three}
 use Rattle.certificate.specs.declared.text.version.TheConstants.{TEXT_SPANS}
-use Rattle.certificate.specs.Grammar.{Reads, at_line, body_in, certificate_in, entry_parts, id_parts, is_wanted, line_in, names_large, opening_of, outline_of, pair_parts, spans_in, version_in, version_of}
+use Rattle.certificate.specs.Grammar.{Reads, at_line, body_in, certificate_in, entry_parts, id_parts, is_wanted, line_in, needs_three, opening_of, outline_of, pair_parts, spans_in, version_in, version_of}
 use Rattle.certificate.specs.Text.{IsTextOf, IsWritable, certificate_text, classless_text}
 use Rattle.certificate.specs.Words.{parts_of}
 use Rattle.certificate.proofs.ReadAgain.{classless_body, entry_body, pair_body, title_body}
 use Rattle.certificate.proofs.Rereading.{all_lines, lines_with, parts_of-classless_text, parts_of-text}
-use Rattle.certificate.proofs.Serials.{names_large-read}
+use Rattle.certificate.proofs.Serials.{needs_three-read}
 use Rattle.certificate.proofs.Spelling.{>>=-ok, IsOfVersion, Spells, body_in-spells, entry_words, id_word, if-ok, line_in-spells, outline_lines, pair_words, same_bytes}
 
 version_in-spells : Spells version_in opening_of
@@ -71,11 +71,11 @@ outline_lines-outline_of version body same c =
 same_text : (text other : List ℕ) → parts_of 10 text ≡ parts_of 10 other → text ≡ other
 same_text text other same = sym (join_with_byte-slice_split 10 text) ∙ ap (join_with_byte 10) same ∙ join_with_byte-slice_split 10 other
 
--- a version that names no large serial is not the version that is written of one
-version_of-small : (c : Certificate) → names_large (outline_of c) ≡ false → version_of (outline_of c) ≡ Two
+-- what version 2 can say is written in it, and all else in version 3
+version_of-small : (c : Certificate) → needs_three (outline_of c) ≡ false → version_of (outline_of c) ≡ Two
 version_of-small c none = ap (λ b. cond b Three Two) none
 
-version_of-large : (c : Certificate) → names_large (outline_of c) ≡ true → version_of (outline_of c) ≡ Three
+version_of-large : (c : Certificate) → needs_three (outline_of c) ≡ true → version_of (outline_of c) ≡ Three
 version_of-large c some = ap (λ b. cond b Three Two) some
 
 -- the text is written of the certificate, where these are the lines of the version that is written
@@ -89,11 +89,11 @@ IsTextOf-certificate_in c text w h =
     let p = >>=-ok (at_line 0 (line_in version_in (parts_of 10 text) 0)) (λ version. body_in version (parts_of 10 text)) (outline_of c) h in
     let body = body_in-spells p.0 (parts_of 10 text) (outline_of c) p.2 in
     named p.0 (line_in-spells version_in opening_of (parts_of 10 text) 0 p.0 version_in-spells p.1 ∙ ap (λ ps. opening_of p.0 ∷ ps) body.0) body.1 body.2 body.3
-    (λ small. names_large-read p.0 (parts_of 10 text) (outline_of c) p.2 small)
+    (λ small. needs_three-read p.0 (parts_of 10 text) (outline_of c) p.2 small)
   where
     named : (version : Version) → parts_of 10 text ≡ opening_of version ∷ outline_lines version (outline_of c) → AllByRecursion (IsOfVersion version) (map entry_parts c.snapshot.abandoned)
         → AllByRecursion (IsOfVersion version) (map entry_parts c.snapshot.owned) → is_wanted version (outline_of c) ≡ true
-        → (spans_in version ≡ TEXT_SPANS → names_large (outline_of c) ≡ false) → IsTextOf c text
+        → (spans_in version ≡ TEXT_SPANS → needs_three (outline_of c) ≡ false) → IsTextOf c text
     named One lines abandoned owned wanted small = inr (
       same_text text (classless_text c) (lines ∙ outline_lines-outline_of One classless_body (λ x. refl) c ∙ sym (parts_of-classless_text c w)),
       record {

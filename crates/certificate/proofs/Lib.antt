@@ -2,9 +2,9 @@ pub mod Accepted
 pub mod Digits
 pub mod Duality
 pub mod Items
-pub mod Large
 pub mod LinesLeft
 pub mod Members
+pub mod Needs
 pub mod PartnersFilter
 pub mod Places
 pub mod ReadAgain

@@ -1,26 +1,28 @@
 -- The partners of a short set, group by group.
-use Rattle.std.proofs.Common.{◌≡◌, ℕ, ◌+◌, ◌*◌, ◌^◌, ◌<◌, ◌≤◌, ◌==◌, ◌&&◌, ◌||◌, Bool, true, false, not, cond, List, [], ◌∷◌, ◌++◌, None, length, map, take, drop, count_by, get_or, ap, refl, sym, ◌∙◌, zero, suc, inl, inr, arith}
+use Rattle.std.proofs.Common.{◌≡◌, ℕ, ◌+◌, ◌*◌, ◌^◌, ◌<◌, ◌≤◌, ◌==◌, ◌&&◌, ◌||◌, Bool, true, false, not, cond, List, [], ◌∷◌, ◌++◌, None, length, map, take, count_by, get_or, ap, refl, sym, ◌∙◌, zero, suc, inl, inr, arith, eq-eqb, lt-ltb, nat_lt}
 use Rattle.std.specs.List.{filter, flat_map, list_any, slice_get}
+use Rattle.std.proofs.Math.Bool.{or-false}
 use Rattle.std.proofs.Math.Nat.{mul-le-mul_left, mul-suc}
 use Rattle.std.proofs.Math.Numerals.{add-one}
 use Rattle.std.proofs.Math.Seq.{take-suc}
-use Rattle.std.proofs.lemmas.Bool.{cases_Bool, or_parts}
+use Rattle.std.proofs.lemmas.Bool.{cases_Bool, cases_eq, cases_lt, le-ltb, ne_eqb, or_parts}
 use Rattle.std.proofs.lemmas.Grind.{flat_map-append}
-use Rattle.std.proofs.lemmas.List.{append_assoc, append-nil, get_or_default, length-map, map-append}
+use Rattle.std.proofs.lemmas.List.{append_assoc, append-nil, get_or_default, get_or_past, length-map, map-append}
 use Rattle.std.proofs.lemmas.List.Filters.{length-filter_more}
 use Rattle.std.proofs.lemmas.List.Concat.{flat_map-cons}
 use Rattle.std.proofs.lemmas.List.Elements.{filter_more}
 use Rattle.std.proofs.lemmas.List.Folds.{list_any-append, list_any_none}
 use Rattle.std.proofs.lemmas.List.Sums.{sum_by-cons}
 use Rattle.span.specs.declared.id.SpanId.{SpanId}
-use Rattle.span.specs.Classes.{width_of}
+use Rattle.span.specs.Classes.{number_of, width_of}
 use Rattle.span.specs.Ids.{same_span}
-use Rattle.span.specs.declared.class.Class.{Class}
+use Rattle.span.specs.declared.class.TheConstants.{CLASSES}
+use Rattle.span.proofs.Widths.{number_of-most, number_of-width}
 use Rattle.bitmap.specs.Slots.{SlotSet, has_bit}
 use Rattle.mesh_graph.specs.Rows.{HaveRows}
 use Rattle.lane_kernels.specs.Rows.{row_at, width_of as row_words}
 use Rattle.lane_kernels.proofs.Rows.{some_fits}
-use Rattle.certificate.specs.Chosen.{fits_among, fits_any, fits_some, fits_with, is_member, is_of_class, members_in, sets_of}
+use Rattle.certificate.specs.Chosen.{fits_among, fits_any, fits_some, groups_with, is_of_class, members_in, sets_of}
 use Rattle.certificate.specs.declared.partner.Members.{Members}
 use Rattle.span.specs.declared.entry.Entry.{Entry}
 use Rattle.mesh_graph.specs.Groups.{Groups, IsAscending, any_compatible, has_id, ids}
@@ -78,74 +80,68 @@ any-flat_map test f (x ∷ xs) =
     ap (list_any test) (flat_map-cons f x xs) ∙ list_any-append test (f x) (flat_map f xs)
     ∙ ap (λ b. list_any test (f x) || b) (any-flat_map test f xs)
 
--- whether a group is compatible with a group of one of the ids, by the sets of those of its class
-pub fits_some-members : (members : Members) (abandoned : List Entry) (chosen : List SpanId) → ((class : Class) → members_in members class ≡ flat_map (sets_of abandoned class) chosen)
-    → (y : Entry) → fits_some members y ≡ fits_any abandoned chosen y
-fits_some-members members abandoned chosen are y =
-    ap (list_any (λ x. are_disjoint x y.occupied)) (are y.class)
-    ∙ any-flat_map (λ x. are_disjoint x y.occupied) (sets_of abandoned y.class) chosen
-    ∙ (λ k. list_any (λ id. of_id id k) chosen)
-  where
-    grouped : (a b c : Bool) → ((a && b) && c) ≡ (a && (b && c))
-    grouped true b c = refl
-    grouped false b c = refl
+-- two groups are of one class if their classes have one number
+same_number : (x y : Entry) → (number_of x.class == number_of y.class) ≡ (width_of x.class == width_of y.class)
+same_number x y = elim (cases_eq (number_of x.class) (number_of y.class)) [
+  | inl same ↦ eq-eqb _ _ same ∙ sym (eq-eqb _ _ (omega (arith, same, number_of-width x.class, number_of-width y.class)))
+  | inr other ↦ ne_eqb _ _ other ∙ sym (ne_eqb _ _ (λ e. other (omega (arith, e, number_of-width x.class, number_of-width y.class))))
+]
 
-    of_id : (id : SpanId) → list_any (λ x. are_disjoint x y.occupied) (sets_of abandoned y.class id) ≡ fits_with abandoned id y
-    of_id id =
-        any-map (λ x. are_disjoint x y.occupied) (λ (x : Entry). x.occupied) (filter (is_member y.class id) abandoned)
-        ∙ any-filter (is_member y.class id) (λ x. are_disjoint x.occupied y.occupied) abandoned
-        ∙ (λ k. list_any (λ x. grouped (same_span x.id id) (width_of x.class == width_of y.class) (are_disjoint x.occupied y.occupied) k) abandoned)
+-- the members are the sets of the chosen groups, class by class
+abbrev pub AreMembers : Members → List Entry → List SpanId → Type 0
+AreMembers members abandoned chosen = (number : ℕ) → number < CLASSES → members_in members number ≡ sets_of number (flat_map (groups_with abandoned) chosen)
+
+-- whether a group is compatible with a group of one of the ids, by the sets of those of its class
+pub fits_some-members : (members : Members) (abandoned : List Entry) (chosen : List SpanId) → AreMembers members abandoned chosen → (y : Entry) → fits_some members y ≡ fits_any abandoned chosen y
+fits_some-members members abandoned chosen are y =
+    ap (list_any (λ x. are_disjoint x y.occupied)) (are (number_of y.class) (number_of-most y.class))
+    ∙ any-map (λ x. are_disjoint x y.occupied) (λ (x : Entry). x.occupied) (filter (is_of_class (number_of y.class)) (flat_map (groups_with abandoned) chosen))
+    ∙ any-filter (is_of_class (number_of y.class)) (λ x. are_disjoint x.occupied y.occupied) (flat_map (groups_with abandoned) chosen)
+    ∙ (λ k. list_any (λ x. same_number x y k && are_disjoint x.occupied y.occupied) (flat_map (groups_with abandoned) chosen))
+    ∙ any-flat_map (λ x. are_compatible x y) (groups_with abandoned) chosen
+    ∙ (λ k. list_any (λ id. any-filter (λ x. same_span x.id id) (λ x. are_compatible x y) abandoned k) chosen)
 
 -- the groups that are
-pub filter-members : (members : Members) (abandoned owned : List Entry) (chosen : List SpanId) → ((class : Class) → members_in members class ≡ flat_map (sets_of abandoned class) chosen)
+pub filter-members : (members : Members) (abandoned owned : List Entry) (chosen : List SpanId) → AreMembers members abandoned chosen
     → filter (fits_some members) owned ≡ filter (λ y. fits_any abandoned chosen y) owned
 filter-members members abandoned owned chosen are k = filter (λ y. fits_some-members members abandoned chosen are y k) owned
 
--- the sets of the class of a group's id: none where no group has it
-pub sets_of-none : (abandoned : List Entry) (class : Class) (id : SpanId) → has_id abandoned id ≡ false → sets_of abandoned class id ≡ []
-sets_of-none [] class id none = refl
-sets_of-none (x ∷ xs) class id none =
+-- the groups with an id: none where no group has it
+pub groups_with-none : (abandoned : List Entry) (id : SpanId) → has_id abandoned id ≡ false → groups_with abandoned id ≡ []
+groups_with-none [] id none = refl
+groups_with-none (x ∷ xs) id none =
     let p : (same_span x.id id ≡ false) × (has_id xs id ≡ false) = or_parts (same_span x.id id) (list_any (λ (y : Entry). same_span y.id id) xs) none in
-    rw p.0 (sets_of-none xs class id p.1)
+    rw p.0 (groups_with-none xs id p.1)
 
--- and that of the one that has it, where that is of the class
-pub sets_of-at : (abandoned : List Entry) (class : Class) (id : SpanId) (p : ℕ) (x : Entry) → IsAscending (ids abandoned) → p < length abandoned → x ≡ get_or abandoned p x → same_span x.id id ≡ true
-    → sets_of abandoned class id ≡ cond (width_of x.class == width_of class) (x.occupied ∷ []) []
-sets_of-at [] class id p x up within is same = absurd (omega arith)
-sets_of-at (y ∷ ys) class id zero x up within is same =
-    let here : x ≡ y = is in
-    let first : same_span y.id id ≡ true = ap (λ (z : Entry). same_span z.id id) (sym here) ∙ same in
+-- and else the one that has it
+pub groups_with-at : (abandoned : List Entry) (id : SpanId) (p : ℕ) (x : Entry) → IsAscending (ids abandoned) → p < length abandoned → x ≡ get_or abandoned p x → same_span x.id id ≡ true
+    → groups_with abandoned id ≡ x ∷ []
+groups_with-at [] id p x up within is same = absurd (omega arith)
+groups_with-at (y ∷ ys) id zero x up within is same =
+    let first : same_span y.id id ≡ true = ap (λ (z : Entry). same_span z.id id) (sym is) ∙ same in
     let others : has_id ys id ≡ false = list_any_none (λ (z : Entry). same_span z.id id) ys (λ k d low. later k d low first) in
-    let whole : sets_of (y ∷ ys) class id
-    ≡ cond (width_of y.class == width_of class) (y.occupied ∷ []) [] = rw first
-    (by_class (width_of y.class == width_of class) (sets_of-none ys class id others)) in
-    whole ∙ (λ t. cond (width_of (sym here t).class == width_of class) ((sym here t).occupied ∷ []) [])
+    rw first (ap (λ l. y ∷ l) (groups_with-none ys id others) ∙ ap (λ (z : Entry). z ∷ []) (sym is))
   where
     later : (k : ℕ) (d : Entry) → k < length ys → same_span y.id id ≡ true → same_span (get_or ys k d).id id ≡ false
     later k d low first = elim (cases_Bool (same_span (get_or ys k d).id id)) [
       | inl one ↦ absurd (let e : 0 ≡ suc k = place-same (y ∷ ys) id 0 (suc k) y d up (omega arith) (omega arith) first one in omega arith)
       | inr other ↦ other
     ]
-
-    by_class : (b : Bool) → map (λ (z : Entry). z.occupied) (filter (is_member class id) ys) ≡ []
-        → map (λ (z : Entry). z.occupied) (cond b (y ∷ filter (is_member class id) ys) (filter (is_member class id) ys)) ≡ cond b (y.occupied ∷ []) []
-    by_class true none = ap (λ l. y.occupied ∷ l) none
-    by_class false none = none
-sets_of-at (y ∷ ys) class id (suc p) x up within is same =
+groups_with-at (y ∷ ys) id (suc p) x up within is same =
     let apart : same_span y.id id ≡ false = elim (cases_Bool (same_span y.id id)) [
       | inl one ↦ absurd (let e : 0 ≡ suc p = place-same (y ∷ ys) id 0 (suc p) y x up (omega arith) within one (ap (λ (z : Entry). same_span z.id id) (sym is) ∙ same) in omega arith)
       | inr other ↦ other
     ] in
-    rw apart (sets_of-at ys class id p x (IsAscending-drop 1 (y ∷ ys) up) (omega arith) is same)
+    rw apart (groups_with-at ys id p x (IsAscending-drop 1 (y ∷ ys) up) (omega arith) is same)
 
 -- one more id
-pub sets_of-next : (abandoned : List Entry) (class : Class) (chosen : List SpanId) (k : ℕ) (id : SpanId) → k < length chosen → id ≡ get_or chosen k id
-    → flat_map (sets_of abandoned class) (take k chosen) ++ sets_of abandoned class id ≡ flat_map (sets_of abandoned class) (take (k + 1) chosen)
-sets_of-next abandoned class chosen k id low is =
+pub groups_with-next : (abandoned : List Entry) (chosen : List SpanId) (k : ℕ) (id : SpanId) → k < length chosen → id ≡ get_or chosen k id
+    → flat_map (groups_with abandoned) (take k chosen) ++ groups_with abandoned id ≡ flat_map (groups_with abandoned) (take (k + 1) chosen)
+groups_with-next abandoned chosen k id low is =
     sym (
-    ap (flat_map (sets_of abandoned class)) (ap (λ n. take n chosen) (add-one k) ∙ take-suc chosen k id low ∙ ap (λ y. take k chosen ++ y ∷ []) (sym is))
-    ∙ flat_map-append (sets_of abandoned class) (take k chosen) (id ∷ [])
-    ∙ ap (λ l. flat_map (sets_of abandoned class) (take k chosen) ++ l) (flat_map-cons (sets_of abandoned class) id [] ∙ append-nil (sets_of abandoned class id)))
+    ap (flat_map (groups_with abandoned)) (ap (λ n. take n chosen) (add-one k) ∙ take-suc chosen k id low ∙ ap (λ y. take k chosen ++ y ∷ []) (sym is))
+    ∙ flat_map-append (groups_with abandoned) (take k chosen) (id ∷ [])
+    ∙ ap (λ l. flat_map (groups_with abandoned) (take k chosen) ++ l) (flat_map-cons (groups_with abandoned) id [] ∙ append-nil (groups_with abandoned id)))
 
 -- the ids of the groups that pass a test, of one more group
 module _ (test : Entry → Bool) (owned : List Entry) (n : ℕ) (y : Entry) (before found : List SpanId) (low : n < length owned) (read : y ≡ get_or owned n y)
@@ -193,46 +189,86 @@ module _ {X : Type 0} (test : X → Bool) where
   ]
 
 -- the row of a group among those of its class
-module _ (sets : List SlotSet) (class : Class) (owned : List Entry) (rows : List ℕ) (place : ℕ) (y : Entry)
-    (have : HaveRows (filter (is_of_class class) owned) sets None (length (filter (is_of_class class) owned)) rows)
-    (low : place < length owned) (read : y ≡ get_or owned place y) (own : is_of_class class y ≡ true)
-    (words at : ℕ) (wide : words ≡ row_words (length sets)) (stands : at ≡ length (filter (is_of_class class) (take place owned))) where
-  passes : is_of_class class (get_or owned place y) ≡ true
-  passes = ap (is_of_class class) (sym read) ∙ own
+module _ (sets : List SlotSet) (number : ℕ) (owned : List Entry) (rows : List ℕ) (place : ℕ) (y : Entry)
+    (have : HaveRows (filter (is_of_class number) owned) sets None (length (filter (is_of_class number) owned)) rows)
+    (low : place < length owned) (read : y ≡ get_or owned place y) (own : is_of_class number y ≡ true)
+    (words at : ℕ) (wide : words ≡ row_words (length sets)) (stands : at ≡ length (filter (is_of_class number) (take place owned))) where
+  passes : is_of_class number (get_or owned place y) ≡ true
+  passes = ap (is_of_class number) (sym read) ∙ own
 
-  below : length (filter (is_of_class class) (take place owned)) < length (filter (is_of_class class) owned)
-  below = filter_below (is_of_class class) owned place y low passes
+  below : length (filter (is_of_class number) (take place owned)) < length (filter (is_of_class number) owned)
+  below = filter_below (is_of_class number) owned place y low passes
 
   -- it stands among the rows
   pub row-within : words * at + words ≤ length rows
   row-within =
-      let ends : row_words (length sets) * suc (length (filter (is_of_class class) (take place owned)))
-      ≤ row_words (length sets) * length (filter (is_of_class class) owned) = mul-le-mul_left (row_words (length sets)) below in
-      let more = mul-suc (row_words (length sets)) (length (filter (is_of_class class) (take place owned))) in
+      let ends : row_words (length sets) * suc (length (filter (is_of_class number) (take place owned)))
+      ≤ row_words (length sets) * length (filter (is_of_class number) owned) = mul-le-mul_left (row_words (length sets)) below in
+      let more = mul-suc (row_words (length sets)) (length (filter (is_of_class number) (take place owned))) in
       rw (wide, stands) (omega (arith, have.size, ends, more))
 
-  same : row_at words rows at ≡ row_at (row_words (length sets)) rows (length (filter (is_of_class class) (take place owned)))
+  same : row_at words rows at ≡ row_at (row_words (length sets)) rows (length (filter (is_of_class number) (take place owned)))
   same t = row_at (wide t) rows (stands t)
 
   -- it has a bit if the group fits
-  pub row-fits : ((k : ℕ) → get_or (row_at words rows at) k 0 < 2 ^ 64) → list_any (λ word. not (word == 0)) (row_at words rows at) ≡ fits_among class sets y
+  pub row-fits : ((k : ℕ) → get_or (row_at words rows at) k 0 < 2 ^ 64) → list_any (λ word. not (word == 0)) (row_at words rows at) ≡ fits_among number sets y
   row-fits fit =
       some_fits y.occupied sets (row_at words rows at)
       (λ j. ap (λ row. has_bit row j) same
-      ∙ have.bits (length (filter (is_of_class class) (take place owned))) j y below
-      ∙ ap (λ (z : Entry). fits z.occupied (slice_get sets j)) (filter_at (is_of_class class) owned place y low passes ∙ sym read)) fit
+      ∙ have.bits (length (filter (is_of_class number) (take place owned))) j y below
+      ∙ ap (λ (z : Entry). fits z.occupied (slice_get sets j)) (filter_at (is_of_class number) owned place y low passes ∙ sym read)) fit
       ∙ sym (ap (λ b. b && list_any (λ other. are_disjoint other y.occupied) sets) own)
 
 -- a group that is not of the class does not fit among its members
-pub fits-other_class : (sets : List SlotSet) (class : Class) (y : Entry) → is_of_class class y ≡ false → fits_among class sets y ≡ false
-fits-other_class sets class y other = ap (λ b. b && list_any (λ x. are_disjoint x y.occupied) sets) other
+pub fits-other_class : (sets : List SlotSet) (number : ℕ) (y : Entry) → is_of_class number y ≡ false → fits_among number sets y ≡ false
+fits-other_class sets number y other = ap (λ b. b && list_any (λ x. are_disjoint x y.occupied) sets) other
 
 -- how many of the class come before, of one more group
-pub rows_before : (class : Class) (owned : List Entry) (n count : ℕ) (y : Entry) (b : Bool) → n < length owned → y ≡ get_or owned n y → is_of_class class y ≡ b
-    → count ≡ length (filter (is_of_class class) (take n owned)) → length (filter (is_of_class class) (take (n + 1) owned)) ≡ count + cond b 1 0
-rows_before class owned n count y b low read own is =
-    length-filter_more (is_of_class class) owned n y low
-    ∙ (λ t. sym is t + cond ((ap (is_of_class class) (sym read) ∙ own) t) 1 0)
+pub rows_before : (number : ℕ) (owned : List Entry) (n count : ℕ) (y : Entry) (b : Bool) → n < length owned → y ≡ get_or owned n y → is_of_class number y ≡ b
+    → count ≡ length (filter (is_of_class number) (take n owned)) → length (filter (is_of_class number) (take (n + 1) owned)) ≡ count + cond b 1 0
+rows_before number owned n count y b low read own is =
+    length-filter_more (is_of_class number) owned n y low
+    ∙ (λ t. sym is t + cond ((ap (is_of_class number) (sym read) ∙ own) t) 1 0)
+
+-- the bits of the groups that fit among the members of the classes below a number
+abbrev pub HasBelow : Members → List Entry → ℕ → List ℕ → Type 0
+HasBelow members owned n words = (place : ℕ) (d : Entry) → place < length owned
+    → has_bit words place ≡ (nat_lt (number_of (get_or owned place d).class) n && fits_some members (get_or owned place d))
+
+pub HasBelow-none : (members : Members) (owned : List Entry) (words : List ℕ) → ((place : ℕ) → has_bit words place ≡ false) → HasBelow members owned 0 words
+HasBelow-none members owned words none place d within = none place ∙ rw (le-ltb (number_of (get_or owned place d).class) 0 (omega arith)) refl
+
+-- one more class
+pub HasBelow-more : (members : Members) (owned : List Entry) (n : ℕ) (before after : List ℕ) → HasBelow members owned n before
+    → ((place : ℕ) (d : Entry) → place < length owned → has_bit after place ≡ (has_bit before place || fits_among n (members_in members n) (get_or owned place d)))
+    → HasBelow members owned (n + 1) after
+HasBelow-more members owned n before after below more place d within =
+    more place d within ∙ ap (λ b. b || fits_among n (members_in members n) (get_or owned place d)) (below place d within) ∙ joined (get_or owned place d)
+  where
+    joined : (y : Entry) → ((nat_lt (number_of y.class) n && fits_some members y) || fits_among n (members_in members n) y) ≡ (nat_lt (number_of y.class) (n + 1) && fits_some members y)
+    joined y = elim (cases_eq (number_of y.class) n) [
+      | inl same ↦
+          rw (le-ltb (number_of y.class) n (omega arith), eq-eqb (number_of y.class) n same, lt-ltb (number_of y.class) (n + 1) (omega arith))
+          (ap (λ m. list_any (λ x. are_disjoint x y.occupied) (members_in members m)) (sym same))
+      | inr other ↦ rw (ne_eqb (number_of y.class) n other) (or-false (nat_lt (number_of y.class) n && fits_some members y) ∙ ap (λ b. b && fits_some members y) (same_test other))
+    ]
+      where
+        same_test : (number_of y.class ≡ n → ⊥) → nat_lt (number_of y.class) n ≡ nat_lt (number_of y.class) (n + 1)
+        same_test other = elim (cases_lt (number_of y.class) n) [
+          | inl less ↦ rw (lt-ltb (number_of y.class) n less, lt-ltb (number_of y.class) (n + 1) (omega arith)) refl
+          | inr least ↦ rw (le-ltb (number_of y.class) n least, le-ltb (number_of y.class) (n + 1) (omega arith)) refl
+        ]
+
+-- all classes that have members
+pub HasBelow-all : (members : Members) (owned : List Entry) (n : ℕ) (words : List ℕ) → length members.by_class.items ≤ n → HasBelow members owned n words
+    → (place : ℕ) (d : Entry) → place < length owned → has_bit words place ≡ fits_some members (get_or owned place d)
+HasBelow-all members owned n words past below place d within = below place d within ∙ all (get_or owned place d)
+  where
+    all : (y : Entry) → (nat_lt (number_of y.class) n && fits_some members y) ≡ fits_some members y
+    all y = elim (cases_lt (number_of y.class) n) [
+      | inl low ↦ rw (lt-ltb (number_of y.class) n low) refl
+      | inr high ↦ rw (le-ltb (number_of y.class) n high) (sym (ap (list_any (λ x. are_disjoint x y.occupied)) (get_or_past members.by_class.items (number_of y.class) [] (omega (arith, past, high)))))
+    ]
 
 -- the partners, as a filter of the owned groups
 pub partners_of-filter : (s : Groups) (short : List SpanId) → IsAscending (ids s.owned) → partners_of s short ≡ map (λ (y : Entry). y.id) (filter (λ y. fits_any s.abandoned short y) s.owned)

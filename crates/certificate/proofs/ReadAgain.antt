@@ -1,5 +1,5 @@
 -- What is written of an item is read again.
-use Rattle.std.proofs.Common.{ℕ, ◌+◌, ◌^◌, ◌<◌, ◌≤◌, ◌≡◌, ◌==◌, ◌||◌, not, true, List, [], ◌∷◌, ◌++◌, codes, length, get_or, Bool, Some, Ok, refl, sym, ◌∙◌, ap, arith, rules, zero, suc, inl, inr, nat_lt, nat_le, lt-ltb, eqb, eq-eqb}
+use Rattle.std.proofs.Common.{ℕ, ◌+◌, ◌*◌, ◌/◌, ◌^◌, ◌<◌, ◌≤◌, ◌≡◌, ◌==◌, ◌||◌, not, true, List, [], ◌∷◌, ◌++◌, codes, length, get_or, Bool, false, Option, None, Some, Err, Ok, option_map, nat_eq, refl, sym, ◌∙◌, ap, arith, rules, zero, suc, inl, inr, nat_lt, nat_le, lt-ltb, eqb, eq-eqb}
 use Rattle.std.specs.Char.{is_ascii_digit}
 use Rattle.std.specs.Fmt.{decimal}
 use Rattle.std.specs.FinSet.{contains}
@@ -16,14 +16,15 @@ use Rattle.bitmap.proofs.HexText.{is_hex_digit-at, is_set_text-set_text, length-
 use Rattle.span.specs.declared.id.SpanId.{SpanId}
 use Rattle.span.specs.Texts.{id_text}
 use Rattle.span.specs.declared.limits.TheConstants.{MOST_SHARDS, MOST_SPANS}
-use Rattle.span.specs.Classes.{slots_in}
+use Rattle.span.specs.Classes.{class_with, slots_in, width_of}
 use Rattle.span.specs.declared.class.Class.{Class}
-use Rattle.span.specs.declared.class.Class.TheVariants.{C16, C64, C256}
+use Rattle.span.proofs.Widths.{class_with-width, width_of-most}
 use Rattle.span.specs.declared.entry.Entry.{Entry}
+use Rattle.certificate.specs.declared.text.cause.Cause.TheVariants.{Limit}
 use Rattle.certificate.specs.declared.text.version.Version.{Version}
 use Rattle.certificate.specs.declared.text.version.Version.TheVariants.{One, Two, Three}
-use Rattle.certificate.specs.Grammar.{class_in, count_in, entry_in, entry_parts, id_in, id_parts, is_on_page, pair_in, pair_parts, spans_in}
-use Rattle.certificate.specs.Number.{is_numeral, number_in}
+use Rattle.certificate.specs.Grammar.{class_in, class_of_number, count_in, entry_in, entry_parts, id_in, id_parts, is_on_page, names_class, pair_in, pair_parts, slot_bytes, spans_in}
+use Rattle.certificate.specs.Number.{clip, is_numeral, number_in}
 use Rattle.certificate.specs.Text.{FitsClass, class_text}
 use Rattle.certificate.specs.Words.{parts_of}
 use Rattle.certificate.proofs.Split.{lacks, lacks-append, lacks-digits, lacks-high, parts-last, parts-word}
@@ -94,25 +95,33 @@ lacks-set_text c slots low =
     let is : is_set_text (set_text slots) ≡ true = is_set_text-set_text slots in
     lacks-high c (set_text slots) low (λ i l. high-digit (get_or (set_text slots) i 0) (is_hex_digit-at (set_text slots) is i (omega (arith, l, length-is_set_text (set_text slots) is))))
 
-class_in-text : (class : Class) → class_in (class_text class) ≡ Ok class
-class_in-text C16 = refl
-class_in-text C64 = refl
-class_in-text C256 = refl
+-- a class by the bytes of its slots
+pub class_with-slot_bytes : (class : Class) → class_with (slot_bytes class / 16) ≡ class
+class_with-slot_bytes class = let words : 16 * width_of class / 16 ≡ width_of class = omega arith in ap class_with words ∙ class_with-width class
+
+pub slot_bytes-most : (class : Class) → slot_bytes class ≤ 256
+slot_bytes-most class = omega (arith, width_of-most class)
+
+-- a number that is not the bytes of a class's slots names none, though it is clipped
+pub class_of_number-none : (version : Version) (number : Option ℕ) (bytes : ℕ) → Some bytes ≡ option_map clip number
+    → (slot_bytes (class_with (bytes / 16)) ≡ bytes → ⊥) → Err Limit ≡ class_of_number version number
+class_of_number-none version None bytes is none = cc
+class_of_number-none version (Some n) bytes is none =
+    let same : bytes ≡ clip n = cc is in
+    let other : nat_eq (slot_bytes (class_with (n / 16))) n ≡ false = ne_eqb (slot_bytes (class_with (n / 16))) n (λ e.
+    let kept : bytes ≡ n = omega (arith, same, e, slot_bytes-most (class_with (n / 16))) in
+    none (ap (λ m. slot_bytes (class_with (m / 16))) kept ∙ e ∙ sym kept)) in
+    rw other refl
+
+slot_bytes-fits : (class : Class) → slot_bytes class < 2 ^ 64
+slot_bytes-fits class = omega (arith, slot_bytes-most class)
+
+class_in-text : (version : Version) (class : Class) → names_class version class ≡ true → class_in version (class_text class) ≡ Ok class
+class_in-text version class named =
+    rw (number_in-decimal (slot_bytes class) (slot_bytes-fits class), class_with-slot_bytes class, eq-eqb (slot_bytes class) (slot_bytes class) refl, named) refl
 
 lacks-class_text : (c : ℕ) (class : Class) → c < 48 → lacks c (class_text class) ≡ true
-lacks-class_text c class low = lacks-high c (class_text class) low (high class)
-  where
-    high : (class : Class) (i : ℕ) → i < length (class_text class) → 48 ≤ get_or (class_text class) i 0
-    high C16 zero l = omega arith
-    high C16 (suc zero) l = omega arith
-    high C16 (suc (suc i)) l = absurd (omega arith)
-    high C64 zero l = omega arith
-    high C64 (suc zero) l = omega arith
-    high C64 (suc (suc i)) l = absurd (omega arith)
-    high C256 zero l = omega arith
-    high C256 (suc zero) l = omega arith
-    high C256 (suc (suc zero)) l = omega arith
-    high C256 (suc (suc (suc i))) l = absurd (omega arith)
+lacks-class_text c class low = lacks-decimal c (slot_bytes class) low (slot_bytes-fits class)
 
 -- what holds of the members of a filter
 all-filter : (p q : ℕ → Bool) (xs : List ℕ) → ((x : ℕ) → q x ≡ true → p x ≡ true) → list_all p (filter q xs) ≡ true
@@ -166,13 +175,17 @@ HasClasses One = ⊥
 HasClasses Two = Unit {0}
 HasClasses Three = Unit {0}
 
-pub entry_in-body : (version : Version) → HasClasses version → (x : Entry) → HasSerial version x.id → slots_of_text (set_text x.occupied) ≡ x.occupied
+-- the version names the serial and the class of the group
+abbrev pub HasNames : Version → Entry → Type 0
+HasNames version x = HasSerial version x.id × (names_class version x.class ≡ true)
+
+pub entry_in-body : (version : Version) → HasClasses version → (x : Entry) → HasNames version x → slots_of_text (set_text x.occupied) ≡ x.occupied
     → FitsClass x → entry_in version (entry_body x) ≡ Ok (entry_parts x)
-entry_in-body One classes x within back fits = absurd classes
-entry_in-body Two classes x within back fits =
-    rw (parts_of-entry_body x, id_in-text Two x.id within, class_in-text x.class, is_set_text-set_text x.occupied, back, is_on_page-below x.class x.occupied fits) refl
-entry_in-body Three classes x within back fits =
-    rw (parts_of-entry_body x, id_in-text Three x.id within, class_in-text x.class, is_set_text-set_text x.occupied, back, is_on_page-below x.class x.occupied fits) refl
+entry_in-body One classes x named back fits = absurd classes
+entry_in-body Two classes x named back fits =
+    rw (parts_of-entry_body x, id_in-text Two x.id named.0, class_in-text Two x.class named.1, is_set_text-set_text x.occupied, back, is_on_page-below x.class x.occupied fits) refl
+entry_in-body Three classes x named back fits =
+    rw (parts_of-entry_body x, id_in-text Three x.id named.0, class_in-text Three x.class named.1, is_set_text-set_text x.occupied, back, is_on_page-below x.class x.occupied fits) refl
 
 pub lacks-entry_body : (x : Entry) → lacks 10 (entry_body x) ≡ true
 lacks-entry_body x =

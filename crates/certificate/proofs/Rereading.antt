@@ -18,7 +18,7 @@ use Rattle.certificate.specs.Grammar.{◌>>=◌, ComesAfter, Id, at_line, body_i
 use Rattle.certificate.specs.Text.{FitsClass, IsReadable, IsWritable, certificate_text, class_text, classless_line, classless_text, entry_line, id_line, lines_text, list_text, pair_line, text_with}
 use Rattle.certificate.specs.Words.{parts_of}
 use Rattle.certificate.proofs.Items.{body_in-lists}
-use Rattle.certificate.proofs.ReadAgain.{HasClasses, HasSerial, classless_body, count_in-body, entry_body, entry_in-body, id_in-text, lacks-classless_body, lacks-entry_body, lacks-id_text, lacks-pair_body, lacks-title_body, pair_body, pair_in-body, title_body}
+use Rattle.certificate.proofs.ReadAgain.{HasClasses, HasNames, HasSerial, classless_body, count_in-body, entry_body, entry_in-body, id_in-text, lacks-classless_body, lacks-entry_body, lacks-id_text, lacks-pair_body, lacks-title_body, pair_body, pair_in-body, title_body}
 use Rattle.certificate.proofs.Split.{lacks, parts-word}
 use Rattle.mesh_graph.specs.declared.build.TheConstants.{MOST_GROUPS}
 
@@ -173,17 +173,17 @@ each : {Y : Type 0} {P Q : Y → Type 0} → ((y : Y) → P y → Q y) → (ys :
 each h [] all = tt
 each h (y ∷ ys) all = (h y all.0, each h ys all.1)
 
-each_entry : (version : Version) → HasClasses version → (xs : List Entry) → AllByRecursion (λ x. HasSerial version x.id) xs → AllByRecursion IsReadable xs
+each_entry : (version : Version) → HasClasses version → (xs : List Entry) → AllByRecursion (HasNames version) xs → AllByRecursion IsReadable xs
     → AllByRecursion FitsClass xs → AllByRecursion (λ x. entry_in version (entry_body x) ≡ Ok (entry_parts x)) xs
-each_entry version classes [] within back fit = tt
-each_entry version classes (x ∷ xs) within back fit =
-    (entry_in-body version classes x within.0 back.0 fit.0, each_entry version classes xs within.1 back.1 fit.1)
+each_entry version classes [] named back fit = tt
+each_entry version classes (x ∷ xs) named back fit =
+    (entry_in-body version classes x named.0 back.0 fit.0, each_entry version classes xs named.1 back.1 fit.1)
 
--- the version names each serial of the certificate, and is wanted
+-- the version names each serial and each class of the certificate, and is wanted
 pub record IsNamed (version : Version) (c : Certificate) : Type 0 where
   pub classes : HasClasses version
-  pub abandoned : AllByRecursion (λ x. HasSerial version x.id) c.snapshot.abandoned
-  pub owned : AllByRecursion (λ x. HasSerial version x.id) c.snapshot.owned
+  pub abandoned : AllByRecursion (HasNames version) c.snapshot.abandoned
+  pub owned : AllByRecursion (HasNames version) c.snapshot.owned
   pub folds : AllByRecursion (λ p. HasSerial version p.0 × HasSerial version p.1) c.plan
   pub short : AllByRecursion (HasSerial version) c.short
   pub wanted : is_wanted version (outline_of c) ≡ true

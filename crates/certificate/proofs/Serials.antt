@@ -1,19 +1,22 @@
--- The serials that a version names: of what is read in it, and of what is written in it.
-use Rattle.std.proofs.Common.{ℕ, ◌<◌, ◌≡◌, ◌||◌, cond, Bool, true, false, List, [], ◌∷◌, map, Ok, refl, sym, ◌∙◌, ap, subst, inl, inr}
+-- The serials and classes that a version names: of what is read in it, and of what is written in it.
+use Rattle.std.proofs.Common.{ℕ, ◌<◌, ◌≡◌, ◌||◌, cond, not, nat_eq, arith, Bool, true, false, List, [], ◌∷◌, map, Ok, refl, sym, ◌∙◌, ap, subst, inl, inr}
 use Rattle.std.specs.List.{AllByRecursion, list_any}
-use Rattle.std.proofs.lemmas.Bool.{cases_Bool, leb-false, lt-leb}
+use Rattle.std.proofs.lemmas.Bool.{cases_Bool, leb-false, lt-leb, not-false, or_left}
+use Rattle.span.specs.Classes.{width_of}
+use Rattle.span.specs.declared.class.Class.{Class}
 use Rattle.span.specs.declared.class.Class.TheVariants.{C16}
+use Rattle.span.specs.declared.entry.Entry.{Entry}
 use Rattle.span.specs.declared.id.SpanId.{SpanId}
 use Rattle.certificate.specs.declared.certificate.Certificate.{Certificate}
 use Rattle.certificate.specs.declared.text.version.Version.{Version}
 use Rattle.certificate.specs.declared.text.version.Version.TheVariants.{One, Two, Three}
 use Rattle.certificate.specs.declared.text.version.TheConstants.{TEXT_SPANS}
-use Rattle.certificate.specs.Grammar.{Id, Listed, Outline, body_in, class_in, entry_in, entry_of_words, entry_parts, id_in, id_of_parts, id_parts, is_large, names_large, outline_of, pair_in, pair_of_words, pair_parts, spans_in, version_of}
+use Rattle.certificate.specs.Grammar.{Id, Listed, Outline, body_in, class_in, entry_in, entry_of_words, entry_parts, id_in, id_of_parts, id_parts, is_beyond_two, is_large, names_class, needs_three, outline_of, pair_in, pair_of_words, pair_parts, spans_in, version_of}
 use Rattle.certificate.specs.Number.{number_in}
 use Rattle.certificate.specs.Words.{parts_of}
-use Rattle.certificate.proofs.ReadAgain.{HasSerial}
+use Rattle.certificate.proofs.ReadAgain.{HasNames, HasSerial}
 use Rattle.certificate.proofs.Rereading.{IsNamed}
-use Rattle.certificate.proofs.Spelling.{>>=-ok, both-ok, ending_in-same, entry_of-ok, id_of_numbers-ok, list_in-have}
+use Rattle.certificate.proofs.Spelling.{>>=-ok, both-ok, class_in-named, ending_in-same, entry_of-ok, id_of_numbers-ok, list_in-have}
 
 -- ---- what is read
 
@@ -33,24 +36,35 @@ id_of_parts-serial version (shard ∷ serial ∷ more ∷ rest) i h = cc
 id_in-serial : (version : Version) (word : List ℕ) (i : Id) → id_in version word ≡ Ok i → HasNumber version i
 id_in-serial version word i h = id_of_parts-serial version (parts_of 46 word) i h
 
-entry_of_words-serial : (version : Version) (words : List (List ℕ)) (x : Listed) → entry_of_words version words ≡ Ok x → HasNumber version x.id
-entry_of_words-serial One [] x h = cc
-entry_of_words-serial One (id ∷ []) x h = cc
-entry_of_words-serial One (id ∷ set ∷ []) x h = id_in-serial One id x.id (entry_of-ok (id_in One id) (Ok C16) set x h).0
-entry_of_words-serial One (id ∷ set ∷ more ∷ rest) x h = cc
-entry_of_words-serial Two [] x h = cc
-entry_of_words-serial Two (id ∷ []) x h = cc
-entry_of_words-serial Two (id ∷ class ∷ []) x h = cc
-entry_of_words-serial Two (id ∷ class ∷ set ∷ []) x h = id_in-serial Two id x.id (entry_of-ok (id_in Two id) (class_in class) set x h).0
-entry_of_words-serial Two (id ∷ class ∷ set ∷ more ∷ rest) x h = cc
-entry_of_words-serial Three [] x h = cc
-entry_of_words-serial Three (id ∷ []) x h = cc
-entry_of_words-serial Three (id ∷ class ∷ []) x h = cc
-entry_of_words-serial Three (id ∷ class ∷ set ∷ []) x h = id_in-serial Three id x.id (entry_of-ok (id_in Three id) (class_in class) set x h).0
-entry_of_words-serial Three (id ∷ class ∷ set ∷ more ∷ rest) x h = cc
+-- the version names the serial and the class of a group
+abbrev HasListed : Version → Listed → Type 0
+HasListed version x = HasNumber version x.id × (names_class version x.class ≡ true)
 
-entry_in-serial : (version : Version) (line : List ℕ) (x : Listed) → entry_in version line ≡ Ok x → HasNumber version x.id
-entry_in-serial version line x h = entry_of_words-serial version (parts_of 32 line) x h
+entry_of_words-named : (version : Version) (words : List (List ℕ)) (x : Listed) → entry_of_words version words ≡ Ok x → HasListed version x
+entry_of_words-named One [] x h = cc
+entry_of_words-named One (id ∷ []) x h = cc
+entry_of_words-named One (id ∷ set ∷ []) x h =
+    let p = entry_of-ok (id_in One id) (Ok C16) set x h in
+    let same : C16 ≡ x.class = cc p.1 in
+    (id_in-serial One id x.id p.0, ap (names_class One) (sym same))
+entry_of_words-named One (id ∷ set ∷ more ∷ rest) x h = cc
+entry_of_words-named Two [] x h = cc
+entry_of_words-named Two (id ∷ []) x h = cc
+entry_of_words-named Two (id ∷ class ∷ []) x h = cc
+entry_of_words-named Two (id ∷ class ∷ set ∷ []) x h =
+    let p = entry_of-ok (id_in Two id) (class_in Two class) set x h in
+    (id_in-serial Two id x.id p.0, class_in-named Two class x.class p.1)
+entry_of_words-named Two (id ∷ class ∷ set ∷ more ∷ rest) x h = cc
+entry_of_words-named Three [] x h = cc
+entry_of_words-named Three (id ∷ []) x h = cc
+entry_of_words-named Three (id ∷ class ∷ []) x h = cc
+entry_of_words-named Three (id ∷ class ∷ set ∷ []) x h =
+    let p = entry_of-ok (id_in Three id) (class_in Three class) set x h in
+    (id_in-serial Three id x.id p.0, class_in-named Three class x.class p.1)
+entry_of_words-named Three (id ∷ class ∷ set ∷ more ∷ rest) x h = cc
+
+entry_in-named : (version : Version) (line : List ℕ) (x : Listed) → entry_in version line ≡ Ok x → HasListed version x
+entry_in-named version line x h = entry_of_words-named version (parts_of 32 line) x h
 
 pair_of_words-serial : (version : Version) (words : List (List ℕ)) (p : Id × Id) → pair_of_words version words ≡ Ok p → HaveNumbers version p
 pair_of_words-serial version [] p h = cc
@@ -71,26 +85,35 @@ list_any-none P test fails (x ∷ xs) all = ap (λ b. b || list_any test xs) (fa
 small-number : (version : Version) (i : Id) → spans_in version ≡ TEXT_SPANS → HasNumber version i → is_large i ≡ false
 small-number version i small named = lt-leb TEXT_SPANS i.1 (subst (λ n. i.1 < n) small named)
 
--- a version of small serials names no large one
-pub names_large-read : (version : Version) (parts : List (List ℕ)) (o : Outline) → body_in version parts ≡ Ok o → spans_in version ≡ TEXT_SPANS → names_large o ≡ false
-names_large-read version parts o h small =
+-- a version of small serials names no class that version 2 does not
+small-class : (version : Version) (class : Class) → spans_in version ≡ TEXT_SPANS → names_class version class ≡ true → names_class Two class ≡ true
+small-class One class small named = or_left (nat_eq (width_of class) 1) (nat_eq (width_of class) 4 || nat_eq (width_of class) 16) named
+small-class Two class small named = named
+small-class Three class small named = absurd (omega (arith, small))
+
+small-listed : (version : Version) (x : Listed) → spans_in version ≡ TEXT_SPANS → HasListed version x → is_beyond_two x ≡ false
+small-listed version x small named = ap (λ b. b || not (names_class Two x.class)) (small-number version x.id small named.0) ∙ ap not (small-class version x.class small named.1)
+
+-- what it says, version 2 can say
+pub needs_three-read : (version : Version) (parts : List (List ℕ)) (o : Outline) → body_in version parts ≡ Ok o → spans_in version ≡ TEXT_SPANS → needs_three o ≡ false
+needs_three-read version parts o h small =
     let a = >>=-ok _ _ o h in
     let w = >>=-ok _ _ o a.2 in
     let f = >>=-ok _ _ o w.2 in
     let s = >>=-ok _ _ o f.2 in
     let said : Outline = record { abandoned = a.0; owned = w.0; folds = f.0; short = s.0 } in
     let same : said ≡ o = ending_in-same version said parts _ o s.2 in
-    let abandoned = list_in-have (entry_in version) (λ x. x.id) (λ x. HasNumber version x.id) (entry_in-serial version) parts _ _ a.0 a.1 in
-    let owned = list_in-have (entry_in version) (λ x. x.id) (λ x. HasNumber version x.id) (entry_in-serial version) parts _ _ w.0 w.1 in
+    let abandoned = list_in-have (entry_in version) (λ x. x.id) (HasListed version) (entry_in-named version) parts _ _ a.0 a.1 in
+    let owned = list_in-have (entry_in version) (λ x. x.id) (HasListed version) (entry_in-named version) parts _ _ w.0 w.1 in
     let folds = list_in-have (pair_in version) (λ p. p.0) (HaveNumbers version) (pair_in-serial version) parts _ _ f.0 f.1 in
     let short = list_in-have (id_in version) (λ id. id) (HasNumber version) (id_in-serial version) parts _ _ s.0 s.1 in
-    let no_abandoned : list_any (λ (x : Listed). is_large x.id) a.0 ≡ false = list_any-none (λ x. HasNumber version x.id) (λ x. is_large x.id) (λ x n. small-number version x.id small n) a.0 abandoned in
-    let no_owned : list_any (λ (x : Listed). is_large x.id) w.0 ≡ false = list_any-none (λ x. HasNumber version x.id) (λ x. is_large x.id) (λ x n. small-number version x.id small n) w.0 owned in
+    let no_abandoned : list_any is_beyond_two a.0 ≡ false = list_any-none (HasListed version) is_beyond_two (λ x n. small-listed version x small n) a.0 abandoned in
+    let no_owned : list_any is_beyond_two w.0 ≡ false = list_any-none (HasListed version) is_beyond_two (λ x n. small-listed version x small n) w.0 owned in
     let no_folds : list_any (λ (p : Id × Id). is_large p.0 || is_large p.1) f.0
     ≡ false = list_any-none (HaveNumbers version) (λ p. is_large p.0 || is_large p.1)
     (λ p n. ap (λ b. b || is_large p.1) (small-number version p.0 small n.0) ∙ small-number version p.1 small n.1) f.0 folds in
     let no_short : list_any is_large s.0 ≡ false = list_any-none (HasNumber version) is_large (λ i n. small-number version i small n) s.0 short in
-    ap names_large (sym same) ∙ rw (no_abandoned, no_owned, no_folds, no_short) refl
+    ap needs_three (sym same) ∙ rw (no_abandoned, no_owned, no_folds, no_short) refl
 
 -- ---- what is written
 
@@ -113,16 +136,21 @@ each-one P has (y ∷ ys) = (has y, each-one P has ys)
 small-serial : (id : SpanId) → is_large (id_parts id) ≡ false → HasSerial Two id
 small-serial id none = leb-false TEXT_SPANS id.serial none
 
-IsNamed-small : (c : Certificate) → names_large (outline_of c) ≡ false → IsNamed Two c
+small-names : (x : Entry) → is_beyond_two (entry_parts x) ≡ false → HasNames Two x
+small-names x none =
+    let both = or-none (is_large (id_parts x.id)) (not (names_class Two x.class)) none in
+    (small-serial x.id both.0, not-false (names_class Two x.class) both.1)
+
+IsNamed-small : (c : Certificate) → needs_three (outline_of c) ≡ false → IsNamed Two c
 IsNamed-small c none =
     let o = outline_of c in
-    let a = or-none (list_any (λ x. is_large x.id) o.abandoned) (list_any (λ x. is_large x.id) o.owned || (list_any (λ p. is_large p.0 || is_large p.1) o.folds || list_any is_large o.short)) none in
-    let w = or-none (list_any (λ x. is_large x.id) o.owned) (list_any (λ p. is_large p.0 || is_large p.1) o.folds || list_any is_large o.short) a.1 in
+    let a = or-none (list_any is_beyond_two o.abandoned) (list_any is_beyond_two o.owned || (list_any (λ p. is_large p.0 || is_large p.1) o.folds || list_any is_large o.short)) none in
+    let w = or-none (list_any is_beyond_two o.owned) (list_any (λ p. is_large p.0 || is_large p.1) o.folds || list_any is_large o.short) a.1 in
     let f = or-none (list_any (λ p. is_large p.0 || is_large p.1) o.folds) (list_any is_large o.short) w.1 in
     record {
       classes = tt;
-      abandoned = none-passes entry_parts (λ x. is_large x.id) (λ x. HasSerial Two x.id) (λ x low. small-serial x.id low) c.snapshot.abandoned a.0;
-      owned = none-passes entry_parts (λ x. is_large x.id) (λ x. HasSerial Two x.id) (λ x low. small-serial x.id low) c.snapshot.owned w.0;
+      abandoned = none-passes entry_parts is_beyond_two (HasNames Two) small-names c.snapshot.abandoned a.0;
+      owned = none-passes entry_parts is_beyond_two (HasNames Two) small-names c.snapshot.owned w.0;
       folds = none-passes pair_parts (λ p. is_large p.0 || is_large p.1) (λ p. HasSerial Two p.0 × HasSerial Two p.1)
           (λ p low. let both = or-none (is_large (id_parts p.0)) (is_large (id_parts p.1)) low in (small-serial p.0 both.0, small-serial p.1 both.1)) c.plan f.0;
       short = none-passes id_parts is_large (HasSerial Two) small-serial c.short f.1;
@@ -130,20 +158,20 @@ IsNamed-small c none =
       opening = refl;
     }
 
-IsNamed-large : (c : Certificate) → names_large (outline_of c) ≡ true → IsNamed Three c
+IsNamed-large : (c : Certificate) → needs_three (outline_of c) ≡ true → IsNamed Three c
 IsNamed-large c some = record {
   classes = tt;
-  abandoned = each-one (λ x. HasSerial Three x.id) (λ x. x.id.serial_in_range) c.snapshot.abandoned;
-  owned = each-one (λ x. HasSerial Three x.id) (λ x. x.id.serial_in_range) c.snapshot.owned;
+  abandoned = each-one (HasNames Three) (λ x. (x.id.serial_in_range, refl)) c.snapshot.abandoned;
+  owned = each-one (HasNames Three) (λ x. (x.id.serial_in_range, refl)) c.snapshot.owned;
   folds = each-one (λ p. HasSerial Three p.0 × HasSerial Three p.1) (λ p. (p.0.serial_in_range, p.1.serial_in_range)) c.plan;
   short = each-one (HasSerial Three) (λ id. id.serial_in_range) c.short;
   wanted = some;
   opening = refl;
 }
 
--- the version that is written names each serial
+-- the version that is written names each serial and each class
 pub IsNamed-version_of : (c : Certificate) → IsNamed (version_of (outline_of c)) c
-IsNamed-version_of c = elim (cases_Bool (names_large (outline_of c))) [
+IsNamed-version_of c = elim (cases_Bool (needs_three (outline_of c))) [
   | inl some ↦ subst (λ v. IsNamed v c) (sym (ap (λ b. cond b Three Two) some)) (IsNamed-large c some)
   | inr none ↦ subst (λ v. IsNamed v c) (sym (ap (λ b. cond b Three Two) none)) (IsNamed-small c none)
 ]

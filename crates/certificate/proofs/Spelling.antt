@@ -1,11 +1,11 @@
 -- A text that the grammar accepts is spelled in one way: as the certificate that it says is written.
-use Rattle.std.proofs.Common.{ℕ, ◌+◌, ◌^◌, ◌<◌, ◌≤◌, ◌≡◌, ◌==◌, ◌&&◌, ◌||◌, cond, not, Bool, true, false, List, [], ◌∷◌, ◌++◌, codes, length, map, get_or, drop, Option, Some, None, Result, Ok, Err, refl, sym, subst, ◌∙◌, ap, arith, zero, suc, inl, inr, nat_lt, nat_le, nat_eq, eqb-true}
+use Rattle.std.proofs.Common.{ℕ, ◌+◌, ◌/◌, ◌^◌, ◌<◌, ◌≤◌, ◌≡◌, ◌==◌, ◌&&◌, ◌||◌, cond, not, Bool, true, false, List, [], ◌∷◌, ◌++◌, codes, length, map, get_or, drop, Option, Some, None, Result, Ok, Err, refl, sym, subst, ◌∙◌, ap, arith, zero, suc, inl, inr, nat_lt, nat_le, nat_eq, eqb-true}
 use Rattle.std.specs.Char.{is_ascii_digit}
 use Rattle.std.specs.Fmt.{decimal}
 use Rattle.std.specs.List.{AllByRecursion, join_with_byte, list_all}
 use Rattle.std.specs.Str.{bytes_eq}
 use Rattle.std.specs.Str.Parse.{AllDigits, digits_value}
-use Rattle.std.proofs.lemmas.Bool.{and_parts, cases_Bool, false≢true, leb-true, ltb-true, or_cases}
+use Rattle.std.proofs.lemmas.Bool.{and_parts, false≢true, leb-true, ltb-true, or_cases}
 use Rattle.std.proofs.lemmas.Fmt.{decimal-digits_value}
 use Rattle.std.proofs.lemmas.List.{append_assoc, drop_more, length-drop, nil_from_length}
 use Rattle.std.proofs.lemmas.List.Splits.{join_with_byte-slice_split}
@@ -14,20 +14,21 @@ use Rattle.std.proofs.lemmas.Str.Parse.{IsNumeralModel}
 use Rattle.bitmap.specs.HexText.{is_set_text}
 use Rattle.bitmap.specs.Slots.{SlotSet, set_text, slots_of_text}
 use Rattle.bitmap.proofs.HexText.{set_text-slots_of_text}
+use Rattle.span.specs.Classes.{class_with}
 use Rattle.span.specs.declared.class.Class.{Class}
-use Rattle.span.specs.declared.class.Class.TheVariants.{C16, C64, C256}
+use Rattle.span.specs.declared.class.Class.TheVariants.{C16}
 use Rattle.span.specs.declared.limits.TheConstants.{MOST_SHARDS, MOST_SPANS}
 use Rattle.certificate.specs.declared.text.cause.Cause.{Cause}
 use Rattle.certificate.specs.declared.text.cause.Cause.TheVariants as cause
 use Rattle.certificate.specs.declared.text.cause.Cause.TheVariants.{Cut, Form, Limit, Set, Tail}
 use Rattle.certificate.specs.declared.text.version.Version.{Version}
 use Rattle.certificate.specs.declared.text.version.Version.TheVariants.{One, Two, Three}
-use Rattle.certificate.specs.Grammar.{◌>>=◌, Id, Listed, Outline, at_line, body_in, both, class_in, class_of_number, closing_in, count_in, count_of_number, count_of_words, end_in, ending_in, entry_in, entry_of, entry_of_words, fixed_in, id_in, id_of_numbers, id_of_parts, is_on_page, is_wanted, item_in, items_in, last_in, line_in, list_in, order_of, pair_in, pair_of_words, set_in, spans_in}
+use Rattle.certificate.specs.Grammar.{◌>>=◌, Id, Listed, Outline, at_line, body_in, both, class_in, class_of_number, closing_in, count_in, count_of_number, count_of_words, end_in, ending_in, entry_in, entry_of, entry_of_words, fixed_in, id_in, id_of_numbers, id_of_parts, is_on_page, is_wanted, item_in, items_in, last_in, line_in, list_in, names_class, order_of, pair_in, pair_of_words, set_in, slot_bytes, spans_in}
 use Rattle.certificate.specs.Number.{is_numeral, number_in}
 use Rattle.certificate.specs.Text.{class_text}
 use Rattle.certificate.specs.Words.{parts_of}
 use Rattle.certificate.proofs.Digits.{AllDigits-from_test}
-use Rattle.certificate.proofs.ReadAgain.{title_body}
+use Rattle.certificate.proofs.ReadAgain.{slot_bytes-most, title_body}
 use Rattle.mesh_graph.specs.declared.build.TheConstants.{MOST_GROUPS}
 
 -- ---- steps that were taken
@@ -60,7 +61,7 @@ own_digits : IsNumeralModel (AllDigits 10) (digits_value 10)
 own_digits = record { to = λ ds h. h; from = λ ds h. h; same = λ ds h. refl }
 
 -- a number below 2 ^ 64 is its own decimal
-word-number : (word : List ℕ) (n : ℕ) → number_in word ≡ Some n → n < 2 ^ 64 → word ≡ decimal n
+pub word-number : (word : List ℕ) (n : ℕ) → number_in word ≡ Some n → n < 2 ^ 64 → word ≡ decimal n
 word-number word n h fits =
     let p = number_in-some word n h in
     let some = and_parts (nat_lt 0 (length word)) ((length word == 1 || not (get_or word 0 0 == 48)) && list_all is_ascii_digit word) p.0 in
@@ -112,30 +113,24 @@ word-id version word i h =
     ∙ ap (join_with_byte 46) (id_of_parts-ok version (parts_of 46 word) i h)
     ∙ sym (append_assoc (decimal i.0) (codes ".") (decimal i.1))
 
-class_of_number-ok : (number : Option ℕ) (class : Class) → class_of_number number ≡ Ok class → number ≡ number_in (class_text class)
-class_of_number-ok None class h = cc
-class_of_number-ok (Some n) class h = elim (cases_Bool (nat_eq n 16)) [
-  | inl e ↦ let same : C16 ≡ class = cc (rw e at h) in ap Some (eqb-true n 16 e) ∙ ap (λ c. number_in (class_text c)) same
-  | inr no16 ↦ elim (cases_Bool (nat_eq n 64)) [
-    | inl e ↦ let same : C64 ≡ class = cc (rw (no16, e) at h) in ap Some (eqb-true n 64 e) ∙ ap (λ c. number_in (class_text c)) same
-    | inr no64 ↦ elim (cases_Bool (nat_eq n 256)) [
-      | inl e ↦ let same : C256 ≡ class = cc (rw (no16, no64, e) at h) in ap Some (eqb-true n 256 e) ∙ ap (λ c. number_in (class_text c)) same
-      | inr none ↦ let refused : Err Limit ≡ Ok class = rw (no16, no64, none) at h in cc
-    ]
-  ]
-]
+-- the number that is a class is the bytes of its slots
+class_of_number-ok : (version : Version) (number : Option ℕ) (class : Class) → class_of_number version number ≡ Ok class
+    → (number ≡ Some (slot_bytes class)) × (names_class version class ≡ true)
+class_of_number-ok version None class h = cc
+class_of_number-ok version (Some n) class h =
+    let found : Class = class_with (n / 16) in
+    let p = if-ok (nat_eq (slot_bytes found) n && names_class version found) found class Limit h in
+    let both = and_parts (nat_eq (slot_bytes found) n) (names_class version found) p.0 in
+    (ap Some (sym (eqb-true (slot_bytes found) n both.0) ∙ ap slot_bytes p.1), ap (names_class version) (sym p.1) ∙ both.1)
 
--- what is one number is spelled in one way
-word-same : (word other : List ℕ) (n : ℕ) → number_in word ≡ Some n → number_in other ≡ Some n → n < 2 ^ 64 → word ≡ other
-word-same word other n is is_other fits = word-number word n is fits ∙ sym (word-number other n is_other fits)
+word-class : (version : Version) (word : List ℕ) (class : Class) → class_in version word ≡ Ok class → word ≡ class_text class
+word-class version word class h =
+    let few = slot_bytes-most class in
+    word-number word (slot_bytes class) (class_of_number-ok version (number_in word) class h).0 (omega (arith, few))
 
-word-class : (word : List ℕ) (class : Class) → class_in word ≡ Ok class → word ≡ class_text class
-word-class word class h = spelled class (class_of_number-ok (number_in word) class h)
-  where
-    spelled : (class : Class) → number_in word ≡ number_in (class_text class) → word ≡ class_text class
-    spelled C16 e = word-same word (codes "16") 16 e refl (omega arith)
-    spelled C64 e = word-same word (codes "64") 64 e refl (omega arith)
-    spelled C256 e = word-same word (codes "256") 256 e refl (omega arith)
+-- a class that was read is one that the version names
+pub class_in-named : (version : Version) (word : List ℕ) (class : Class) → class_in version word ≡ Ok class → names_class version class ≡ true
+class_in-named version word class h = (class_of_number-ok version (number_in word) class h).1
 
 word-set : (class : Class) (word : List ℕ) (slots : SlotSet) → set_in class word ≡ Ok slots → word ≡ set_text slots
 word-set class word slots h =
@@ -195,15 +190,15 @@ entry_in-spells version line x h = spelled version (parts_of 32 line) refl h
     spelled Two (id ∷ []) e h = cc
     spelled Two (id ∷ class ∷ []) e h = cc
     spelled Two (id ∷ class ∷ set ∷ []) e h =
-        let p = entry_of-ok (id_in Two id) (class_in class) set x h in
-        three_words line (id_word x.id) (class_text x.class) (set_text x.occupied) (e ∙ (λ k. word-id Two id x.id p.0 k ∷ word-class class x.class p.1 k ∷ p.2 k ∷ []))
+        let p = entry_of-ok (id_in Two id) (class_in Two class) set x h in
+        three_words line (id_word x.id) (class_text x.class) (set_text x.occupied) (e ∙ (λ k. word-id Two id x.id p.0 k ∷ word-class Two class x.class p.1 k ∷ p.2 k ∷ []))
     spelled Two (id ∷ class ∷ set ∷ more ∷ rest) e h = cc
     spelled Three [] e h = cc
     spelled Three (id ∷ []) e h = cc
     spelled Three (id ∷ class ∷ []) e h = cc
     spelled Three (id ∷ class ∷ set ∷ []) e h =
-        let p = entry_of-ok (id_in Three id) (class_in class) set x h in
-        three_words line (id_word x.id) (class_text x.class) (set_text x.occupied) (e ∙ (λ k. word-id Three id x.id p.0 k ∷ word-class class x.class p.1 k ∷ p.2 k ∷ []))
+        let p = entry_of-ok (id_in Three id) (class_in Three class) set x h in
+        three_words line (id_word x.id) (class_text x.class) (set_text x.occupied) (e ∙ (λ k. word-id Three id x.id p.0 k ∷ word-class Three class x.class p.1 k ∷ p.2 k ∷ []))
     spelled Three (id ∷ class ∷ set ∷ more ∷ rest) e h = cc
 
 -- in version 1 a group is of 16 bytes a slot

@@ -1,14 +1,12 @@
 -- What a list of ids says of the groups of a side. No public clause cites this module.
-use Rattle.std.specs.Prelude.{ℕ, ◌≡◌, ◌<◌, ◌==◌, ◌&&◌, Bool, true, false, List, [], map, length, Option, Some, None, slice_index_or}
+use Rattle.std.specs.Prelude.{ℕ, ◌≡◌, ◌<◌, ◌==◌, ◌&&◌, Bool, true, false, List, [], map, length, slice_index_or}
 use Rattle.std.specs.List.{filter, list_any}
 use Rattle.bitmap.specs.Slots.{SlotSet, has_bit}
 use Rattle.lane_kernels.specs.Disjoint.{are_disjoint}
 use Rattle.mesh_graph.specs.Groups.{has_id}
-use Rattle.span.specs.Classes.{width_of}
+use Rattle.span.specs.Classes.{number_of}
 use Rattle.span.specs.Ids.{same_span}
 use Rattle.span.specs.declared.id.SpanId.{SpanId}
-use Rattle.span.specs.declared.class.Class.{Class}
-use Rattle.span.specs.declared.class.Class.TheVariants.{C16, C64, C256}
 use Rattle.span.specs.declared.entry.Entry.{Entry}
 use Rattle.span.specs.Entries.{are_compatible}
 use Rattle.certificate.specs.declared.distinct.IdList.{IdList}
@@ -45,33 +43,28 @@ abbrev pub HasFitting : List Entry → List SpanId → List Entry → List ℕ �
 HasFitting abandoned ids owned words = (place : ℕ) (d : Entry) → place < length owned
     → has_bit words place ≡ fits_any abandoned ids (slice_index_or owned place d)
 
--- whether the group has the id and is of the class
-abbrev pub is_member : Class → SpanId → Entry → Bool
-is_member class id x = same_span x.id id && (width_of x.class == width_of class)
+-- the groups with the id
+abbrev pub groups_with : List Entry → SpanId → List Entry
+groups_with abandoned id = filter (λ x. same_span x.id id) abandoned
 
--- the sets of the groups with the id that are of the class
-abbrev pub sets_of : List Entry → Class → SpanId → List SlotSet
-sets_of abandoned class id = map (λ x. x.occupied) (filter (is_member class id) abandoned)
+-- whether the group is of the class with the number
+abbrev pub is_of_class : ℕ → Entry → Bool
+is_of_class number y = number_of y.class == number
 
--- the sets, where there are rows of them
-abbrev pub sets_in : Option (List SlotSet) → List SlotSet
-sets_in None = []
-sets_in (Some sets) = sets
+-- the sets of those groups that are of the class with the number
+abbrev pub sets_of : ℕ → List Entry → List SlotSet
+sets_of number groups = map (λ x. x.occupied) (filter (is_of_class number) groups)
 
--- the sets of the class
-abbrev pub members_in : Members → Class → List SlotSet
-members_in members C16 = sets_in members.c16
-members_in members C64 = sets_in members.c64
-members_in members C256 = sets_in members.c256
+-- the sets of the class with the number; none where there is no such class
+abbrev pub members_in : Members → ℕ → List SlotSet
+members_in members number = slice_index_or members.by_class.items number []
 
--- whether the group is of the class
-abbrev pub is_of_class : Class → Entry → Bool
-is_of_class class y = width_of y.class == width_of class
-
--- whether the group is of the class and shares no slot with some of these sets
-abbrev pub fits_among : Class → List SlotSet → Entry → Bool
-fits_among class sets y = is_of_class class y && list_any (λ x. are_disjoint x y.occupied) sets
+-- whether the group is of the class with the number and shares no slot with some of these sets
+abbrev pub fits_among : ℕ → List SlotSet → Entry → Bool
+fits_among number sets y = is_of_class number y
+    && list_any (λ x. are_disjoint x y.occupied) sets
 
 -- whether the group shares no slot with some set of its class
 abbrev pub fits_some : Members → Entry → Bool
-fits_some members y = list_any (λ x. are_disjoint x y.occupied) (members_in members y.class)
+fits_some members y = list_any (λ x. are_disjoint x y.occupied)
+    (members_in members (number_of y.class))

@@ -1,14 +1,14 @@
 -- The texts that are certificates of version 1, 2 or 3, line by line; and, of another text, the
 -- first line at fault and its first cause. A text is what its line feeds (10) part, so that a line
 -- stands whole if a part follows it.
-use Rattle.std.specs.Prelude.{◌+◌, ◌*◌, ◌&&◌, ◌||◌, ◌<◌, ◌≡◌, ℕ, Bool, true, nat_eq, nat_lt, nat_le, List, [], ◌∷◌, length, map, Option, Some, None, Result, Ok, Err, slice_index_or, codes, zero, suc, if◌then◌else◌}
+use Rattle.std.specs.Prelude.{◌+◌, ◌*◌, ◌/◌, ◌&&◌, ◌||◌, ◌<◌, ◌≡◌, ℕ, Bool, true, not, nat_eq, nat_lt, nat_le, List, [], ◌∷◌, length, map, Option, Some, None, Result, Ok, Err, slice_index_or, codes, zero, suc, if◌then◌else◌}
 use Rattle.std.specs.List.{list_all, list_any}
 use Rattle.std.specs.Str.{bytes_eq}
 use Rattle.bitmap.specs.HexText.{is_set_text}
 use Rattle.bitmap.specs.Slots.{SlotSet, ascending, slots_of_text}
-use Rattle.span.specs.Classes.{slots_in}
+use Rattle.span.specs.Classes.{class_with, slots_in, width_of}
 use Rattle.span.specs.declared.class.Class.{Class}
-use Rattle.span.specs.declared.class.Class.TheVariants.{C16, C64, C256}
+use Rattle.span.specs.declared.class.Class.TheVariants.{C16}
 use Rattle.span.specs.declared.id.SpanId.{SpanId}
 use Rattle.span.specs.Ids.{rank}
 use Rattle.span.specs.declared.entry.Entry.{Entry}
@@ -65,15 +65,27 @@ id_of_parts version _ = Err Form
 abbrev pub id_in : Version → List ℕ → Result Id Cause
 id_in version word = id_of_parts version (parts_of 46 word)
 
--- a number as a class, by the bytes of a slot
-abbrev pub class_of_number : Option ℕ → Result Class Cause
-class_of_number None = Err Form
-class_of_number (Some n) = if nat_eq n 16 then Ok C16 else if nat_eq n 64 then Ok C64 else
-    if nat_eq n 256 then Ok C256 else Err Limit
+-- the bytes of a slot of the class, each word of which has 16
+abbrev pub slot_bytes : Class → ℕ
+slot_bytes class = 16 * width_of class
+
+-- whether a text of the version names the class: by the words of an object, those of 1, 4 and 16 in
+-- version 2, and that of 1 alone in version 1
+abbrev pub names_class : Version → Class → Bool
+names_class One class = nat_eq (width_of class) 1
+names_class Two class = nat_eq (width_of class) 1
+    || (nat_eq (width_of class) 4 || nat_eq (width_of class) 16)
+names_class Three class = true
+
+-- a number as a class that the version names, by the bytes of a slot
+abbrev pub class_of_number : Version → Option ℕ → Result Class Cause
+class_of_number version None = Err Form
+class_of_number version (Some n) = if nat_eq (slot_bytes (class_with (n / 16))) n
+    && names_class version (class_with (n / 16)) then Ok (class_with (n / 16)) else Err Limit
 
 -- a word as a class
-abbrev pub class_in : List ℕ → Result Class Cause
-class_in word = class_of_number (number_in word)
+abbrev pub class_in : Version → List ℕ → Result Class Cause
+class_in version word = class_of_number version (number_in word)
 
 -- whether a page of the class has each slot of the set
 abbrev pub is_on_page : Class → SlotSet → Bool
@@ -120,8 +132,8 @@ entry_of id class set = both id class >>= (λ named. set_in named.1 set >>=
 -- a group: its id, its class and its set; in version 1 it has no class, and is of 16 bytes a slot
 abbrev pub entry_of_words : Version → List (List ℕ) → Result Listed Cause
 entry_of_words One (id ∷ set ∷ []) = entry_of (id_in One id) (Ok C16) set
-entry_of_words Two (id ∷ class ∷ set ∷ []) = entry_of (id_in Two id) (class_in class) set
-entry_of_words Three (id ∷ class ∷ set ∷ []) = entry_of (id_in Three id) (class_in class) set
+entry_of_words Two (id ∷ class ∷ set ∷ []) = entry_of (id_in Two id) (class_in Two class) set
+entry_of_words Three (id ∷ class ∷ set ∷ []) = entry_of (id_in Three id) (class_in Three class) set
 entry_of_words version _ = Err Form
 
 abbrev pub entry_in : Version → List ℕ → Result Listed Cause
@@ -212,21 +224,25 @@ pub record Outline : Type 0 where
 abbrev pub is_large : Id → Bool
 is_large id = nat_le TEXT_SPANS id.1
 
--- some id has such a serial
-abbrev pub names_large : Outline → Bool
-names_large o =
-    list_any (λ x. is_large x.id) o.abandoned || (list_any (λ x. is_large x.id) o.owned
+-- a group that version 2 cannot say: its serial is large, or its class has no name there
+abbrev pub is_beyond_two : Listed → Bool
+is_beyond_two x = is_large x.id || not (names_class Two x.class)
+
+-- version 2 has no text for it
+abbrev pub needs_three : Outline → Bool
+needs_three o =
+    list_any is_beyond_two o.abandoned || (list_any is_beyond_two o.owned
     || (list_any (λ p. is_large p.0 || is_large p.1) o.folds || list_any is_large o.short))
 
 -- the version of the text that is written: version 3 says what version 2 cannot
 abbrev pub version_of : Outline → Version
-version_of o = if names_large o then Three else Two
+version_of o = if needs_three o then Three else Two
 
 -- a text of version 3 says what version 2 cannot, so one of them alone has a text for it
 abbrev pub is_wanted : Version → Outline → Bool
 is_wanted One o = true
 is_wanted Two o = true
-is_wanted Three o = names_large o
+is_wanted Three o = needs_three o
 
 -- the last line, of a text whose version is wanted or not
 abbrev pub last_in : Bool → List ℕ → Result (Unit {0}) Cause

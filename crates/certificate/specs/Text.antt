@@ -4,7 +4,7 @@ use Rattle.std.specs.List.{All}
 use Rattle.bitmap.specs.Slots.{IsBelow, set_text, slots_of_text}
 use Rattle.span.specs.Classes.{slots_in}
 use Rattle.span.specs.declared.class.Class.{Class}
-use Rattle.span.specs.declared.class.Class.TheVariants.{C16, C64, C256}
+use Rattle.span.specs.declared.class.Class.TheVariants.{C16}
 use Rattle.span.specs.declared.id.SpanId.{SpanId}
 use Rattle.span.specs.Texts.{id_text}
 use Rattle.span.specs.declared.entry.Entry.{Entry}
@@ -13,13 +13,11 @@ use Rattle.certificate.specs.declared.certificate.Certificate.{Certificate}
 use Rattle.mesh_graph.specs.declared.build.TheConstants.{MOST_GROUPS}
 use Rattle.certificate.specs.declared.text.version.Version.{Version}
 use Rattle.certificate.specs.declared.text.version.Version.TheVariants.{One}
-use Rattle.certificate.specs.Grammar.{names_large, opening_of, outline_of, version_of}
+use Rattle.certificate.specs.Grammar.{needs_three, opening_of, outline_of, slot_bytes, version_of}
 
 -- the bytes of a slot of the class, in digits
 abbrev pub class_text : Class → List ℕ
-class_text C16 = codes "16"
-class_text C64 = codes "64"
-class_text C256 = codes "256"
+class_text class = decimal (slot_bytes class)
 
 -- a group: its id, its class and its set
 abbrev pub entry_line : Entry → List ℕ
@@ -65,8 +63,8 @@ text_with version line c =
     ++ (list_text (codes "short") id_line c.short
     ++ codes "end\n")))))
 
--- the text of a certificate: of version 3 if a serial is above those of version 2, else of version
--- 2
+-- the text of a certificate: of version 3 if version 2 has not the serial of an id or the class of
+-- a group, else of version 2
 unfoldable pub certificate_text : Certificate → List ℕ
 certificate_text c = text_with (version_of (outline_of c)) entry_line c
 
@@ -78,7 +76,7 @@ classless_text c = text_with One classless_line c
 pub record IsClassless (c : Certificate) : Type 0 where
   pub abandoned : All (λ x. x.class ≡ C16) c.snapshot.abandoned
   pub owned : All (λ x. x.class ≡ C16) c.snapshot.owned
-  pub serials : names_large (outline_of c) ≡ false
+  pub serials : needs_three (outline_of c) ≡ false
 
 -- the text that is written of the certificate, or its text of version 1, if that can say it
 abbrev pub IsTextOf : Certificate → List ℕ → Type 0

@@ -21,8 +21,9 @@
 //!
 //! A [`Certificate`] has snapshot, plan and short set together. [`write()`] gives it as text, and
 //! [`read`] reads that text again, and texts of version 1, which name no classes; of a text that is
-//! none it names the first line at fault. Ids have any serial: a text is of version 2 if each is
-//! below [`TEXT_SPANS`], and else of version 3.
+//! none it names the first line at fault. Ids have any serial, and groups any class: a text is of
+//! version 2 if each serial is below [`TEXT_SPANS`] and each class 16, 64 or 256, and else of
+//! version 3.
 //!
 //! # Examples
 //!

@@ -7,19 +7,18 @@ ghost use Rattle.lane_kernels.specs.Rows.{row_at, width_of as row_words};
 ghost use Rattle.mesh_graph.specs.Groups.{IsAscending, ids};
 ghost use Rattle.mesh_graph.specs.Rows.{HaveRows};
 ghost use Rattle.mesh_graph.specs.declared.build.TheConstants.{MOST_GROUPS};
-ghost use Rattle.span.specs.Classes.{width_of};
 ghost use Rattle.span.specs.Entries.{are_compatible};
-ghost use Rattle.span.specs.declared.class.Class.{Class};
+ghost use Rattle.span.specs.declared.class.TheConstants.{CLASSES};
 ghost use Rattle.span.specs.declared.entry.Entry.{Entry};
 ghost use Rattle.span.specs.declared.id.SpanId.{SpanId};
-ghost use Rattle.certificate.specs.Chosen.{HasFitting, fits_among, fits_any, fits_some, is_of_class, members_in, sets_in, sets_of};
+ghost use Rattle.certificate.specs.Chosen.{HasFitting, fits_among, fits_any, fits_some, groups_with, is_of_class, members_in, sets_of};
 ghost use Rattle.certificate.specs.Plans.{partners_of};
 
 use crate::place_set::PlaceSet;
 use crate::plan::Short;
 use lane_kernels::{Planes, SlotRows};
 use mesh_graph::{Entry, MOST_GROUPS, Runner, Snapshot, place_of, sets_by_slots, steps_over};
-use span::{Class, SpanId};
+use span::{CLASSES, SpanId};
 use std::alloc::{AllocError, Global};
 
 /// The owned groups that are compatible with some abandoned group of the short set, by ascending
@@ -67,12 +66,10 @@ pub fn partner_count(snapshot: &Snapshot, short: &[SpanId]) -> usize
     count_among(snapshot.abandoned(), short, snapshot.owned())
 }
 
-/// The sets of chosen groups by class, as rows; none for a class that no chosen group has.
+/// The sets of chosen groups by class, as rows: those of a class stand at its number.
 #[derive(Drop)]
 struct Members {
-    c16: Option<SlotRows>,
-    c64: Option<SlotRows>,
-    c256: Option<SlotRows>,
+    by_class: Vec<SlotRows>,
 }
 
 impl Members {
@@ -88,93 +85,84 @@ impl Members {
         requires ascending { IsAscending (ids abandoned.now) }
         requires pieces { 1 ≤ pieces }
         requires ready { R.ready runner.now }
-        ensures { IfOk result (λ members. (class : Class) → members_in members class
-            ≡ flat_map (sets_of abandoned.now class) chosen.now) }
+        ensures { IfOk result (λ members. (number : ℕ) → number < CLASSES
+            → members_in members number
+            ≡ sets_of number (flat_map (groups_with abandoned.now) chosen.now)) }
     {
-        let c16 = rows_of(runner, alloc, abandoned, chosen, Class::C16, asked, pieces)?;
-        let c64 = rows_of(runner, alloc, abandoned, chosen, Class::C64, asked, pieces)?;
-        let c256 = rows_of(runner, alloc, abandoned, chosen, Class::C256, asked, pieces)?;
-        Ok(Members { c16, c64, c256 })
-    }
-
-    /// The rows of the class.
-    fn rows(&self, class: Class) -> &Option<SlotRows>
-        ensures { sets_in result.now ≡ members_in self.now class }
-    {
-        match class {
-            Class::C16 => &self.c16,
-            Class::C64 => &self.c64,
-            Class::C256 => &self.c256,
+        let groups = chosen_groups(alloc, abandoned, chosen)?;
+        let mut by_class = Vec::new(alloc);
+        for number in 0..CLASSES {
+            by_class.push(rows_of(runner, alloc, &groups, number, asked, pieces)?)?;
         }
+        Ok(Members { by_class })
     }
 }
 
-/// The rows of the chosen groups of the class, if there are any.
-fn rows_of<R: Runner>(
-    runner: &R,
+/// The groups with these ids, in the order of the ids.
+fn chosen_groups(
     alloc: Global,
     abandoned: &[Entry],
     chosen: &[SpanId],
-    class: Class,
-    asked: usize,
-    pieces: usize,
-) -> Result<Option<SlotRows>, AllocError>
-    requires ascending { IsAscending (ids abandoned.now) }
-    requires pieces { 1 ≤ pieces }
-    requires ready { R.ready runner.now }
-    ensures { IfOk result (λ rows. sets_in rows ≡ flat_map (sets_of abandoned.now class)
-        chosen.now) }
-{
-    let planes = planes_of(alloc, abandoned, chosen, class)?;
-    if planes.len() == 0 {
-        return Ok(None);
-    }
-    let rows = sets_by_slots(runner, alloc, planes, asked, pieces)?;
-    Ok(Some(rows))
-}
-
-/// The sets of the chosen groups of the class.
-fn planes_of(
-    alloc: Global,
-    abandoned: &[Entry],
-    chosen: &[SpanId],
-    class: Class,
-) -> Result<Planes, AllocError>
+) -> Result<Vec<Entry>, AllocError>
     requires { IsAscending (ids abandoned.now) }
-    ensures { IfOk result (λ planes. planes ≡ flat_map (sets_of abandoned.now class) chosen.now) }
+    ensures { IfOk result (λ groups. groups.items
+        ≡ flat_map (groups_with abandoned.now) chosen.now) }
 {
-    let mut planes = Planes::new(alloc);
+    let mut groups = Vec::new(alloc);
     for id in chosen {
-        push_set(&mut planes, abandoned, *id, class)?;
+        push_group(&mut groups, abandoned, *id)?;
     }
-    Ok(planes)
+    Ok(groups)
 }
 
-/// Adds the set of the group with the id, if there is one and it is of the class.
-fn push_set(
-    planes: &mut Planes,
-    abandoned: &[Entry],
-    id: SpanId,
-    class: Class,
-) -> Result<(), AllocError>
+/// Adds the group with the id, if there is one.
+fn push_group(groups: &mut Vec<Entry>, abandoned: &[Entry], id: SpanId) -> Result<(), AllocError>
     requires { IsAscending (ids abandoned.now) }
-    ensures { IfOk result (λ _. planes.new ≡ planes.old ++ sets_of abandoned.now class id) }
+    ensures { IfOk result (λ _. groups.new.items
+        ≡ groups.old.items ++ groups_with abandoned.now id) }
 {
     let Some(place) = place_of(abandoned, id) else {
         return Ok(());
     };
-    let entry = &abandoned[place];
-    if is_of(entry, class) {
-        planes.push(&entry.occupied)?;
-    }
+    groups.push(abandoned[place])?;
     Ok(())
 }
 
-/// Whether the group is of the class.
-fn is_of(entry: &Entry, class: Class) -> bool
-    ensures { result ≡ is_of_class class entry.now }
+/// The sets of the groups of the class with the number, as rows.
+fn rows_of<R: Runner>(
+    runner: &R,
+    alloc: Global,
+    groups: &[Entry],
+    number: usize,
+    asked: usize,
+    pieces: usize,
+) -> Result<SlotRows, AllocError>
+    requires pieces { 1 ≤ pieces }
+    requires ready { R.ready runner.now }
+    ensures { IfOk result (λ rows. rows ≡ sets_of number groups.now) }
 {
-    entry.class.words() == class.words()
+    let planes = planes_of(alloc, groups, number)?;
+    sets_by_slots(runner, alloc, planes, asked, pieces)
+}
+
+/// The sets of the groups of the class with the number.
+fn planes_of(alloc: Global, groups: &[Entry], number: usize) -> Result<Planes, AllocError>
+    ensures { IfOk result (λ planes. planes ≡ sets_of number groups.now) }
+{
+    let mut planes = Planes::new(alloc);
+    for entry in groups {
+        if is_of(entry, number) {
+            planes.push(&entry.occupied)?;
+        }
+    }
+    Ok(planes)
+}
+
+/// Whether the group is of the class with the number.
+fn is_of(entry: &Entry, number: usize) -> bool
+    ensures { result ≡ is_of_class number entry.now }
+{
+    entry.class.number() == number
 }
 
 /// The ids of the owned groups that share no slot with some member of their class. It looks at so
@@ -241,69 +229,49 @@ fn fitting_among<R: Runner>(
         → has_bit fitting.words place ≡ fits_some members.now (slice_index_or owned.now place d)) }
 {
     let mut fitting = PlaceSet::empty();
-    add_class(
-        runner,
-        alloc,
-        members,
-        Class::C16,
-        owned,
-        pieces,
-        &mut fitting,
-    )?;
-    add_class(
-        runner,
-        alloc,
-        members,
-        Class::C64,
-        owned,
-        pieces,
-        &mut fitting,
-    )?;
-    add_class(
-        runner,
-        alloc,
-        members,
-        Class::C256,
-        owned,
-        pieces,
-        &mut fitting,
-    )?;
+    for number in 0..members.by_class.len() {
+        add_class(runner, alloc, members, number, owned, pieces, &mut fitting)?;
+    }
     Ok(fitting)
 }
 
-/// Puts in the places of the owned groups of the class that share no slot with some member of it.
+/// Puts in the places of the owned groups of the class with the number that share no slot with some
+/// member of it.
 fn add_class<R: Runner>(
     runner: &R,
     alloc: Global,
     members: &Members,
-    class: Class,
+    number: usize,
     owned: &[Entry],
     pieces: usize,
     fitting: &mut PlaceSet,
 ) -> Result<(), AllocError>
+    requires number { number < length members.now.by_class.items }
     requires pieces { 1 ≤ pieces }
     requires ready { R.ready runner.now }
     requires few { length owned.now ≤ MOST_GROUPS }
     ensures { OnOk result ((place : ℕ) (d : Entry) → place < length owned.now
         → has_bit fitting.new.words place ≡ (has_bit fitting.old.words place
-        || fits_among class (members_in members.now class) (slice_index_or owned.now place d))) }
+        || fits_among number (members_in members.now number)
+        (slice_index_or owned.now place d))) }
 {
-    let Some(sets) = members.rows(class) else {
+    let sets = &members.by_class[number];
+    if sets.len() == 0 {
         return Ok(());
-    };
-    let own = of_class(alloc, owned, class)?;
+    }
+    let own = of_class(alloc, owned, number)?;
     let rows = rows_over(runner, alloc, sets, &own, pieces)?;
-    add_places(fitting, &rows, sets, class, owned);
+    add_places(fitting, &rows, sets, number, owned);
     Ok(())
 }
 
-/// The groups of the class.
-fn of_class(alloc: Global, groups: &[Entry], class: Class) -> Result<Vec<Entry>, AllocError>
-    ensures { IfOk result (λ own. own.items ≡ filter (is_of_class class) groups.now) }
+/// The groups of the class with the number.
+fn of_class(alloc: Global, groups: &[Entry], number: usize) -> Result<Vec<Entry>, AllocError>
+    ensures { IfOk result (λ own. own.items ≡ filter (is_of_class number) groups.now) }
 {
     let mut own = Vec::new(alloc);
     for entry in groups {
-        if is_of(entry, class) {
+        if is_of(entry, number) {
             own.push(*entry)?;
         }
     }
@@ -340,20 +308,20 @@ fn empty_rows(alloc: Global, sets: &SlotRows, groups: usize) -> Result<Vec<u64>,
     vec![in alloc; 0; words]
 }
 
-/// Puts in the places of the owned groups of the class whose row has a bit. There is a row for each
-/// of the class alone.
-fn add_places(fitting: &mut PlaceSet, rows: &[u64], sets: &SlotRows, class: Class, owned: &[Entry])
+/// Puts in the places of the owned groups of the class with the number whose row has a bit. Only
+/// groups of the class have a row.
+fn add_places(fitting: &mut PlaceSet, rows: &[u64], sets: &SlotRows, number: usize, owned: &[Entry])
     requires few { length owned.now ≤ MOST_GROUPS }
-    requires rows { HaveRows (filter (is_of_class class) owned.now) sets.now None
-        (length (filter (is_of_class class) owned.now)) rows.now }
+    requires rows { HaveRows (filter (is_of_class number) owned.now) sets.now None
+        (length (filter (is_of_class number) owned.now)) rows.now }
     ensures { (place : ℕ) (d : Entry) → place < length owned.now
         → has_bit fitting.new.words place ≡ (has_bit fitting.old.words place
-        || fits_among class sets.now (slice_index_or owned.now place d)) }
+        || fits_among number sets.now (slice_index_or owned.now place d)) }
 {
     let words = sets.row_words();
     let mut row = 0;
     for place in 0..owned.len() {
-        if is_of(&owned[place], class) {
+        if is_of(&owned[place], number) {
             add_by_row(fitting, place, rows, words, row);
             row += 1;
         }

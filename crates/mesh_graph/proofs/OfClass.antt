@@ -1,19 +1,23 @@
 -- Rows of bits that keep to one class.
-use Rattle.std.proofs.Common.{ℕ, ◌+◌, ◌/◌, ◌%◌, ◌^◌, ◌*◌, ◌<◌, ◌≤◌, ◌≡◌, ◌==◌, ◌&&◌, Bool, true, false, List, length, map, refl, sym, ◌∙◌, ap, arith, get_or, inl, inr, Option, Some, None, nat_lt, lt-ltb, le-ltb, eqb, eq-eqb, eqb-true, set, bit_and, bit_or, min}
+use Rattle.std.proofs.Common.{ℕ, suc, ◌+◌, ◌-◌, ◌/◌, ◌%◌, ◌^◌, ◌*◌, ◌<◌, ◌≤◌, ◌≡◌, ◌==◌, ◌&&◌, ◌||◌, Bool, true, false, List, length, length-drop, length-set, length-take, map, take, drop, replicate, refl, sym, ◌∙◌, ap, arith, get_or, get_or-drop, get_or-set_other, get_or-set_same, get_or-take, ext_get_or, inl, inr, Option, Some, None, nat_lt, lt-ltb, le-ltb, eq-eqb, eqb-true, set, bit_and, bit_or, min}
 use Rattle.std.specs.Bool.{OnTrue}
 use Rattle.std.specs.List.{list_all, slice_get}
 use Rattle.std.specs.Prelude.{MatchOption, option_map}
 use Rattle.std.proofs.Math.Bool.{and-false}
+use Rattle.std.proofs.Math.Nat.{mul-le-mul_left, mul-suc}
 use Rattle.std.proofs.lemmas.Bool.{both_ways, cases_Bool, cases_eq, cases_lt, ne_eqb}
-use Rattle.std.proofs.lemmas.List.{get_or_default, get_or_past}
+use Rattle.std.proofs.lemmas.List.{drop-replicate, get_or_past, get_or-replicate, length-replicate}
 use Rattle.std.proofs.lemmas.List.Folds.{list_all_at}
 use Rattle.std.proofs.lemmas.Nat.Bits.{bit_at-lt, bit_at-zero, bit_at_and}
 use Rattle.std.proofs.lemmas.Option.{get_or_from_slice_get, slice_get-get_or, slice_get-map, slice_get_past, slice_get_within}
 use Rattle.bitmap.specs.Slots.{SlotSet, has_bit}
 use Rattle.lane_kernels.specs.Disjoint.{fits}
-use Rattle.span.specs.Classes.{width_of}
+use Rattle.lane_kernels.specs.Rows.{row_at}
+use Rattle.span.specs.Classes.{number_of, width_of}
 use Rattle.span.specs.declared.class.Class.{Class}
+use Rattle.span.specs.declared.class.TheConstants.{CLASSES}
 use Rattle.span.specs.declared.entry.Entry.{Entry}
+use Rattle.span.proofs.Widths.{number_of-width, width_of-most}
 use Rattle.mesh_graph.specs.Groups.{has_partner}
 use Rattle.mesh_graph.specs.Masked.{AreMasks, AreOfOneClass, is_kept, is_of}
 use Rattle.mesh_graph.specs.declared.by_class.Masks.{Masks}
@@ -39,50 +43,144 @@ has_bit-met old mask new each wide past j = elim (cases_lt (j / 64) (length old)
   | inr high ↦ rw (past (j / 64) high, get_or_past old (j / 64) 0 high, get_or_past mask (j / 64) 0 (omega arith), bit_at-zero (j % 64)) refl
 ]
 
+-- ---- rows that stand one after another, of which one word is written
+
+get_or-row : (W m q : ℕ) (words : List ℕ) → q < W → get_or (row_at W words m) q 0 ≡ get_or words (W * m + q) 0
+get_or-row W m q words low = get_or-take W (drop (W * m) words) q 0 low ∙ get_or-drop (W * m) words q 0
+
+length-row : (W m : ℕ) (words : List ℕ) → length (row_at W words m) ≡ min W (length words - W * m)
+length-row W m words = length-take W (drop (W * m) words) ∙ ap (min W) (length-drop (W * m) words)
+
+module _ (W i k w : ℕ) (words : List ℕ) (low : k < W) (within : W * i + W ≤ length words) where
+  abbrev after : List ℕ
+  after = set words (W * i + k) w
+
+  same_lengths : (m : ℕ) → length (row_at W after m) ≡ length (row_at W words m)
+  same_lengths m = length-row W m after ∙ ap (λ n. min W (n - W * m)) (length-set words (W * i + k) w) ∙ sym (length-row W m words)
+
+  -- it is a word of its row
+  row_at-set : row_at W after i ≡ set (row_at W words i) k w
+  row_at-set = ext_get_or 0 _ _ (same_lengths i ∙ sym (length-set (row_at W words i) k w)) (λ q here.
+      let short : q < W = omega (arith, here, length-row W i after) in
+      get_or-row W i q after short ∙ elim (cases_eq q k) [
+        | inl same ↦
+            let inside : k < length (row_at W words i) = omega (arith, low, within, length-row W i words) in
+            ap (λ n. get_or after (W * i + n) 0) same ∙ get_or-set_same words (W * i + k) w 0 (omega (arith, low, within))
+            ∙ sym (ap (λ n. get_or (set (row_at W words i) k w) n 0) same ∙ get_or-set_same (row_at W words i) k w 0 inside)
+        | inr other ↦
+            get_or-set_other words (W * i + k) (W * i + q) w 0 (λ e. other (omega (arith, e)))
+            ∙ sym (get_or-set_other (row_at W words i) k q w 0 other ∙ get_or-row W i q words short)
+      ])
+
+  apart : (m q : ℕ) → (m ≡ i → ⊥) → q < W → W * m + q ≡ W * i + k → ⊥
+  apart m q other short same = elim (cases_lt m i) [
+    | inl less ↦
+        let ends : W * suc m ≤ W * i = mul-le-mul_left W less in
+        let more = mul-suc W m in
+        absurd (omega (arith, ends, more, same, short))
+    | inr not_less ↦
+        let ends : W * suc i ≤ W * m = mul-le-mul_left W (omega (arith, not_less, other)) in
+        let more = mul-suc W i in
+        absurd (omega (arith, ends, more, same, low))
+  ]
+
+  -- all other rows stay
+  row_at-set_other : (m : ℕ) → (m ≡ i → ⊥) → row_at W after m ≡ row_at W words m
+  row_at-set_other m other = ext_get_or 0 _ _ (same_lengths m) (λ q here.
+      let short : q < W = omega (arith, here, length-row W m after) in
+      get_or-row W m q after short
+      ∙ get_or-set_other words (W * i + k) (W * m + q) w 0 (apart m q other short)
+      ∙ sym (get_or-row W m q words short))
+
+-- a bit of a row is set
+pub row_bit-set : (W i j : ℕ) (words : List ℕ) → j / 64 < W → W * i + W ≤ length words → (m q : ℕ)
+    → has_bit (row_at W (set words (W * i + j / 64) (bit_or (get_or words (W * i + j / 64) 0) (1 * 2 ^ (j % 64) % 2 ^ 64))) m) q
+    ≡ ((m == i && q == j) || has_bit (row_at W words m) q)
+row_bit-set W i j words low within m q =
+    let w : ℕ = bit_or (get_or words (W * i + j / 64) 0) (1 * 2 ^ (j % 64) % 2 ^ 64) in
+    elim (cases_eq m i) [
+      | inl same ↦
+          let row : List ℕ = row_at W words i in
+          let inside : j / 64 < length row = omega (arith, low, within, length-row W i words) in
+          let read : w ≡ bit_or (get_or row (j / 64) 0) (1 * 2 ^ (j % 64) % 2 ^ 64) = ap (λ n. bit_or n (1 * 2 ^ (j % 64) % 2 ^ 64)) (sym (get_or-row W i (j / 64) words low)) in
+          rw (same, eq-eqb i i refl) (
+          ap (λ l. has_bit l q) (row_at-set W i (j / 64) w words low within)
+          ∙ ap (λ n. has_bit (set row (j / 64) n) q) read
+          ∙ has_bit-set row j inside q)
+      | inr other ↦ rw (ne_eqb m i other) (ap (λ l. has_bit l q) (row_at-set_other W i (j / 64) w words low within m other))
+    ]
+
+-- the row of a class stands among those of all classes
+pub row-of_class : (W : ℕ) (class : Class) → W * number_of class + W ≤ W * CLASSES
+row-of_class W class =
+    let next : number_of class + 1 ≤ CLASSES = omega (arith, number_of-width class, width_of-most class) in
+    let ends : W * suc (number_of class) ≤ W * CLASSES = mul-le-mul_left W (omega (arith, next)) in
+    let more = mul-suc W (number_of class) in
+    omega (arith, ends, more)
+
+-- ---- the masks of the first n groups
+
 -- the bits of the first n groups
 abbrev pub has_first : Class → List Entry → ℕ → ℕ → Bool
 has_first class owned n j = nat_lt j n && is_of class (slice_get owned j)
 
-first-later : (b : Bool) (j n : ℕ) → (eqb j n && b) ≡ false → (nat_lt j (n + 1) && b) ≡ (nat_lt j n && b)
-first-later b j n none = elim (cases_lt j n) [
-  | inl low ↦ rw (lt-ltb j n low, lt-ltb j (n + 1) (omega arith)) refl
-  | inr high ↦ elim (cases_eq j n) [
-    | inl same ↦
-        let low : nat_lt j (n + 1) ≡ true = lt-ltb j (n + 1) (omega arith) in
-        let bit : b ≡ false = rw (eq-eqb j n same) at none in
-        rw (le-ltb j n high, low, bit) refl
-    | inr other ↦ rw (le-ltb j n high, le-ltb j (n + 1) (omega arith)) refl
-  ]
+-- the masks have these bits
+abbrev pub HaveFirst : ℕ → List ℕ → List Entry → ℕ → Type 0
+HaveFirst width words owned n = (class : Class) (j : ℕ) → has_bit (row_at width words (number_of class)) j ≡ has_first class owned n j
+
+same_number : (a b : Class) → (number_of a == number_of b) ≡ (width_of a == width_of b)
+same_number a b = elim (cases_eq (number_of a) (number_of b)) [
+  | inl same ↦ eq-eqb _ _ same ∙ sym (eq-eqb _ _ (omega (arith, same, number_of-width a, number_of-width b)))
+  | inr other ↦ ne_eqb _ _ other ∙ sym (ne_eqb _ _ (λ e. other (omega (arith, e, number_of-width a, number_of-width b))))
 ]
 
--- one group is gone over
-module _ (class : Class) (owned : List Entry) (mask : List ℕ) (n : ℕ) (y : Entry) (low : n < length owned) (read : y ≡ get_or owned n y) (before : (j : ℕ)
-    → has_bit mask j ≡ has_first class owned n j) where
-  here : is_of class (slice_get owned n) ≡ (width_of class == width_of y.class)
-  here = ap (is_of class) (slice_get-get_or owned n y low) ∙ ap (λ (z : Entry). width_of class == width_of z.class) (sym read)
+-- no group is gone over
+pub HaveFirst-none : (width n : ℕ) (owned : List Entry) → HaveFirst width (replicate n 0) owned 0
+HaveFirst-none width n owned class j = ap (λ l. has_bit (take width l) j) (drop-replicate (width * number_of class) n 0) ∙ rw (none (j / 64), bit_at-zero (j % 64), le-ltb j 0 (omega arith)) refl
+  where
+    rest : ℕ
+    rest = n - width * number_of class
 
-  -- it is of the class, and its bit is set
-  pub mask-more : (word : ℕ) → word ≡ get_or mask (n / 64) word → n / 64 < length mask → (width_of class == width_of y.class) ≡ true → (j : ℕ)
-      → has_bit (set mask (n / 64) (bit_or word (1 * 2 ^ (n % 64) % 2 ^ 64))) j ≡ has_first class owned (n + 1) j
-  mask-more word at within is j =
-      ap (λ w. has_bit (set mask (n / 64) (bit_or w (1 * 2 ^ (n % 64) % 2 ^ 64))) j) (at ∙ get_or_default mask (n / 64) word 0 within)
-      ∙ has_bit-set mask n within j
-      ∙ elim (cases_eq j n) [
-        | inl same ↦ rw (same, eq-eqb n n refl, lt-ltb n (n + 1) (omega arith), here, is) refl
-        | inr other ↦ rw (ne_eqb j n other) (before j ∙ sym (first-later (is_of class (slice_get owned j)) j n (rw (ne_eqb j n other) refl)))
+    no_bits : List ℕ
+    no_bits = replicate rest 0
+
+    none : (k : ℕ) → get_or (take width no_bits) k 0 ≡ 0
+    none k = elim (cases_lt k width) [
+      | inl low ↦ get_or-take width no_bits k 0 low ∙ elim (cases_lt k rest) [
+        | inl within ↦ get_or-replicate rest k 0 0 within
+        | inr past ↦ get_or_past no_bits k 0 (omega (arith, past, length-replicate {A = ℕ} rest 0))
       ]
+      | inr high ↦ get_or_past (take width no_bits) k 0 (omega (arith, high, length-take width no_bits))
+    ]
 
-  -- it is of another class
-  pub mask-same : (width_of class == width_of y.class) ≡ false → (j : ℕ) → has_bit mask j ≡ has_first class owned (n + 1) j
-  mask-same is j = before j ∙ sym (first-later (is_of class (slice_get owned j)) j n (elim (cases_eq j n) [
-    | inl same ↦ rw (same, here, is) (and-false (eqb n n))
-    | inr other ↦ rw (ne_eqb j n other) refl
-  ]))
+-- one more group is gone over, which sets its bit in the mask of its class
+pub HaveFirst-more : (width : ℕ) (words after : List ℕ) (owned : List Entry) (n : ℕ) (y : Entry) → n < length owned → y ≡ get_or owned n y
+    → HaveFirst width words owned n
+    → ((m q : ℕ) → has_bit (row_at width after m) q ≡ ((m == number_of y.class && q == n) || has_bit (row_at width words m) q))
+    → HaveFirst width after owned (n + 1)
+HaveFirst-more width words after owned n y low read before bits class j =
+    bits (number_of class) j ∙ ap (λ b. (number_of class == number_of y.class && j == n) || b) (before class j) ∙ elim (cases_eq j n) [
+      | inl same ↦ rw (same, here, same_number class y.class, eq-eqb n n refl, le-ltb n n (omega arith), lt-ltb n (n + 1) (omega arith)) (tidy (width_of class == width_of y.class))
+      | inr other ↦ rw (ne_eqb j n other, and-false (number_of class == number_of y.class)) (later other)
+    ]
+  where
+    here : is_of class (slice_get owned n) ≡ (width_of class == width_of y.class)
+    here = ap (is_of class) (slice_get-get_or owned n y low) ∙ ap (λ (z : Entry). width_of class == width_of z.class) (sym read)
+
+    tidy : (b : Bool) → ((b && true) || (false && b)) ≡ (true && b)
+    tidy true = refl
+    tidy false = refl
+
+    later : (j ≡ n → ⊥) → has_first class owned n j ≡ has_first class owned (n + 1) j
+    later other = elim (cases_lt j n) [
+      | inl less ↦ rw (lt-ltb j n less, lt-ltb j (n + 1) (omega arith)) refl
+      | inr more ↦ rw (le-ltb j n more, le-ltb j (n + 1) (omega arith)) refl
+    ]
 
 -- all groups are gone over
-pub mask-done : (class : Class) (owned : List Entry) (mask : List ℕ) (n : ℕ) → length owned ≤ n → ((j : ℕ) → has_bit mask j ≡ has_first class owned n j)
-    → (j : ℕ) → has_bit mask j ≡ is_of class (slice_get owned j)
-mask-done class owned mask n past before j = before j ∙ elim (cases_lt j n) [
+pub HaveFirst-all : (width : ℕ) (words : List ℕ) (owned : List Entry) (n : ℕ) → length owned ≤ n → HaveFirst width words owned n → (class : Class) (j : ℕ)
+    → has_bit (row_at width words (number_of class)) j ≡ is_of class (slice_get owned j)
+HaveFirst-all width words owned n past before class j = before class j ∙ elim (cases_lt j n) [
   | inl low ↦ rw (lt-ltb j n low) refl
   | inr high ↦ rw (le-ltb j n high, slice_get_past owned j (omega arith)) refl
 ]
@@ -117,7 +215,7 @@ has_partner-kept abandoned owned sets masks n x told are low read j =
         → (is_kept masks x.class j && fits x.occupied (option_map (λ (y : Entry). y.occupied) o)) ≡ has_partner x o
     told_of masks told None e = and-false (is_kept masks x.class j)
     told_of None told (Some y) e = rw (eq-eqb (width_of x.class) (width_of y.class) (told n j x y at_x e)) refl
-    told_of (Some masks) told (Some y) e = ap (λ b. b && fits x.occupied (Some y.occupied)) ((told x.class).bits j ∙ ap (is_of x.class) e)
+    told_of (Some masks) told (Some y) e = ap (λ b. b && fits x.occupied (Some y.occupied)) (told.bits x.class j ∙ ap (is_of x.class) e)
 
 -- the same, of the test
 pub OnTrue-one_class : (class : Class) (abandoned owned : List Entry) (all : Bool) → list_all (λ x. width_of x.class == width_of class) owned ≡ true

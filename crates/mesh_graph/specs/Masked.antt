@@ -1,11 +1,11 @@
 -- Rows of bits that keep to one class, as a runner is handed their masks.
-use Rattle.std.specs.Prelude.{ℕ, ◌≡◌, ◌==◌, Bool, true, false, List, length, Option, Some, None}
+use Rattle.std.specs.Prelude.{ℕ, ◌≡◌, ◌==◌, ◌*◌, Bool, true, false, List, length, Option, Some, None}
 use Rattle.std.specs.List.{slice_get}
 use Rattle.bitmap.specs.Slots.{has_bit}
-use Rattle.lane_kernels.specs.Rows.{width_of as row_words}
-use Rattle.span.specs.Classes.{width_of}
+use Rattle.lane_kernels.specs.Rows.{row_at, width_of as row_words}
+use Rattle.span.specs.Classes.{number_of, width_of}
 use Rattle.span.specs.declared.class.Class.{Class}
-use Rattle.span.specs.declared.class.Class.TheVariants.{C16, C64, C256}
+use Rattle.span.specs.declared.class.TheConstants.{CLASSES}
 use Rattle.span.specs.declared.entry.Entry.{Entry}
 use Rattle.mesh_graph.specs.declared.by_class.Masks.{Masks}
 
@@ -14,20 +14,19 @@ abbrev pub is_of : Class → Option Entry → Bool
 is_of class None = false
 is_of class (Some y) = width_of class == width_of y.class
 
--- a bit for each owned group, which says whether it is of the class
-pub record IsMask (class : Class) (owned : List Entry) (mask : List ℕ) : Type 0 where
-  pub width : length mask ≡ row_words (length owned)
-  pub bits : (j : ℕ) → has_bit mask j ≡ is_of class (slice_get owned j)
-
--- the mask of the class
+-- the mask of the class, which stands at the class's number
 abbrev pub mask_in : Masks → Class → List ℕ
-mask_in masks C16 = masks.c16.items
-mask_in masks C64 = masks.c64.items
-mask_in masks C256 = masks.c256.items
+mask_in masks class = row_at masks.width masks.words.items (number_of class)
 
--- a mask of the owned groups for each class
-abbrev pub AreMasks : List Entry → Masks → Type 0
-AreMasks owned masks = (class : Class) → IsMask class owned (mask_in masks class)
+-- a row of so many words for each class
+abbrev pub HasRows : Masks → ℕ → Type 0
+HasRows masks words = (masks.width ≡ words) × (length masks.words.items ≡ words * CLASSES)
+
+-- the mask of each class has a bit for each owned group, which says whether it is of the class
+pub record AreMasks (owned : List Entry) (masks : Masks) : Type 0 where
+  pub rows : HasRows masks (row_words (length owned))
+  pub bits : (class : Class) (j : ℕ) → has_bit (mask_in masks class) j
+      ≡ is_of class (slice_get owned j)
 
 -- each group of the one side has the class of each of the other
 abbrev pub AreOfOneClass : List Entry → List Entry → Type 0
@@ -42,4 +41,4 @@ is_kept (Some masks) class j = has_bit (mask_in masks class) j
 -- each mask, where there are any, has so many words
 abbrev pub AreAsWide : Option Masks → ℕ → Type 0
 AreAsWide None words = Unit {0}
-AreAsWide (Some masks) words = (class : Class) → length (mask_in masks class) ≡ words
+AreAsWide (Some masks) words = HasRows masks words

@@ -1,20 +1,24 @@
 // Rows of bits that keep to one class.
-ghost use Rattle.std.specs.Prelude.{◌≡◌, ◌==◌, ◌&&◌, ℕ, IfOk, MatchOption, length};
+ghost use Rattle.std.specs.Prelude.{◌≡◌, ◌==◌, ◌&&◌, ◌||◌, ◌+◌, ◌*◌, ◌/◌, ◌<◌, ◌≤◌, ℕ, IfOk, MatchOption, length};
 ghost use Rattle.std.specs.Bool.{OnTrue};
-ghost use Rattle.std.specs.List.{list_all};
+ghost use Rattle.std.specs.List.{list_all, slice_get};
 ghost use Rattle.bitmap.specs.Slots.{has_bit};
-ghost use Rattle.span.specs.Classes.{width_of};
-ghost use Rattle.mesh_graph.specs.Masked.{AreAsWide, AreMasks, AreOfOneClass, IsMask, is_kept, mask_in};
+ghost use Rattle.lane_kernels.specs.Rows.{row_at, width_of as row_words};
+ghost use Rattle.span.specs.Classes.{number_of, width_of};
+ghost use Rattle.span.specs.declared.class.Class.{Class};
+ghost use Rattle.span.specs.declared.class.TheConstants.{CLASSES};
+ghost use Rattle.mesh_graph.specs.Masked.{AreAsWide, AreMasks, AreOfOneClass, HasRows, is_kept, is_of, mask_in};
 
-use span::{Class, Entry};
+use crate::graph::row_of;
+use span::{CLASSES, Class, Entry};
 use std::alloc::{AllocError, Global};
 
-/// The owned groups of each class, as a row of bits.
+/// The owned groups of each class, as a row of bits: that of a class stands at its number.
 #[derive(Drop)]
 pub struct Masks {
-    c16: Vec<u64>,
-    c64: Vec<u64>,
-    c256: Vec<u64>,
+    words: Vec<u64>,
+    // How many words a row has.
+    width: usize,
 }
 
 impl Masks {
@@ -30,21 +34,17 @@ impl Masks {
         if are_of_one_class(abandoned, owned) {
             return Ok(None);
         }
-        let c16 = mask_of(alloc, owned, Class::C16)?;
-        let c64 = mask_of(alloc, owned, Class::C64)?;
-        let c256 = mask_of(alloc, owned, Class::C256)?;
-        Ok(Some(Masks { c16, c64, c256 }))
+        let width = (owned.len() + 63) / 64;
+        let words = mask_words(alloc, owned, width)?;
+        Ok(Some(Masks { words, width }))
     }
 
     /// The mask of the class.
     fn mask(&self, class: Class) -> &[u64]
+        requires { HasRows self.now self.now.width }
         ensures { result.now ≡ mask_in self.now class }
     {
-        match class {
-            Class::C16 => &self.c16,
-            Class::C64 => &self.c64,
-            Class::C256 => &self.c256,
-        }
+        row_of(&self.words, self.width, class.number())
     }
 }
 
@@ -71,17 +71,30 @@ fn are_all_of(class: Class, entries: &[Entry]) -> bool
         .all(|entry| entry.class.words() == class.words())
 }
 
-/// A bit for each owned group, which says whether it is of the class.
-fn mask_of(alloc: Global, owned: &[Entry], class: Class) -> Result<Vec<u64>, AllocError>
-    ensures { IfOk result (λ mask. IsMask class owned.now mask.items) }
+/// The masks of all classes, one after another. Each owned group sets a bit in that of its class.
+fn mask_words(alloc: Global, owned: &[Entry], width: usize) -> Result<Vec<u64>, AllocError>
+    requires { width ≡ row_words (length owned.now) }
+    ensures size { IfOk result (λ words. length words.items ≡ width * CLASSES) }
+    ensures bits { IfOk result (λ words. (class : Class) (j : ℕ)
+        → has_bit (row_at width words.items (number_of class)) j
+        ≡ is_of class (slice_get owned.now j)) }
 {
-    let mut mask = vec![in alloc; 0; (owned.len() + 63) / 64]?;
+    let mut words = vec![in alloc; 0; width * CLASSES]?;
     for j in 0..owned.len() {
-        if class.words() == owned[j].class.words() {
-            mask[j / 64] |= 1 << (j % 64);
-        }
+        set_bit(&mut words, width, owned[j].class.number(), j);
     }
-    Ok(mask)
+    Ok(words)
+}
+
+/// Sets bit `j` of row `i` of rows that stand one after another.
+fn set_bit(words: &mut [u64], width: usize, i: usize, j: usize)
+    requires bit { j / 64 < width }
+    requires within { width * i + width ≤ length words.old }
+    ensures len { length words.new ≡ length words.old }
+    ensures bits { (k q : ℕ) → has_bit (row_at width words.new k) q
+        ≡ ((k == i && q == j) || has_bit (row_at width words.old k) q) }
+{
+    words[width * i + j / 64] |= 1 << (j % 64);
 }
 
 /// Clears the bits of groups that are of another class.

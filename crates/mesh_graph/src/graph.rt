@@ -125,7 +125,7 @@ impl<'a> Graph<'a> {
 }
 
 // Row i of rows that stand one after another.
-fn row_of(words: &[u64], width: usize, i: usize) -> &[u64]
+pub(crate) fn row_of(words: &[u64], width: usize, i: usize) -> &[u64]
     requires { width * i + width ≤ length words.now }
     ensures { result.now ≡ row_at width words.now i }
 {

@@ -73,6 +73,22 @@ short 1
 end
 ";
 
+// Two groups of 85 slots, of which one has the last, compete for a place of their class.
+const WIDTHS: &str = "meshcert 3
+abandoned 2
+0.0 48 0100000000000000000000000000000000000000000000000000000000000000
+0.1 48 0000000000000000000010000000000000000000000000000000000000000000
+owned 2
+1.0 48 0200000000000000000000000000000000000000000000000000000000000000
+1.1 64 0200000000000000000000000000000000000000000000000000000000000000
+folds 1
+0.0 1.0
+short 2
+0.0
+0.1
+end
+";
+
 const NONE: &str = "meshcert 2
 abandoned 0
 owned 0
@@ -171,6 +187,11 @@ fn version_1_is_read_and_version_2_is_written(rt: HostRuntime) {
 #[test]
 fn serials_above_those_of_version_2_are_read_and_written_in_version_3(rt: HostRuntime) {
     assert_eq!(rt; accepted(rt.alloc(), LATE, LATE), Some((1, 1, 0)));
+}
+
+#[test]
+fn classes_that_version_2_lacks_are_read_and_written_in_version_3(rt: HostRuntime) {
+    assert_eq!(rt; accepted(rt.alloc(), WIDTHS, WIDTHS), Some((1, 2, 1)));
 }
 
 fn fault(alloc: Global, text: &str) -> Option<ReadError> {

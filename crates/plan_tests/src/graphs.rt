@@ -4,7 +4,7 @@ ghost use Rattle.std.specs.Prelude.{◌≤◌};
 
 use bitmap::Bits256;
 use mesh_graph::{AtHand, BuildError, ByThreads, Entry, Graph, Snapshot};
-use span::{Class, SpanId};
+use span::{CLASSES, Class, SpanId};
 use std::alloc::Global;
 use std::thread::Threads;
 
@@ -100,10 +100,12 @@ fn a_row_has_a_bit_for_each_partner(rt: HostRuntime) {
 
 #[test]
 fn a_row_has_no_bit_between_two_classes(rt: HostRuntime) {
-    assert_eq!(rt;
-        words_and_partners(rt.alloc(), 1, Class::C256),
-        Some([Some((0b001, None)), Some((0b010, Some(1)))])
-    );
+    for other in [Class::C16, Class::C48, Class::C80, Class::C256] {
+        assert_eq!(rt;
+            words_and_partners(rt.alloc(), 1, other),
+            Some([Some((0b001, None)), Some((0b010, Some(1)))])
+        );
+    }
 }
 
 // As many groups without slots.
@@ -146,19 +148,15 @@ fn a_side_has_at_most_4096_groups(rt: HostRuntime) {
 
 // The slot of the number, by as many as the class has.
 fn slot_in(class: Class, number: u32) -> u8 {
-    match class {
-        Class::C16 => (number % 256) as u8,
-        Class::C64 => (number % 64) as u8,
-        Class::C256 => (number % 16) as u8,
-    }
+    (number % u32::from(class.slots()).max(1)) as u8
 }
 
-// A side of so many groups, each other one of which is of the second class. Group k has the slots
+// A side of so many groups, which are of so many classes in turn. Group k has the slots
 // k % 13 + 16 * seed, k * k and k / 3, by as many as its class has.
-fn side(alloc: Global, shard: u32, count: u32, seed: u32, second: Class) -> Option<Vec<Entry>> {
+fn side(alloc: Global, shard: u32, count: u32, seed: u32, classes: usize) -> Option<Vec<Entry>> {
     let mut groups = Vec::new(alloc);
     for k in 0..count.min(1024) {
-        let class = if k % 2 == 0 { Class::C16 } else { second };
+        let class = Class::of_words(k as usize % classes.max(1) + 1)?;
         let slots = [
             slot_in(class, k % 13 + seed % 8 * 16),
             slot_in(class, k * k),
@@ -174,10 +172,10 @@ fn side_again(
     shard: u32,
     count: u32,
     seed: u32,
-    second: Class,
+    classes: usize,
 ) -> Option<Vec<Entry>> {
-    match side(alloc, shard, count, seed, second) {
-        None => side(alloc, shard, count, seed, second),
+    match side(alloc, shard, count, seed, classes) {
+        None => side(alloc, shard, count, seed, classes),
         groups => groups,
     }
 }
@@ -227,12 +225,12 @@ fn are_of_one_piece<R: Threads + Sync>(
     alloc: Global,
     count: u32,
     pieces: usize,
-    second: Class,
+    classes: usize,
 ) -> Option<bool>
     requires { 1 ≤ pieces }
 {
-    let abandoned = side_again(alloc, 0, count, 1, second)?;
-    let owned = side_again(alloc, 1, count, 2, second)?;
+    let abandoned = side_again(alloc, 0, count, 1, classes)?;
+    let owned = side_again(alloc, 1, count, 2, classes)?;
     let snapshot = Snapshot::new(abandoned, owned).ok()?;
     let one = build_again(alloc, &snapshot, 1).ok()?;
     let other = build_by_threads(rt, alloc, &snapshot, pieces).ok()?;
@@ -243,14 +241,12 @@ fn are_of_one_piece<R: Threads + Sync>(
 fn rows_are_those_of_one_piece(rt: HostRuntime) {
     for count in [0, 1, 63, 64, 65, 300] {
         for pieces in [1, 2, 3, 7, 64] {
-            assert_eq!(rt;
-                are_of_one_piece(&rt, rt.alloc(), count, pieces, Class::C16),
-                Some(true)
-            );
-            assert_eq!(rt;
-                are_of_one_piece(&rt, rt.alloc(), count, pieces, Class::C64),
-                Some(true)
-            );
+            for classes in [1, 3, CLASSES] {
+                assert_eq!(rt;
+                    are_of_one_piece(&rt, rt.alloc(), count, pieces, classes),
+                    Some(true)
+                );
+            }
         }
     }
 }

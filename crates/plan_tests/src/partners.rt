@@ -5,18 +5,18 @@ ghost use Rattle.std.specs.Prelude.{◌≤◌};
 use bitmap::Bits256;
 use certificate::{Short, partners};
 use mesh_graph::{AtHand, ByThreads, Entry, Runner, Snapshot};
-use span::{Class, SpanId};
+use span::{CLASSES, Class, SpanId};
 use std::alloc::Global;
 use std::thread::Threads;
 
-// How many groups a side has, how many neighbouring slots each abandoned one has, and whether the
-// groups are of three classes.
+// How many groups a side has, how many neighbouring slots each abandoned one has, and of how many
+// classes the groups are in turn.
 #[derive(Clone, Copy)]
 struct Sides {
     abandoned: u32,
     owned: u32,
     slots: u32,
-    are_mixed: bool,
+    classes: usize,
 }
 
 // So many slots from the first on.
@@ -28,13 +28,9 @@ fn neighbours(first: u32, count: u32) -> Bits256 {
     slots
 }
 
-fn entry(shard: u32, serial: u32, are_mixed: bool, occupied: Bits256) -> Option<Entry> {
+fn entry(shard: u32, serial: u32, classes: usize, occupied: Bits256) -> Option<Entry> {
     let id = SpanId::new(shard, serial)?;
-    let class = match serial % 4 {
-        1 if are_mixed => Class::C64,
-        2 if are_mixed => Class::C256,
-        _ => Class::C16,
-    };
+    let class = Class::of_words(serial as usize % classes.max(1) + 1)?;
     Some(Entry {
         id,
         class,
@@ -46,7 +42,7 @@ fn abandoned(alloc: Global, sides: Sides) -> Option<Vec<Entry>> {
     let mut groups = Vec::new(alloc);
     for k in 0..sides.abandoned {
         let occupied = neighbours(k.wrapping_mul(5), sides.slots);
-        groups.push(entry(0, k, sides.are_mixed, occupied)?).ok()?;
+        groups.push(entry(0, k, sides.classes, occupied)?).ok()?;
     }
     Some(groups)
 }
@@ -59,7 +55,7 @@ fn owned(alloc: Global, sides: Sides) -> Option<Vec<Entry>> {
         occupied.insert((k % 256) as u8);
         occupied.insert((k.wrapping_mul(k) % 256) as u8);
         occupied.insert((k / 3 % 256) as u8);
-        groups.push(entry(1, k, sides.are_mixed, occupied)?).ok()?;
+        groups.push(entry(1, k, sides.classes, occupied)?).ok()?;
     }
     Some(groups)
 }
@@ -146,12 +142,12 @@ fn are_same<R: Threads + Sync>(rt: &R, alloc: Global, sides: Sides, pieces: usiz
 
 // Sets of up to 190 slots go by the rows of slots, and sets of more by words; so do all if few
 // groups are owned.
-fn some_sides(owned: u32, slots: u32, are_mixed: bool) -> Sides {
+fn some_sides(owned: u32, slots: u32, classes: usize) -> Sides {
     Sides {
         abandoned: 150,
         owned,
         slots,
-        are_mixed,
+        classes,
     }
 }
 
@@ -160,9 +156,9 @@ fn partners_by_threads_are_those_at_hand(rt: HostRuntime) {
     for pieces in [1, 2, 3, 7, 64] {
         for owned in [65, 300] {
             for slots in [170, 240] {
-                for are_mixed in [false, true] {
+                for classes in [1, 3, CLASSES] {
                     assert_eq!(rt;
-                        are_same(&rt, rt.alloc(), some_sides(owned, slots, are_mixed), pieces),
+                        are_same(&rt, rt.alloc(), some_sides(owned, slots, classes), pieces),
                         Some(true)
                     );
                 }
@@ -173,9 +169,9 @@ fn partners_by_threads_are_those_at_hand(rt: HostRuntime) {
 
 #[test]
 fn partners_of_more_groups_than_a_graph_has(rt: HostRuntime) {
-    for are_mixed in [false, true] {
+    for classes in [1, 3, CLASSES] {
         assert_eq!(rt;
-            are_same(&rt, rt.alloc(), some_sides(4200, 240, are_mixed), 3),
+            are_same(&rt, rt.alloc(), some_sides(4200, 240, classes), 3),
             Some(true)
         );
     }

@@ -13,7 +13,8 @@ pub enum Cause {
     Cut,
     /// The line has not its words, or an id, a class or a count is no number or pair of numbers.
     Form,
-    /// A count, or an id's shard or serial, is outside its range, or a class is not 16, 64 or 256.
+    /// A count, or an id's shard or serial, is outside its range, or the text's version has no such
+    /// class.
     Limit,
     /// The last word of a group's line is not 64 lower-case hexadecimal digits, or has a slot that
     /// no page of the group's class has.
@@ -21,7 +22,7 @@ pub enum Cause {
     /// The id is not above the one before it in its list.
     Order,
     /// The line is the `end` of a text of version 3 in which each serial is below
-    /// [`TEXT_SPANS`](crate::TEXT_SPANS): version 2 has a text for it.
+    /// [`TEXT_SPANS`](crate::TEXT_SPANS) and each class 16, 64 or 256: version 2 has a text for it.
     Version,
     /// Bytes follow the line `end`.
     Tail,

@@ -1,14 +1,15 @@
 // The versions of the text.
 ghost use Rattle.std.specs.Prelude.{◌≡◌, ◌||◌};
 ghost use Rattle.std.specs.List.{list_any};
-ghost use Rattle.certificate.specs.Grammar.{id_parts, is_large, names_large, outline_of};
+ghost use Rattle.certificate.specs.Grammar.{entry_parts, id_parts, is_beyond_two, is_large, needs_three, outline_of};
 
 use crate::certificate::Certificate;
 use mesh_graph::Entry;
-use span::{MOST_SPANS, SpanId};
+use span::{Class, MOST_SPANS, SpanId};
 
 /// A serial in a certificate's text of version 1 or 2 is below this. In a text of version 3 it is
-/// below [`MOST_SPANS`](span::MOST_SPANS), and some serial is not below this.
+/// below [`MOST_SPANS`](span::MOST_SPANS), and some serial is not below this, or some class is not
+/// of 16, 64 or 256 bytes a slot.
 pub const TEXT_SPANS: u32 = 1024;
 
 /// A version of the text, which its first line names.
@@ -16,20 +17,20 @@ pub const TEXT_SPANS: u32 = 1024;
 pub(super) enum Version {
     /// Groups have no class: each is of 16 bytes a slot.
     One,
-    /// A group's line names its class.
+    /// A group's line names its class, of 16, 64 or 256 bytes a slot.
     Two,
-    /// As version 2, with serials of any size.
+    /// As version 2, with serials of any size and classes of any width.
     Three,
 }
 
 impl Version {
-    ghost use Rattle.certificate.specs.Grammar.{is_wanted, opening_of, outline_of, spans_in, version_of};
+    ghost use Rattle.certificate.specs.Grammar.{is_wanted, names_class, opening_of, outline_of, spans_in, version_of};
 
     /// The version in which a certificate is written.
     pub(super) fn of(certificate: &Certificate) -> Version
         ensures { result ≡ version_of (outline_of certificate.now) }
     {
-        if names_large(certificate) {
+        if needs_three(certificate) {
             Version::Three
         } else {
             Version::Two
@@ -42,7 +43,7 @@ impl Version {
     {
         match self {
             Version::One | Version::Two => true,
-            Version::Three => names_large(certificate),
+            Version::Three => needs_three(certificate),
         }
     }
 
@@ -53,6 +54,17 @@ impl Version {
         match self {
             Version::One | Version::Two => TEXT_SPANS,
             Version::Three => MOST_SPANS,
+        }
+    }
+
+    /// Whether a text of the version names the class.
+    pub(super) fn names(self, class: Class) -> bool
+        ensures { result ≡ names_class self class }
+    {
+        match self {
+            Version::One => class.words() == 1,
+            Version::Two => matches!(class.words(), 1 | 4 | 16),
+            Version::Three => true,
         }
     }
 
@@ -68,14 +80,14 @@ impl Version {
     }
 }
 
-/// Whether some id has a serial that versions 1 and 2 do not name.
-fn names_large(certificate: &Certificate) -> bool
-    ensures { result ≡ names_large (outline_of certificate.now) }
+/// Whether version 2 has no text for it: it does not name some serial or some class.
+fn needs_three(certificate: &Certificate) -> bool
+    ensures { result ≡ needs_three (outline_of certificate.now) }
 {
-    if has_large_group(certificate.snapshot.abandoned()) {
+    if has_group_beyond_two(certificate.snapshot.abandoned()) {
         return true;
     }
-    if has_large_group(certificate.snapshot.owned()) {
+    if has_group_beyond_two(certificate.snapshot.owned()) {
         return true;
     }
     if has_large_pair(certificate.plan.pairs()) {
@@ -84,10 +96,10 @@ fn names_large(certificate: &Certificate) -> bool
     has_large_id(certificate.short.ids())
 }
 
-fn has_large_group(groups: &[Entry]) -> bool
-    ensures { result ≡ list_any (λ x. is_large (id_parts x.id)) groups.now }
+fn has_group_beyond_two(groups: &[Entry]) -> bool
+    ensures { result ≡ list_any (λ x. is_beyond_two (entry_parts x)) groups.now }
 {
-    groups.iter().any(|group| is_large(group.id))
+    groups.iter().any(|group| is_large(group.id) || !Version::Two.names(group.class))
 }
 
 fn has_large_pair(pairs: &[(SpanId, SpanId)]) -> bool

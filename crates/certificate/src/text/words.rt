@@ -1,9 +1,9 @@
 // What the words of a line say.
-ghost use Rattle.std.specs.Prelude.{◌≡◌, ℕ, IfOk, Option, option_map};
+ghost use Rattle.std.specs.Prelude.{◌≡◌, ◌↔◌, ◌/◌, ℕ, IfOk, IfSome, IsSome, Option, option_map};
 ghost use Rattle.bitmap.specs.Slots.{IsBelow};
-ghost use Rattle.span.specs.Classes.{slots_in};
+ghost use Rattle.span.specs.Classes.{class_with, slots_in};
 ghost use Rattle.certificate.specs.Number.{clip};
-ghost use Rattle.certificate.specs.Grammar.{both, class_in, class_of_number, count_in, count_of_number, entry_in, entry_of, entry_parts, id_in, id_of_numbers, id_parts, is_on_page, last_in, pair_in, pair_parts, result_map, set_in, version_in};
+ghost use Rattle.certificate.specs.Grammar.{both, class_in, class_of_number, count_in, count_of_number, entry_in, entry_of, entry_parts, id_in, id_of_numbers, id_parts, is_on_page, last_in, pair_in, pair_parts, result_map, set_in, slot_bytes, version_in};
 ghost use Rattle.certificate.specs.Text.{FitsClass};
 
 use super::cause::Cause;
@@ -42,23 +42,38 @@ fn id_of(version: Version, shard: Option<u32>, serial: Option<u32>) -> Result<Sp
 }
 
 /// The bytes of a slot.
-fn parse_class(word: &[u8]) -> Result<Class, Cause>
-    ensures { result ≡ class_in word.now }
+fn parse_class(version: Version, word: &[u8]) -> Result<Class, Cause>
+    ensures { result ≡ class_in version word.now }
 {
-    class_of(parse_number(word))
+    class_of(version, parse_number(word))
 }
 
-/// The class that a number names.
-fn class_of(number: Option<u32>) -> Result<Class, Cause>
-    ensures { (n : Option ℕ) → number ≡ option_map clip n → result ≡ class_of_number n }
+/// The class that a number names in the version.
+fn class_of(version: Version, number: Option<u32>) -> Result<Class, Cause>
+    ensures { (n : Option ℕ) → number ≡ option_map clip n → result ≡ class_of_number version n }
 {
-    match number {
-        None => Err(Cause::Form),
-        Some(16) => Ok(Class::C16),
-        Some(64) => Ok(Class::C64),
-        Some(256) => Ok(Class::C256),
-        Some(_) => Err(Cause::Limit),
+    let Some(bytes) = number else {
+        return Err(Cause::Form);
+    };
+    let Some(class) = class_with_bytes(bytes) else {
+        return Err(Cause::Limit);
+    };
+    if version.names(class) {
+        Ok(class)
+    } else {
+        Err(Cause::Limit)
     }
+}
+
+/// The class whose slots have so many bytes, if there is one.
+fn class_with_bytes(bytes: u32) -> Option<Class>
+    ensures some { IsSome result ↔ slot_bytes (class_with (bytes / 16)) ≡ bytes }
+    ensures class { IfSome result (λ class. class ≡ class_with (bytes / 16)) }
+{
+    if bytes % 16 != 0 {
+        return None;
+    }
+    Class::of_words(bytes as usize / 16)
 }
 
 /// Slots of a page of the class.
@@ -99,7 +114,7 @@ pub(super) fn parse_entry(version: Version, line: &[u8]) -> Result<Entry, Cause>
     match (version, words.as_slice()) {
         (Version::One, [id, set]) => entry_of(parse_id(version, id), Ok(Class::C16), set),
         (Version::Two | Version::Three, [id, class, set]) => {
-            entry_of(parse_id(version, id), parse_class(class), set)
+            entry_of(parse_id(version, id), parse_class(version, class), set)
         }
         _ => Err(Cause::Form),
     }

@@ -3,8 +3,8 @@ ghost use Rattle.std.specs.Prelude.{◌≡◌, ◌++◌, codes, decimal, length,
 ghost use Rattle.span.specs.Texts.{id_text};
 ghost use Rattle.std.specs.List.{All};
 ghost use Rattle.mesh_graph.specs.Groups.{IsAscending, ids};
-ghost use Rattle.certificate.specs.Grammar.{certificate_in, outline_of};
-ghost use Rattle.certificate.specs.Text.{IsReadable, IsWritable, certificate_text, class_text, entry_line, id_line, list_text, pair_line};
+ghost use Rattle.certificate.specs.Grammar.{certificate_in, outline_of, slot_bytes};
+ghost use Rattle.certificate.specs.Text.{IsReadable, IsWritable, certificate_text, entry_line, id_line, list_text, pair_line};
 
 use super::version::Version;
 use crate::certificate::Certificate;
@@ -14,7 +14,8 @@ use span::{Class, SpanId};
 use std::alloc::{AllocError, Global};
 
 /// The text of a certificate, which [`read`](crate::read) reads again. It is of version 2 if each
-/// serial is below [`TEXT_SPANS`](crate::TEXT_SPANS), and else of version 3.
+/// serial is below [`TEXT_SPANS`](crate::TEXT_SPANS) and each class of 16, 64 or 256 bytes a slot,
+/// and else of version 3.
 ///
 /// # Errors
 ///
@@ -78,24 +79,21 @@ fn write_entry(text: &mut Vec<u8>, entry: &Entry) -> Result<(), AllocError>
     ensures line { IfOk result (λ _. text.new.items ≡ text.old.items ++ entry_line entry.now) }
     ensures readable { IfOk result (λ _. IsReadable entry.now) }
 {
+    let mut bytes = Buffer::new();
     write_id(text, entry.id)?;
     text.extend_from_slice(b" ")?;
-    text.extend_from_slice(class_word(entry.class).as_bytes())?;
+    text.extend_from_slice(bytes.format(slot_bytes(entry.class)).as_bytes())?;
     text.extend_from_slice(b" ")?;
     text.extend_from_slice(&entry.occupied.to_hex())?;
     text.extend_from_slice(b"\n")?;
     Ok(())
 }
 
-/// The bytes of a slot of the class, in digits.
-fn class_word(class: Class) -> &'static str
-    ensures { result.now ≡ class_text class }
+/// The bytes of a slot of the class.
+fn slot_bytes(class: Class) -> usize
+    ensures { result ≡ slot_bytes class }
 {
-    match class {
-        Class::C16 => "16",
-        Class::C64 => "64",
-        Class::C256 => "256",
-    }
+    16 * class.words()
 }
 
 fn write_pair(text: &mut Vec<u8>, pair: (SpanId, SpanId)) -> Result<(), AllocError>

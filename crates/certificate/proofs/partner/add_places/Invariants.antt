@@ -6,7 +6,7 @@ use Rattle.certificate.proofs.partner.add_places.Given as goal
 
 abbrev pub invariant-loop-place : goal.invariant-loop-place
 invariant-loop-place l = record {
-  before : l.row ≡ length (filter (is_of_class l.class) (take l.place l.owned));
+  before : l.row ≡ length (filter (is_of_class l.number) (take l.place l.owned));
   few : l.row ≤ l.place;
-  added : HasAdded (fits_among l.class l.sets) l.owned l.place l.initial.fitting.words l.fitting.words;
+  added : HasAdded (fits_among l.number l.sets) l.owned l.place l.initial.fitting.words l.fitting.words;
 }
