@@ -32,7 +32,7 @@ pub fn of_certificate(cause: certificate::Cause) -> &'static str
         certificate::Cause::Limit => "a number is out of range",
         certificate::Cause::Set => "the set is malformed or has a slot that its class lacks",
         certificate::Cause::Order => "the id is not above the one before it",
-        certificate::Cause::Version => "no serial needs version 3",
+        certificate::Cause::Version => "no serial and no class needs version 3",
         certificate::Cause::Tail => "bytes follow the last line",
     }
 }

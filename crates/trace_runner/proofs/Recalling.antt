@@ -38,7 +38,7 @@ use Rattle.trace_text.specs.declared.line.Line.{Line}
 use Rattle.trace_text.specs.declared.line.Line.TheVariants as line
 use Rattle.trace_text.proofs.Bindings.{binding_of-push, of_either}
 use Rattle.trace_text.proofs.Clips.{all_fine}
-use Rattle.trace_text.proofs.Lines.{chosen}
+use Rattle.trace_text.proofs.Tests.{chosen}
 
 -- one more line
 pub take_line : {X : Type 0} (xs : List X) (place : ℕ) (x : X) → slice_get xs place ≡ Some x → (take (place + 1) xs ≡ take place xs ++ x ∷ []) × (length (take place xs) ≡ place)

@@ -2,11 +2,11 @@
 //! call answered and what the run left. Beside that it checks certificates of plans.
 //!
 //! A trace is a text with one call on a line, in sections that marks part. [`replay_serial`] reads
-//! it and runs its calls on a `Core`, which keeps an object of 1, 4 or 16 words of 128 bits under
-//! each key and answers as a plain map of keys does. At a mark the shards of threads that have
-//! ended are abandoned, what was to be freed later is freed, other shards adopt what is left, and
-//! as many folds as can be are planned; they are carried out after the lines that follow. Its
-//! report goes to any [`Sink`].
+//! it and runs its calls on a `Core`, which keeps an object of 1 to 16 words of 128 bits under each
+//! key and answers as a plain map of keys does. At a mark the shards of threads that have ended are
+//! abandoned, what was to be freed later is freed, other shards adopt what is left, and as many
+//! folds as can be are planned; they are carried out after the lines that follow. Its report goes
+//! to any [`Sink`].
 //!
 //! [`check_text`] reads a certificate, tests it by the checker of the crate `certificate`, and says
 //! in one line whether it is accepted.

@@ -3,7 +3,7 @@ use Rattle.std.proofs.Common.{◌≡◌, ℕ, ◌+◌, ◌≤◌, ◌⊎◌, fal
 use Rattle.std.specs.Option.{option_map_or, option_or}
 use Rattle.std.specs.Str.{bytes_eq}
 use Rattle.std.proofs.lemmas.Bool.Decides.{nat_tests}
-use Rattle.trace_text.proofs.Lines.{chosen, same_bytes}
+use Rattle.trace_text.proofs.Tests.{chosen, same_bytes}
 use Rattle.trace_text.proofs.Clips.{all_fine}
 use Rattle.trace_text.specs.Earlier.{Few, IsFew}
 use Rattle.trace_text.specs.Causes.{binding_at, binding_from, binding_of, binds_again, call_binding, first_cause, is_call, is_call_over, keys_at, keys_in, marks, marks_at}

@@ -3,12 +3,12 @@ use Rattle.std.proofs.Common.{◌≡◌, ℕ, ◌+◌, ◌-◌, ◌^◌, ◌≤�
 use Rattle.std.specs.Option.{option_map_or}
 use Rattle.std.proofs.lemmas.Bool.Decides.{nat_tests}
 use Rattle.std.proofs.lemmas.Bool.{and_parts, cases_Bool}
-use Rattle.trace_text.proofs.Lines.{chosen}
+use Rattle.trace_text.proofs.Tests.{chosen}
 use Rattle.std.specs.Int.{IsInRange}
 use Rattle.trace_text.specs.Header.{IsWithinLimits}
 use Rattle.trace_text.specs.Objects.{last_word}
 use Rattle.span.specs.declared.class.Class.{Class}
-use Rattle.span.specs.declared.class.Class.TheVariants.{C16, C64, C256}
+use Rattle.span.proofs.Widths.{width_of-least}
 use Rattle.certificate.specs.Number.{clip}
 use Rattle.trace_text.specs.Reference.{clip_reference}
 use Rattle.trace_text.specs.Within.{clip_call, clip_line, is_value_over}
@@ -81,14 +81,10 @@ clip-most_near n fine = grind (arith, nat_tests)
 
 -- a base that is over makes the last word so
 word-over : (class : Class) (v : ℕ) → nat_le (2 ^ 128) v ≡ true → nat_le (2 ^ 128) (last_word class v) ≡ true
-word-over C16 v over = grind (arith, nat_tests)
-word-over C64 v over = grind (arith, nat_tests)
-word-over C256 v over = grind (arith, nat_tests)
+word-over class v over = grind (arith, nat_tests, width_of-least class)
 
 last-over : (class : Class) (n v : ℕ) → nat_le (2 ^ 128) v ≡ true → is_fill_over class n v ≡ true
-last-over C16 n v over = grind (arith, nat_tests)
-last-over C64 n v over = grind (arith, nat_tests)
-last-over C256 n v over = grind (arith, nat_tests)
+last-over class n v over = grind (arith, nat_tests, width_of-least class)
 
 -- ---- calls
 

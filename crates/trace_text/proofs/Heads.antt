@@ -11,13 +11,13 @@ use Rattle.trace_text.specs.Number.{IsOutside, KeepsNumber}
 use Rattle.trace_text.specs.Words.{words_of}
 use Rattle.trace_text.specs.declared.header.Header.{Header}
 use Rattle.trace_text.specs.declared.header.Version.{Version}
-use Rattle.trace_text.specs.declared.header.Version.TheVariants.{One, Two, Three, Four, Five}
+use Rattle.trace_text.specs.declared.header.Version.TheVariants.{One, Two, Three, Four, Five, Six}
 use Rattle.trace_text.specs.declared.numeral.Number.{Number}
 use Rattle.trace_text.specs.declared.cause.Cause.{Cause}
 use Rattle.trace_text.specs.declared.cause.Cause.TheVariants as cause
 use Rattle.trace_text.specs.declared.cause.ParseError.{ParseError}
 use Rattle.trace_text.specs.declared.cause.ParseError.TheVariants.{BadTrace, OutOfMemory}
-use Rattle.trace_text.proofs.Lines.{chosen, same_bytes}
+use Rattle.trace_text.proofs.Tests.{chosen, same_bytes}
 
 -- the line below those that begin a header is at fault
 pub FailsHeader-below : (above more : List Field) (field : Field) (numbers : List ℕ) (number : ℕ) (lines rest : List (List ℕ)) (e : ParseError)
@@ -69,7 +69,8 @@ size_range word most n (line ∷ lines) below begin = begin.0.1
 
 -- the version of a number
 abbrev of_number : ℕ → Version
-of_number n = if n == 5 then Five else (if n == 4 then Four else (if n == 3 then Three else (if n == 2 then Two else One)))
+of_number n =
+    if n == 6 then Six else (if n == 5 then Five else (if n == 4 then Four else (if n == 3 then Three else (if n == 2 then Two else One))))
 
 of_number_of : (version : Version) → of_number (number_of version) ≡ version
 of_number_of One = refl
@@ -77,6 +78,7 @@ of_number_of Two = refl
 of_number_of Three = refl
 of_number_of Four = refl
 of_number_of Five = refl
+of_number_of Six = refl
 
 -- the last byte of each first line is its version's digit
 digit_of-opening : (version : Version) → get_or (opening_of version) 5 0 ≡ 48 + number_of version
@@ -85,6 +87,7 @@ digit_of-opening Two = refl
 digit_of-opening Three = refl
 digit_of-opening Four = refl
 digit_of-opening Five = refl
+digit_of-opening Six = refl
 
 -- so each version has its own first line
 opening_of-same : (version other : Version) → opening_of version ≡ opening_of other → version ≡ other

@@ -3,6 +3,8 @@ pub mod Digits
 pub mod Ends
 pub mod Heads
 pub mod Forms
+pub mod Tests
+pub mod Verbs
 pub mod Lines
 pub mod Clips
 pub mod Bindings

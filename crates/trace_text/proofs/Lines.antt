@@ -1,5 +1,5 @@
 -- The form of a line, as a function and as a relation.
-use Rattle.std.proofs.Common.{◌≡◌, ℕ, ◌<◌, ◌≤◌, ◌==◌, ◌&&◌, ◌||◌, not, nat_lt, ◌⊎◌, Bool, true, false, cond, List, [], ◌∷◌, length, Option, Some, None, option_map, codes, slice_index, arith, rules, refl, sym, ap, inl, inr, subst}
+use Rattle.std.proofs.Common.{◌≡◌, ℕ, ◌<◌, ◌≤◌, ◌==◌, ◌&&◌, ◌||◌, not, nat_lt, ◌⊎◌, true, false, List, [], ◌∷◌, length, Option, Some, None, option_map, codes, slice_index, arith, rules, refl, sym, ap, inl, inr, subst}
 use Rattle.std.specs.List.{slice_split, onto_first, list_all}
 use Rattle.std.specs.Char.{is_ascii_digit}
 use Rattle.std.specs.Str.Parse.{digits_value}
@@ -8,10 +8,9 @@ use Rattle.certificate.proofs.Digits.{is_digit-range}
 use Rattle.std.specs.Option.{option_and_then}
 use Rattle.std.specs.Str.{bytes_eq}
 use Rattle.std.proofs.lemmas.Option.{cond_some, option_and_then_some}
-use Rattle.std.proofs.lemmas.Slice.Eq.{bytes_eq-Decides}
 use Rattle.std.proofs.lemmas.Bool.{and_parts, cases_Bool}
 use Rattle.span.specs.declared.class.Class.{Class}
-use Rattle.span.specs.declared.class.Class.TheVariants.{C16, C64, C256}
+use Rattle.span.specs.declared.class.Class.TheVariants.{C16}
 use Rattle.trace_text.specs.declared.header.Version.{Version}
 use Rattle.trace_text.specs.declared.name.Reference.{Reference}
 use Rattle.trace_text.specs.declared.line.Call.{Call}
@@ -22,15 +21,9 @@ use Rattle.certificate.specs.Number.{number_in, is_numeral}
 use Rattle.trace_text.specs.Name.{is_name}
 use Rattle.trace_text.specs.Reference.{reference_in}
 use Rattle.trace_text.specs.Words.{words_of}
+use Rattle.trace_text.proofs.Tests.{chosen, same_bytes}
+use Rattle.trace_text.proofs.Verbs.{class_filled-again, class_filled-found, class_put-again, class_put-found}
 use Rattle.trace_text.specs.Form.{Word, Verb, Number, Named, Refers, IsWord, AreWords, SaysLine, HasForm, has_verb, class_filled, class_put, fill_verb, put_verb, set_verb, trim_verb, retire_verb, begin_verb, verb_of, words_of_call, bare_call, key_call, retire_call, aimed_call, with_name, value_call, set_call, valued_call, with_two, counted_call, thread_line, one_word, two_words, form_of_words, form_of}
-
--- which way a test went
-pub chosen : {X : Type 0} (b : Bool) (x y z : X) → cond b x y ≡ z → ((b ≡ true) × (x ≡ z)) ⊎ ((b ≡ false) × (y ≡ z))
-chosen true x y z e = inl (refl, e)
-chosen false x y z e = inr (refl, e)
-
-pub same_bytes : (xs ys : List ℕ) → bytes_eq xs ys ≡ true → xs ≡ ys
-same_bytes xs ys e = search (rules, bytes_eq-Decides)
 
 mapped : {A B : Type 0} (f : A → B) (o : Option A) (b : B) → option_map f o ≡ Some b → (a : A) × (o ≡ Some a) × (f a ≡ b)
 mapped f None b e = cc
@@ -83,31 +76,6 @@ aimed_found : (verb word : List ℕ) (w : Call) → aimed_call verb word ≡ Som
 aimed_found verb word w e = elim (chosen (bytes_eq verb retire_verb) _ _ (Some w) e) [
   | inl p ↦ retire_found verb word w (same_bytes verb retire_verb p.0) p.1
   | inr p ↦ key_found verb word w p.1
-]
-
--- the class of a verb is one whose verb it is
-class_put-found : (verb : List ℕ) (class : Class) → class_put verb ≡ Some class → verb ≡ put_verb class
-class_put-found verb class e = elim (chosen (bytes_eq verb (codes "put")) _ _ (Some class) e) [
-  | inl p ↦ let is : C16 ≡ class = cc p.1 in subst (λ k. verb ≡ put_verb k) is (same_bytes verb (codes "put") p.0)
-  | inr p ↦ elim (chosen (bytes_eq verb (codes "put64")) _ _ (Some class) p.1) [
-    | inl q ↦ let is : C64 ≡ class = cc q.1 in subst (λ k. verb ≡ put_verb k) is (same_bytes verb (codes "put64") q.0)
-    | inr q ↦ elim (chosen (bytes_eq verb (codes "put256")) _ _ (Some class) q.1) [
-      | inl r ↦ let is : C256 ≡ class = cc r.1 in subst (λ k. verb ≡ put_verb k) is (same_bytes verb (codes "put256") r.0)
-      | inr r ↦ cc
-    ]
-  ]
-]
-
-class_filled-found : (verb : List ℕ) (class : Class) → class_filled verb ≡ Some class → verb ≡ fill_verb class
-class_filled-found verb class e = elim (chosen (bytes_eq verb (codes "fill")) _ _ (Some class) e) [
-  | inl p ↦ let is : C16 ≡ class = cc p.1 in subst (λ k. verb ≡ fill_verb k) is (same_bytes verb (codes "fill") p.0)
-  | inr p ↦ elim (chosen (bytes_eq verb (codes "fill64")) _ _ (Some class) p.1) [
-    | inl q ↦ let is : C64 ≡ class = cc q.1 in subst (λ k. verb ≡ fill_verb k) is (same_bytes verb (codes "fill64") q.0)
-    | inr q ↦ elim (chosen (bytes_eq verb (codes "fill256")) _ _ (Some class) q.1) [
-      | inl r ↦ let is : C256 ≡ class = cc r.1 in subst (λ k. verb ≡ fill_verb k) is (same_bytes verb (codes "fill256") r.0)
-      | inr r ↦ cc
-    ]
-  ]
 ]
 
 value_found : (verb name value : List ℕ) (w : Call) → value_call verb name value ≡ Some w → SaysCall (verb ∷ name ∷ value ∷ []) w
@@ -267,20 +235,13 @@ thread_again version thread verb t call c has its is said = rw (its, has, is, sa
 named_again : (name bytes : List ℕ) (call : List ℕ → Call) → (bytes ≡ name) × (is_name name ≡ true) → with_name call bytes ≡ Some (call name)
 named_again name bytes call is = rw (is.0, is.1) refl
 
-class_put-again : (class : Class) → class_put (put_verb class) ≡ Some class
-class_put-again C16 = refl
-class_put-again C64 = refl
-class_put-again C256 = refl
-
 value_again : (class : Class) (name value : List ℕ) (v : ℕ) (bytes : List ℕ) → (bytes ≡ name) × (is_name name ≡ true) → number_in value ≡ Some v
     → value_call (put_verb class) bytes value ≡ Some (Put name class v)
 value_again class name value v bytes named is = rw (class_put-again class, is) (named_again name bytes (λ n. Put n class v) named)
 
 valued_again : (class : Class) (name value : List ℕ) (v : ℕ) (bytes : List ℕ) → (bytes ≡ name) × (is_name name ≡ true) → number_in value ≡ Some v
     → valued_call (put_verb class) bytes value ≡ Some (Put name class v)
-valued_again C16 name value v bytes named is = value_again C16 name value v bytes named is
-valued_again C64 name value v bytes named is = value_again C64 name value v bytes named is
-valued_again C256 name value v bytes named is = value_again C256 name value v bytes named is
+valued_again class name value v bytes named is = value_again class name value v bytes named is
 
 set_again : (key : Reference) (bytes value : List ℕ) (v : ℕ) → reference_in bytes ≡ Some key → number_in value ≡ Some v → valued_call set_verb bytes value ≡ Some (Set key C16 v)
 set_again key bytes value v refers is = rw (is, refers) refl
@@ -291,9 +252,8 @@ two_again call name bytes first second a b named fst snd = rw (fst, snd) (named_
 
 fill_again : (class : Class) (name bytes first second : List ℕ) (n v : ℕ) → (bytes ≡ name) × (is_name name ≡ true) → number_in first ≡ Some n
     → number_in second ≡ Some v → counted_call (fill_verb class) bytes first second ≡ Some (Fill name class n v)
-fill_again C16 name bytes first second n v named fst snd = two_again (λ m a b. Fill m C16 a b) name bytes first second n v named fst snd
-fill_again C64 name bytes first second n v named fst snd = two_again (λ m a b. Fill m C64 a b) name bytes first second n v named fst snd
-fill_again C256 name bytes first second n v named fst snd = two_again (λ m a b. Fill m C256 a b) name bytes first second n v named fst snd
+fill_again class name bytes first second n v named fst snd =
+    rw (class_filled-again class) (two_again (λ m a b. Fill m class a b) name bytes first second n v named fst snd)
 
 -- a line whose words say a thread's call is read as that
 call_again : (version : Version) (words : List (List ℕ)) (t : ℕ) (c : Call) → SaysLine version (line.Call t c) words → form_of_words version words ≡ Some (line.Call t (plain_call c))

@@ -10,7 +10,8 @@ use Rattle.trace_text.specs.Within.{clip_line, is_value_over, within}
 use Rattle.trace_text.specs.Header.{IsWithinLimits}
 use Rattle.trace_text.specs.Earlier.{Few}
 use Rattle.trace_text.specs.Causes.{awaits_mark, classed, is_call, HasCause, IsNextLine, IsSound, AreReadAs, SaysAfter, first_cause, IsFirstFault}
-use Rattle.trace_text.proofs.Lines.{chosen, form_found, form_again}
+use Rattle.trace_text.proofs.Lines.{form_found, form_again}
+use Rattle.trace_text.proofs.Tests.{chosen}
 use Rattle.trace_text.proofs.Clips.{first_cause-clip, clip_line-fine, over-value}
 use Rattle.trace_text.proofs.Classed.{HasForm-classed, classed-again, classed-clip, value_over-classed}
 

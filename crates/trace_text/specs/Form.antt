@@ -1,16 +1,17 @@
 -- The forms of a line below the header, in each version: first as the words that each form has,
 -- then as a function of a line's words.
-use Rattle.std.specs.Prelude.{◌≡◌, ◌==◌, ◌||◌, ◌⊎◌, ℕ, Bool, true, List, [], ◌∷◌, ◌++◌, Option, Some, None, option_map, option_and_then, codes, if◌then◌else◌}
-use Rattle.std.specs.List.{list_any}
+use Rattle.std.specs.Prelude.{◌≡◌, ◌*◌, ◌/◌, ◌%◌, ◌==◌, ◌&&◌, ◌||◌, ◌⊎◌, ℕ, Bool, true, nat_le, nat_lt, List, [], ◌∷◌, ◌++◌, length, take, drop, Option, Some, None, option_map, option_and_then, codes, decimal, if◌then◌else◌}
+use Rattle.std.specs.List.{list_any, range_with_len}
 use Rattle.std.specs.Str.{bytes_eq}
 use Rattle.certificate.specs.Number.{number_in}
 use Rattle.trace_text.specs.Name.{is_name}
 use Rattle.trace_text.specs.Reference.{reference_in}
 use Rattle.trace_text.specs.Words.{words_of}
+use Rattle.span.specs.Classes.{class_with, width_of}
 use Rattle.span.specs.declared.class.Class.{Class}
-use Rattle.span.specs.declared.class.Class.TheVariants.{C16, C64, C256}
+use Rattle.span.specs.declared.class.Class.TheVariants.{C16}
 use Rattle.trace_text.specs.declared.header.Version.{Version}
-use Rattle.trace_text.specs.declared.header.Version.TheVariants.{One, Two, Three, Four, Five}
+use Rattle.trace_text.specs.declared.header.Version.TheVariants.{One, Two, Three, Four, Five, Six}
 use Rattle.trace_text.specs.declared.name.Reference.{Reference}
 use Rattle.trace_text.specs.declared.line.Call.{Call}
 use Rattle.trace_text.specs.declared.line.Call.TheVariants.{Put, Fill, Get, Set, Free, Sweep, Later, Tend, Trim, Retire, End, Begin}
@@ -24,25 +25,30 @@ pub data Word : Type 0 where
   Named : List ℕ → Word
   Refers : Reference → Word
 
+-- what the verb of a put or a fill ends with: the bytes of an object, but nothing for one word
+abbrev pub size_text : Class → List ℕ
+size_text class = if width_of class == 1 then [] else decimal (16 * width_of class)
+
 -- the verb of a put, by the class of its object
 abbrev pub put_verb : Class → List ℕ
-put_verb C16 = codes "put"
-put_verb C64 = codes "put64"
-put_verb C256 = codes "put256"
+put_verb class = codes "put" ++ size_text class
 
 -- the verb of a fill, by the class of its objects
 abbrev pub fill_verb : Class → List ℕ
-fill_verb C16 = codes "fill"
-fill_verb C64 = codes "fill64"
-fill_verb C256 = codes "fill256"
+fill_verb class = codes "fill" ++ size_text class
 
 -- the verbs of calls that bind a name to objects of one word
 abbrev pub binding_verbs : List (List ℕ)
 binding_verbs = codes "put" ∷ codes "fill" ∷ []
 
--- the verbs of calls that bind a name to objects of more words
+-- the verbs of calls that bind a name to objects of four and of sixteen words
 abbrev pub wide_verbs : List (List ℕ)
 wide_verbs = codes "put64" ∷ codes "put256" ∷ codes "fill64" ∷ codes "fill256" ∷ []
+
+-- the verb is one of a call that binds a name to objects of 1 to 16 words
+abbrev pub is_binding_verb : List ℕ → Bool
+is_binding_verb verb = list_any (λ words. bytes_eq verb (put_verb (class_with words))
+    || bytes_eq verb (fill_verb (class_with words))) (range_with_len 1 16)
 
 -- the verbs of calls that read a name
 abbrev pub reading_verbs : List (List ℕ)
@@ -74,8 +80,8 @@ is_common_verb verb = list_any (bytes_eq verb) binding_verbs
     || (list_any (bytes_eq verb) reading_verbs || list_any (bytes_eq verb) bare_verbs)
 
 -- a thread's call may have the verb, in a trace of each version; the second adds the verbs of
--- objects of more words, the third that of sets, the fourth that of trims, and the fifth those of
--- retirements and of begins
+-- objects of four and of sixteen words, the third that of sets, the fourth that of trims, the fifth
+-- those of retirements and of begins, and the sixth those of objects of all widths
 abbrev pub has_verb : Version → List ℕ → Bool
 has_verb One verb = is_common_verb verb
 has_verb Two verb = is_common_verb verb || list_any (bytes_eq verb) wide_verbs
@@ -84,6 +90,9 @@ has_verb Three verb = is_common_verb verb || (list_any (bytes_eq verb) wide_verb
 has_verb Four verb = is_common_verb verb || (list_any (bytes_eq verb) wide_verbs
     || (bytes_eq verb set_verb || bytes_eq verb trim_verb))
 has_verb Five verb = is_common_verb verb || (list_any (bytes_eq verb) wide_verbs
+    || (bytes_eq verb set_verb || (bytes_eq verb trim_verb
+    || (bytes_eq verb retire_verb || bytes_eq verb begin_verb))))
+has_verb Six verb = is_common_verb verb || (is_binding_verb verb
     || (bytes_eq verb set_verb || (bytes_eq verb trim_verb
     || (bytes_eq verb retire_verb || bytes_eq verb begin_verb))))
 
@@ -182,19 +191,30 @@ aimed_call verb word =
     if bytes_eq verb retire_verb then retire_call word
     else key_call verb word
 
+-- the class of objects of so many bytes, which are more than one word
+abbrev pub class_of_bytes : ℕ → Option Class
+class_of_bytes bytes = if nat_lt 16 bytes && (nat_le bytes 256 && bytes % 16 == 0) then
+    Some (class_with (bytes / 16)) else None
+
+-- the class of objects of as many bytes as the digits say
+abbrev pub class_of_size : List ℕ → Option Class
+class_of_size digits = option_and_then class_of_bytes (number_in digits)
+
+-- the class that the verb names: that of one word, where it is the word alone, and else that of the
+-- size behind the word
+abbrev pub class_behind : List ℕ → List ℕ → Option Class
+class_behind word verb =
+    if bytes_eq verb word then Some C16
+    else (if bytes_eq (take (length word) verb) word then class_of_size (drop (length word) verb)
+    else None)
+
 -- the class of the object that a call of that verb puts
 abbrev pub class_put : List ℕ → Option Class
-class_put verb =
-    if bytes_eq verb (codes "put") then Some C16
-    else (if bytes_eq verb (codes "put64") then Some C64
-    else (if bytes_eq verb (codes "put256") then Some C256 else None))
+class_put verb = class_behind (codes "put") verb
 
 -- the class of the objects that a fill of that verb puts
 abbrev pub class_filled : List ℕ → Option Class
-class_filled verb =
-    if bytes_eq verb (codes "fill") then Some C16
-    else (if bytes_eq verb (codes "fill64") then Some C64
-    else (if bytes_eq verb (codes "fill256") then Some C256 else None))
+class_filled verb = class_behind (codes "fill") verb
 
 -- a call with a name and a value
 abbrev pub value_call : List ℕ → List ℕ → List ℕ → Option Call

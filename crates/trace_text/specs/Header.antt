@@ -8,7 +8,7 @@ use Rattle.trace_text.specs.Form.{AreWords, Number, Verb}
 use Rattle.trace_text.specs.Words.{words_of}
 use Rattle.trace_text.specs.declared.header.Header.{Header}
 use Rattle.trace_text.specs.declared.header.Version.{Version}
-use Rattle.trace_text.specs.declared.header.Version.TheVariants.{One, Two, Three, Four, Five}
+use Rattle.trace_text.specs.declared.header.Version.TheVariants.{One, Two, Three, Four, Five, Six}
 use Rattle.trace_text.specs.declared.cause.Cause.{Cause}
 use Rattle.trace_text.specs.declared.cause.Cause.TheVariants as cause
 use Rattle.trace_text.specs.declared.cause.ParseError.{ParseError}
@@ -23,6 +23,7 @@ opening_of Two = codes "mesh 2"
 opening_of Three = codes "mesh 3"
 opening_of Four = codes "mesh 4"
 opening_of Five = codes "mesh 5"
+opening_of Six = codes "mesh 6"
 
 -- the number of each version
 abbrev pub number_of : Version → ℕ
@@ -31,6 +32,7 @@ number_of Two = 2
 number_of Three = 3
 number_of Four = 4
 number_of Five = 5
+number_of Six = 6
 
 -- what a line of the header says: that a trace begins, or a size, by its word and the greatest
 -- number it may be

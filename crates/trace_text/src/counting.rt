@@ -1,21 +1,20 @@
 //! The objects that lines put.
 
-ghost use Rattle.std.specs.Prelude.{◌≡◌, ◌+◌, ◌<◌, ◌≤◌, ◌^◌};
+ghost use Rattle.std.specs.Prelude.{◌≡◌, ◌+◌, ◌<◌, ◌≤◌, ◌^◌, length};
 ghost use Rattle.std.specs.List.{range_with_len};
 ghost use Rattle.trace_text.specs.Objects.{counted_from, last_word};
 
 use span::{Class, Object};
 
-/// That many words from the base on, each one more than the one before it.
-pub fn count_from<const N: usize>(base: u128) -> [u128; N]
-    requires { base + N ≤ 2 ^ 128 }
-    ensures { result ≡ range_with_len base N }
+/// Writes the base into the first of the words, and into each further one one more than into the
+/// word before it.
+pub fn count_up(words: &mut [u128], base: u128)
+    requires { base + length words.old ≤ 2 ^ 128 }
+    ensures { words.new ≡ range_with_len base (length words.old) }
 {
-    let mut words = [base; N];
-    for place in 0..N {
+    for place in 0..words.len() {
         words[place] = base + place as u128;
     }
-    words
 }
 
 /// The object of the class that counts up from that base: its words are the base, one more than
@@ -26,7 +25,11 @@ pub fn counting_from(class: Class, base: u128) -> Object
 {
     match class {
         Class::C16 => Object::c16(base),
-        Class::C64 => Object::of(class, &count_from::<4>(base)),
-        Class::C256 => Object::of(class, &count_from::<16>(base)),
+        _ => {
+            let mut room = [0; 16];
+            let words = &mut room[..class.words()];
+            count_up(words, base);
+            Object::of(class, words)
+        }
     }
 }

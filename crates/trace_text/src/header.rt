@@ -5,7 +5,7 @@ ghost use Rattle.std.specs.Int.{IsInRange};
 ghost use Rattle.certificate.specs.Words.{contents_of};
 ghost use Rattle.std.specs.List.{list_any};
 ghost use Rattle.std.specs.Str.{bytes_eq};
-ghost use Rattle.trace_text.specs.Form.{bare_verbs, begin_verb, binding_verbs, reading_verbs, retire_verb, set_verb, trim_verb, wide_verbs};
+ghost use Rattle.trace_text.specs.Form.{bare_verbs, begin_verb, binding_verbs, is_binding_verb, reading_verbs, retire_verb, set_verb, trim_verb, wide_verbs};
 ghost use Rattle.trace_text.specs.Header.{BeginWith, FailsField, FailsHeader, HasHeader, IsWithinLimits, Opening, Size, field_in, number_of, opening_of};
 ghost use Rattle.trace_text.specs.Number.{IsOutside, KeepsNumber};
 ghost use Rattle.trace_text.specs.Words.{lines_of, words_of};
@@ -14,6 +14,7 @@ ghost use Rattle.trace_text.specs.declared.numeral.Number.TheVariants.{Fits};
 
 use super::cause::{Cause, ParseError};
 use super::numeral::{Number, parse_number};
+use super::verb::{class_filled, class_put};
 use super::words::{first_line, words};
 use span::{MOST_RING_KEYS, MOST_SHARDS};
 
@@ -29,13 +30,15 @@ pub enum Version {
     One,
     /// The first line is `mesh 2`: objects of four and of sixteen words are put too.
     Two,
-    /// The first line is `mesh 3`: objects of all sizes are put, and set.
+    /// The first line is `mesh 3`: as `mesh 2`, and objects are set.
     Three,
     /// The first line is `mesh 4`: as `mesh 3`, and shards give pages with no live slot back.
     Four,
     /// The first line is `mesh 5`: as `mesh 4`, and shards let groups go to the pool, and begin
     /// again once they have ended.
     Five,
+    /// The first line is `mesh 6`: as `mesh 5`, with objects of 1 to 16 words.
+    Six,
 }
 
 /// Whether the verb is one of a call that binds a name to objects of one word.
@@ -45,7 +48,7 @@ fn binds(verb: &[u8]) -> bool
     matches!(verb, b"put" | b"fill")
 }
 
-/// Whether the verb is one of a call that binds a name to objects of more words.
+/// Whether the verb is one of a call that binds a name to objects of four or of sixteen words.
 fn binds_wide(verb: &[u8]) -> bool
     ensures { result ≡ list_any (bytes_eq verb.now) wide_verbs }
 {
@@ -53,6 +56,13 @@ fn binds_wide(verb: &[u8]) -> bool
         || verb == b"put256".as_slice()
         || verb == b"fill64".as_slice()
         || verb == b"fill256".as_slice()
+}
+
+/// Whether the verb is one of a call that binds a name to objects of any class.
+fn binds_any_class(verb: &[u8]) -> bool
+    ensures { result ≡ is_binding_verb verb.now }
+{
+    class_put(verb).is_some() || class_filled(verb).is_some()
 }
 
 /// Whether the verb is one of a call that reads a name.
@@ -121,6 +131,14 @@ impl Version {
                     || retires(verb)
                     || begins(verb)
             }
+            Version::Six => {
+                in_each
+                    || binds_any_class(verb)
+                    || sets(verb)
+                    || trims(verb)
+                    || retires(verb)
+                    || begins(verb)
+            }
         }
     }
 }
@@ -182,6 +200,7 @@ fn version_of(line: &[u8]) -> Option<Version>
         b"mesh 3" => Some(Version::Three),
         b"mesh 4" => Some(Version::Four),
         b"mesh 5" => Some(Version::Five),
+        b"mesh 6" => Some(Version::Six),
         _ => None,
     }
 }

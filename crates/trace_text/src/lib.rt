@@ -42,6 +42,10 @@
 //! to 3 groups of the thread's shard with a live slot go to the pool, and `0 begin`, by which a
 //! thread begins again that has ended above an earlier mark.
 //!
+//! A trace whose first line is `mesh 6` may have all of these, and also objects of any number of
+//! words from 2 to 16, by `put32`, `put48`, .. `put256` and `fill32`, `fill48`, .. `fill256`. The
+//! number is that of an object's bytes, 16 a word.
+//!
 //! A shard has 1 to 1,024 pages, a ring 1 to 1,024 places, and a slot 1 to 4,294,967,295
 //! generations. A fill has 1 to 262,144 keys, and a retirement is of up to 1 to 1,048,576 groups.
 //! Each word of an object, the last one of a fill or of a set too, is below 2^128.
@@ -72,10 +76,11 @@ mod parsing;
 mod reading;
 mod text_seed;
 mod trace;
+mod verb;
 mod words;
 
 pub use cause::{Cause, ParseError};
-pub use counting::{count_from, counting_from};
+pub use counting::{count_up, counting_from};
 pub use header::{Header, TRACE_PAGES, Version};
 pub use line::{Binding, Call, Keys, Line};
 pub use line_list::LineList;

@@ -1,7 +1,7 @@
 //! Reads lines.
 
 ghost use Rattle.std.specs.Prelude.{◌≡◌, Option};
-ghost use Rattle.trace_text.specs.Form.{adopt_line, aimed_call, bare_call, class_filled, class_put, counted_call, form_of, form_of_words, key_call, one_word, retire_call, set_call, thread_line, two_words, value_call, valued_call, with_two};
+ghost use Rattle.trace_text.specs.Form.{adopt_line, aimed_call, bare_call, counted_call, form_of, form_of_words, key_call, one_word, retire_call, set_call, thread_line, two_words, value_call, valued_call, with_two};
 ghost use Rattle.certificate.specs.Words.{contents_of};
 ghost use Rattle.trace_text.specs.Within.{within, within_call};
 ghost use Rattle.trace_text.specs.declared.line.Call.{Call};
@@ -12,6 +12,7 @@ use super::header::Version;
 use super::line::{Call, Line};
 use super::name::{Name, Reference};
 use super::numeral::{Number, clipped_number, parse_number};
+use super::verb::{class_filled, class_put};
 use super::words::words;
 use span::Class;
 
@@ -59,36 +60,6 @@ fn aimed_call(verb: &[u8], word: &[u8]) -> Result<Call, Cause>
         retire_call(word)
     } else {
         key_call(verb, word)
-    }
-}
-
-/// The class of the object that a call of that verb puts.
-fn class_put(verb: &[u8]) -> Option<Class>
-    ensures { result ≡ class_put verb.now }
-{
-    if verb == b"put".as_slice() {
-        Some(Class::C16)
-    } else if verb == b"put64".as_slice() {
-        Some(Class::C64)
-    } else if verb == b"put256".as_slice() {
-        Some(Class::C256)
-    } else {
-        None
-    }
-}
-
-/// The class of the objects that a fill of that verb puts.
-fn class_filled(verb: &[u8]) -> Option<Class>
-    ensures { result ≡ class_filled verb.now }
-{
-    if verb == b"fill".as_slice() {
-        Some(Class::C16)
-    } else if verb == b"fill64".as_slice() {
-        Some(Class::C64)
-    } else if verb == b"fill256".as_slice() {
-        Some(Class::C256)
-    } else {
-        None
     }
 }
 

@@ -55,9 +55,10 @@ The other lines, where T is a thread and S a shard:
   adopt S                at the next mark the shard takes a group of the pool
   mark                   all threads meet, and as many folds as possible are planned
 
-Where the first line is mesh 2, 3, 4 or 5, put64, put256, fill64 and fill256 put objects of 4 and of
-16 words, which hold V, V+1, .., and are found so. There is one line more from mesh 3 on, another from
-mesh 4 on, and two more where it is mesh 5:
+Where the first line is mesh 2 to 6, put64, put256, fill64 and fill256 put objects of 4 and of 16
+words, which hold V, V+1, .., and are found so. Where it is mesh 6, objects of 2 to 16 words are put
+by put32, put48, .. put256 and fill32, fill48, .. fill256: the number is that of their bytes. There
+is one line more from mesh 3 on, another from mesh 4 on, and two more from mesh 5 on:
 
   T set NAME V           replaces the value of the key by V, or by V, V+1, .., as wide as before
   T trim                 gives back the pages of the thread's shard on which nothing is live

@@ -19,7 +19,7 @@ use crate::rings::settle_shard;
 use arena_core::Event;
 use span::{Class, Key};
 use std::alloc::AllocError;
-use trace_text::{Call, Reference, count_from};
+use trace_text::{Call, Reference, count_up};
 
 impl<'t> Run<'t> {
     /// Makes a call that is no put on the line of that number, and keeps what it answers.
@@ -80,9 +80,13 @@ impl<'t> Run<'t> {
         ensures trace { self.new.trace.now ≡ self.old.trace.now }
     {
         match class {
-            Class::C16 => self.put_words(number, thread, class, &count_from::<1>(base)),
-            Class::C64 => self.put_words(number, thread, class, &count_from::<4>(base)),
-            Class::C256 => self.put_words(number, thread, class, &count_from::<16>(base)),
+            Class::C16 => self.put_words(number, thread, class, &[base]),
+            _ => {
+                let mut room = [0; 16];
+                let words = &mut room[..class.words()];
+                count_up(words, base);
+                self.put_words(number, thread, class, words)
+            }
         }
     }
 
@@ -185,9 +189,13 @@ impl<'t> Run<'t> {
             return self.skip(number);
         };
         match class {
-            Class::C16 => self.set_key(number, key, &count_from::<1>(base)),
-            Class::C64 => self.set_key(number, key, &count_from::<4>(base)),
-            Class::C256 => self.set_key(number, key, &count_from::<16>(base)),
+            Class::C16 => self.set_key(number, key, &[base]),
+            _ => {
+                let mut room = [0; 16];
+                let words = &mut room[..class.words()];
+                count_up(words, base);
+                self.set_key(number, key, words)
+            }
         }
     }
 
