@@ -9,7 +9,7 @@ use Rattle.span.specs.declared.key.Key.{Key}
 use Rattle.span.specs.declared.receipt.Receipt.{Receipt}
 use Rattle.span.specs.Receipts.{free}
 use Rattle.span.specs.StoredReceipts.{call_words}
-use Rattle.arena.specs.Receipts.{AddsFrees, IsFree, IsFreeBy, done_by, free_receipt, joined}
+use Rattle.arena.specs.Receipts.{AddsFrees, IsFree, IsFreeBy, done_by, joined}
 
 -- a receipt of a free has no word of an object
 pub call_words-IsFree : (r : Receipt) → IsFree r → length (call_words r.call) ≡ 0
@@ -18,14 +18,6 @@ call_words-IsFree r is = ap (λ c. length (call_words c)) is ∙ none (done_by r
     none : (done : Bool) → length (call_words (free done)) ≡ 0
     none true = refl
     none false = refl
-
--- the receipt of a free, done or not, is one
-pub IsFreeBy-free_receipt : (worker section : ℕ) (key : Key) (done : Bool) (at : ℕ) (r : Receipt) → r ≡ free_receipt worker section key done at → IsFreeBy worker section key r
-IsFreeBy-free_receipt worker section key done at r is = subst (λ r. IsFreeBy worker section key r) (sym is) (of done)
-  where
-    of : (done : Bool) → IsFreeBy worker section key (free_receipt worker section key done at)
-    of true = refl
-    of false = refl
 
 module _ {worker section : ℕ} where
   -- for no key nothing is added

@@ -1,8 +1,8 @@
 -- What calls on a key do in the shard or the pool that is lent.
 use mathlib.Core.Logic.{inl, inr}
-use Rattle.std.proofs.Common.{◌≡◌, ℕ, Bool, true, List, Option, Some, None, ap, refl, subst, sym, ◌∙◌}
-use Rattle.std.proofs.lemmas.Option.{none-some, same_Some}
-use Rattle.std.specs.Prelude.{IfOk, IfSome, MatchOption, OnErr, Ok, Err, Result}
+use Rattle.std.proofs.Common.{◌≡◌, ℕ, Bool, true, List, Option, Some, None, subst}
+use Rattle.std.proofs.lemmas.Option.{none-some}
+use Rattle.std.specs.Prelude.{IfOk, IfSome, OnErr, Ok, Err, Result}
 use Rattle.std.specs.Result.{result_transpose}
 use Rattle.std.specs.declared.alloc.AllocError.{AllocError}
 use Rattle.latch.specs.declared.latch.Busy.{Busy}
@@ -10,18 +10,16 @@ use Rattle.groups.specs.Group.{IsElsewhere}
 use Rattle.span.specs.Log.{Value}
 use Rattle.span.specs.PlainMap as plain
 use Rattle.span.specs.declared.key.Key.{Key}
-use Rattle.shard.specs.Calls.{Frees, Sets}
+use Rattle.shard.specs.Calls.{Sets}
 use Rattle.shard.specs.Shown.{shown}
 use Rattle.shard.specs.State.{ShardState}
-use Rattle.shard.specs.declared.shard.Freed.{Freed}
-use Rattle.shard.specs.declared.shard.Freed.TheVariants as freed
 use Rattle.shard.specs.declared.shard.replacing.Replaced.{Replaced}
 use Rattle.shard.specs.declared.shard.replacing.Replaced.TheVariants as replaced
 use Rattle.pool.specs.Calls.{Sets as SetsPooled}
 use Rattle.pool.specs.Shown.{shown as shown_by_pool}
 use Rattle.pool.specs.State.{PoolState}
-use Rattle.arena.specs.KeyCalls.{FreesIn, FreesInPool, FreesNothing, IsAnswered, IsFreed, IsSet, SetsIn, SetsInPool, SetsNothing}
-use Rattle.arena.specs.Told.{free_told, set_told}
+use Rattle.arena.specs.KeyCalls.{IsAnswered, SetsIn, SetsInPool}
+use Rattle.arena.specs.Told.{set_told}
 
 module _ {S W A : Type 0} (R : S → List W → Option A → S → List W → Type 0) (room after : List W) where
   -- what was asked of a latch, without what it kept
@@ -44,12 +42,6 @@ module _ {W A : Type 0} (R : ShardState → List W → Option A → ShardState �
   pub IsAnswered-pooled : (answer : Option A) (old new : PoolState) → Q old room answer new after → IfSome answer (λ a. IsAnswered R Q N room a after)
   IsAnswered-pooled (Some a) old new made = inr (inl (old, new, made))
   IsAnswered-pooled None old new made = tt
-
--- both of what is answered
-pub MatchOption-both : {A : Type 0} (answer : Option A) (N : Type 0) (P Q : A → Type 0) → (answer ≡ None → N) → IfSome answer P → IfSome answer Q
-    → MatchOption answer N (λ a. P a × Q a)
-MatchOption-both (Some a) N P Q none one two = (one, two)
-MatchOption-both None N P Q none one two = none refl
 
 -- what a set in a shard answers is that of the shard's own
 pub SetsIn-set : (old new : ShardState) (key : Key) (words : Value) (set : Result (Option (Key × Bool × ℕ)) AllocError)
@@ -84,53 +76,3 @@ SetsIn-elsewhere old new key words answer sets none = (subst (λ answer. SetsIn 
 pub SetsInPool-elsewhere : (old new : PoolState) (key : Key) (words : Value) (answer : Option (Result (Key × Bool × ℕ) AllocError))
     → SetsInPool key words old answer new → answer ≡ None → IsElsewhere old.groups key.span
 SetsInPool-elsewhere old new key words answer sets none = (subst (λ answer. SetsInPool key words old answer new) none sets).0
-
--- what is told of a set and of a free is of its key
-set_told-key : (key : Key) (what : Replaced) (told : Key × Bool × ℕ) → Some told ≡ set_told key what → told.0 ≡ key
-set_told-key key (replaced.Yes n) told is = ap (λ told. told.0) (same_Some _ _ is)
-set_told-key key (replaced.No n) told is = ap (λ told. told.0) (same_Some _ _ is)
-set_told-key key replaced.NotHere told is = absurd (none-some _ (sym is))
-
-free_told-key : (key : Key) (what : Freed) (told : Key × Bool × ℕ) → Some told ≡ free_told key what → told.0 ≡ key
-free_told-key key (freed.Yes n) told is = ap (λ told. told.0) (same_Some _ _ is)
-free_told-key key (freed.No n) told is = ap (λ told. told.0) (same_Some _ _ is)
-free_told-key key freed.NotHere told is = absurd (none-some _ (sym is))
-
-pub SetsIn-key : {R : Type 0} (old new : ShardState) (key : Key) (words : Value) (answer : Option (Result (Key × Bool × ℕ) AllocError)) → R
-    → SetsIn key words old answer new → MatchOption answer R (λ answer. IfOk answer (λ set. set.0 ≡ key))
-SetsIn-key old new key words None same sets = same
-SetsIn-key old new key words (Some (Ok set)) same sets = set_told-key key sets.0 set sets.2
-SetsIn-key old new key words (Some (Err error)) same sets = tt
-
-pub SetsInPool-key : {R : Type 0} (old new : PoolState) (key : Key) (words : Value) (answer : Option (Result (Key × Bool × ℕ) AllocError)) → R
-    → SetsInPool key words old answer new → MatchOption answer R (λ answer. IfOk answer (λ set. set.0 ≡ key))
-SetsInPool-key old new key words None same sets = same
-SetsInPool-key old new key words (Some (Ok set)) same sets = set_told-key key sets.0 set sets.2
-SetsInPool-key old new key words (Some (Err error)) same sets = tt
-
-pub FreesIn-key : {R : Type 0} (old new : ShardState) (key : Key) (answer : Option (Key × Bool × ℕ)) → R → FreesIn key old answer new
-    → MatchOption answer R (λ answer. answer.0 ≡ key)
-FreesIn-key old new key None same frees = same
-FreesIn-key old new key (Some told) same frees = free_told-key key frees.0 told frees.2
-
-pub FreesInPool-key : {R : Type 0} (old new : PoolState) (key : Key) (answer : Option (Key × Bool × ℕ)) → R → FreesInPool key old answer new
-    → MatchOption answer R (λ answer. answer.0 ≡ key)
-FreesInPool-key old new key None same frees = same
-FreesInPool-key old new key (Some told) same frees = free_told-key key frees.0 told frees.2
-
--- whose answer a set or a free has, without the room that it writes nothing to
-pub IsSet-answered : (key : Key) (words : Value) (room after : List ℕ) (answer : Result (Key × Bool × ℕ) AllocError)
-    → IsAnswered (λ old before answer new after. SetsIn key words old answer new × (after ≡ before))
-    (λ old before answer new after. SetsInPool key words old answer new × (after ≡ before)) (SetsNothing key) room answer after
-    → IsSet key words answer
-IsSet-answered key words room after answer (inl (old, new, (sets, same))) = inl (old, new, sets)
-IsSet-answered key words room after answer (inr (inl (old, new, (sets, same)))) = inr (inl (old, new, sets))
-IsSet-answered key words room after answer (inr (inr (nothing, same))) = inr (inr nothing)
-
-pub IsFreed-answered : (key : Key) (room after : List ℕ) (answer : Key × Bool × ℕ)
-    → IsAnswered (λ old before answer new after. FreesIn key old answer new × (after ≡ before))
-    (λ old before answer new after. FreesInPool key old answer new × (after ≡ before)) (FreesNothing key) room answer after
-    → IsFreed key answer
-IsFreed-answered key room after answer (inl (old, new, (frees, same))) = inl (old, new, frees)
-IsFreed-answered key room after answer (inr (inl (old, new, (frees, same)))) = inr (inl (old, new, frees))
-IsFreed-answered key room after answer (inr (inr (nothing, same))) = inr (inr nothing)

@@ -5,7 +5,6 @@ pub mod Ended
 mod Frees
 mod KeptSpans
 mod KeyCalls
-mod LeftObject
 pub mod LentFolds
 pub mod LentForgets
 pub mod Linking

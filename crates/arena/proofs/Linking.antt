@@ -9,7 +9,7 @@ use Rattle.remote_queue.specs.Rings.{Ring, Taking, cell}
 use Rattle.span.specs.declared.receipt.Receipt.{Receipt}
 use Rattle.std.proofs.lemmas.Bool.{cases_eq}
 use Rattle.arena.specs.Receipts.{AddsFrees, joined}
-use Rattle.arena.specs.Seats.{AreLinked, KeepPlaces, KeepsEnds, SeatState, SendingSide, in_rings, known_lists, out_rings, sending_side, sent_lists, taken_lists, taken_on}
+use Rattle.arena.specs.Seats.{AreLinked, KeepPlaces, SeatState, SendingSide, in_rings, known_lists, out_rings, sending_side, sent_lists, taken_lists, taken_on}
 use Rattle.arena.specs.Settled.{AreCounted, AreSameSeats, IsSettled, TakingSide, known_by, taking_side}
 use Rattle.arena.proofs.CountedRings.{same_out_rings, same_sent}
 use Rattle.arena.proofs.Sending.{KeepPlaces-more, KeepPlaces-same}
@@ -214,10 +214,6 @@ frees_more items section seats before lists s x0 d0 v seated listed below one we
 pub still_in_order : (a b : List SeatState) → AreLinked a → AreSameSeats a b → (s : ℕ) (x : SeatState) → s < length b → (slice_index_or b s x).worker ≡ s
 still_in_order a b linked same s x below = (AreLinked-same a b same linked).in_order s x below
 
--- each shard's counts are those of what its ends know
-pub counts_known : (a b : List SeatState) (s : ℕ) (x : SeatState) (counts : List ℕ) → s < length b → AreCounted a b s counts → counts ≡ map length (known_lists (slice_index_or b s x).inboxes)
-counts_known a b s x counts below counted = counted.counts_are ∙ ap (map length) (get_or-map (λ (seat : SeatState). known_lists seat.inboxes) b s x [] below)
-
 -- every ring into a shard is settled
 pub settled_from : (a b : List SeatState) (s section : ℕ) (x : SeatState) (counts : List ℕ) (before after : List Receipt) → s < length b → AreCounted a b s counts
     → AddsFrees s section (joined (known_lists (slice_index_or b s x).inboxes)) before after → IsSettled a s section counts before after
@@ -245,28 +241,3 @@ same_by f [] [] long each = refl
 same_by f [] (y ∷ ys) long each = absurd (omega arith)
 same_by f (x ∷ xs) [] long each = absurd (omega arith)
 same_by f (x ∷ xs) (y ∷ ys) long each = rw (each 0 x y (omega arith)) (ap (λ l. f x ∷ l) (same_by f xs ys (omega arith) (λ i d e h. each (suc i) d e (omega arith))))
-
--- seats that keep their ends stay linked
-pub linked_after : {J : Type 0} (seat : J → SeatState) (a b : List J) → length b ≡ length a
-    → ((i : ℕ) (d e : J) → i < length a → KeepsEnds (seat (get_or a i d)) (seat (get_or b i e))) → AreLinked (map seat a) → AreLinked (map seat b)
-linked_after seat a b long each linked =
-    AreLinked-from (map seat a) (map seat b)
-    (map-map (λ (s : SeatState). s.worker) seat b ∙ same_by (λ j. (seat j).worker) a b long (λ i d e h. (each i d e h).worker_is) ∙ sym (map-map (λ (s : SeatState). s.worker) seat a))
-    (map-map out_rings seat b ∙ same_by (λ j. out_rings (seat j)) a b long (λ i d e h. (each i d e h).outboxes_are) ∙ sym (map-map out_rings seat a))
-    (map-map in_rings seat b ∙ same_by (λ j. in_rings (seat j)) a b long (λ i d e h. (each i d e h).inboxes_are) ∙ sym (map-map in_rings seat a)) linked
-
--- one seat that keeps its ends leaves all linked
-pub AreLinked-set : (seats : List SeatState) (i : ℕ) (x d : SeatState) → KeepsEnds (get_or seats i d) x → AreLinked seats → AreLinked (slice_set seats i x)
-AreLinked-set seats i x d keeps linked =
-    AreLinked-from seats (slice_set seats i x) (map-set_same (λ (s : SeatState). s.worker) seats i x d keeps.worker_is)
-    (map-set_same out_rings seats i x d keeps.outboxes_are) (map-set_same in_rings seats i x d keeps.inboxes_are) linked
-
--- the same seat has the same ends
-pub KeepsEnds-same : (a b : SeatState) → b ≡ a → KeepsEnds a b
-KeepsEnds-same a b same = record {
-  worker_is = ap (λ (s : SeatState). s.worker) same;
-  limits_are = ap (λ (s : SeatState). s.limits) same;
-  table_is = ap (λ (s : SeatState). s.table) same;
-  outboxes_are = ap out_rings same;
-  inboxes_are = ap in_rings same;
-}

@@ -1,5 +1,5 @@
 -- Lists of senders' ends, of which one changes.
-use Rattle.std.proofs.Common.{◌≡◌, ℕ, zero, suc, ◌<◌, ◌≤◌, List, [], ◌∷◌, ◌++◌, length, map, get_or, slice_index_or, slice_set, Result, Ok, Err, MatchResult, OnOk, Some, refl, ◌+◌, ap, sym, subst, ◌∙◌, arith}
+use Rattle.std.proofs.Common.{◌≡◌, ℕ, zero, suc, ◌<◌, ◌≤◌, List, [], ◌∷◌, ◌++◌, length, map, get_or, slice_index_or, slice_set, Result, Ok, Err, MatchResult, OnOk, Some, refl, ◌+◌, ap, sym, ◌∙◌, arith}
 use Rattle.std.specs.List.{slice_get}
 use Rattle.std.proofs.lemmas.Option.{slice_get_within}
 use Rattle.std.proofs.Math.Seq.{map-set_same}
@@ -19,19 +19,6 @@ sent_step outboxes i before after key (Ok x) below is sent =
     let old : before.sent ≡ slice_index_or (map (λ (o : Sending). o.sent) outboxes) i [] = ap (λ (o : Sending). o.sent) is ∙ sym (get_or-map (λ (o : Sending). o.sent) outboxes i before [] below) in
     map-set (λ (o : Sending). o.sent) outboxes i after ∙ ap (slice_set (map (λ (o : Sending). o.sent) outboxes) i) (sent ∙ ap (λ l. l ++ key ∷ []) old)
 sent_step outboxes i before after key (Err back) below is sent = (sent.0, map-set_same (λ (o : Sending). o.sent) outboxes i after before (sent.1 ∙ ap (λ (o : Sending). o.sent) is))
-
--- the same, with the end's place said in another way
-pub sent_step_at : {A : Type 0} (outboxes : List Sending) (i j : ℕ) (before after : Sending) (key : Key) (r : Result A Key) → i ≡ j → i < length outboxes → before ≡ get_or outboxes i before
-    → MatchResult r (λ _. after.sent ≡ before.sent ++ key ∷ []) (λ back. (back ≡ key) × (after.sent ≡ before.sent))
-    → MatchResult r (λ _. map (λ o. o.sent) (slice_set outboxes i after) ≡ slice_set (map (λ o. o.sent) outboxes) j (slice_index_or (map (λ o. o.sent) outboxes) j [] ++ key ∷ []))
-    (λ back. (back ≡ key) × (map (λ o. o.sent) (slice_set outboxes i after) ≡ map (λ o. o.sent) outboxes))
-sent_step_at outboxes i j before after key r same below is sent =
-    let P : ℕ → Type 0 = λ k. MatchResult r
-    (λ _. map (λ (o : Sending). o.sent) (slice_set outboxes i after)
-    ≡ slice_set (map (λ (o : Sending). o.sent) outboxes) k (slice_index_or (map (λ (o : Sending). o.sent) outboxes) k [] ++ key ∷ []))
-    (λ back. (back ≡ key) × (map (λ (o : Sending). o.sent) (slice_set outboxes i after) ≡ map (λ (o : Sending). o.sent) outboxes))
-    in
-    subst P same (sent_step outboxes i before after key r below is sent)
 
 -- one entry of a list of numbers grows by what another list has less
 pub no_fewer_set : {A : Type 0} (f : A → ℕ) (xs : List A) (i : ℕ) (after d : A) → f (get_or xs i d) ≤ f after → (k : ℕ)

@@ -12,7 +12,6 @@ use Rattle.bitmap.specs.Slots.{AreDisjoint}
 use Rattle.span.specs.declared.id.SpanId.{SpanId}
 use Rattle.span.specs.Ids.{same_span}
 use Rattle.span.proofs.Ids.{same_id_from_test, test_from_same_id}
-use Rattle.shard.proofs.Classes.{class_from_width}
 use Rattle.shard.specs.Group.{GroupState}
 use Rattle.groups.specs.Group.{occupied, paged_in, summary}
 use Rattle.shard.specs.State.{ShardState}
@@ -20,6 +19,7 @@ use Rattle.pool.specs.State.{PooledState}
 use Rattle.mesh_graph.specs.Groups.{Groups, any_compatible}
 use Rattle.mesh_graph.specs.Sparsest.{AreSparsest}
 use Rattle.mesh_graph.proofs.Sparsest.{All-sparsest}
+use Rattle.span.proofs.Widths.{width_of-injective}
 use Rattle.span.specs.Classes.{width_of}
 use Rattle.span.specs.Entries.{are_compatible}
 use Rattle.span.specs.declared.entry.Entry.{Entry}
@@ -91,7 +91,7 @@ tells_owned (shard ∷ shards) =
 
 -- two groups that the test calls compatible are of one class and share no slot
 class_from_test : (x y : Entry) → are_compatible x y ≡ true → x.class ≡ y.class
-class_from_test x y e = class_from_width x.class y.class
+class_from_test x y e = width_of-injective x.class y.class
     (eqb-true (width_of x.class) (width_of y.class)
     (and_parts (eqb (width_of x.class) (width_of y.class)) (eqb (len (intersection x.occupied y.occupied)) 0) e).0)
 

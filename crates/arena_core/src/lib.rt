@@ -1,13 +1,13 @@
 //! The core: shards, the pool and the open plan as one value that takes events and answers replies.
 //!
 //! A [`Core`] takes [`Event`]s one after another, and answers each with one [`Reply`]. A put goes
-//! to the shard of the number that it names, and keeps there an object of 16, 64 or 256 bytes, on a
-//! page of objects of that size; a look-up, a set and a free go to whoever has the span of the key.
-//! The end of a shard brings its groups to the pool, after which the shard may begin again, a
-//! retirement brings those with the fewest live keys there while the shard goes on, and an adoption
-//! moves one of them, whole, to a shard. A mark plans folds of the pool's groups onto those of the
-//! shards, as many as can be; a step carries the next of them out, and a close ends the plan.
-//! Nothing is lost where an event is refused: the core is as it was before.
+//! to the shard of the number that it names, and keeps there an object of 1 to 16 words of 16
+//! bytes, on a page of objects of that width; a look-up, a set and a free go to whoever has the
+//! span of the key. The end of a shard brings its groups to the pool, after which the shard may
+//! begin again, a retirement brings those with the fewest live keys there while the shard goes on,
+//! and an adoption moves one of them, whole, to a shard. A mark plans folds of the pool's groups
+//! onto those of the shards, as many as can be; a step carries the next of them out, and a close
+//! ends the plan. Nothing is lost where an event is refused: the core is as it was before.
 //!
 //! ```text
 //!   event     Put 0 5     End 0         Put 1 6 twice,   Mark         Step           Get 0.0/0/1

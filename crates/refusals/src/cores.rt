@@ -109,11 +109,8 @@ fn key(shard: u32, serial: u32, slot: u8) -> Option<Key> {
 
 // The object of the class whose words are all this one.
 fn object(class: Class, word: u128) -> Object {
-    match class {
-        Class::C16 => Object::c16(word),
-        Class::C64 => Object::of(class, &[word; 4]),
-        Class::C256 => Object::of(class, &[word; 16]),
-    }
+    let words = [word; 16];
+    Object::of(class, &words[..class.words()])
 }
 
 fn add(events: &mut Vec<Event>, event: Event) -> Result<(), AllocError> {
@@ -226,8 +223,8 @@ fn events_of(alloc: Global) -> Result<Vec<Event>, AllocError> {
     add_sets(&mut events, 0, 1, Class::C64, Class::C256)?;
     add_mark(&mut events, 1, Event::Mark)?;
     add_puts(&mut events, 2, Class::C16, 8)?;
-    add_puts(&mut events, 2, Class::C256, 17)?;
-    add_puts(&mut events, 3, Class::C256, 1)?;
+    add_puts(&mut events, 2, Class::C240, 18)?;
+    add_puts(&mut events, 3, Class::C240, 1)?;
     add(&mut events, Event::Retire { shard: 2, most: 1 })?;
     add(&mut events, Event::End { shard: 1 })?;
     add(&mut events, Event::End { shard: 3 })?;
@@ -249,7 +246,7 @@ fn events_of(alloc: Global) -> Result<Vec<Event>, AllocError> {
     add(&mut events, Event::Trim { shard: 5 })?;
     add_puts(&mut events, 5, Class::C16, 1)?;
     add(&mut events, Event::Begin { shard: 1 })?;
-    add_puts(&mut events, 1, Class::C64, 1)?;
+    add_puts(&mut events, 1, Class::C32, 1)?;
     Ok(events)
 }
 

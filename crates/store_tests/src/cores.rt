@@ -15,6 +15,7 @@ mod retiring;
 mod setting;
 mod spans;
 mod trimming;
+mod widths;
 
 fn key(shard: u32, serial: u32, slot: u8, generation: u32) -> Option<Key> {
     Key::new(SpanId::new(shard, serial)?, slot, generation)

@@ -3,7 +3,7 @@ use crate::objects::{Sought, object};
 use fold::{Step, fold_one};
 use pool::Pool;
 use shard::{PutError, Shard};
-use span::{Class, Key, Object, SpanId};
+use span::{CLASSES, Class, Key, Object, SpanId};
 use std::alloc::Global;
 
 // What is seen of pool and shard: their pages, their live keys, and what both find of a key of the
@@ -98,29 +98,38 @@ fn folded(alloc: Global, classes: [Class; 2], groups: u32) -> Option<(Step, Seen
     seen_after(&mut pool, &mut ended, &mut shard, classes, groups)
 }
 
+// What is seen after a fold of two groups of the class, where the shard has so many groups.
+fn both_found(class: Class, pages: usize) -> Seen {
+    Seen {
+        pages: [0, pages],
+        live: [0, pages.saturating_add(1)],
+        found: [
+            Sought::NotHere,
+            Sought::Value(object(class, 7), 1),
+            Sought::NotHere,
+            Sought::Value(object(class, 8), 3),
+        ],
+    }
+}
+
 // The shard's maps are full at three groups, and its lists at four: a fold needs no place on these.
 #[test]
 fn folds_two_groups(rt: HostRuntime) {
-    for (class, groups, pages, live) in [
-        (Class::C16, 1, 1, 2),
-        (Class::C16, 3, 3, 4),
-        (Class::C16, 4, 4, 5),
-        (Class::C64, 1, 1, 2),
-        (Class::C256, 1, 1, 2),
-    ] {
-        let wanted = Seen {
-            pages: [0, pages],
-            live: [0, live],
-            found: [
-                Sought::NotHere,
-                Sought::Value(object(class, 7), 1),
-                Sought::NotHere,
-                Sought::Value(object(class, 8), 3),
-            ],
-        };
+    for groups in [1u32, 3, 4] {
         assert_eq!(rt;
-            folded(rt.alloc(), [class, class], groups),
-            Some((Step::Folded, wanted))
+            folded(rt.alloc(), [Class::C16, Class::C16], groups),
+            Some((Step::Folded, both_found(Class::C16, groups as usize)))
+        );
+    }
+}
+
+#[test]
+fn folds_two_groups_of_each_class(rt: HostRuntime) {
+    for words in 1..=CLASSES {
+        let class = Class::of_words(words);
+        assert_eq!(rt;
+            class.and_then(|class| folded(rt.alloc(), [class, class], 1)),
+            class.map(|class| (Step::Folded, both_found(class, 1)))
         );
     }
 }
@@ -151,7 +160,7 @@ fn folded_with_no_page(alloc: Global, class: Class) -> Option<(usize, Step, Seen
 // The page of the pool's group is then that of the shard's.
 #[test]
 fn folds_onto_a_group_with_no_page(rt: HostRuntime) {
-    for class in [Class::C16, Class::C64, Class::C256] {
+    for class in [Class::C16, Class::C48, Class::C256] {
         let wanted = Seen {
             pages: [0, 1],
             live: [0, 1],
@@ -169,21 +178,34 @@ fn folds_onto_a_group_with_no_page(rt: HostRuntime) {
     }
 }
 
-// No slot is live in both, and each key finds its object where it was.
-#[test]
-fn leaves_two_classes_apart(rt: HostRuntime) {
-    let wanted = Seen {
+// What is seen after no fold of a group of one class onto one of another.
+fn both_apart(classes: [Class; 2]) -> Seen {
+    let [from, onto] = classes;
+    Seen {
         pages: [1, 1],
         live: [1, 1],
         found: [
-            Sought::Value(object(Class::C256, 7), 1),
+            Sought::Value(object(from, 7), 1),
             Sought::NotHere,
             Sought::NotHere,
-            Sought::Value(object(Class::C64, 8), 3),
+            Sought::Value(object(onto, 8), 3),
         ],
-    };
-    let classes = [Class::C256, Class::C64];
-    assert_eq!(rt; folded(rt.alloc(), classes, 1), Some((Step::Clash, wanted)));
+    }
+}
+
+// No slot is live in both, and each key finds its object where it was.
+#[test]
+fn leaves_two_classes_apart(rt: HostRuntime) {
+    for classes in [
+        [Class::C256, Class::C64],
+        [Class::C16, Class::C32],
+        [Class::C240, Class::C224],
+    ] {
+        assert_eq!(rt;
+            folded(rt.alloc(), classes, 1),
+            Some((Step::Clash, both_apart(classes)))
+        );
+    }
 }
 
 // The steps onto a group that clashes, onto one that is not there, and then of a group without a

@@ -4,27 +4,29 @@ ghost use Rattle.shard.specs.Calls.{FindsObject};
 use shard::Found;
 use span::{Class, Object};
 
-/// The object of 64 bytes whose words differ from this one in the two lowest bits, by their place:
-/// from a multiple of four on they count.
+/// The object of 64 bytes that this word tells.
 pub(crate) fn wide(word: u128) -> Object {
-    let words = [word, word ^ 1, word ^ 2, word ^ 3];
-    Object::of(Class::C64, &words)
+    object(Class::C64, word)
 }
 
-/// The object of 256 bytes whose words are all this one but the last.
+/// The object of 256 bytes that this word tells.
 pub(crate) fn widest(word: u128) -> Object {
-    let mut words = [word; 16];
-    words[15] = 0;
-    Object::of(Class::C256, &words)
+    object(Class::C256, word)
 }
 
-/// An object of the class, of which the word tells the others.
+/// The object of the class whose words differ from this one in the four lowest bits, by their
+/// place: from a multiple of sixteen on they count.
 pub(crate) fn object(class: Class, word: u128) -> Object {
-    match class {
-        Class::C16 => Object::c16(word),
-        Class::C64 => wide(word),
-        Class::C256 => widest(word),
+    let mut words = [word; 16];
+    for place in 0..words.len() {
+        words[place] = word ^ place as u128;
     }
+    first_of(class, &words)
+}
+
+/// The object of the class that has the first of these words.
+pub(crate) fn first_of(class: Class, words: &[u128; 16]) -> Object {
+    Object::of(class, &words[..class.words()])
 }
 
 /// What a look-up found, with the object in place of its words, which are lent.

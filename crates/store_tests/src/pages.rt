@@ -5,9 +5,9 @@
 ghost use Rattle.std.specs.Prelude.{◌<◌, ◌≤◌};
 ghost use Rattle.span.specs.Classes.{slots_in};
 
-use crate::objects::object;
+use crate::objects::{first_of, object};
 use page::Page;
-use span::{Class, Object};
+use span::{CLASSES, Class, Object};
 use std::alloc::Global;
 
 fn blank(alloc: Global) -> Option<Page> {
@@ -35,10 +35,11 @@ fn value_at(page: &Page, class: Class, slot: u8) -> Option<Object>
 
 // What stands at the first two slots and at the last two of a page, after an object at its first
 // and another at its last.
-fn ends_of(alloc: Global, class: Class, last: u8) -> Option<[Option<Object>; 4]>
-    requires last { last < slots_in class }
-    requires more { 2 ≤ last }
-{
+fn ends_of(alloc: Global, class: Class) -> Option<[Option<Object>; 4]> {
+    let last = last_slot(class);
+    if u16::from(last) >= class.slots() || last < 2 {
+        return None;
+    }
     let mut page = blank(alloc)?;
     set_at(&mut page, class, 0, 7);
     set_at(&mut page, class, last, 8);
@@ -50,13 +51,16 @@ fn ends_of(alloc: Global, class: Class, last: u8) -> Option<[Option<Object>; 4]>
     ])
 }
 
+// The last slot of a page of objects of the class: the objects fill its 256 words, but for less
+// than one.
+fn last_slot(class: Class) -> u8 {
+    let objects = 256usize.checked_div(class.words()).unwrap_or(0);
+    u8::try_from(objects.saturating_sub(1)).unwrap_or(0)
+}
+
 // The object whose words are all zero.
 fn zeros(class: Class) -> Object {
-    match class {
-        Class::C16 => Object::c16(0),
-        Class::C64 => Object::of(class, &[0; 4]),
-        Class::C256 => Object::of(class, &[0; 16]),
-    }
+    first_of(class, &[0; 16])
 }
 
 // The same where the objects are apart.
@@ -69,20 +73,15 @@ fn two_ends(class: Class) -> Option<[Option<Object>; 4]> {
     ])
 }
 
-// A page has 256, 64 or 16 objects, and each object's words are apart from those of its neighbours.
+// A page has as many objects as its words have room for, and each object's words are apart from
+// those of its neighbours.
 #[test]
 fn a_page_has_objects_of_each_class(rt: HostRuntime) {
-    let ends = (
-        ends_of(rt.alloc(), Class::C16, 255),
-        ends_of(rt.alloc(), Class::C64, 63),
-        ends_of(rt.alloc(), Class::C256, 15),
-    );
-    assert_eq!(rt;
-        ends,
-        (
-            two_ends(Class::C16),
-            two_ends(Class::C64),
-            two_ends(Class::C256)
-        )
-    );
+    for words in 1..=CLASSES {
+        let class = Class::of_words(words);
+        assert_eq!(rt;
+            class.and_then(|class| ends_of(rt.alloc(), class)),
+            class.and_then(two_ends)
+        );
+    }
 }

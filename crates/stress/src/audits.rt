@@ -3,7 +3,9 @@
 ghost use Rattle.std.specs.Prelude.{◌≡◌, ◌≤◌, OnOk};
 
 use audit::{AuditCause, AuditError, audit, audit_by_threads};
-use span::{Call, Change, Class, Kept, Key, Log, Object, Receipt, ReceiptList, SpanId, SpanLog};
+use span::{
+    CLASSES, Call, Change, Class, Kept, Key, Log, Object, Receipt, ReceiptList, SpanId, SpanLog,
+};
 use std::alloc::{AllocError, Global};
 use std::test::Fail;
 use std::thread::Threads;
@@ -31,11 +33,18 @@ const FREE: Change = Change::Free {
     generation: 1,
 };
 
-// An object of each class.
+// The object of so many words, which count from 5 on.
+fn object_of(words: usize) -> Result<Object, Fail> {
+    let all = [5, 6, 7, 8, 9, 10, 11, 12, 13, 14, 15, 16, 17, 18, 19, 20];
+    if words > all.len() {
+        return Err("an object has 16 words at most".into());
+    }
+    Ok(Object::new(&all[..words]).ok_or("1 to 16 words are an object's")?)
+}
+
+// The objects of one word, of four and of sixteen.
 fn objects() -> Result<[Object; 3], Fail> {
-    let four = Object::new(&[5, 6, 7, 8]).ok_or("4 words are an object's")?;
-    let sixteen = Object::new(&[5; 16]).ok_or("16 words are an object's")?;
-    Ok([Object::c16(5), four, sixteen])
+    Ok([object_of(1)?, object_of(4)?, object_of(16)?])
 }
 
 // An object that differs from that of four words in the last of them.
@@ -331,18 +340,27 @@ fn cause_at(
     cause(alloc, class, &[put_of(slot, object)], &receipts, &[])
 }
 
-// The answers to an object of another class than its span's, to the last slot of a page of each
-// class, and to the slot after it.
-fn causes_by_class(alloc: Global) -> Result<[Option<AuditCause>; 7], Fail> {
-    let [one, four, sixteen] = objects()?;
+// The answers to an object of one word in a span of its class and of another, and at its last slot.
+fn causes_of_one(alloc: Global) -> Result<[Option<AuditCause>; 3], Fail> {
+    let one = object_of(1)?;
     Ok([
-        cause_at(alloc, Class::C64, 0, one)?,
-        cause_at(alloc, Class::C16, 0, four)?,
+        cause_at(alloc, Class::C16, 0, one)?,
+        cause_at(alloc, Class::C32, 0, one)?,
         cause_at(alloc, Class::C16, 255, one)?,
-        cause_at(alloc, Class::C64, 63, four)?,
-        cause_at(alloc, Class::C64, 64, four)?,
-        cause_at(alloc, Class::C256, 15, sixteen)?,
-        cause_at(alloc, Class::C256, 16, sixteen)?,
+    ])
+}
+
+// The answers to an object of so many words in a span of the class below, at the last slot of a
+// page of its own class, and at the slot after it.
+fn causes_of_width(alloc: Global, words: usize) -> Result<[Option<AuditCause>; 3], Fail> {
+    let object = object_of(words)?;
+    let narrower = object_of(words.saturating_sub(1))?.class();
+    let objects = 256usize.checked_div(words).unwrap_or(0);
+    let after = u8::try_from(objects).unwrap_or(0);
+    Ok([
+        cause_at(alloc, narrower, 0, object)?,
+        cause_at(alloc, object.class(), after.saturating_sub(1), object)?,
+        cause_at(alloc, object.class(), after, object)?,
     ])
 }
 
@@ -358,7 +376,8 @@ fn names_the_first_part_that_fails(rt: HostRuntime) -> Result<(), Fail> {
         Some(AuditCause::Barrier),
         Some(AuditCause::Barrier),
     ];
-    for object in objects()? {
+    for words in 1..=CLASSES {
+        let object = object_of(words)?;
         assert_eq!(rt; causes(rt.alloc(), &object)?, wanted);
     }
     Ok(())
@@ -413,10 +432,10 @@ fn asks_what_a_set_answers(rt: HostRuntime) -> Result<(), Fail> {
 #[test]
 fn asks_each_log_for_its_class(rt: HostRuntime) -> Result<(), Fail> {
     let log = Some(AuditCause::Log);
-    assert_eq!(rt;
-        causes_by_class(rt.alloc())?,
-        [log, log, None, None, log, None, log]
-    );
+    assert_eq!(rt; causes_of_one(rt.alloc())?, [None, log, None]);
+    for words in 2..=CLASSES {
+        assert_eq!(rt; causes_of_width(rt.alloc(), words)?, [log, None, log]);
+    }
     Ok(())
 }
 

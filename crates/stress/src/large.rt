@@ -1,6 +1,6 @@
 //! An arena at sizes far beyond those of the other tests, with ample memory: no size alone is a
 //! reason for a call to be refused. Calls that wait are asked by turns with those that do not.
-use crate::shared::{Shards, Shared, free, get, keep, make_shared, pause, put, retire};
+use crate::shared::{Shards, Shared, first_of, free, get, keep, make_shared, pause, put, retire};
 use arena::{Seat, Stepped, Steward};
 use certificate::Certificate;
 use fold::Step;
@@ -26,12 +26,7 @@ fn put_by<R: Wait>(
     if !seat.fits(arena) {
         return None;
     }
-    let word = u128::from(number);
-    let object = match class {
-        Class::C16 => Object::c16(word),
-        Class::C64 => Object::of(class, &[word; 4]),
-        Class::C256 => Object::of(class, &[word; 16]),
-    };
+    let object = first_of(class, &[u128::from(number); 16]);
     match number % 2 {
         0 => Some(seat.put(rt, arena, object).ok()?.0),
         _ => Some(seat.try_put(arena, class, object.words()).ok()?.ok()?.key()),
@@ -49,11 +44,7 @@ fn fill<R: Wait>(rt: &R, arena: &Shards, seat: &mut Seat, class: Class, pages: u
 
 // The last slot of a page of objects of the class.
 fn last_slot(class: Class) -> u8 {
-    match class {
-        Class::C16 => 255,
-        Class::C64 => 63,
-        Class::C256 => 15,
-    }
+    u8::try_from(class.slots().saturating_sub(1)).unwrap_or(u8::MAX)
 }
 
 // Frees a key that is live.
@@ -166,8 +157,8 @@ fn folded<R: Wait>(rt: &R, alloc: Global) -> Option<([usize; 2], u32, Totals)> {
         mut steward,
         ..
     } = make_shared(alloc, 500)?;
-    for class in [Class::C64, Class::C256] {
-        let from = if class == Class::C64 { 0 } else { 250 };
+    for class in [Class::C48, Class::C256] {
+        let from = if class == Class::C48 { 0 } else { 250 };
         thin_out(rt, &*arena, &mut first, class, from, false)?;
         thin_out(rt, &*arena, &mut second, class, from, true)?;
     }

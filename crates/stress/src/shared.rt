@@ -11,6 +11,11 @@ pub(crate) type Shards = Arena<NoGate, Counted>;
 
 pub(crate) type Kept = Session<NoGate, Counted>;
 
+// The object of the class that has the first of these words.
+pub(crate) fn first_of(class: Class, words: &[u128; 16]) -> Object {
+    Object::of(class, &words[..class.words()])
+}
+
 // An arena of three shards with its seats and its steward.
 #[derive(Drop)]
 pub(crate) struct Shared {

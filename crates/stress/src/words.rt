@@ -2,9 +2,10 @@
 ghost use Rattle.std.specs.Prelude.{◌≡◌};
 
 use crate::held::{Holding, Signals, TURNS, Three, make_three};
+use crate::shared::first_of;
 use arena::{Arena, Seat, Stepped, Steward};
 use fold::Step;
-use span::{Class, Counted, Key, Object};
+use span::{CLASSES, Class, Counted, Key, Object};
 use std::alloc::Global;
 use std::test::Fail;
 
@@ -235,44 +236,50 @@ fn is_found_and_set(
     found == Some(object) && matches!(seat.try_set(arena, key, words), Ok(Ok(set)) if set.done())
 }
 
-// What look-ups by words find of an object of four words and one of sixteen, which are then set to
-// others.
-type Wide = [Option<[u128; 16]>; 4];
+// Words that count from this one on, as many as any object has.
+fn counting_from(first: u128) -> [u128; 16] {
+    let mut words = [first; 16];
+    for place in 0..words.len() {
+        words[place] = first.saturating_add(place as u128);
+    }
+    words
+}
 
-fn wide(arena: &Arena<Holding<'_>, Counted>, first: &mut Seat, second: &mut Seat) -> Option<Wide>
+// The first words of these that an object of the class has, and zeros behind them.
+fn padded(class: Class, words: &[u128; 16]) -> [u128; 16] {
+    let mut padded = [0; 16];
+    for place in 0..class.words().min(words.len()) {
+        padded[place] = words[place];
+    }
+    padded
+}
+
+// What look-ups by words find of an object of the class, which is then set to another.
+type Looks = [Option<[u128; 16]>; 2];
+
+fn looks(
+    arena: &Arena<Holding<'_>, Counted>,
+    first: &mut Seat,
+    second: &mut Seat,
+    class: Class,
+) -> Option<Looks>
     requires first { first.old.limits ≡ arena.now.limits }
     requires second { second.old.limits ≡ arena.now.limits }
 {
-    let words = [1, 2, 3, 4];
-    let wide_words = [1, 2, 3, 4, 5, 6, 7, 8, 9, 10, 11, 12, 13, 14, 15, 16];
-    let four = first.try_put(arena, Class::C64, &words).ok()?.ok()?.key();
-    let sixteen = first
-        .try_put(arena, Class::C256, &wide_words)
-        .ok()?
-        .ok()?
-        .key();
-    let before = words_of(arena, second, &four, 4);
-    let wide_before = words_of(arena, second, &sixteen, 16);
-    let others = [21, 22, 23, 24];
-    let wide_others = [
-        21, 22, 23, 24, 25, 26, 27, 28, 29, 30, 31, 32, 33, 34, 35, 36,
-    ];
-    let (object, wide_object) = (
-        Object::of(Class::C64, &words),
-        Object::of(Class::C256, &wide_words),
-    );
-    let is_set = is_found_and_set(arena, second, &four, object, &others)
-        && is_found_and_set(arena, second, &sixteen, wide_object, &wide_others);
-    if !is_set {
+    let (words, others) = (counting_from(1), counting_from(21));
+    let (object, other) = (first_of(class, &words), first_of(class, &others));
+    let put = first.try_put(arena, class, object.words()).ok()?.ok()?;
+    let key = put.key();
+    let before = words_of(arena, second, &key, class.words());
+    if !is_found_and_set(arena, second, &key, object, other.words()) {
         return None;
     }
-    let after = words_of(arena, second, &four, 4);
-    let wide_after = words_of(arena, second, &sixteen, 16);
-    Some([before, wide_before, after, wide_after])
+    Some([before, words_of(arena, second, &key, class.words())])
 }
 
-// The same of a new arena.
-fn wide_of_new(alloc: Global) -> Option<Wide> {
+// The same of a new arena, and what it ought to be.
+fn looks_of_new(alloc: Global, words: usize) -> Option<[Looks; 2]> {
+    let class = Class::of_words(words)?;
     let signals = Signals::new();
     let gate = Holding {
         signals: &signals,
@@ -285,18 +292,18 @@ fn wide_of_new(alloc: Global) -> Option<Wide> {
         mut second,
         ..
     } = make_three(alloc, gate)?;
-    wide(&arena, &mut first, &mut second)
+    let wanted = [
+        Some(padded(class, &counting_from(1))),
+        Some(padded(class, &counting_from(21))),
+    ];
+    Some([looks(&arena, &mut first, &mut second, class)?, wanted])
 }
 
 #[test]
 fn keep_each_word_in_its_place(rt: HostRuntime) -> Result<(), Fail> {
-    let four = [1, 2, 3, 4, 0, 0, 0, 0, 0, 0, 0, 0, 0, 0, 0, 0];
-    let others = [21, 22, 23, 24, 0, 0, 0, 0, 0, 0, 0, 0, 0, 0, 0, 0];
-    let sixteen = [
-        21, 22, 23, 24, 25, 26, 27, 28, 29, 30, 31, 32, 33, 34, 35, 36,
-    ];
-    let wide = [1, 2, 3, 4, 5, 6, 7, 8, 9, 10, 11, 12, 13, 14, 15, 16];
-    let wanted = [Some(four), Some(wide), Some(others), Some(sixteen)];
-    assert_eq!(rt; wide_of_new(rt.alloc()), Some(wanted));
+    for words in 1..=CLASSES {
+        let looks = looks_of_new(rt.alloc(), words);
+        assert!(rt; matches!(looks, Some([found, wanted]) if found == wanted));
+    }
     Ok(())
 }

@@ -1,6 +1,7 @@
 // A worker of a run.
 ghost use Rattle.std.specs.Prelude.{◌≡◌, IfSome};
 
+use crate::shared::first_of;
 use arena::{Arena, NoGate, Seat};
 use pool::{AdoptError, ReceiveError};
 use rand_core::utils::NextWord;
@@ -259,14 +260,16 @@ impl<'a> Worker<'a> {
     }
 }
 
-// An object of the class that the number tells: of 16 numbers 12 are of one word, and one of
-// sixteen words, so that a section's puts of each class take about a page.
+// An object of the class that the number tells, whose words count from it on: of 64 numbers 49 are
+// of one word, and one of each other width.
 fn object_of(number: u32) -> Object {
-    let word = u128::from(number);
-    match number / 16 % 16 {
-        0 => Object::of(Class::C256, &[word; 16]),
-        1..=3 => Object::of(Class::C64, &[word, word + 1, word + 2, word + 3]),
-        _ => Object::c16(word),
+    let mut words = [u128::from(number); 16];
+    for place in 0..words.len() {
+        words[place] = u128::from(number) + place as u128;
+    }
+    match Class::of_words((number / 16 % 64) as usize) {
+        Some(class) => first_of(class, &words),
+        None => Object::c16(words[0]),
     }
 }
 

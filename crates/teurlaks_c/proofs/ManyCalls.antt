@@ -1,5 +1,5 @@
 -- What is done after some of many calls, and what the next one adds.
-use Rattle.std.proofs.Common.{◌≡◌, ◌≢◌, ◌⊎◌, inl, inr, ℕ, zero, suc, ◌+◌, ◌<◌, ◌≤◌, ◌++◌, ◌∷◌, [], Bool, true, false, List, None, Some, append-nil, ap, arith, drop, length, map, refl, set, slice_get, subst, sym, take, ◌∙◌}
+use Rattle.std.proofs.Common.{◌≡◌, ◌≢◌, ◌⊎◌, inl, inr, ℕ, zero, suc, ◌+◌, ◌<◌, ◌≤◌, ◌++◌, ◌∷◌, [], true, false, List, Some, append-nil, ap, arith, drop, length, refl, set, slice_get, subst, sym, take, ◌∙◌}
 use Rattle.std.proofs.Math.ListN.{length-set}
 use Rattle.std.specs.Prelude.{option_map}
 use Rattle.std.specs.Prelude.{min}
@@ -14,7 +14,6 @@ use Rattle.arena_core.specs.declared.reply.Reply.TheVariants.{Issued, Refused}
 use Rattle.arena_core.specs.declared.reply.Refusal.{Refusal}
 use Rattle.arena_core.specs.State.{CoreState}
 use Rattle.teurlaks_c.specs.declared.replies.GetReply.{GetReply}
-use Rattle.teurlaks_c.specs.declared.replies.ManyReply.{ManyReply}
 use Rattle.teurlaks_c.specs.declared.replies.RawKey.{RawKey}
 use Rattle.teurlaks_c.specs.declared.replies.RawWord.{RawWord}
 use Rattle.teurlaks_c.specs.Calls.{Replies}
@@ -132,9 +131,6 @@ pub record HasPut (old : CoreState) (shard : ℕ) (words : List RawWord) (room :
   pub rest : drop place keys ≡ drop place room
   pub long : length keys ≡ length room
 
-pub HasPut-none : (old : CoreState) (shard : ℕ) (words : List RawWord) (room : List RawKey) → HasPut old shard words room zero room old
-HasPut-none old shard words room = record { puts = λ values raws new run. run; rest = refl; long = refl }
-
 module _ (old : CoreState) (shard : ℕ) (words : List RawWord) (room : List RawKey) (place : ℕ) (keys : List RawKey) (core : CoreState) (has : HasPut old shard words room place keys core) where
   object_at : (word : RawWord) → slice_get words place ≡ Some word → slice_get (objects_of words) place ≡ Some (word_of word ∷ [])
   object_at word here = slice_get-map (λ w. word_of w ∷ []) words place ∙ ap (λ o. option_map (λ w. word_of w ∷ []) o) here
@@ -200,12 +196,6 @@ pub record HasFreed (old : CoreState) (keys : List RawKey) (place count : ℕ) (
   pub frees : (raws : List RawKey) (rest : ℕ) (new : CoreState) → FreesAll core raws rest new → FreesAll old (take place keys ++ raws) (count + rest) new
   pub few : count ≤ place
 
-pub HasFreed-none : (old : CoreState) (keys : List RawKey) → HasFreed old keys zero zero old
-HasFreed-none old keys = record {
-  frees = λ raws rest new run. let same : rest ≡ zero + rest = omega arith in subst (λ n. FreesAll old raws n new) same run;
-  few = omega arith;
-}
-
 module _ (old : CoreState) (keys : List RawKey) (place count : ℕ) (core : CoreState) (has : HasFreed old keys place count core) where
   pub HasFreed-live : (raw : RawKey) (new : CoreState) → slice_get keys place ≡ Some raw → FreesRaw core raw true new → HasFreed old keys (place + 1) (count + 1) new
   HasFreed-live raw new here frees = record {
@@ -237,9 +227,6 @@ pub record HasGot (core : CoreState) (raws : List RawKey) (room : List GetReply)
   pub long : length now ≡ length room
   pub got : (i : ℕ) (raw : RawKey) (says : GetReply) → i < place → slice_get raws i ≡ Some raw → slice_get now i ≡ Some says → GetsRaw core raw says
   pub others : (i : ℕ) → place ≤ i → slice_get now i ≡ slice_get room i
-
-pub HasGot-none : (core : CoreState) (raws : List RawKey) (room : List GetReply) → HasGot core raws room zero room
-HasGot-none core raws room = record { long = refl; got = λ i raw says within here there. absurd (omega arith); others = λ i past. refl }
 
 module _ (core : CoreState) (raws : List RawKey) (room : List GetReply) (place : ℕ) (now : List GetReply) (has : HasGot core raws room place now) where
   pub HasGot-next : (raw : RawKey) (says : GetReply) → slice_get raws place ≡ Some raw → place < length now → GetsRaw core raw says

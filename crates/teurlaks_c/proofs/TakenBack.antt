@@ -1,11 +1,8 @@
 -- A steward that takes a seat back.
 use mathlib.Core.Logic.{inl, inr}
 use Rattle.std.proofs.Common.{◌≡◌, ◌∙◌, ◌∷◌, ◌++◌, [], ℕ, ap, refl, subst, sym}
-use Rattle.std.specs.Prelude.{Option, Result, Ok, Err, Some, None}
-use Rattle.teurlaks_c.specs.Leaving.{IsNotTaken, IsSameSteward, LeavesFor, Takes, Weighs, WeighsSeat}
-use Rattle.teurlaks_c.specs.declared.share.SharedSeat.{SharedSeat}
-use Rattle.teurlaks_c.specs.declared.share.SharedSession.{SharedSession}
-use Rattle.teurlaks_c.specs.declared.share.SharedSteward.{SharedSteward}
+use Rattle.std.specs.Prelude.{Option, Some, None}
+use Rattle.teurlaks_c.specs.Leaving.{IsNotTaken, IsSameSteward, LeavesFor, Takes}
 use Rattle.teurlaks_c.specs.declared.share.Share.{Share}
 use Rattle.teurlaks_c.specs.declared.share.Share.TheVariants.{Nothing, Seat, Session, Steward, RecordedSeat, RecordedSteward, Run}
 
@@ -95,28 +92,3 @@ pub not_left_for : (steward after left : Share) (seat seat_new : Option Share) (
     → IsNotTaken steward left says → LeavesFor (Some steward) seat says (Some after) seat_new
 not_left_for steward after left seat seat_new says is back same why =
     subst (λ s. LeavesFor (Some steward) s says (Some after) seat_new) (sym is) (after, refl, inr (back, same, why))
-
--- what is said of a seat that a handle has, or keeps out of its lock, is said of what the handle has
-pub weighed_seat : (before after : SharedSteward) (share : Share) (left : SharedSeat) (answer : Result (Unit {0}) ℕ) → share ≡ Seat left
-    → WeighsSeat before left.seat answer after → Weighs (Steward before) share answer (Steward after)
-weighed_seat before after share left (Ok u) is weighs = subst (λ s. Weighs (Steward before) s (Ok u) (Steward after)) (sym is) weighs
-weighed_seat before after share left (Err says) is (same, why) =
-    subst (λ s. Weighs (Steward before) s (Err says) (Steward after)) (sym is) (
-      same,
-      elim why [
-        | inl config ↦ inr (inl (λ none. none, λ none. none, config))
-        | inr memory ↦ inr (inr memory)
-      ],
-    )
-
-pub weighed_session : (before after : SharedSteward) (share : Share) (left : SharedSession) (answer : Result (Unit {0}) ℕ) → share ≡ Session left
-    → WeighsSeat before left.session.seat answer after → Weighs (Steward before) share answer (Steward after)
-weighed_session before after share left (Ok u) is weighs = subst (λ s. Weighs (Steward before) s (Ok u) (Steward after)) (sym is) weighs
-weighed_session before after share left (Err says) is (same, why) =
-    subst (λ s. Weighs (Steward before) s (Err says) (Steward after)) (sym is) (
-      same,
-      elim why [
-        | inl config ↦ inr (inl (λ none. none, λ none. none, config))
-        | inr memory ↦ inr (inr memory)
-      ],
-    )

@@ -1,6 +1,6 @@
 -- Answers of a seat, with the receipts that they stand for.
 use mathlib.Core.Logic.{inl, inr}
-use Rattle.std.proofs.Common.{◌≡◌, ◌∙◌, ℕ, Bool, true, false, List, ap, arith, length, refl, subst}
+use Rattle.std.proofs.Common.{◌≡◌, ◌∙◌, ℕ, Bool, true, false, List, ap, arith, length}
 use Rattle.std.specs.Prelude.{◌⊎◌, IfOk, Option, Result, Ok, Err, OnErr, OnOk, Some, None}
 use Rattle.std.specs.declared.alloc.AllocError.{AllocError}
 use Rattle.span.specs.Log.{Value}
@@ -19,7 +19,7 @@ use Rattle.teurlaks_c.specs.declared.replies.WordsReply.{WordsReply}
 use Rattle.teurlaks_c.specs.declared.share.Share.{Share}
 use Rattle.teurlaks_c.specs.Calls.{SaysWords}
 use Rattle.teurlaks_c.specs.Recorded.{AtRecorded, asked_of}
-use Rattle.teurlaks_c.specs.SeatCalls.{Asks, AsksTold, Frees, Gets, OrNoRoom, SaysFreed, SaysGot, SaysLooked, SaysPut, SaysSet, Sets, free_told, put_told, set_told}
+use Rattle.teurlaks_c.specs.SeatCalls.{Asks, AsksTold, Gets, OrNoRoom, SaysFreed, SaysGot, SaysLooked, SaysPut, SaysSet, free_told, put_told, set_told}
 use Rattle.teurlaks_c.specs.SessionCalls.{AnswersOwn, Held, InSession}
 use Rattle.teurlaks_c.specs.Words.{word_of}
 
@@ -69,15 +69,6 @@ pub SaysFreed-told : (says : ℕ) (seat : SeatState) (answer : Result (Key × Bo
 SaysFreed-told says seat (Err b) is = is
 SaysFreed-told says seat (Ok (key, true, at)) is = is
 SaysFreed-told says seat (Ok (key, false, at)) is = is
-
--- what a set or a free answers is of its key
-pub Sets-key : (key : Key) (value : Value) (before after : SeatState) (answer : Result (Result (Key × Bool × ℕ) AllocError) Busy) (set : Key × Bool × ℕ)
-    → answer ≡ Ok (Ok set) → Sets key value before (set_told value before answer) after → set.0 ≡ key
-Sets-key key value before after answer set is sets = (subst (λ answer. Sets key value before (set_told value before answer) after) is sets).0.0
-
-pub Frees-key : (key : Key) (before after : SeatState) (answer : Result (Key × Bool × ℕ) Busy) (freed : Key × Bool × ℕ)
-    → answer ≡ Ok freed → Frees key before (free_told before answer) after → freed.0 ≡ key
-Frees-key key before after answer freed is frees = (subst (λ answer. Frees key before (free_told before answer) after) is frees).0.0
 
 -- what C reads of a look-up that found this, whose words stand in the room
 pub SaysWords-looked : (room room_new : List RawWord) (says : WordsReply) (found : Option Value) (key : Key) (told : Option ℕ) (at : ℕ)

@@ -86,8 +86,8 @@ pub extern "C" fn teurlaks_put(handle: &mut Handle, shard: u32, value: RawWord) 
     put(handle, shard, Class::C16, &[value_of(value)])
 }
 
-/// Keeps an object of 1, 4 or 16 words in the shard, as [`teurlaks_put`] does with one word. Where
-/// the words are of another number, it answers `CONFIG`, and nothing has changed.
+/// Keeps an object of 1 to 16 words in the shard, as [`teurlaks_put`] does with one word. Where
+/// the words are none or more than 16, it answers `CONFIG`, and nothing has changed.
 #[unsafe(no_mangle)]
 pub extern "C" fn teurlaks_put_words(handle: &mut Handle, shard: u32, words: &[RawWord]) -> PutReply
     ensures live { IsSome handle.old.held → PutsWords handle.old.held shard (words_of words.now)
@@ -161,9 +161,9 @@ pub extern "C" fn teurlaks_set(handle: &mut Handle, key: RawKey, value: RawWord)
     set(handle, &key, &[value_of(value)])
 }
 
-/// Sets the key to the object of 1, 4 or 16 words, as [`teurlaks_set`] does with one word, where it
-/// is live and its object has as many. Where the words are of another number than these, it answers
-/// `CONFIG`, and nothing has changed.
+/// Sets the key to the object of 1 to 16 words, as [`teurlaks_set`] does with one word, where it is
+/// live and its object has as many. Where the words are none or more than 16, it answers `CONFIG`,
+/// and nothing has changed.
 #[unsafe(no_mangle)]
 pub extern "C" fn teurlaks_set_words(handle: &mut Handle, key: RawKey, words: &[RawWord]) -> u32
     ensures live { IsSome handle.old.held → SetsWords handle.old.held key (words_of words.now)

@@ -28,8 +28,8 @@ use pool::{AdoptError, ReceiveError};
 use span::{Class, Key, SpanId};
 use std::alloc::{AllocError, Global};
 
-/// Keeps an object of 1, 4 or 16 words in the seat's shard, and answers its key. Refused with
-/// `BUSY`, `PAGES_SPENT`, `ENDED` or `OUT_OF_MEMORY`; where the words are of another number, with
+/// Keeps an object of 1 to 16 words in the seat's shard, and answers its key. Refused with `BUSY`,
+/// `PAGES_SPENT`, `ENDED` or `OUT_OF_MEMORY`; where the words are none or more than 16, with
 /// `CONFIG`. Nothing has changed then.
 ///
 /// A recorded seat keeps a receipt of each put, look-up, set and free, and of each free that it
@@ -67,9 +67,9 @@ pub extern "C" fn teurlaks_seat_get_words(
     look_up_at_seat(alloc, handle, &key, words)
 }
 
-/// Sets the key to the object of 1, 4 or 16 words, where it is live and its object has as many,
-/// which `OK` says; else it answers `NONE`. Refused with `BUSY`, or with `CONFIG` where the words
-/// are of another number; nothing has changed then.
+/// Sets the key to the object of 1 to 16 words, where it is live and its object has as many, which
+/// `OK` says; else it answers `NONE`. Refused with `BUSY`, or with `CONFIG` where the words are
+/// none or more than 16; nothing has changed then.
 #[unsafe(no_mangle)]
 pub extern "C" fn teurlaks_seat_set_words(
     alloc: Global,

@@ -26,18 +26,13 @@ pub(crate) fn raw_word(value: u128) -> RawWord
     }
 }
 
-/// The class whose objects have that many words, or `None` where they are not 1, 4 or 16.
+/// The class whose objects have that many words, or `None` where they are not 1 to 16.
 pub(crate) fn class_for(words: &[RawWord]) -> Option<Class>
     ensures class { MatchOption result (IsObject (words_of words.now) → ⊥)
         (λ class. IsObject (words_of words.now) × (length (words_of words.now) ≡ width_of class)) }
     ensures most { IfSome result (λ class. length words.now ≤ 16) }
 {
-    match words.len() {
-        1 => Some(Class::C16),
-        4 => Some(Class::C64),
-        16 => Some(Class::C256),
-        _ => None,
-    }
+    Class::of_words(words.len())
 }
 
 /// Writes the words, each of its two halves, in their order.

@@ -1,4 +1,4 @@
-// Objects of all three classes in one core.
+// Objects of several classes in one core.
 use super::{Told, found, key, put, totals_after};
 use crate::objects::{wide, widest};
 use arena_core::{Event, Refusal};

@@ -1,6 +1,7 @@
 // A core at sizes far beyond those of the other tests, with ample memory: no size alone is a reason
 // for an event to be refused.
 use super::{Told, found, key, tell};
+use crate::objects::first_of;
 use arena_core::{Core, Event, Refusal};
 use fold::Step;
 use marks::Totals;
@@ -22,12 +23,7 @@ fn ask<L: Log>(core: &mut Core<L>, event: Event, wanted: Told) -> Option<()> {
 
 // Puts an object of the class, whose words are all this one.
 fn put<L: Log>(core: &mut Core<L>, shard: u32, class: Class, word: u128) -> Option<Key> {
-    let object = match class {
-        Class::C16 => Object::c16(word),
-        Class::C64 => Object::of(class, &[word; 4]),
-        Class::C256 => Object::of(class, &[word; 16]),
-    };
-    core.put(shard, object).ok()
+    core.put(shard, first_of(class, &[word; 16])).ok()
 }
 
 fn free<L: Log>(core: &mut Core<L>, key: Key) -> Option<()> {
@@ -36,11 +32,7 @@ fn free<L: Log>(core: &mut Core<L>, key: Key) -> Option<()> {
 
 // The last slot of a page of objects of the class.
 fn last_slot(class: Class) -> u8 {
-    match class {
-        Class::C16 => 255,
-        Class::C64 => 63,
-        Class::C256 => 15,
-    }
+    u8::try_from(class.slots().saturating_sub(1)).unwrap_or(u8::MAX)
 }
 
 // Fills that many new pages with objects of the class, and gives the last key.
@@ -99,7 +91,7 @@ fn thin_out<L: Log>(
 // How many steps of a plan of 500 pages of two classes on each side fold, and what is left.
 fn folded<L: Log>(mut core: Core<L>) -> Option<(u32, Totals)> {
     for (shard, is_last) in [(0u32, false), (1, true)] {
-        thin_out(&mut core, shard, Class::C64, 0, is_last)?;
+        thin_out(&mut core, shard, Class::C48, 0, is_last)?;
         thin_out(&mut core, shard, Class::C256, 250, is_last)?;
     }
     ask(&mut core, Event::End { shard: 0 }, Told::ShardEnded)?;

@@ -1,10 +1,10 @@
 // Sets in place, wherever the key is.
 use super::{Told, answer, are_answered, found, key, new_core, put, totals_after};
-use crate::objects::{wide, widest};
+use crate::objects::{object, wide, widest};
 use arena_core::{Core, Event};
 use fold::Step;
 use marks::Totals;
-use span::{Key, Object};
+use span::{Class, Key, Object};
 use std::alloc::Global;
 
 // A set to an object of one word, and whether it is done.
@@ -160,6 +160,13 @@ fn a_key_of_one_word_takes_one_word(rt: HostRuntime) {
 #[test]
 fn a_key_of_four_words_takes_four(rt: HostRuntime) {
     let objects = [wide(4), wide(8), widest(9)];
+    assert_eq!(rt; is_set_in_class(rt.alloc(), objects), Some(true));
+}
+
+#[test]
+fn a_key_of_fifteen_words_takes_fifteen(rt: HostRuntime) {
+    let class = Class::C240;
+    let objects = [object(class, 4), object(class, 8), widest(9)];
     assert_eq!(rt; is_set_in_class(rt.alloc(), objects), Some(true));
 }
 

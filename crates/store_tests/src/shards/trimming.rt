@@ -132,7 +132,7 @@ fn put_after_a_trim(shard: &mut Shard, class: Class) -> Anew {
 #[test]
 fn opens_a_page_anew(rt: HostRuntime) {
     let (old, new) = (key(id(3, 0), 0, 1), key(id(3, 0), 0, 2));
-    for class in [Class::C16, Class::C64, Class::C256] {
+    for class in [Class::C16, Class::C48, Class::C256] {
         let mut shard = shard(rt.alloc(), 1, 2);
         let found = [Sought::Value(object(class, 8), 3), Sought::Gone(3)];
         assert_eq!(rt;
