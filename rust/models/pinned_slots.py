@@ -27,6 +27,8 @@ from code_steps import as_meant, explored, stands_as_modelled, try_faults
 
 FAULTS = {
     "looks_before_it_pins": "a look-up compares the name before it pins, and not behind",
+    "pins_closed": "a look-up pins a closed slot, and lets it go when it has seen that",
+    "pins_in_two_steps": "a look-up looks at the state and then pins the slot",
     "state_passed_over": "a look-up does not look whether the slot is open",
     "removed_passed_over": "a look-up pins a value that is removed",
     "name_passed_over": "a look-up does not compare the name",
@@ -36,8 +38,8 @@ FAULTS = {
     "claims_in_two_steps": "a claim looks at the state and then closes the slot",
     "claims_with_pins": "a claim does not ask whether there are pins",
     "closes_with_pins": "whoever has the lock closes a slot that is pinned",
-    "opens_by_store": "a slot is opened by a store, which loses pins that fail",
     "opens_before_value": "an entry opens its slot before its value is there",
+    "opens_then_pins": "an entry that lends its value opens its slot and then pins it",
     "fold_opens_before_copy": "a fold opens the slot before it has copied the value",
     "fold_takes_closed": "a fold moves a slot that somebody else has closed",
     "fold_keeps_name": "a fold leaves the slot open from where it moved the value",
@@ -51,11 +53,12 @@ FAULTS = {
 SOURCES = {
     "slot.rs": {
         "pub fn pin(": [
-            "fetch_add(1, Ordering::Acquire)",
-            "before & (OPEN | REMOVED) == OPEN",
-            "self.name.load(Ordering::Relaxed) == name",
-            "return Pin::Held",
-            "Pin::Failed(self.unpin())",
+            "let mut state = OPEN",
+            "while state & (OPEN | REMOVED) == OPEN",
+            "self.replace(state, state + 1)",
+            "self.name() == name => return Pin::Held",
+            "return Pin::Failed(self.unpin())",
+            "Pin::Failed(None)",
         ],
         "pub fn unpin(": [
             "fetch_sub(1, Ordering::Release)",
@@ -65,31 +68,27 @@ SOURCES = {
         "pub fn claim(": ["close_from(OPEN | REMOVED)", "close_from(OPEN | REMOVED | CLEARED)"],
         "pub fn claim_awaited(": ["close_from(OPEN | REMOVED | AWAITED)"],
         "pub fn close(": ["close_from(OPEN)"],
-        "fn close_from(": ["compare_exchange(state, 0, Ordering::Acquire, Ordering::Relaxed)"],
-        "pub fn open(": ["fetch_or(OPEN, Ordering::Release)"],
-        "pub fn open_pinned(": ["fetch_add(OPEN + 1, Ordering::Release)"],
+        "fn close_from(": ["self.replace(state, 0)"],
+        "fn replace(": ["compare_exchange(state, by, Ordering::Acquire, Ordering::Relaxed)"],
+        "pub fn open(": ["state.store(OPEN, Ordering::Release)"],
+        "pub fn open_pinned(": ["state.store(OPEN + 1, Ordering::Release)"],
         "pub fn remove(": ["fetch_or(mark, Ordering::Release)"],
         "pub fn remove_awaited(": ["fetch_or(REMOVED | AWAITED, Ordering::Release)"],
     },
     "table.rs": {
-        "pub fn remove(": [
-            "find_live(key)",
-            "!slot.close()",
-            "slot.remove(then)",
-            "slot.claim().is_none()",
+        "pub fn remove(": ["remove_or(key", "slot.remove(then)", "slot.claim().is_some()"],
+        "pub fn remove_awaited(": ["remove_or(key", "slot.remove_awaited()", "false"],
+        "fn remove_or(": [
+            "page_if_live(home, key)",
+            "!slot.close() && !mark(slot)",
             "Removed::Pinned",
             "page.take(",
-            "self.vacate(key)",
+            "take_name::<T>(home, key)",
+            "self.free(key",
         ],
-        "pub fn remove_awaited(": [
-            "find_live(key)",
-            "!slot.close()",
-            "slot.remove_awaited()",
-            "Removed::Pinned",
-            "page.take(",
-            "self.vacate(key)",
-        ],
-        "pub fn vacate(": ["set_name(NO_NAME)", "free_live(key)"],
+        "pub fn vacate(": ["take_name::<T>(home, key)", "self.free(key"],
+        "fn take_name<": ["set_name(NO_NAME)"],
+        "fn page_if_live<": ["slot.name() == name_of(key) && slot.is_live()"],
         "fn move_values(": [
             "!close_all(page)",
             "copy_value(",
@@ -98,7 +97,7 @@ SOURCES = {
             "free.open()",
         ],
         "fn close_all<": [".close()", "page.slot(number).open()"],
-        "pub fn insert_vacant(": ["self.core.insert", "set_name(name_of(key))"],
+        "pub fn insert_vacant(": ["Values::<T>::insert_key(&mut self.core", "set_name(name_of(key))"],
     },
     "guards.rs": {
         "pub fn insert(": [".put(slot", ".open()"],
@@ -106,7 +105,7 @@ SOURCES = {
     },
     "../shared_slab.rs": {
         "fn pin(": [".pin(name_of(key))", "Pin::Held", "self.finish(", "self.pin_under_lock(key)"],
-        "fn pin_under_lock(": ["find_live(inner)", "slot.pin_live()"],
+        "fn pin_under_lock(": ["find_live(inner)", ".pin_live()"],
         "fn let_go(": ["unpin()", "self.finish("],
         "fn finish(": ["page.take(slot)", ".lock()", "key_of(page.slot(slot).name()", "vacate_removed"],
         "pub fn take(": ["Table::remove_awaited", "await_pins(", "page.take(", "vacate_removed"],
@@ -115,7 +114,14 @@ SOURCES = {
 }
 
 # How often these stand in slot.rs: nothing else changes a state.
-CHANGES = {"fetch_add(": 3, "fetch_sub(": 1, "fetch_or(": 3, "compare_exchange(": 1, ".store(": 1}
+CHANGES = {
+    "fetch_add(": 1,
+    "fetch_sub(": 1,
+    "fetch_or(": 2,
+    "compare_exchange(": 1,
+    "self.replace(": 2,
+    ".store(": 3,
+}
 
 FIRST, SECOND = 0, 1
 FREE = -1
@@ -189,6 +195,10 @@ class View:
     def close(self):
         slot = self.slot().closed()
         return self.having(slots=replaced(self.state.slots, self.me.slot, slot))
+
+    def open(self, number=None, pins=0):
+        """Opens the slot by a store, after which it has so many pins."""
+        return self.with_slot(number, open=True, removed=False, awaited=False, pins=pins)
 
     def to(self, at, **changes):
         threads = replaced(self.state.threads, self.thread, self.me._replace(at=at, **changes))
@@ -265,6 +275,18 @@ class Program:
             value = view.me.noted
         return [view.drop(value).to("end")]
 
+    # A use of a value that is pinned, and the letting go of it.
+
+    def use(self, view, was_over):
+        if was_over:
+            view = view.fails("a look-up finds a value that was removed before")
+        was_removed = view.slot().removed
+        claims = was_removed and self.fault != "guard_without_claim"
+        return [view.unpinned().to("use_claim" if claims else "end")]
+
+    def use_claim(self, view, _):
+        return self.claim(view, "end")
+
 
 class Reader(Program):
     """Looks its key up by a hint, which may lead to either slot, and else under the lock."""
@@ -280,11 +302,18 @@ class Reader(Program):
 
     def pin(self, view, was_over):
         slot = view.slot()
-        view = view.with_slot(pins=slot.pins + 1)
         is_open = slot.open or self.fault == "state_passed_over"
         is_live = not slot.removed or self.fault == "removed_passed_over"
         if not is_open or not is_live:
-            return [view.to("fail")]
+            if self.fault == "pins_closed":
+                return [view.with_slot(pins=slot.pins + 1).to("fail")]
+            return [view.to("ask")]
+        if self.fault == "pins_in_two_steps":
+            return [view.to("pin_late", noted=was_over)]
+        return self.pin_late(view, was_over)
+
+    def pin_late(self, view, was_over):
+        view = view.with_slot(pins=view.slot().pins + 1)
         if self.fault in ("looks_before_it_pins", "name_passed_over"):
             return [view.to("use", noted=was_over)]
         return [view.to("look", noted=was_over)]
@@ -311,16 +340,6 @@ class Reader(Program):
             return [view.unlocked().to("end")]
         pins = view.slot(home).pins + 1
         return [view.with_slot(home, pins=pins).unlocked().to("use", slot=home, noted=was_over)]
-
-    def use(self, view, was_over):
-        if was_over:
-            view = view.fails("a look-up finds a value that was removed before")
-        was_removed = view.slot().removed
-        claims = was_removed and self.fault != "guard_without_claim"
-        return [view.unpinned().to("use_claim" if claims else "end")]
-
-    def use_claim(self, view, _):
-        return self.claim(view, "end")
 
 
 class Remover(Program):
@@ -412,7 +431,7 @@ class Folder(Program):
 
     def open_first(self, view, _):
         name = view.slot(FIRST).name
-        return [view.with_slot(SECOND, name=name, open=True).to("copy")]
+        return [view.with_slot(SECOND, name=name).open(SECOND).to("copy")]
 
     def copy(self, view, _):
         copied = view.slot(FIRST).value
@@ -424,16 +443,14 @@ class Folder(Program):
     def rename(self, view, _):
         name = view.slot(FIRST).name
         if self.fault == "fold_keeps_name":
-            view = view.with_slot(FIRST, open=True)
+            view = view.open(FIRST)
         else:
             view = view.with_slot(FIRST, name=0)
         homes = replaced(view.state.homes, name, SECOND)
         return [view.with_slot(SECOND, name=name).having(homes=homes).to("open")]
 
     def open(self, view, _):
-        if self.fault == "opens_by_store":
-            view = view.with_slot(SECOND, pins=0)
-        return [view.with_slot(SECOND, open=True).unlocked().to("end")]
+        return [view.open(SECOND).unlocked().to("end")]
 
 
 class Inserter(Program):
@@ -457,12 +474,15 @@ class Inserter(Program):
         return [view.with_slot(value=view.me.key).to("open")]
 
     def open(self, view, _):
-        if self.fault == "opens_by_store":
-            view = view.with_slot(pins=0)
-        opened = view.with_slot(open=True)
+        opened = view.open()
         if self.fault == "opens_before_value" and not view.slot().value:
             return [opened.to("write")]
-        return [opened.to("end")]
+        if self.fault == "opens_then_pins":
+            return [opened.to("pin")]
+        return [opened.to("end"), view.open(pins=1).to("use")]
+
+    def pin(self, view, _):
+        return [view.with_slot(pins=view.slot().pins + 1).to("use")]
 
 
 # Who there is, by programs and keys. Key 0 is none.

@@ -5,7 +5,7 @@ use std::error::Error;
 use std::fmt;
 use std::hash::{Hash, Hasher};
 use std::mem::{align_of, size_of};
-use std::num::NonZeroU32;
+use std::num::NonZeroU64;
 use std::str::FromStr;
 
 /// The name of one stored value. It is 12 bytes, and no other value of the same slab ever has it.
@@ -24,12 +24,15 @@ use std::str::FromStr;
 /// assert_eq!(std::mem::size_of::<Option<Key>>(), 12);
 /// # Ok::<(), teurlaks::Refused>(())
 /// ```
+// Two words, as a key is moved. A load of a word that was stored in parts just before would wait
+// until these have reached the cache.
 #[derive(Clone, Copy, PartialEq, Eq)]
+#[repr(C, packed(4))]
 pub struct Key {
-    serial: u32,
-    generation: NonZeroU32,
-    shard: u8,
-    slot: u8,
+    // The generation, which is never 0, above the serial number.
+    low: NonZeroU64,
+    // The slot above the shard, each of 8 bits.
+    high: u32,
 }
 
 const _: () = assert!(size_of::<Key>() == 12 && size_of::<Option<Key>>() == 12);
@@ -52,10 +55,10 @@ impl Key {
     /// ```
     #[must_use]
     pub fn to_bits(self) -> u128 {
-        u128::from(self.shard) << 72
-            | u128::from(self.serial) << 40
-            | u128::from(self.slot) << 32
-            | u128::from(self.generation.get())
+        u128::from(self.shard()) << 72
+            | u128::from(self.serial()) << 40
+            | u128::from(self.slot()) << 32
+            | u128::from(self.generation())
     }
 
     /// The key of a number, or `None` where no key has it: where the generation, which is its lowest 32 bits, is 0, or the number has more than 80
@@ -67,48 +70,58 @@ impl Key {
         if bits >> Self::BITS != 0 {
             return None;
         }
+        Key::of_parts((bits >> 72) as u8, (bits >> 40) as u32, (bits >> 32) as u8, bits as u32)
+    }
+
+    /// The key of these parts, or `None` if the generation is 0.
+    #[inline]
+    fn of_parts(shard: u8, serial: u32, slot: u8, generation: u32) -> Option<Key> {
+        if generation == 0 {
+            return None;
+        }
         Some(Key {
-            serial: (bits >> 40) as u32,
-            generation: NonZeroU32::new(bits as u32)?,
-            shard: (bits >> 72) as u8,
-            slot: (bits >> 32) as u8,
+            low: NonZeroU64::new(u64::from(generation) << 32 | u64::from(serial))?,
+            high: u32::from(slot) << 8 | u32::from(shard),
         })
     }
 
     /// The shard that opened its span. Another may have adopted that, and the pool may have it.
     #[must_use]
     pub fn shard(self) -> u32 {
-        self.shard.into()
+        self.high & 0xff
     }
 
     /// The same but for the shard.
     #[inline]
     pub(crate) fn with_shard(self, shard: u8) -> Key {
-        Key { shard, ..self }
+        let high = self.high & !0xff | u32::from(shard);
+        Key { high, ..self }
     }
 
     /// The serial number of its span among those that the shard has opened.
     #[must_use]
+    // It is cut out of the number.
+    #[allow(clippy::cast_possible_truncation)]
     pub fn serial(self) -> u32 {
-        self.serial
+        self.low.get() as u32
     }
 
     /// Its slot on the page, below 256. No fold changes it.
     #[must_use]
     pub fn slot(self) -> u32 {
-        self.slot.into()
+        self.high >> 8 & 0xff
     }
 
     /// Which key of its slot it is, from 1 on.
     #[must_use]
     pub fn generation(self) -> u32 {
-        self.generation.get()
+        (self.low.get() >> 32) as u32
     }
 
     /// The span that gave it out.
     #[inline]
     pub(crate) fn span(self) -> Span {
-        Span::new(self.shard.into(), self.serial)
+        Span::new(self.shard(), self.serial())
     }
 
     /// The key of the span, the slot and the generation, or `None` where that is 0.
@@ -116,21 +129,13 @@ impl Key {
     // Each half is cut out of the number, and a key's shard has 8 bits.
     #[allow(clippy::cast_possible_truncation)]
     pub(crate) fn of_span(Span(span): Span, slot: u8, generation: u32) -> Option<Key> {
-        Some(Key {
-            serial: span as u32,
-            generation: NonZeroU32::new(generation)?,
-            shard: (span >> 32) as u8,
-            slot,
-        })
+        Key::of_parts((span >> 32) as u8, span as u32, slot, generation)
     }
 
     /// The key as two numbers, of which the first is never 0: its serial number and generation, and its shard and slot.
     #[inline]
     pub(crate) fn halves(self) -> (u64, u64) {
-        (
-            u64::from(self.generation.get()) << 32 | u64::from(self.serial),
-            u64::from(self.slot) << 8 | u64::from(self.shard),
-        )
+        (self.low.get(), self.high.into())
     }
 
     /// The key of these numbers, or `None` where the generation is 0.
@@ -138,31 +143,25 @@ impl Key {
     // Each part is cut out of its number.
     #[allow(clippy::cast_possible_truncation)]
     pub(crate) fn of_halves(low: u64, high: u64) -> Option<Key> {
-        Some(Key {
-            serial: low as u32,
-            generation: NonZeroU32::new((low >> 32) as u32)?,
-            shard: high as u8,
-            slot: (high >> 8) as u8,
-        })
+        Key::of_parts(high as u8, low as u32, (high >> 8) as u8, (low >> 32) as u32)
     }
 
     /// The key as a call gets it, in two numbers: those of `raw` in the order of their bytes.
     #[inline]
     pub(crate) fn numbers(self) -> (u64, u32) {
-        (
-            u64::from(self.generation.get()) << 32 | u64::from(self.serial),
-            u32::from(self.slot) << 8 | u32::from(self.shard),
-        )
+        (self.low.get(), self.high)
     }
 
     /// The key as the library has it.
     #[inline]
+    // A shard and a slot have 8 bits.
+    #[allow(clippy::cast_possible_truncation)]
     pub(crate) fn raw(self) -> RawKey {
         RawKey {
-            serial: self.serial,
-            generation: self.generation.get(),
-            shard: self.shard,
-            slot: self.slot,
+            serial: self.serial(),
+            generation: self.generation(),
+            shard: self.shard() as u8,
+            slot: self.slot() as u8,
             reserved: 0,
         }
     }
@@ -170,12 +169,7 @@ impl Key {
     /// The key that the library answers, or `None` where the generation is 0: a reply that has no key has zeros.
     #[inline]
     pub(crate) fn of(raw: RawKey) -> Option<Key> {
-        Some(Key {
-            serial: raw.serial,
-            generation: NonZeroU32::new(raw.generation)?,
-            shard: raw.shard,
-            slot: raw.slot,
-        })
+        Key::of_parts(raw.shard, raw.serial, raw.slot, raw.generation)
     }
 }
 
@@ -193,19 +187,15 @@ impl Ord for Key {
 
 impl Hash for Key {
     fn hash<H: Hasher>(&self, state: &mut H) {
-        state.write_u64(u64::from(self.serial) << 32 | u64::from(self.generation.get()));
-        state.write_u16(u16::from(self.shard) << 8 | u16::from(self.slot));
+        state.write_u64(self.low.get().rotate_left(32));
+        state.write_u32(self.high);
     }
 }
 
 impl fmt::Display for Key {
     fn fmt(&self, f: &mut fmt::Formatter<'_>) -> fmt::Result {
-        let Key {
-            serial,
-            generation,
-            shard,
-            slot,
-        } = self;
+        let (shard, serial) = (self.shard(), self.serial());
+        let (slot, generation) = (self.slot(), self.generation());
         write!(f, "{shard}.{serial}/{slot}/{generation}")
     }
 }
@@ -231,12 +221,9 @@ impl FromStr for Key {
         if ![shard, serial, slot, generation].into_iter().all(is_number) {
             return Err(ParseKeyError::Form);
         }
-        Ok(Key {
-            serial: in_range(serial)?,
-            generation: in_range(generation)?,
-            shard: in_range(shard)?,
-            slot: in_range(slot)?,
-        })
+        let (shard, serial) = (in_range(shard)?, in_range(serial)?);
+        let (slot, generation) = (in_range(slot)?, in_range(generation)?);
+        Key::of_parts(shard, serial, slot, generation).ok_or(ParseKeyError::Range)
     }
 }
 

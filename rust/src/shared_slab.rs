@@ -17,23 +17,23 @@
 //! ```
 //!
 //! A look-up *pins* the slot to which its hint leads, and then compares the slot's name with its
-//! key. Slots are never freed before the slab, so a hint may be as old as it likes. If the slot has
-//! another name or is closed, the look-up lets the pin go and asks under the lock. So only a hit
-//! goes without the lock.
+//! key. Slots are never freed before the slab, so a hint may be as old as it likes. If the slot is
+//! closed, or has another name, the look-up asks under the lock. So only a hit goes without it.
 //!
 //! **States of a slot.** Its state is one word, with a number of pins:
 //!
 //! | State | Pins | The value | Who changes it |
 //! |---|---|---|---|
-//! | closed | of those that fail | none, or one thread's | the lock; or the thread that closed it |
+//! | closed | none | none, or one thread's | the lock; or the thread that closed it |
 //! | open | any | there | pins; the lock closes it if there is no pin |
 //! | open, removed | at least 1, or soon claimed | there | pins; the last one claims it |
 //! | open, removed, awaited | any | there | pins; the waiting thread claims it |
 //!
 //! To close is one exchange, from *open with no pin* to *closed*; to claim is one from *removed with
 //! no pin*. So of all threads one alone has a closed slot, and only one without pins is ever closed.
-//! A pin that comes to a closed or removed slot fails, and is let go of: this is a letting go as any
-//! other, so it may be the one that claims.
+//! A pin is an exchange too, of a slot that is *open*: nobody pins a closed one, which is therefore
+//! opened by a store. A pin that finds another name is let go of as any other, so it may be the one
+//! that claims.
 //!
 //! **Who may drop.** The thread that closed or claimed the slot takes the value out of it, then
 //! frees its key under the lock, and then drops the value without any lock. So a value whose drop
@@ -182,8 +182,8 @@ impl<T> DerefMut for Shard<T> {
 
 impl<T> SharedSlab<T> {
     /// A slab of 64 shards with no value, whose limits are those of memory: each shard has as many
-    /// pages as one may have. So it may hold 17,179,869,184 values, or 4,294,967,296 of more than
-    /// 128 bytes.
+    /// pages as one may have. So it may hold 17,179,869,184 values of fewer than 80 bytes, or
+    /// 1,073,741,824 of 4,096.
     ///
     /// # Errors
     ///
@@ -296,10 +296,16 @@ impl<T> SharedSlab<T> {
         let mut held = self.shards[usize::from(shard)].lock();
         let table = match &mut *held {
             Some(table) => table,
-            none => none.insert(boxed(Table::open(self.limits, &self.hints, shard)?)?),
+            none => none.insert(self.open_table(shard)?),
         };
         let (key, page) = table.insert_vacant()?;
         Ok((key.with_shard(shard), page))
+    }
+
+    /// A table for the shard, which has none.
+    #[cold]
+    fn open_table(&self, shard: u8) -> Result<Box<Table<T>>, Refused> {
+        boxed(Table::open(self.limits, &self.hints, shard)?)
     }
 
     /// A key of the next shard that has room: of those beside the home, and then of all, first of
@@ -385,8 +391,8 @@ impl<T> SharedSlab<T> {
     #[cold]
     fn pin_under_lock(&self, key: Key) -> Option<Pinned<T>> {
         self.with(key, |table, inner| {
-            let (page, slot) = table.find_live(inner)?;
-            slot.pin_live();
+            let page = table.find_live(inner)?;
+            page.slot(slot_of(inner)).pin_live();
             table.hint(inner, page);
             // SAFETY: its slot has the key's name, and is pinned.
             Some(unsafe { Pinned::new(page, key) })

@@ -1,6 +1,6 @@
 //! One shard of a store that threads share: a store behind a lock, and its compaction in pieces, between which others have the lock.
 
-use super::lock::Lock;
+use super::lock::{self, Lock};
 use crate::compact::Compacted;
 use crate::core::Limits;
 use crate::refused::Refused;
@@ -35,7 +35,7 @@ struct Pool {
 }
 
 /// The store of a shard under its lock.
-pub(super) type Held<'s, T> = MutexGuard<'s, Option<Store<T>>>;
+pub(super) type Held<'s, T> = lock::Held<'s, Option<Store<T>>>;
 
 impl<T> Shard<T> {
     pub fn new() -> Shard<T> {

@@ -40,8 +40,8 @@ impl<T> Page<T> {
     /// How many slots it has.
     pub const SLOTS: usize = Values::<T>::SLOTS;
 
-    /// How many bytes its values take. So each begins at a multiple of 64, which is no less than
-    /// what a value that stands there is aligned to.
+    /// How many bytes its values take, a multiple of what each is aligned to: so a block of them
+    /// begins at such a multiple too.
     pub const VALUE_BYTES: usize = {
         let bytes = Self::SLOTS * Values::<T>::STORED.size();
         if bytes < 64 {

@@ -16,9 +16,9 @@ const AWAITED: u64 = 1 << 60;
 
 /// A slot. Zeros are one that has no value.
 ///
-/// The state is the number of pins in its lower bits, and what is said above. While it is not open,
-/// one thread alone may touch name and value: the one that has the lock of the shard or, where that
-/// thread has closed it otherwise, the one that did: by a claim, or as it has a vacant entry.
+/// The state is the number of pins in its lower bits, and the flags above. While it is not open it
+/// has no pin, and one thread alone may touch it: the one that claimed it or has its vacant entry,
+/// and else the one that has the lock of the shard.
 #[repr(C)]
 pub(super) struct Slot {
     name: AtomicU64,
@@ -35,23 +35,29 @@ pub(super) enum Claim {
 /// What came of a pin.
 pub(super) enum Pin {
     Held,
-    /// The value has another name, or is not open. Where the pin was the last one of a removed
-    /// value, that is claimed.
+    /// The slot is not open, its value is removed, or it has another name. If a value of another
+    /// name was removed meanwhile, and this was its last pin, it is claimed.
     Failed(Option<Claim>),
 }
 
 impl Slot {
     /// Pins the value if it has this name: it stays where it is until the pin is let go of.
     ///
-    /// Any thread may ask at any time, also for a slot whose value went or moved long ago. The pin
-    /// comes before the look at the name, which stays what it is while there is a pin.
+    /// Any thread may ask at any time, also for a slot whose value went or moved long ago. Only an
+    /// open slot is pinned, so the thread that has a closed one may store its state. The pin comes
+    /// before the look at the name, which stays what it is while there is a pin.
     #[inline]
     pub fn pin(&self, name: u64) -> Pin {
-        let before = self.state.fetch_add(1, Ordering::Acquire);
-        if before & (OPEN | REMOVED) == OPEN && self.name.load(Ordering::Relaxed) == name {
-            return Pin::Held;
+        // Most often it is open without a pin. To load the state first would fetch its line twice.
+        let mut state = OPEN;
+        while state & (OPEN | REMOVED) == OPEN {
+            match self.replace(state, state + 1) {
+                Ok(_) if self.name() == name => return Pin::Held,
+                Ok(_) => return Pin::Failed(self.unpin()),
+                Err(found) => state = found,
+            }
         }
-        Pin::Failed(self.unpin())
+        Pin::Failed(None)
     }
 
     /// Lets a pin go. Where it was the last one of a removed value, that is claimed.
@@ -86,22 +92,26 @@ impl Slot {
 
     #[inline]
     fn close_from(&self, state: u64) -> bool {
-        self.state
-            .compare_exchange(state, 0, Ordering::Acquire, Ordering::Relaxed)
-            .is_ok()
+        self.replace(state, 0).is_ok()
     }
 
-    /// Opens a closed slot, whose name and value are there. Pins that failed, and are about to be
-    /// let go of, stay counted.
+    /// Gives it another state in place of this one, or says which one it has.
+    #[inline]
+    fn replace(&self, state: u64, by: u64) -> Result<u64, u64> {
+        self.state
+            .compare_exchange(state, by, Ordering::Acquire, Ordering::Relaxed)
+    }
+
+    /// Opens a closed slot, whose name and value are there. Nobody else changes its state.
     #[inline]
     pub fn open(&self) {
-        self.state.fetch_or(OPEN, Ordering::Release);
+        self.state.store(OPEN, Ordering::Release);
     }
 
     /// Opens a closed slot as `open` does, with a pin for this thread.
     #[inline]
     pub fn open_pinned(&self) {
-        self.state.fetch_add(OPEN + 1, Ordering::Release);
+        self.state.store(OPEN + 1, Ordering::Release);
     }
 
     /// Pins a value that is live, for whoever has the lock.
@@ -145,5 +155,53 @@ impl Slot {
     #[inline]
     pub fn set_name(&self, name: u64) {
         self.name.store(name, Ordering::Relaxed);
+    }
+}
+
+#[cfg(test)]
+mod tests {
+    use super::{Claim, Pin, Slot};
+    use std::sync::atomic::AtomicU64;
+
+    fn closed(name: u64) -> Slot {
+        Slot {
+            name: AtomicU64::new(name),
+            state: AtomicU64::new(0),
+        }
+    }
+
+    #[test]
+    fn only_an_open_slot_is_pinned() {
+        let slot = closed(7);
+        assert!(matches!(slot.pin(7), Pin::Failed(None)));
+        slot.open();
+        assert!(matches!(slot.pin(8), Pin::Failed(None)));
+        assert!(slot.close(), "a pin that failed is let go of");
+        slot.open_pinned();
+        assert!(matches!(slot.pin(7), Pin::Held) && !slot.close());
+        assert!(slot.unpin().is_none() && !slot.close());
+        assert!(slot.unpin().is_none() && slot.close());
+    }
+
+    #[test]
+    fn the_last_pin_claims_what_was_removed() {
+        for then in [Claim::Drop, Claim::Clear] {
+            let slot = closed(7);
+            slot.open();
+            assert!(matches!(slot.pin(7), Pin::Held) && matches!(slot.pin(7), Pin::Held));
+            slot.remove(then);
+            assert!(matches!(slot.pin(7), Pin::Failed(None)) && !slot.is_live());
+            assert_eq!((slot.unpin(), slot.claim()), (None, None));
+            assert_eq!((slot.unpin(), slot.is_open()), (Some(then), false));
+        }
+    }
+
+    #[test]
+    fn what_is_awaited_is_for_the_thread_that_waits() {
+        let slot = closed(7);
+        slot.open_pinned();
+        slot.remove_awaited();
+        assert!(!slot.claim_awaited() && slot.unpin().is_none());
+        assert!(slot.claim_awaited() && !slot.claim_awaited());
     }
 }

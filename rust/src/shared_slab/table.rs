@@ -13,9 +13,6 @@ use crate::values::{Block, Values};
 use std::mem::needs_drop;
 use std::sync::Arc;
 
-/// The words of the core's object beside a value, which tell nothing.
-const NO_WORDS: [u128; 4] = [0; 4];
-
 /// The keys of one shard, as its core knows them, which is its only shard there: so a key has
 /// shard 0 here.
 pub(super) struct Table<T> {
@@ -90,11 +87,7 @@ impl<T> Table<T> {
         if !self.ready {
             self.make_ready()?;
         }
-        let key = if Page::<T>::SLOTS == 256 {
-            self.core.insert(0, NO_WORDS[0])?
-        } else {
-            self.core.insert_words(0, &NO_WORDS)?
-        };
+        let key = Values::<T>::insert_key(&mut self.core, 0)?;
         let home = match self.spans.find_mut(key.span()) {
             Some(home) => home,
             None => self.open_page(key),
@@ -167,23 +160,11 @@ impl<T> Table<T> {
         sheet.page.as_ref().expect("the block is used").page()
     }
 
-    /// The page that has the value of the key, if the key is live in the core.
+    /// The page with the value of the key, if it is there and not removed. It stays until the lock
+    /// is let go of, and longer if it is pinned.
     #[inline]
-    fn find(&self, key: Key) -> Option<Page<T>> {
-        if slot_of(key) >= Page::<T>::SLOTS {
-            return None;
-        }
-        let page = page_of(self.spans.find(key.span())?);
-        (page.slot(slot_of(key)).name() == name_of(key)).then_some(page)
-    }
-
-    /// The page with the value of the key, and its slot, if it is there and not removed. It stays
-    /// until the lock is let go of, and longer if it is pinned.
-    #[inline]
-    pub fn find_live(&self, key: Key) -> Option<(Page<T>, &Slot)> {
-        let page = self.find(key)?;
-        let slot = page.slot(slot_of(key));
-        slot.is_live().then_some((page, slot))
+    pub fn find_live(&self, key: Key) -> Option<Page<T>> {
+        page_if_live(self.spans.find(key.span())?, key)
     }
 
     /// Writes that the key's span is on the page, for threads whose hint was missing or old.
@@ -193,35 +174,39 @@ impl<T> Table<T> {
 
     /// Removes the value of the key, or marks it as removed if it is pinned.
     pub fn remove(&mut self, key: Key, then: Claim) -> Removed<T> {
-        let Some((page, slot)) = self.find_live(key) else {
-            return Removed::Nothing;
-        };
-        if !slot.close() {
+        self.remove_or(key, |slot| {
             slot.remove(then);
-            if slot.claim().is_none() {
-                self.removed += 1;
-                return Removed::Pinned(page);
-            }
-        }
-        // SAFETY: the slot was closed here with its value, and `vacate` takes its name.
-        let value = unsafe { page.take(slot_of(key)) };
-        self.vacate(key);
-        Removed::Value(value)
+            slot.claim().is_some()
+        })
     }
 
     /// As `remove`, for a thread that waits for a pinned value.
     pub fn remove_awaited(&mut self, key: Key) -> Removed<T> {
-        let Some((page, slot)) = self.find_live(key) else {
+        self.remove_or(key, |slot| {
+            slot.remove_awaited();
+            false
+        })
+    }
+
+    /// Removes the value of the key. If it is pinned the mark comes in place of that, which says
+    /// whether the slot is claimed, and closed, all the same.
+    #[inline]
+    fn remove_or(&mut self, key: Key, mark: impl FnOnce(&Slot) -> bool) -> Removed<T> {
+        let Some(home) = self.spans.find_mut(key.span()) else {
             return Removed::Nothing;
         };
-        if !slot.close() {
-            slot.remove_awaited();
+        let Some(page) = page_if_live(home, key) else {
+            return Removed::Nothing;
+        };
+        let slot = page.slot(slot_of(key));
+        if !slot.close() && !mark(slot) {
             self.removed += 1;
             return Removed::Pinned(page);
         }
-        // SAFETY: as in `remove`.
+        // SAFETY: the slot was closed here with its value, and loses its name.
         let value = unsafe { page.take(slot_of(key)) };
-        self.vacate(key);
+        let emptied = take_name::<T>(home, key);
+        self.free(key, emptied);
         Removed::Value(value)
     }
 
@@ -234,11 +219,16 @@ impl<T> Table<T> {
     /// Frees the key of a closed slot that has no value, or none any more. It takes no memory.
     pub fn vacate(&mut self, key: Key) {
         let home = self.spans.find_mut(key.span()).expect("a live key has a home");
-        home.live -= 1;
-        let (left, number) = (home.live, home.page);
-        page_of::<T>(home).slot(slot_of(key)).set_name(NO_NAME);
+        let emptied = take_name::<T>(home, key);
+        self.free(key, emptied);
+    }
+
+    /// Frees a key whose slot has lost its name, and forgets its span if that has no value any more
+    /// on the page of this number.
+    #[inline]
+    fn free(&mut self, key: Key, emptied: Option<u32>) {
         self.core.free_live(key);
-        if left == 0 {
+        if let Some(number) = emptied {
             self.forget_span(key.span(), number);
         }
     }
@@ -516,6 +506,26 @@ impl<T> Sheet<T> {
 #[inline]
 fn page_of<T>(home: &Home) -> Page<T> {
     Page::of(home.block.address())
+}
+
+/// The page of the home of the key's span, if the value of the key is there and not removed.
+#[inline]
+fn page_if_live<T>(home: &Home, key: Key) -> Option<Page<T>> {
+    let page = page_of(home);
+    if slot_of(key) >= Page::<T>::SLOTS {
+        return None;
+    }
+    let slot = page.slot(slot_of(key));
+    (slot.name() == name_of(key) && slot.is_live()).then_some(page)
+}
+
+/// Takes the key's name from its slot, with one of the values that its span has at this home, and
+/// says on which page that is if no other one is left.
+#[inline]
+fn take_name<T>(home: &mut Home, key: Key) -> Option<u32> {
+    page_of::<T>(home).slot(slot_of(key)).set_name(NO_NAME);
+    home.live -= 1;
+    (home.live == 0).then_some(home.page)
 }
 
 /// The name of a slot that no key has.
