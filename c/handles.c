@@ -75,7 +75,7 @@ static void each_key(struct teurlaks_handle *none) {
 static void each_call_of_a_seat(struct teurlaks_share_handle *none, struct teurlaks_key key) {
     struct teurlaks_word words[16] = {{7, 7}};
     WANT(teurlaks_seat_session(none) == TEURLAKS_NO_CORE && teurlaks_seat_pause(none) == TEURLAKS_NO_CORE);
-    for (size_t len = 1; len <= 16; len *= 4) {
+    for (size_t len = 0; len <= 16; len++) {
         WANT(teurlaks_seat_put_words(none, words, len).status == TEURLAKS_NO_CORE);
         WANT(teurlaks_seat_set_words(none, key, words, len) == TEURLAKS_NO_CORE);
     }
@@ -180,9 +180,8 @@ static void nowhere_at_shares(struct teurlaks_share_handle *steward,
 /* Numbers that name no object, and no number of words that an object has. */
 static void numbers_at_shares(struct teurlaks_share_handle *steward,
                               struct teurlaks_share_handle *seat, struct teurlaks_key key) {
-    struct teurlaks_word words[16] = {{7, 7}};
-    for (size_t len = 0; len <= 16; len++) {
-        if (len == 1 || len == 4 || len == 16) continue;
+    struct teurlaks_word words[34] = {{7, 7}};
+    for (size_t len = 0; len <= 34; len += 17) {
         WANT(teurlaks_seat_put_words(seat, words, len).status == TEURLAKS_CONFIG);
         WANT(teurlaks_seat_set_words(seat, key, words, len) == TEURLAKS_CONFIG);
     }
@@ -321,15 +320,14 @@ static void lost_seats(void) {
 
 /* Numbers that name no shard of the core, no object of it, or no number of words that an object has. */
 static void numbers(struct teurlaks_handle *core, struct teurlaks_key key) {
-    struct teurlaks_word words[16] = {{7, 7}};
+    struct teurlaks_word words[34] = {{7, 7}};
     WANT(teurlaks_put(core, 2, one).status == TEURLAKS_CONFIG);
     WANT(teurlaks_put_words(core, 2, words, 4).status == TEURLAKS_CONFIG);
     WANT(teurlaks_put_bytes(core, 2, words, 9).status == TEURLAKS_CONFIG);
     WANT(teurlaks_end(core, 2) == TEURLAKS_CONFIG && teurlaks_begin(core, 2) == TEURLAKS_CONFIG);
     WANT(teurlaks_retire(core, 2, 1).status == TEURLAKS_CONFIG);
     WANT(teurlaks_trim(core, 2).status == TEURLAKS_CONFIG);
-    for (size_t len = 0; len <= 16; len++) {
-        if (len == 1 || len == 4 || len == 16) continue;
+    for (size_t len = 0; len <= 34; len += 17) {
         WANT(teurlaks_put_words(core, 0, words, len).status == TEURLAKS_CONFIG);
         WANT(teurlaks_set_words(core, key, words, len) == TEURLAKS_CONFIG);
     }

@@ -43,13 +43,12 @@ static struct teurlaks_key any_key(struct worker *me) {
     return key;
 }
 
-/* An object of 1, 4 or 16 words. */
+/* An object of 1 to 16 words. */
 static void put(struct worker *me) {
-    static const size_t widths[] = {1, 4, 16};
     struct teurlaks_word words[16];
     struct teurlaks_put_reply reply;
     for (size_t i = 0; i < 16; i++) words[i] = (struct teurlaks_word){me->random, i};
-    size_t width = widths[below(&me->random, 3)];
+    size_t width = 1 + below(&me->random, 16);
     PATIENTLY(reply, reply.status, teurlaks_seat_put_words(&me->seat, words, width));
     WANT(reply.status == TEURLAKS_OK);
     pthread_mutex_lock(&lock);
@@ -78,7 +77,7 @@ static void *work(void *at) {
         switch (below(&me->random, 4)) {
         case 0: put(me); break;
         case 1: PATIENTLY(got, got.status, teurlaks_seat_get_words(&me->seat, any_key(me), words, 16)); break;
-        case 2: PATIENTLY(status, status, teurlaks_seat_set_words(&me->seat, any_key(me), words, 4)); break;
+        case 2: PATIENTLY(status, status, teurlaks_seat_set_words(&me->seat, any_key(me), words, 1 + below(&me->random, 16))); break;
         default: PATIENTLY(status, status, teurlaks_seat_free(&me->seat, any_key(me)));
         }
         if (round % 256 == 0) tend(me);

@@ -1,4 +1,4 @@
-/* Objects of 16, 64 or 256 bytes under keys: a key that was freed finds nothing for ever, a live one its own object, and sparse pages of
+/* Objects of 1 to 16 words of 16 bytes under keys: a key that was freed finds nothing for ever, a live one its own object, and sparse pages of
  * the pool are folded onto those of running shards while every key stays valid. The library is proved (crates/teurlaks_c); README.md
  * beside this file has a page of use, and a table of what may be called from which thread.
  *
@@ -244,8 +244,9 @@ struct teurlaks_put_reply teurlaks_put(struct teurlaks_handle *handle, uint32_t 
 struct teurlaks_get_reply teurlaks_get(const struct teurlaks_handle *handle,
                                        struct teurlaks_key key);
 
-/* Keeps an object of 1, 4 or 16 words in the shard, as teurlaks_put does with one; another number is TEURLAKS_CONFIG. Objects of different
- * sizes stand on different pages: 256, 64 or 16 of them on a page. No words stand at NULL. */
+/* Keeps an object of 1 to 16 words in the shard, as teurlaks_put does with one; another number is
+ * TEURLAKS_CONFIG. A page has objects of one number of words, as many as fit its 256 words: 85 of
+ * three words. No words stand at NULL. */
 struct teurlaks_put_reply teurlaks_put_words(struct teurlaks_handle *handle, uint32_t shard, const struct teurlaks_word *words, size_t words_len);
 
 /* Writes the words of the key's object into the first of `words`, where words_len are room enough (16 always are); or TEURLAKS_NONE.
@@ -258,8 +259,8 @@ struct teurlaks_words_reply teurlaks_get_words(const struct teurlaks_handle *han
  * where its object stands. Takes no memory, and refuses with TEURLAKS_OUT_OF_MEMORY after 2^63 changes of a span alone. */
 uint32_t teurlaks_set(struct teurlaks_handle *handle, struct teurlaks_key key, struct teurlaks_word value);
 
-/* Sets the key to an object of 1, 4 or 16 words, where its object has as many, as teurlaks_set does with one; another number is
- * TEURLAKS_CONFIG. No words stand at NULL. */
+/* Sets the key to an object of 1 to 16 words, if its object has as many, as teurlaks_set does with
+ * one; another number is TEURLAKS_CONFIG. No words stand at NULL. */
 uint32_t teurlaks_set_words(struct teurlaks_handle *handle, struct teurlaks_key key, const struct teurlaks_word *words, size_t words_len);
 
 /* Frees the key, or TEURLAKS_NONE. Takes no memory. */

@@ -52,14 +52,15 @@ static void bytes_of_each_number(void) {
         put[len] = teurlaks_put_bytes(&core, 0, bytes, len);
         WANT(put[len].status == TEURLAKS_OK);
     }
-    WANT(teurlaks_totals(&core).live == 256 && teurlaks_totals(&core).pages == 14);
+    /* 16 of each number of words, on a page of their own. */
+    WANT(teurlaks_totals(&core).live == 256 && teurlaks_totals(&core).pages == 16);
     for (size_t len = 1; len <= sizeof bytes; len++) {
         struct teurlaks_word words[16];
-        size_t words_len = len <= 16 ? 1 : len <= 64 ? 4 : 16;
+        size_t words_len = (len + 15) / 16;
         memset(found, 'x', sizeof found);
         WANT(teurlaks_get_bytes(&core, put[len].key, found, len) == TEURLAKS_OK && !memcmp(found, bytes, len));
         WANT(len == sizeof found || found[len] == 'x');
-        WANT(len > 64 || teurlaks_get_bytes(&core, put[len].key, found, 65) == TEURLAKS_TOO_SMALL);
+        WANT(teurlaks_get_bytes(&core, put[len].key, found, 16 * words_len + 1) == TEURLAKS_TOO_SMALL);
         WANT((teurlaks_get(&core, put[len].key).status == TEURLAKS_OK) == (words_len == 1));
         WANT(teurlaks_get_words(&core, put[len].key, words, 16).len == words_len);
         WANT(teurlaks_get_words(&core, put[len].key, words, words_len - 1).status == TEURLAKS_TOO_SMALL);
@@ -67,7 +68,7 @@ static void bytes_of_each_number(void) {
         WANT(teurlaks_set_words(&core, put[len].key, words, words_len) == TEURLAKS_OK);
         WANT(teurlaks_get_words(&core, put[len].key, words, 16).len == words_len && words[words_len - 1].low == len + words_len - 1);
         WANT(teurlaks_set(&core, put[len].key, word(7)) == (words_len == 1 ? TEURLAKS_OK : TEURLAKS_NONE));
-        WANT(teurlaks_set_words(&core, put[len].key, words, words_len == 4 ? 16 : 4) == TEURLAKS_NONE);
+        WANT(teurlaks_set_words(&core, put[len].key, words, words_len % 16 + 1) == TEURLAKS_NONE);
         WANT(teurlaks_set_bytes(&core, put[len].key, bytes, len) == TEURLAKS_OK);
         WANT(teurlaks_get_bytes(&core, put[len].key, found, len) == TEURLAKS_OK && !memcmp(found, bytes, len));
         WANT(teurlaks_free(&core, put[len].key) == TEURLAKS_OK);
@@ -77,9 +78,35 @@ static void bytes_of_each_number(void) {
     WANT(teurlaks_put_bytes(&core, 0, bytes, 0).status == TEURLAKS_CONFIG);
     WANT(teurlaks_put_bytes(&core, 0, bytes, 257).status == TEURLAKS_CONFIG);
     WANT(teurlaks_set_bytes(&core, put[1].key, bytes, 257) == TEURLAKS_CONFIG);
-    WANT(teurlaks_put_words(&core, 0, (struct teurlaks_word[2]){word(1), word(2)}, 2).status == TEURLAKS_CONFIG);
-    WANT(teurlaks_set_words(&core, put[1].key, (struct teurlaks_word[2]){word(1), word(2)}, 2) == TEURLAKS_CONFIG);
+    static const struct teurlaks_word many[17];
+    WANT(teurlaks_put_words(&core, 0, many, 0).status == TEURLAKS_CONFIG);
+    WANT(teurlaks_put_words(&core, 0, many, 17).status == TEURLAKS_CONFIG);
+    WANT(teurlaks_set_words(&core, put[1].key, many, 17) == TEURLAKS_CONFIG);
     teurlaks_drop(&core);
+}
+
+/* A page has as many objects as fit its 256 words, and one more opens another page. Each finds its
+ * own words. */
+static void pages_of_each_width(void) {
+    for (size_t len = 1; len <= 16; len++) {
+        struct teurlaks_handle core = {0};
+        struct teurlaks_key keys[257];
+        struct teurlaks_word words[16];
+        size_t slots = 256 / len;
+        if (teurlaks_new(&core, 1, 2, 1, 9) != TEURLAKS_OK) exit(1);
+        for (size_t number = 0; number <= slots; number++) {
+            for (size_t i = 0; i < len; i++) words[i] = word(100 * number + i);
+            struct teurlaks_put_reply put = teurlaks_put_words(&core, 0, words, len);
+            WANT(put.status == TEURLAKS_OK);
+            WANT(teurlaks_totals(&core).pages == (number < slots ? 1 : 2));
+            keys[number] = put.key;
+        }
+        for (size_t number = 0; number <= slots; number++) {
+            WANT(teurlaks_get_words(&core, keys[number], words, 16).len == len);
+            for (size_t i = 0; i < len; i++) WANT(words[i].low == 100 * number + i);
+        }
+        teurlaks_drop(&core);
+    }
 }
 
 /* Frees all live keys, and says how many there were. */
@@ -255,6 +282,7 @@ static long each_failing(void (*taken)(void)) {
 
 int main(void) {
     bytes_of_each_number();
+    pages_of_each_width();
     long core = each_failing(tour), recorded = each_failing(recorded_tour);
     printf("the tours were taken with each of %ld and %ld allocations failing in turn\n", core, recorded);
     return 0;

@@ -42,7 +42,7 @@ const RING: u32 = 256;
 /// left to the pool ([`Seat::retire`], [`Seat::end`]) onto those of the shards, and carries them out beside the others. Every key stays valid.
 ///
 /// Arena and seats may be dropped in any order, each may go to a thread of its own, also one of [`std::thread::spawn`], and the memory goes with
-/// the last of them. For words, the values are `u128`, or `[u128; 4]` or `[u128; 16]`.
+/// the last of them. For words, the values are `u128`, or arrays of up to 16 of these.
 ///
 /// ```
 /// use std::thread;

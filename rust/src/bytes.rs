@@ -15,16 +15,20 @@ pub(crate) const MOST_WORDS: usize = 16;
 /// How many bytes an object has at most.
 pub(crate) const MOST_BYTES: usize = 16 * MOST_WORDS;
 
+/// How many words a page has.
+const PAGE_WORDS: usize = 256;
+
 /// How many words the least object has that holds so many bytes, 1 to 256.
 pub(crate) const fn words_for(bytes: usize) -> usize {
-    match bytes {
-        0..=16 => 1,
-        17..=64 => 4,
-        _ => MOST_WORDS,
-    }
+    (bytes + 15) / 16
 }
 
-/// The words of one object, 1, 4 or 16: of [`Core::get_words`](crate::Core::get_words). They are read as a slice.
+/// How many objects of so many words share a page.
+pub(crate) const fn slots_for(words: usize) -> usize {
+    PAGE_WORDS / words
+}
+
+/// The words of one object, 1 to 16: of [`Core::get_words`](crate::Core::get_words). They are read as a slice.
 #[derive(Clone, Copy)]
 pub struct Words {
     // SAFETY: the first `len` are initialised.
@@ -50,7 +54,7 @@ impl Words {
         }
     }
 
-    /// The object's bytes, 16, 64 or 256, each word from its lowest byte on.
+    /// The object's bytes, 16 of each word, from its lowest byte on.
     #[must_use]
     pub fn as_bytes(&self) -> &[u8] {
         // SAFETY: so many bytes are initialised, and any bytes are bytes.

@@ -8,7 +8,7 @@ pub(crate) use meshing::{certificate_text, done, letting_go, marked, meshing, st
 pub use meshing::{Marked, Stepped};
 
 use crate::boxed::Late;
-use crate::bytes::{words_for, Bytes, BytesKey, Words, MOST_BYTES, MOST_WORDS};
+use crate::bytes::{slots_for, words_for, Bytes, BytesKey, Words, MOST_BYTES, MOST_WORDS};
 use crate::compact::{Occupancy, Progress};
 use crate::key_bits::KeyBits;
 use crate::names::Key;
@@ -103,7 +103,7 @@ pub(crate) const MOST_SHARDS: usize = 64;
 const MOST_PAGES: u32 = 1 << 20;
 
 /// How many shards a slab or a store has where nobody says so: enough that each has few pages,
-/// whose number an adoption goes by. Each takes 632 bytes before it has any.
+/// whose number an adoption goes by. Each takes 464 bytes before it has any.
 pub(crate) const SHARDS: u32 = 16;
 
 /// How many pages a shard opens until it is the turn of the next one, where nobody has set limits.
@@ -115,7 +115,7 @@ pub(crate) fn ends_turn(key: Key) -> bool {
     key.serial() % TURN == 0 && key.slot() == 0 && key.generation() == 1 && key.serial() > 0
 }
 
-/// Objects of 16, 64 or 256 bytes under keys, in shards: the proved library as it is.
+/// Objects of 1 to 16 words of 16 bytes under keys, in shards: the proved library as it is.
 ///
 /// A shard that ends leaves its groups to a pool, and one that goes on may leave its sparsest ones there. A mark plans as many folds of the pool's groups onto those of the shards as can be,
 /// and each step carries one out, which gives one page back. Every key stays valid.
@@ -322,20 +322,32 @@ impl Core {
         }
     }
 
-    /// Keeps an object of 1, 4 or 16 words in the shard, and gives its key.
+    /// Keeps an object of 1 to 16 words in the shard, and gives its key.
     ///
-    /// Objects of different sizes stand on different pages, 256, 64 or 16 of them on each, and only pages of one size are folded onto each other.
+    /// A page has objects of one number of words, as many as fit its 256 words. Only such pages are
+    /// folded onto each other.
     ///
     /// # Errors
     ///
-    /// As of [`Core::insert`], and [`Refused::Config`] where the words are another number than 1, 4 or 16.
+    /// As of [`Core::insert`], and [`Refused::Config`] if there are no words, or more than 16.
+    ///
+    /// ```
+    /// # use teurlaks::{Core, Limits};
+    /// let mut core = Core::new(Limits::default())?;
+    /// for place in 0..86 {
+    ///     let key = core.insert_words(0, &[place, 7, 9])?;
+    ///     assert_eq!(core.get_words(key).as_deref(), Some(&[place, 7, 9][..]));
+    /// }
+    /// assert_eq!(core.pages(), 2); // 85 objects of three words fill one
+    /// # Ok::<(), teurlaks::Refused>(())
+    /// ```
     #[inline]
     pub fn insert_words(&mut self, shard: u32, words: &[u128]) -> Result<Key, Refused> {
         // SAFETY: so many words are there.
         unsafe { self.put_words(shard, words.as_ptr(), words.len()) }
     }
 
-    /// Keeps 1 to 256 bytes in the shard, in the least object that holds them, and gives their name.
+    /// Keeps 1 to 256 bytes in the shard, in as few words as hold them, and gives their name.
     ///
     /// # Errors
     ///
@@ -357,8 +369,8 @@ impl Core {
         Ok(BytesKey::new(key, bytes.len()))
     }
 
-    /// Sets the key of this name to 1 to 256 bytes, and gives the name that they have from now on: where the key is live and they take an
-    /// object of the size of its own.
+    /// Sets the key of this name to 1 to 256 bytes, and gives the name that they have from now on:
+    /// if the key is live, and they take as many words as its object has.
     ///
     /// # Errors
     ///
@@ -522,7 +534,7 @@ impl Core {
     ///
     /// # Errors
     ///
-    /// As of [`Core::set`], and [`Refused::Config`] where the words are another number than 1, 4 or 16.
+    /// As of [`Core::set`], and [`Refused::Config`] if there are no words, or more than 16.
     #[inline]
     pub fn set_words(&mut self, key: Key, words: &[u128]) -> Result<bool, Refused> {
         // SAFETY: so many words are there.
@@ -662,7 +674,7 @@ impl Core {
         Occupancy {
             pages: self.pages(),
             live: self.live,
-            slots: 256 / usize::from(self.least_words),
+            slots: slots_for(usize::from(self.least_words)),
         }
     }
 
@@ -717,9 +729,10 @@ fn words_of<R>(bytes: &[u8], keep: impl FnOnce(*const u128, usize) -> Result<R, 
     let mut words = [MaybeUninit::<u128>::uninit(); MOST_WORDS];
     let first = words.as_mut_ptr().cast::<u128>();
     let len = words_for(bytes.len());
-    // SAFETY: there is room for the bytes in so many words, which are zeros before.
+    // SAFETY: there is room for the bytes in so many words, of which they fill all but the last,
+    // which is a zero before.
     unsafe {
-        first.write_bytes(0, len);
+        first.add(len - 1).write(0);
         first.cast::<u8>().copy_from_nonoverlapping(bytes.as_ptr(), bytes.len());
     }
     keep(first, len)
@@ -728,7 +741,7 @@ fn words_of<R>(bytes: &[u8], keep: impl FnOnce(*const u128, usize) -> Result<R, 
 // That an object may have so many words.
 #[cold]
 fn is_length_of_object(len: usize) -> Result<(), Refused> {
-    if matches!(len, 1 | 4 | 16) {
+    if (1..=MOST_WORDS).contains(&len) {
         Ok(())
     } else {
         Err(Refused::Config)

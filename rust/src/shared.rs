@@ -84,8 +84,8 @@ const LARGE: usize = 512;
 
 impl<T: Copy> SharedStore<T> {
     /// A store of 64 shards with no value, whose limits are those of memory: each shard has as many
-    /// pages as one may have. So it may hold 17,179,869,184 values, 4,294,967,296 of more than 16
-    /// bytes, or 1,073,741,824 of more than 64.
+    /// pages as one may have. So it may hold as many values as 67,108,864 pages have room for:
+    /// 17,179,869,184 of up to 16 bytes, or 1,073,741,824 of 256.
     ///
     /// # Errors
     ///

@@ -14,15 +14,13 @@ use crate::values::{self, Walk, WalkMut};
 use std::fmt;
 use std::ops::{Index, IndexMut};
 
-/// The words of the core's object beside a value, which tell nothing: where the value is follows from its key.
-const NO_WORDS: [u128; 4] = [0; 4];
-
 /// Values of one type under keys that never lie.
 ///
 /// The values stand in pages of their own, one beside each page of the core, and move with its folds: so any type will do, what is found is a
 /// reference, each value is dropped once, and a fold gives the memory of a page of values back to the system. [`Slab::compact`] folds as much
-/// as can be. A page has 256 slots, and 64 where a value has more than 128 bytes; beside a value there are 8 bytes of its key and the core's
-/// object, 24 bytes or 72 in all. A value of more than 4,096 bytes stands in a block of the global allocator.
+/// as can be. Beside a value there are 8 bytes of its key, and the core's object of one word of 16 bytes or, from 80 bytes on, of more. For then a
+/// page has fewer slots, and more pages fit each other: 256, or 64 of 240 bytes, or 16 of 4,096. A value of more bytes stands in a block of the
+/// global allocator.
 ///
 /// A look-up compares the key with what stands of one beside the value, and does not ask the core, which is proved never to give a key out
 /// twice. Values that are copied and have up to 256 bytes stand in the core's pages themselves in a [`Store`](crate::Store).
@@ -63,9 +61,10 @@ pub struct Slab<T> {
 
 impl<T> Slab<T> {
     /// A slab with no value, whose limits are those of memory: of 16 shards, each of as many pages
-    /// as a shard may have. So it may hold 4,294,967,296 values at once, or 1,073,741,824 of 129 to
-    /// 4,096 bytes. Pages come as they are filled. It asks for nothing but a [`Slab::compact`] now
-    /// and then, where most of what it held is gone and the memory is wanted back.
+    /// as a shard may have. So it may hold 4,294,967,296 values of fewer than 80 bytes at once, or
+    /// 268,435,456 of 4,096. Pages come as they are filled. It asks for nothing but a
+    /// [`Slab::compact`] now and then, if most of what it held is gone and the memory is wanted
+    /// back.
     ///
     /// A shard that has opened 1,024 pages leaves the next ones to the next shard, since a
     /// compaction goes by how many pages a shard has.
@@ -105,8 +104,8 @@ impl<T> Slab<T> {
     ///
     /// # Errors
     ///
-    /// [`Refused::Config`] where 64 shards are too few: for more than 17,179,869,184 values, or
-    /// 4,294,967,296 of 129 to 4,096 bytes; [`Refused::OutOfMemory`] where memory was refused.
+    /// [`Refused::Config`] if 64 shards are too few: for more values than 67,108,864 pages have slots
+    /// for; [`Refused::OutOfMemory`] if memory was refused.
     ///
     /// ```
     /// # use teurlaks::Slab;
@@ -386,11 +385,7 @@ impl<T> Slab<T> {
     #[inline]
     fn insert_key_in(&mut self, shard: u32) -> Result<Key, Refused> {
         self.values.reserve()?;
-        if values::Values::<T>::SLOTS == 256 {
-            self.core.insert(shard, NO_WORDS[0])
-        } else {
-            self.core.insert_words(shard, &NO_WORDS)
-        }
+        values::Values::<T>::insert_key(&mut self.core, shard)
     }
 
     /// The value of the key, where it is live.

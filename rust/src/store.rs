@@ -4,7 +4,7 @@ mod iterators;
 
 pub use iterators::{Drain, IntoIter, Iter, Keys, Values};
 
-use crate::bytes::{words_for, MOST_BYTES, MOST_WORDS};
+use crate::bytes::{slots_for, words_for, MOST_BYTES, MOST_WORDS};
 use crate::compact::Compact;
 use crate::core::{ends_turn, Core, Limits, SHARDS};
 use crate::names::Key;
@@ -16,10 +16,10 @@ use std::mem::{size_of, MaybeUninit};
 
 /// Plain values of one type, 1 to 256 bytes each, whose bytes stand in the pages: what folds give back is theirs.
 ///
-/// A value takes the least of 16, 64 and 256 bytes that holds it, and 256, 64 or 16 of them share a
-/// page. It is handed out by copy. For values that are to be borrowed, or dropped, there is
-/// [`Slab`](crate::Slab). As there, an insert may be refused: `extend` and `collect` panic then,
-/// and [`Store::try_extend`] and [`Store::try_from_iter`] do not.
+/// A value takes as few words of 16 bytes as hold it, and as many share a page as fit its 256
+/// words: 85 values of 33 to 48 bytes, for example. It is handed out by copy. For values that are
+/// to be borrowed, or dropped, there is [`Slab`](crate::Slab). As there, an insert may be refused:
+/// `extend` and `collect` panic then, and [`Store::try_extend`] and [`Store::try_from_iter`] do not.
 ///
 /// It is `Send` and `Sync` if its values are: many threads may look values up at once, for example
 /// as readers of an [`RwLock`](std::sync::RwLock), and one at a time changes it.
@@ -63,12 +63,13 @@ impl<T: Copy> Store<T> {
     );
 
     /// How many values share a page.
-    const SLOTS: usize = 256 / words_for(size_of::<T>());
+    const SLOTS: usize = slots_for(words_for(size_of::<T>()));
 
     /// A store with no value, whose limits are those of memory: of 16 shards, each of as many pages
-    /// as a shard may have. So it may hold 4,294,967,296 values at once, 1,073,741,824 of more than
-    /// 16 bytes, or 268,435,456 of more than 64. It asks for nothing but a [`Store::compact`] now
-    /// and then, where most of what it held is gone and the memory is wanted back.
+    /// as a shard may have. So it may hold as many values at once as 16,777,216 pages have room for:
+    /// 4,294,967,296 of up to 16 bytes, or 268,435,456 of 256. It asks for nothing but a
+    /// [`Store::compact`] now and then, if most of what it held is gone and the memory is wanted
+    /// back.
     ///
     /// A shard that has opened 1,024 pages leaves the next ones to the next shard, since a
     /// compaction goes by how many pages a shard has.
@@ -105,8 +106,8 @@ impl<T: Copy> Store<T> {
     ///
     /// # Errors
     ///
-    /// [`Refused::Config`] where 64 shards are too few: for more than 17,179,869,184 values,
-    /// 4,294,967,296 of more than 16 bytes, or 1,073,741,824 of more than 64.
+    /// [`Refused::Config`] if 64 shards are too few: for more values than 67,108,864 pages have room
+    /// for.
     pub fn with_capacity(capacity: usize) -> Result<Store<T>, Refused> {
         let limits = Limits::default();
         let of_a_shard = limits.pages as usize * Self::SLOTS;
@@ -402,7 +403,7 @@ impl<T> Store<T> {
     }
 }
 
-/// Lends the words of the least object that holds the value, and how many they are.
+/// Lends as few words as hold the value, and says how many they are.
 #[inline]
 pub(crate) fn as_words<T: Copy, R>(value: T, keep: impl FnOnce(*const u128, usize) -> R) -> R {
     let mut words = [MaybeUninit::uninit(); MOST_WORDS];
@@ -410,17 +411,17 @@ pub(crate) fn as_words<T: Copy, R>(value: T, keep: impl FnOnce(*const u128, usiz
     keep(words.as_ptr().cast(), len)
 }
 
-/// Writes the words of the least object that holds the value into the first of these, and says how many they are.
+/// Writes as few words as hold the value into the first of these, and says how many they are.
 // A call of it would have the value go through memory once more.
 #[allow(clippy::inline_always)]
 #[inline(always)]
 pub(crate) fn write_words<T: Copy>(words: &mut [MaybeUninit<u128>; MOST_WORDS], value: T) -> usize {
     let first = words.as_mut_ptr().cast::<u128>();
     let len = words_for(size_of::<T>());
-    // SAFETY: the words have room for the value, whatever its alignment. Those that it does not fill are zeros before; bytes within the value
-    // that it does not use are copied and never read, since the library looks into no word.
+    // SAFETY: the words have room for the value, whatever its alignment. The last one, which alone it may not fill, is a zero before; bytes within
+    // the value that it does not use are copied and never read, since the library looks into no word.
     unsafe {
-        first.write_bytes(0, len);
+        first.add(len - 1).write(0);
         first.cast::<T>().write_unaligned(value);
     }
     len

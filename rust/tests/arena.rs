@@ -406,7 +406,7 @@ fn limits(shards: u32, pages: u32) -> Limits {
 }
 
 /// So many pages of 16 values, of which each keeps one, at another slot than the next page does.
-fn sparse(seat: &mut Seat<Value<29>>, pages: u64) -> Result<Vec<(Key, u64)>, Refused> {
+fn sparse(seat: &mut Seat<Value<31>>, pages: u64) -> Result<Vec<(Key, u64)>, Refused> {
     let all: Vec<(Key, u64)> = (0..16 * pages)
         .map(|number| Ok((seat.insert(Value::new(number))?, number)))
         .collect::<Result<_, Refused>>()?;

@@ -17,23 +17,14 @@ fn what_comes_back_is_what_went_in() -> Result<(), Refused> {
         let len = place + 1;
         assert_eq!(key.len(), len);
         assert_eq!(core.get_bytes(*key).as_deref(), Some(&*bytes(len)));
-        // The object is the least that holds them, and has zeros after them.
+        // The object has as few words as hold them, and zeros after them.
         let words = core.get_words(key.key()).expect("the key is live");
-        assert_eq!(
-            words.len(),
-            if len <= 16 {
-                1
-            } else if len <= 64 {
-                4
-            } else {
-                16
-            }
-        );
+        assert_eq!(words.len(), (len + 15) / 16);
         assert!(words.as_bytes()[len..].iter().all(|byte| *byte == 0));
         assert_eq!(words.word(), core.get(key.key()));
     }
-    // 16 of one word are on one page, 48 of four on another, and 192 of sixteen on twelve.
-    assert_eq!((core.len(), core.pages()), (256, 14));
+    // 16 of each number of words are on a page of their own.
+    assert_eq!((core.len(), core.pages()), (256, 16));
     assert!(keys.iter().all(|key| core.free(key.key())));
     assert!(keys.iter().all(|key| core.get_bytes(*key).is_none()));
     Ok(())
@@ -44,21 +35,24 @@ fn other_numbers_are_refused() -> Result<(), Refused> {
     let mut core = Core::new(Limits::default())?;
     assert_eq!(core.insert_bytes(0, &[]), Err(Refused::Config));
     assert_eq!(core.insert_bytes(0, &[0; 257]), Err(Refused::Config));
-    for len in [0, 2, 3, 5, 15, 17, 256] {
+    let key = core.insert_words(0, &[1; 16])?;
+    for len in [0, 17, 18, 256] {
         assert_eq!(core.insert_words(0, &vec![0; len]), Err(Refused::Config));
+        assert_eq!(core.set_words(key, &vec![0; len]), Err(Refused::Config));
     }
-    assert!(core.is_empty());
+    assert_eq!(core.get_words(key).as_deref(), Some(&[1; 16][..]));
+    assert_eq!(core.len(), 1);
     Ok(())
 }
 
-/// Pages of different sizes are never folded onto each other, and those of one size are.
+/// Pages of objects of different width are never folded onto each other, and those of one width are.
 #[test]
-fn folds_are_within_a_size() -> Result<(), Refused> {
+fn folds_are_within_a_width() -> Result<(), Refused> {
     let mut core = Core::new(Limits {
         shards: 2,
         ..Limits::default()
     })?;
-    for len in [16, 64, 256] {
+    for len in (16..=256).step_by(16) {
         let stale = core.insert_bytes(0, &bytes(len))?;
         let kept = core.insert_bytes(0, &bytes(len))?;
         core.free(stale.key());
@@ -66,16 +60,16 @@ fn folds_are_within_a_size() -> Result<(), Refused> {
         assert_eq!(core.get_bytes(kept).as_deref(), Some(&*bytes(len)));
     }
     core.end(0)?;
-    assert_eq!(core.pages(), 6);
-    assert_eq!((core.mesh()?, core.pages(), core.len()), (3, 3, 6));
-    // The pool's only page has objects of 64 bytes now, and shard 1 has none of that size left.
+    assert_eq!(core.pages(), 32);
+    assert_eq!((core.mesh()?, core.pages(), core.len()), (16, 16, 32));
+    // The pool's only page has objects of four words now, and shard 1 has none of that width.
     let mut other = Core::new(Limits {
         shards: 2,
         ..Limits::default()
     })?;
     other.insert_bytes(0, &bytes(64))?;
-    other.insert_bytes(1, &bytes(16))?;
-    other.insert_bytes(1, &bytes(256))?;
+    other.insert_bytes(1, &bytes(48))?;
+    other.insert_bytes(1, &bytes(80))?;
     other.end(0)?;
     assert_eq!((other.mark()?.folds, other.pages()), (0, 3));
     Ok(())
@@ -113,17 +107,18 @@ fn plain_values_of_each_size() -> Result<(), Refused> {
     round_trip(value, Padded { even: None, ..value })
 }
 
-/// Other bytes stand under the same key, where they take an object of the same size.
+/// Other bytes stand under the same key, if they take as many words.
 #[test]
 fn bytes_are_set_in_place() -> Result<(), Refused> {
     let mut core = Core::new(Limits::default())?;
     let key = core.insert_bytes(0, &[1; 17])?;
-    let longer = core.set_bytes(key, &[2; 64])?.expect("both take 64 bytes");
-    assert_eq!(core.set_bytes(longer, &[3; 65])?, None);
+    let longer = core.set_bytes(key, &[2; 32])?.expect("both take two words");
+    assert_eq!(core.set_bytes(longer, &[3; 33])?, None);
+    assert_eq!(core.set_bytes(longer, &[3; 16])?, None);
     assert_eq!(core.set_bytes(longer, &[]), Err(Refused::Config));
-    assert_eq!(core.get_bytes(longer).as_deref(), Some(&[2; 64][..]));
+    assert_eq!(core.get_bytes(longer).as_deref(), Some(&[2; 32][..]));
     core.free(longer.key());
-    assert_eq!(core.set_bytes(longer, &[4; 64])?, None);
+    assert_eq!(core.set_bytes(longer, &[4; 32])?, None);
     Ok(())
 }
 
@@ -136,10 +131,10 @@ fn names_put_together() -> Result<(), Refused> {
     assert_eq!(named(20), name);
     assert_eq!(core.get_bytes(named(5)).as_deref(), Some(&[7; 5][..]));
     assert_eq!(
-        core.get_bytes(named(64)).map(|bytes| bytes[20..].to_vec()),
-        Some(vec![0; 44])
+        core.get_bytes(named(32)).map(|bytes| bytes[20..].to_vec()),
+        Some(vec![0; 12])
     );
-    assert_eq!(core.get_bytes(named(65)), None);
+    assert_eq!(core.get_bytes(named(33)), None);
     for len in [0, 257, usize::MAX] {
         assert_eq!(BytesKey::from_parts(name.key(), len), None);
     }

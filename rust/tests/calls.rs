@@ -189,7 +189,7 @@ fn entries_that_are_dropped_use_up_their_slots() -> Result<(), Refused> {
 fn room_for_many() -> Result<(), Refused> {
     let small = Slab::<u64>::with_capacity(10)?;
     assert_eq!((small.limits().shards, small.capacity()), (16, 16 * 1_048_576 * 256));
-    let large = Slab::<[u64; 17]>::with_capacity(1_048_577)?;
+    let large = Slab::<[u64; 30]>::with_capacity(1_048_577)?;
     assert_eq!((large.limits().shards, large.capacity()), (16, 16 * 1_048_576 * 64));
     for capacity in [64 * 1_048_576 * 256 + 1, usize::MAX] {
         assert_eq!(Slab::<u64>::with_capacity(capacity).err(), Some(Refused::Config));
@@ -329,37 +329,38 @@ fn a_store_puts_where_there_is_room() -> Result<(), Refused> {
     })?;
     assert_eq!(store.capacity(), 48);
     let keys = (0..48_u8)
-        .map(|n| store.insert([n; 200]))
+        .map(|n| store.insert([n; 250]))
         .collect::<Result<Vec<_>, _>>()?;
-    assert_eq!(store.insert([1; 200]), Err(Refused::PagesSpent));
-    assert_eq!(store.try_extend([[1; 200]]), Err(Refused::PagesSpent));
+    assert_eq!(store.insert([1; 250]), Err(Refused::PagesSpent));
+    assert_eq!(store.try_extend([[1; 250]]), Err(Refused::PagesSpent));
     assert_eq!([0, 20, 40].map(|place| keys[place].shard()), [0, 1, 2]);
     store.remove(keys[3]);
-    assert_eq!(store.insert([3; 200])?.shard(), 0);
+    assert_eq!(store.insert([3; 250])?.shard(), 0);
     store.end(0)?;
     assert_eq!(
-        (store.capacity(), store.insert([1; 200])),
+        (store.capacity(), store.insert([1; 250])),
         (32, Err(Refused::PagesSpent))
     );
     store.remove(keys[20]);
-    assert_eq!(store.insert([4; 200])?.shard(), 1);
+    assert_eq!(store.insert([4; 250])?.shard(), 1);
     for shard in 1..3 {
         store.end(shard)?;
     }
-    assert_eq!(store.insert([1; 200]), Err(Refused::Ended));
-    assert_eq!((store.len(), store.get(keys[47])), (48, Some([47; 200])));
+    assert_eq!(store.insert([1; 250]), Err(Refused::Ended));
+    assert_eq!((store.len(), store.get(keys[47])), (48, Some([47; 250])));
     // A shard that begins again has its page to give.
     store.begin(1)?;
-    let again = store.insert([5; 200])?;
+    let again = store.insert([5; 250])?;
     assert!(again.shard() == 1 && !keys.contains(&again));
-    assert_eq!((store.capacity(), store.get(again)), (16, Some([5; 200])));
+    assert_eq!((store.capacity(), store.get(again)), (16, Some([5; 250])));
     Ok(())
 }
 
 #[test]
 fn values_of_a_store_that_know_their_keys() -> Result<(), Refused> {
     let mut store = Store::with_limits(ONE_PAGE)?;
-    let keys = (0..16)
+    // A key and 200 bytes take 14 words, so 18 of them fill a page.
+    let keys = (0..18_u32)
         .map(|n| store.insert_with_key(|own| (own, [n; 50])))
         .collect::<Result<Vec<_>, _>>()?;
     assert!(keys
@@ -367,7 +368,7 @@ fn values_of_a_store_that_know_their_keys() -> Result<(), Refused> {
         .zip(0..)
         .all(|(key, n)| store.get(*key) == Some((*key, [n; 50]))));
     assert_eq!(store.insert_with_key(|_| unreachable!()), Err(Refused::PagesSpent));
-    assert_eq!((store.len(), store.iter().count()), (16, 16));
+    assert_eq!((store.len(), store.iter().count()), (18, 18));
     Ok(())
 }
 
@@ -375,11 +376,13 @@ fn values_of_a_store_that_know_their_keys() -> Result<(), Refused> {
 fn room_in_a_store() -> Result<(), Refused> {
     assert_eq!(Store::<u64>::with_capacity(1)?.limits().shards, 16);
     assert_eq!(Store::<[u8; 64]>::with_capacity(1_073_741_825)?.limits().shards, 17);
-    assert_eq!(Store::<[u8; 65]>::with_capacity(1_073_741_824)?.limits().shards, 64);
+    // 85 values of 48 bytes share a page, of which 64 shards may have 67,108,864.
+    assert_eq!(Store::<[u8; 48]>::with_capacity(5_704_253_440)?.limits().shards, 64);
     assert_eq!(
-        Store::<[u8; 65]>::with_capacity(1_073_741_825).err(),
+        Store::<[u8; 48]>::with_capacity(5_704_253_441).err(),
         Some(Refused::Config)
     );
+    assert_eq!(Store::<[u8; 48]>::new()?.capacity(), 16 * 1_048_576 * 85);
     Ok(())
 }
 

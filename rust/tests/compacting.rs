@@ -482,11 +482,11 @@ fn shards_take_turns() -> Result<(), Refused> {
     const PAGES: usize = 1024;
     let (mut slab, mut store, shared) = (Slab::new()?, Store::new()?, SharedStore::new()?);
     let (mut of_slab, mut of_store, mut of_shared) = ([0; 64], [0; 64], [0; 64]);
-    // Values of more than 64 bytes, 16 of which share a page of a store.
+    // Values of 256 bytes, 16 of which share a page of a store.
     for n in 0..16 * (5 * PAGES as u64 + 10) {
         of_slab[slab.insert(n)?.shard() as usize] += 1;
-        of_store[store.insert([n; 10])?.shard() as usize] += 1;
-        of_shared[shared.insert([n; 10])?.shard() as usize] += 1;
+        of_store[store.insert([n; 32])?.shard() as usize] += 1;
+        of_shared[shared.insert([n; 32])?.shard() as usize] += 1;
     }
     assert!(of_slab[0] == slab.len() && of_slab[1] == 0);
     assert_eq!(of_store[..5], [16 * PAGES + 1; 5]);
@@ -503,7 +503,7 @@ fn a_shard_that_folds_keeps_its_turn() -> Result<(), Refused> {
     let store = SharedStore::new()?;
     let mut random = Random(88_172_645_463_325_252);
     let mut round = || -> Result<BTreeSet<u32>, Refused> {
-        let keys: Vec<_> = (0..16 * 400).map(|n| store.insert([n; 30])).collect::<Result<_, _>>()?;
+        let keys: Vec<_> = (0..16 * 400).map(|n| store.insert([n; 64])).collect::<Result<_, _>>()?;
         store.retain(|_, _| random.below(20) == 0);
         store.compact()?;
         Ok(keys.iter().map(|key| key.shard()).collect())
@@ -513,7 +513,7 @@ fn a_shard_that_folds_keeps_its_turn() -> Result<(), Refused> {
         assert_eq!(round()?, first);
     }
     // Each has opened more pages than a turn has.
-    let last = store.insert([0; 30])?;
+    let last = store.insert([0; 64])?;
     assert!(last.serial() > 1024, "{last}");
     Ok(())
 }

@@ -119,7 +119,7 @@ fn sets_in_place() -> Result<(), Refused> {
     core.close()?;
     assert!(core.set(pooled, 42)?);
     assert_eq!((core.set(stale, 41)?, core.set(wide, 43)?), (false, false));
-    assert_eq!(core.set_words(wide, &[1; 3]), Err(Refused::Config));
+    assert!(!core.set_words(wide, &[1; 3])?);
     assert_eq!(core.get_words(wide).map(|words| words.to_vec()), Some(vec![23; 4]));
     assert_eq!((core.replace(owned, 44)?, core.replace(stale, 41)?), (Some(34), None));
     assert_eq!((core.remove(pooled), core.remove(owned)), (Some(42), Some(44)));

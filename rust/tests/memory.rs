@@ -3,7 +3,7 @@
 mod common;
 
 use common::{kilobytes, with_bytes_left};
-use teurlaks::{Core, Key, Limits, Refused, Slab, Stepped};
+use teurlaks::{Core, Key, Limits, Refused, Slab, Stepped, Store};
 
 type Fold = fn(&mut Slab<[u64; 30]>) -> Result<(), Refused>;
 
@@ -23,6 +23,32 @@ fn most_of_it_leaves_the_process(values: usize, fold: Fold) -> Result<(), Refuse
     assert!(full > values as u64 * 240 / 1024, "{full} KB");
     // The pool, which comes with the first retirement, takes some of it.
     assert!(left < full / 2, "of {full} KB {left} are left");
+    Ok(())
+}
+
+/// What a million values of 48 bytes take when full, and what they leave when nine of ten are freed.
+fn values_of_48_bytes_take_little_more() -> Result<(), Refused> {
+    const VALUES: usize = 1_000_000;
+    let mut keys = vec![Key::from_bits(1).expect("its generation is 1"); VALUES];
+    let base = kilobytes("VmRSS:");
+    let mut store = Store::new()?;
+    for (number, key) in keys.iter_mut().enumerate() {
+        *key = store.insert([number as u64; 6])?;
+    }
+    let full = kilobytes("VmRSS:") - base;
+    // 85 share a page, and each of some shards has one that is not full.
+    let pages = (VALUES + 84) / 85;
+    assert!((pages..pages + 16).contains(&store.pages()));
+    assert!((46_875..51_000).contains(&full), "{full} KB");
+    store.retain(|_, value| value[0] * 7919 % 100 < 10);
+    store.compact()?;
+    let left = kilobytes("VmRSS:") - base;
+    assert!(left < full / 3, "of {full} KB {left} are left");
+    let stays = |number: &usize| number * 7919 % 100 < 10;
+    assert!((0..VALUES)
+        .filter(stays)
+        .all(|number| store.get(keys[number]) == Some([number as u64; 6])));
+    assert_eq!(store.len(), VALUES / 10);
     Ok(())
 }
 
@@ -123,6 +149,7 @@ fn memory_goes_back_and_is_refused() -> Result<(), Refused> {
     // On 4,688 pages, more than a plan has on a side.
     most_of_it_leaves_the_process(300_000, |slab| slab.compact().map(drop))?;
     most_of_it_leaves_the_process(300_000, by_steps)?;
+    values_of_48_bytes_take_little_more()?;
     trimmed_pages_leave_the_process()?;
     refused_where_there_is_none::<1000>()?;
     refused_where_there_is_none::<8192>()

@@ -88,7 +88,7 @@ fn more_pages_than_a_plan_has() -> Result<(), Refused> {
     const PAGES: usize = 10_000;
     let mut slab = Slab::new()?;
     let keys = (0..PAGES * SLOTS)
-        .map(|place| slab.insert((place, [0_u8; 129])))
+        .map(|place| slab.insert((place, [0_u8; 184])))
         .collect::<Result<Vec<_>, _>>()?;
     // On each page four values stay, at four slots of its own of the sixteen fours.
     let stays = |place: usize| place % SLOTS / 4 == place / SLOTS % 16;

@@ -216,7 +216,7 @@ fn place(key: Key) -> (usize, usize) {
 }
 
 /// So many values that each page keeps one of 16, at another slot than the next page does.
-fn sparse(store: &SharedStore<Value<29>>) -> Result<Vec<(Key, u64)>, Refused> {
+fn sparse(store: &SharedStore<Value<31>>) -> Result<Vec<(Key, u64)>, Refused> {
     let all: Vec<(Key, u64)> = (0..64_000)
         .map(|number| Ok((store.insert(Value::new(number))?, number)))
         .collect::<Result<_, Refused>>()?;
@@ -301,7 +301,7 @@ fn what_is_compacted_takes_values_again() -> Result<(), Refused> {
     let store = SharedStore::with_limits(limits(1, 1024))?;
     let mut random = Random(7);
     for number in 0..16 * PAGES as u64 {
-        store.insert(Value::<29>::new(number))?;
+        store.insert(Value::<31>::new(number))?;
     }
     // On each page at least one stays: a group that was trimmed may take a value on a new page.
     store.retain(|key, _| {

@@ -2,7 +2,7 @@
 
 use super::{Arena, Seat};
 use crate::background::{Background, Compacts, Policy};
-use crate::bytes::words_for;
+use crate::bytes::{slots_for, words_for};
 use crate::compact::{Compacted, Occupancy};
 use crate::core::Stepped;
 use crate::refused::Refused;
@@ -143,7 +143,7 @@ impl<T> Arena<T> {
 
 impl<T: Copy + Send + 'static> Arena<T> {
     /// How many values share a page.
-    const SLOTS: usize = 256 / words_for(size_of::<T>());
+    const SLOTS: usize = slots_for(words_for(size_of::<T>()));
 
     fn occupancy(&mut self) -> Occupancy {
         let totals = self.totals();
