@@ -2,7 +2,7 @@
  *
  *   divisions drawn SLOTS PERCENT PAGES SEED     prints pages that are drawn, each slot by itself
  *   divisions recorded RECORDING CLASS RECORDS   prints those of a recorded program after so many
- *                                                records, of class 0, 1 or 2, with nothing folded
+ *                                                records, of class 0 to 15, with nothing folded
  *   divisions left SLOTS SEED                    reads such pages, and prints what is left of them
  *
  * A page is a line of four numbers in hexadecimal, its occupied slots. A page with no object is not

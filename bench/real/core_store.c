@@ -18,7 +18,7 @@ static void fail(const char *call, uint32_t status) {
 /* Shards for three times the pages that the objects of the class need at most: a page that is folded is never opened again, and where
  * objects are freed unevenly there are more. */
 static uint32_t shards_for(const struct steps *steps, unsigned class) {
-    size_t slots = 4096 / bytes_of_class[class];
+    size_t slots = 4096 / bytes_of_class(class);
     size_t shards = 3 * steps->most_live[class] / slots / PAGES_OF_A_SHARD + 1;
     return shards < MOST_SHARDS ? shards : MOST_SHARDS;
 }

@@ -95,7 +95,9 @@ static void compare_all(void) {
 }
 
 static void print_pages(const char *name, struct pages pages) {
-    printf(", \"%s\": [%zu, %zu, %zu]", name, pages.of_class[0], pages.of_class[1], pages.of_class[2]);
+    printf(", \"%s\": [%zu", name, pages.of_class[0]);
+    for (unsigned class = 1; class < CLASSES; class++) printf(", %zu", pages.of_class[class]);
+    printf("]");
 }
 
 /* In a process of its own: the pages after a trim, after each of some rounds, and after all that pay, and how much less is resident then. */
@@ -140,7 +142,7 @@ static void search_beside(void) {
         size_t count, of_rounds[ROUNDS];
         struct occupied *pages = core_store_pages_of(class, bytes_of_object, steps.objects, &count);
         occupied.of_class[class] = with_an_object(pages, count);
-        split_mesher_rounds(pages, count, 4096 / bytes_of_class[class], &random, ROUNDS, of_rounds);
+        split_mesher_rounds(pages, count, 4096 / bytes_of_class(class), &random, ROUNDS, of_rounds);
         for (int round = 0; round < ROUNDS; round++) left[round].of_class[class] = of_rounds[round];
         free(pages);
     }

@@ -45,7 +45,7 @@ static void *reserved(size_t bytes) {
 }
 
 static unsigned slots_of(unsigned class) {
-    return PAGE / bytes_of_class[class];
+    return PAGE / bytes_of_class(class);
 }
 
 static void open_sides(const struct steps *steps, void *room) {
@@ -90,7 +90,7 @@ static unsigned lowest_free(const struct occupied *occupied) {
 }
 
 static unsigned char *object_at(unsigned class, size_t page, unsigned slot) {
-    return sides[class].memory + page * PAGE + slot * bytes_of_class[class];
+    return sides[class].memory + page * PAGE + slot * bytes_of_class(class);
 }
 
 static void put(uint32_t object, const void *bytes, uint32_t len) {
@@ -134,7 +134,7 @@ static void mesh_pages(unsigned class, size_t from, size_t onto) {
     struct side *side = &sides[class];
     for (unsigned slot = 0; slot < slots_of(class); slot++)
         if (side->occupied[from].words[slot / 64] >> slot % 64 & 1)
-            memcpy(object_at(class, onto, slot), object_at(class, from, slot), bytes_of_class[class]);
+            memcpy(object_at(class, onto, slot), object_at(class, from, slot), bytes_of_class(class));
     occupied_unite(&side->occupied[onto], &side->occupied[from]);
     side->occupied[from] = (struct occupied){{0}};
     uint32_t last = from;

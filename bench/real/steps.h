@@ -5,12 +5,16 @@
 #include <stddef.h>
 #include <stdint.h>
 
-/* The widths of a core's objects, in bytes. */
-enum { CLASSES = 3, MOST_BYTES = 256 };
-static const uint32_t bytes_of_class[CLASSES] = {16, 64, 256};
+/* A core's objects have 1 to 16 words of 16 bytes. */
+enum { CLASSES = 16, MOST_BYTES = 16 * CLASSES };
 
+static inline uint32_t bytes_of_class(unsigned class) {
+    return 16 * (class + 1);
+}
+
+/* The class of 1 to 256 bytes. */
 static inline unsigned class_of(uint32_t bytes) {
-    return bytes <= 16 ? 0 : bytes <= 64 ? 1 : 2;
+    return (bytes - 1) / 16;
 }
 
 enum step_kind { STEP_PUT, STEP_FREE };

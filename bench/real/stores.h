@@ -15,7 +15,7 @@ struct pages {
 extern unsigned compacted_below_percent;
 
 static inline int is_sparse(size_t objects, size_t pages, unsigned class) {
-    return objects * 100 < pages * (4096 / bytes_of_class[class]) * compacted_below_percent;
+    return objects * 100 < pages * (4096 / bytes_of_class(class)) * compacted_below_percent;
 }
 
 struct store {

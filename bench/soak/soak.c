@@ -91,8 +91,7 @@ static struct teurlaks_key stale[MOST_STALE];
 static uint64_t stale_count;
 
 static size_t len_of_a_class(void) {
-    static const size_t lens[] = {1, 1, 1, 4, 16};
-    return lens[draw(5)];
+    return draw(2) ? 1 : 1 + draw(MOST_WORDS);
 }
 
 static void write_words(struct teurlaks_word *words, size_t len, uint64_t value) {

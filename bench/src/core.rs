@@ -1,6 +1,6 @@
 //! The store: shards, the pool and the open plan as one value.
 
-use crate::class::Class;
+use crate::class::{Class, CLASSES};
 use crate::ids::{Key, SpanId};
 use crate::plan::{self, Graph, Matching};
 use crate::slots::Slots;
@@ -73,14 +73,25 @@ struct Shard {
     /// Places of its groups among all groups, by ascending head.
     groups: Vec<usize>,
     /// A bit for each of these, by class: whether a put should look there.
-    rooms: [Vec<u64>; 3],
+    rooms: [Vec<u64>; CLASSES],
     ended: bool,
 }
 
 impl Shard {
     /// Has puts of the class look at the group.
     fn note(&mut self, class: Class, at: usize) {
-        self.rooms[class as usize][at / 64] |= 1 << (at % 64);
+        let rooms = &mut self.rooms[class.number()];
+        if rooms.len() <= at / 64 {
+            rooms.resize(at / 64 + 1, 0);
+        }
+        rooms[at / 64] |= 1 << (at % 64);
+    }
+
+    /// Has no put of the class look at the group.
+    fn close(&mut self, class: Class, at: usize) {
+        if let Some(word) = self.rooms[class.number()].get_mut(at / 64) {
+            *word &= !(1 << (at % 64));
+        }
     }
 }
 
@@ -216,7 +227,7 @@ impl<const LOG: bool> Core<LOG> {
     /// The open group of the class of lowest head that has a usable slot, and its lowest such slot. Bits of groups without one go off.
     fn room(&mut self, shard: usize, class: Class) -> Option<(usize, u8)> {
         let Shard { groups, rooms, .. } = &mut self.shards[shard];
-        for (w, word) in rooms[class as usize].iter_mut().enumerate() {
+        for (w, word) in rooms[class.number()].iter_mut().enumerate() {
             while *word != 0 {
                 let place = groups[w * 64 + word.trailing_zeros() as usize];
                 let group = &self.groups[place];
@@ -271,9 +282,6 @@ impl<const LOG: bool> Core<LOG> {
         let at = home.groups.partition_point(|g| all[*g].spans[0] < head);
         let last = at == home.groups.len();
         home.groups.insert(at, group);
-        for rooms in &mut home.rooms {
-            rooms.resize(home.groups.len().div_ceil(64), 0);
-        }
         if last {
             home.note(self.groups[group].class, at);
             self.groups[group].home = Home::Shard(shard, at);
@@ -475,7 +483,7 @@ impl<const LOG: bool> Core<LOG> {
             let group = &mut self.groups[*onto];
             group.closed = true;
             if let Home::Shard(shard, at) = group.home {
-                self.shards[shard].rooms[group.class as usize][at / 64] &= !(1 << (at % 64));
+                self.shards[shard].close(group.class, at);
             }
             self.closed.push(*onto);
         }

@@ -16,7 +16,7 @@ struct Bound {
 struct Draw {
     random: Random,
     /// The verbs' ends of the classes that the version has.
-    classes: &'static [&'static str],
+    classes: Vec<&'static str>,
     /// Whether the version has sets.
     sets: bool,
     /// Whether it has trims.
@@ -46,8 +46,13 @@ pub fn text(seed: u64) -> Vec<u8> {
     let gens = [1, 2, 3, 9, u32::MAX][random.below(5)];
     let ring = 1 + random.below(3);
     let lines = 5 + random.below(80);
-    let version = [5, 5, 5, 4, 4, 3, 2, 1][(seed / 5) as usize % 8];
-    let classes: &[&str] = if version > 1 { &["", "", "64", "256"] } else { &[""] };
+    let version = [6, 6, 6, 5, 4, 3, 2, 1][(seed / 5) as usize % 8];
+    let mut wide = || WIDE[random.below(WIDE.len())];
+    let classes = match version {
+        1 => vec![""],
+        6 => vec!["", "", wide(), wide()],
+        _ => vec!["", "", "64", "256"],
+    };
     let mut draw = Draw {
         random,
         classes,
@@ -251,8 +256,13 @@ impl Draw {
     }
 }
 
+/// The bytes of wide objects, as verbs end in them.
+const WIDE: [&str; 15] = [
+    "32", "48", "64", "80", "96", "112", "128", "144", "160", "176", "192", "208", "224", "240", "256",
+];
+
 /// Words that stand where others should.
-const WORDS: [&str; 34] = [
+const WORDS: [&str; 38] = [
     "0",
     "1",
     "63",
@@ -269,6 +279,10 @@ const WORDS: [&str; 34] = [
     "put256",
     "fill64",
     "fill256",
+    "put48",
+    "fill240",
+    "put16",
+    "put040",
     "set",
     "end",
     "later",

@@ -187,14 +187,25 @@ fn name_of(word: &[u8]) -> Option<&[u8]> {
     is_name(word).then_some(word)
 }
 
-/// The verb of a put or a fill, and the class of what it puts. Version 1 has no wide ones.
-fn binding_verb<'t>(verb: &'t [u8], version: Version) -> Option<(&'t [u8], Class)> {
-    let (verb, class) = match verb {
-        [verb @ .., b'2', b'5', b'6'] => (verb, Class::C256),
-        [verb @ .., b'6', b'4'] => (verb, Class::C64),
-        verb => (verb, Class::C16),
+/// The verb of a put or a fill, and the class of what it puts: that of the bytes at its end, if any.
+fn binding_verb(verb: &[u8], version: Version) -> Option<(&[u8], Class)> {
+    let digits = verb.iter().rev().take_while(|byte| byte.is_ascii_digit()).count();
+    let (verb, digits) = verb.split_at(verb.len() - digits);
+    match digits {
+        [] => Some((verb, Class::C16)),
+        [b'0', ..] => None,
+        _ => Some((verb, wide_class(std::str::from_utf8(digits).ok()?.parse().ok()?, version)?)),
+    }
+}
+
+/// The class of wide objects of so many bytes. Version 1 has none, and those before 6 have two.
+fn wide_class(bytes: usize, version: Version) -> Option<Class> {
+    let has = match version {
+        Version::One => false,
+        Version::Six => bytes > 16,
+        _ => bytes == 64 || bytes == 256,
     };
-    (class == Class::C16 || version != Version::One).then_some((verb, class))
+    Class::of_bytes(bytes).filter(|_| has)
 }
 
 fn form_of(line: &[u8], version: Version) -> Option<Form<'_>> {
@@ -214,9 +225,9 @@ fn form_of(line: &[u8], version: Version) -> Option<Form<'_>> {
         [_, b"later", key] => Spelled::Later(Reference::of(key)?),
         [_, b"tend"] => Spelled::Tend,
         [_, b"trim"] if version >= Version::Four => Spelled::Trim,
-        [_, b"retire", most] if version == Version::Five => Spelled::Retire(Number::of(most)?),
+        [_, b"retire", most] if version >= Version::Five => Spelled::Retire(Number::of(most)?),
         [_, b"end"] => Spelled::End,
-        [_, b"begin"] if version == Version::Five => Spelled::Begin,
+        [_, b"begin"] if version >= Version::Five => Spelled::Begin,
         [_, verb, rest @ ..] => match (binding_verb(verb, version)?, rest) {
             ((b"put", class), [name, value]) => Spelled::Put(class, name_of(name)?, Number::of(value)?),
             ((b"fill", class), [name, count, value]) => {
@@ -444,6 +455,7 @@ enum Version {
     Three,
     Four,
     Five,
+    Six,
 }
 
 fn header<'t>(lines: &mut impl Iterator<Item = &'t [u8]>) -> Result<(Version, Header), Fault> {
@@ -453,6 +465,7 @@ fn header<'t>(lines: &mut impl Iterator<Item = &'t [u8]>) -> Result<(Version, He
         Some(b"mesh 3") => Version::Three,
         Some(b"mesh 4") => Version::Four,
         Some(b"mesh 5") => Version::Five,
+        Some(b"mesh 6") => Version::Six,
         _ => {
             return Err(Fault {
                 line: 1,

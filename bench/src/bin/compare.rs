@@ -2,7 +2,7 @@
 //! COUNT random texts. Of these the first 300 are also run by threads.
 //!
 //! Where there are several largest plans, `meshrun` may choose any: the plain program is given its folds, and says whether they are a
-//! largest plan. All else must be the same byte for byte: the report, standard error, and the status. A run by threads must end with
+//! largest plan. All else must be the same byte for byte: the report, the last line of standard error, and the status. A run by threads must end with
 //! `audit ok`, and with the serial numbers of live keys and of calls; where a call was refused a page or a group, or a ring was full, which
 //! another thread's free or `tend` can decide, with that of calls.
 
@@ -32,9 +32,12 @@ fn totals(report: &str, decided: bool) -> Option<Vec<&str>> {
     words.get(first..).map(<[&str]>::to_vec)
 }
 
+/// The status, the report, and the last line of the errors: `meshrun` explains it in a line before.
 fn answer(output: Output) -> Answer {
     let text = |bytes: Vec<u8>| String::from_utf8_lossy(&bytes).into_owned();
-    (output.status.code(), text(output.stdout), text(output.stderr))
+    let errors = text(output.stderr);
+    let last = errors.lines().last().unwrap_or_default().to_string();
+    (output.status.code(), text(output.stdout), last)
 }
 
 impl Compare {

@@ -1,4 +1,4 @@
-//! `thinned WHO BYTES FREED`: what a store of 1,000,000 values of 16, 64 or 240 bytes keeps resident, in a process of its own. So many of 100
+//! `thinned WHO BYTES FREED`: what a store of 1,000,000 values of 16, 48, 64, 96 or 240 bytes keeps resident, in a process of its own. So many of 100
 //! values are freed at random, and the store gives back what it can: by folds, or by `shrink_to_fit`, where it has either.
 //!
 //! It prints the kilobytes that the system tells (`VmRSS`), beyond what the process took before: full, freed, and given back; and how many pages
@@ -69,11 +69,7 @@ struct Store<const N: usize> {
 
 impl<const N: usize> Store<N> {
     fn new() -> Result<Store<N>, Refused> {
-        let slots = match N {
-            0..=16 => 256,
-            17..=64 => 64,
-            _ => 16,
-        };
+        let slots = 256 / N.div_ceil(16);
         let shards = VALUES.div_ceil(slots).div_ceil(PAGES_OF_A_SHARD) as u32;
         let limits = Limits {
             shards,
@@ -276,7 +272,9 @@ fn answer(words: &[String]) -> Option<String> {
     let percent = percent.parse().ok().filter(|percent| *percent <= 100)?;
     match bytes.as_str() {
         "16" => measure_of::<16>(who, percent),
+        "48" => measure_of::<48>(who, percent),
         "64" => measure_of::<64>(who, percent),
+        "96" => measure_of::<96>(who, percent),
         "240" => measure_of::<240>(who, percent),
         _ => None,
     }
@@ -290,7 +288,7 @@ fn main() -> ExitCode {
             ExitCode::SUCCESS
         }
         None => {
-            eprintln!("thinned WHO BYTES FREED, of 16, 64 or 240 bytes");
+            eprintln!("thinned WHO BYTES FREED, of 16, 48, 64, 96 or 240 bytes");
             ExitCode::from(2)
         }
     }
