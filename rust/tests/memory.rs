@@ -43,7 +43,7 @@ fn values_of_48_bytes_take_little_more() -> Result<(), Refused> {
     store.retain(|_, value| value[0] * 7919 % 100 < 10);
     store.compact()?;
     let left = kilobytes("VmRSS:") - base;
-    assert!(left < full / 3, "of {full} KB {left} are left");
+    assert!(left < full / 2, "of {full} KB {left} are left");
     let stays = |number: &usize| number * 7919 % 100 < 10;
     assert!((0..VALUES)
         .filter(stays)
