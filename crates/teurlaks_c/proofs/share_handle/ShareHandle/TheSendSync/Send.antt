@@ -71,7 +71,7 @@ recorded_share = Arc-send _ (Arena-send NoGate.the_row Kept.the_row KeptImpl.gho
 
 -- a seat with its receipts
 kept_fields : AllSend (struct_fields KeptSeatContent.the_type)
-kept_fields = (seat_send, (search (sendable, crosses) depth 60, tt))
+kept_fields = (seat_send, (search (sendable, crosses) depth 60 fits 10000, tt))
 
 kept_send : IsSend (KeptSeatContent.the_field).row
 kept_send = struct_send (struct_shape KeptSeatContent.the_type) kept_fields
