@@ -24,7 +24,8 @@ A fault is one wrong step. Each must be found.
 from pathlib import Path
 from typing import NamedTuple, Optional
 
-from code_steps import as_meant, explored, stands_as_modelled, try_faults
+import code_steps
+from code_steps import as_meant, explored, replaced, stands_as_modelled, try_faults
 
 FAULTS = {
     "works_without_lock": "a part is taken without the lock of the store",
@@ -155,30 +156,12 @@ class Thread(NamedTuple):
     calls: int = 2
 
 
-def replaced(values, at, value):
-    return values[:at] + (value,) + values[at + 1 :]
-
-
-class View:
-    """A state as one thread sees and changes it. Each change gives another view."""
-
-    def __init__(self, state, thread):
-        self.state, self.thread = state, thread
-
-    @property
-    def me(self):
-        return self.state.threads[self.thread]
+class View(code_steps.View):
+    """A state, with the words of this model."""
 
     @property
     def shard(self):
         return self.state.shards[self.me.shard]
-
-    def having(self, **changes):
-        return View(self.state._replace(**changes), self.thread)
-
-    def to(self, at, **changes):
-        me = self.me._replace(at=at, **changes)
-        return self.having(threads=replaced(self.state.threads, self.thread, me))
 
     def with_shard(self, **changes):
         shard = self.shard._replace(**changes)

@@ -1,5 +1,5 @@
-"""What the models of locks share: whether the code that they model still has their steps, and how
-their states are gone over."""
+"""What the models of locks share: whether the code that they model still has their steps, how a
+thread changes a state, and how the states are gone over."""
 
 import re
 import sys
@@ -37,6 +37,57 @@ def stands_as_modelled(folder, sources, counted, changes):
     for place in wrong:
         print(f"the code is not as it is modelled: {place}: look at the model anew")
     return not wrong
+
+
+def replaced(values, at, value):
+    """The values with another one at the place."""
+    return values[:at] + (value,) + values[at + 1 :]
+
+
+class View:
+    """A state as one thread sees and changes it. Each change gives another view."""
+
+    def __init__(self, state, thread):
+        self.state, self.thread = state, thread
+
+    @property
+    def me(self):
+        return self.state.threads[self.thread]
+
+    def having(self, **changes):
+        return type(self)(self.state._replace(**changes), self.thread)
+
+    def with_me(self, **changes):
+        me = self.me._replace(**changes)
+        return self.having(threads=replaced(self.state.threads, self.thread, me))
+
+    def to(self, at, **changes):
+        """The thread goes on at this step."""
+        return self.with_me(at=at, **changes)
+
+
+class BufferedView(View):
+    """The same where a store reaches memory some time after it was made, as on x86-64."""
+
+    def write(self, place, value):
+        stores = self.state.stores[self.thread] + ((place, value),)
+        return self.having(stores=replaced(self.state.stores, self.thread, stores))
+
+    def flushed(self, thread):
+        """All that the thread has stored is in memory."""
+        memory = self.state.memory
+        for place, value in self.state.stores[thread]:
+            memory = replaced(memory, place, value)
+        return self.having(memory=memory, stores=replaced(self.state.stores, thread, ()))
+
+
+def with_arrival(state, thread):
+    """The state once the oldest store of the thread has reached memory."""
+    (place, value), *later = state.stores[thread]
+    return state._replace(
+        memory=replaced(state.memory, place, value),
+        stores=replaced(state.stores, thread, tuple(later)),
+    )
 
 
 def explored(first, successors, wrong_with, wrong_at_end):

@@ -27,7 +27,15 @@ A fault is one wrong step. Each must be found, but those that are named as harml
 from pathlib import Path
 from typing import NamedTuple
 
-from code_steps import as_meant, explored, stands_as_modelled, try_faults
+import code_steps
+from code_steps import (
+    as_meant,
+    explored,
+    replaced,
+    stands_as_modelled,
+    try_faults,
+    with_arrival,
+)
 
 OPEN, KEPT, WANTED = 0, 1, 2
 FREE = -1
@@ -131,32 +139,12 @@ class State(NamedTuple):
     is_dropped: bool
 
 
-def replaced(values, at, value):
-    return values[:at] + (value,) + values[at + 1 :]
-
-
-class View:
-    """A state as one thread sees and changes it. Each change gives another view."""
-
-    def __init__(self, state, thread):
-        self.state, self.thread = state, thread
-
-    def having(self, **changes):
-        return View(self.state._replace(**changes), self.thread)
+class View(code_steps.BufferedView):
+    """A state, with the words of this model."""
 
     def read(self, place):
         mine = [value for to, value in self.state.stores[self.thread] if to == place]
         return mine[-1] if mine else self.state.memory[place]
-
-    def write(self, place, value):
-        stores = self.state.stores[self.thread] + ((place, value),)
-        return self.having(stores=replaced(self.state.stores, self.thread, stores))
-
-    def flushed(self, thread):
-        memory = self.state.memory
-        for place, value in self.state.stores[thread]:
-            memory = replaced(memory, place, value)
-        return self.having(memory=memory, stores=replaced(self.state.stores, thread, ()))
 
     def locked(self):
         """With the lock, or None while another thread has it."""
@@ -174,15 +162,11 @@ class View:
     def is_done_with(self):
         return self.having(users=self.state.users - {self.thread})
 
-    def being(self, thread):
-        return self.having(threads=replaced(self.state.threads, self.thread, thread))
-
     def to(self, at, noted=None):
-        return self.being(self.state.threads[self.thread]._replace(at=at, noted=noted))
+        return super().to(at, noted=noted)
 
     def one_less(self):
-        thread = self.state.threads[self.thread]
-        return self.being(thread._replace(left=thread.left - 1))
+        return self.with_me(left=self.me.left - 1)
 
 
 class Owner:
@@ -388,11 +372,7 @@ def successors(state, programs):
     """The states that may come next: a thread's step, or its oldest store reaches memory."""
     for thread, stores in enumerate(state.stores):
         if stores:
-            (place, value), later = stores[0], stores[1:]
-            yield state._replace(
-                memory=replaced(state.memory, place, value),
-                stores=replaced(state.stores, thread, later),
-            )
+            yield with_arrival(state, thread)
     for thread, (at, noted, _) in enumerate(state.threads):
         if at != "end":
             for view in getattr(programs[thread], at)(View(state, thread), noted):

@@ -23,7 +23,15 @@ A fault is one wrong step. Each must be found.
 from pathlib import Path
 from typing import NamedTuple, Optional
 
-from code_steps import as_meant, explored, stands_as_modelled, try_faults
+import code_steps
+from code_steps import (
+    as_meant,
+    explored,
+    replaced,
+    stands_as_modelled,
+    try_faults,
+    with_arrival,
+)
 
 FAULTS = {
     "takes_in_two_steps": "a thread looks whether the lock is free and then takes it",
@@ -90,38 +98,14 @@ class State(NamedTuple):
     wrong: Optional[str] = None
 
 
-def replaced(values, at, value):
-    return values[:at] + (value,) + values[at + 1 :]
-
-
-class View:
-    """A state as one thread sees and changes it. Each change gives another view."""
-
-    def __init__(self, state, thread):
-        self.state, self.thread = state, thread
-
-    @property
-    def at(self):
-        return self.state.threads[self.thread].at
-
-    def having(self, **changes):
-        return View(self.state._replace(**changes), self.thread)
-
-    def to(self, at):
-        thread = self.state.threads[self.thread]._replace(at=at)
-        return self.having(threads=replaced(self.state.threads, self.thread, thread))
-
-    def write(self, place, value):
-        stores = self.state.stores[self.thread] + ((place, value),)
-        return self.having(stores=replaced(self.state.stores, self.thread, stores))
+class View(code_steps.BufferedView):
+    """A state, with the words of this model."""
 
     def exchanged(self, place, change):
         """An exchange, which finds all that its thread has stored in memory."""
-        memory = self.state.memory
-        for to, value in self.state.stores[self.thread]:
-            memory = replaced(memory, to, value)
-        memory = replaced(memory, place, change(memory[place]))
-        return self.having(memory=memory, stores=replaced(self.state.stores, self.thread, ()))
+        view = self.flushed(self.thread)
+        memory = view.state.memory
+        return view.having(memory=replaced(memory, place, change(memory[place])))
 
     def taken(self, place):
         """With the lock or the bed, or None while another thread has it."""
@@ -144,11 +128,9 @@ class Program:
         self.asks_in_bed = fault not in ("asks_without_bed", "sleeps_without_asking")
 
     def begin(self, view):
-        me = view.state.threads[view.thread]
-        if me.left == 0:
+        if view.me.left == 0:
             return [view.to("end")]
-        threads = replaced(view.state.threads, view.thread, Thread("take", me.left - 1))
-        return [view.having(threads=threads)]
+        return [view.to("take", left=view.me.left - 1)]
 
     def take(self, view):
         return self.taking(view, "use", "say")
@@ -157,7 +139,7 @@ class Program:
         """An exchange by which the lock is taken if it is free."""
         taken = view.taken(HELD)
         if taken and self.fault == "takes_in_two_steps":
-            return [view.to(f"{view.at}_late")]
+            return [view.to(f"{view.me.at}_late")]
         return [taken.to(then) if taken else view.exchanged(HELD, lambda held: held).to(otherwise)]
 
     def take_late(self, view):
@@ -256,9 +238,7 @@ def successors(state, program):
     nexts = []
     for thread, stores in enumerate(state.stores):
         if stores:
-            memory = replaced(state.memory, *stores[0])
-            left = replaced(state.stores, thread, stores[1:])
-            nexts.append(state._replace(memory=memory, stores=left))
+            nexts.append(with_arrival(state, thread))
     for thread, (at, _) in enumerate(state.threads):
         if at != "end":
             nexts += [view.state for view in getattr(program, at)(View(state, thread))]

@@ -23,7 +23,8 @@ A fault is one wrong step. Each must be found.
 from pathlib import Path
 from typing import NamedTuple, Optional
 
-from code_steps import as_meant, explored, stands_as_modelled, try_faults
+import code_steps
+from code_steps import as_meant, explored, replaced, stands_as_modelled, try_faults
 
 FAULTS = {
     "looks_before_it_pins": "a look-up compares the name before it pins, and not behind",
@@ -167,22 +168,8 @@ class State(NamedTuple):
     wrong: Optional[str] = None
 
 
-def replaced(values, at, value):
-    return values[:at] + (value,) + values[at + 1 :]
-
-
-class View:
-    """A state as one thread sees and changes it. Each change gives another view."""
-
-    def __init__(self, state, thread):
-        self.state, self.thread = state, thread
-
-    def having(self, **changes):
-        return View(self.state._replace(**changes), self.thread)
-
-    @property
-    def me(self):
-        return self.state.threads[self.thread]
+class View(code_steps.View):
+    """A state, with the words of this model."""
 
     def slot(self, number=None):
         return self.state.slots[self.me.slot if number is None else number]
@@ -199,10 +186,6 @@ class View:
     def open(self, number=None, pins=0):
         """Opens the slot by a store, after which it has so many pins."""
         return self.with_slot(number, open=True, removed=False, awaited=False, pins=pins)
-
-    def to(self, at, **changes):
-        threads = replaced(self.state.threads, self.thread, self.me._replace(at=at, **changes))
-        return self.having(threads=threads)
 
     def fails(self, why):
         return self.having(wrong=self.state.wrong or why)
