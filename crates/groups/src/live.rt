@@ -8,5 +8,5 @@ use span::{Log, Span};
 pub(crate) fn is_live<L: Log>(span: &Span<L>) -> bool
     ensures { result ≡ dead.is_live span.now }
 {
-    span.live().count() > 0
+    span.live_count() > 0
 }

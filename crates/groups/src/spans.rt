@@ -207,12 +207,8 @@ impl<L: Log> Spans<L> {
         ensures err { OnErr result (self.new ≡ self.old) }
     {
         let class = self.head.class();
-        let found = lowest_usable(
-            &mut self.open_words,
-            &self.occupied,
-            self.head.worn(),
-            class,
-        );
+        let worn = self.head.worn();
+        let found = lowest_usable(&mut self.open_words, &self.occupied, &worn, class);
         let Some(Vacancy { slot, is_last }) = found else {
             return Ok(None);
         };
@@ -230,13 +226,8 @@ impl<L: Log> Spans<L> {
         ensures same { self.new ≡ self.old }
     {
         let class = self.head.class();
-        lowest_usable(
-            &mut self.open_words,
-            &self.occupied,
-            self.head.worn(),
-            class,
-        )
-        .is_some()
+        let worn = self.head.worn();
+        lowest_usable(&mut self.open_words, &self.occupied, &worn, class).is_some()
     }
 
     /// Sets the object of the slot in the span at the place to these words, where the slot is live

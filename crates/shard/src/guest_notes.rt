@@ -196,7 +196,7 @@ impl GuestNotes {
 fn is_live<L: Log>(span: &Span<L>) -> bool
     ensures { result ≡ is_live span.now }
 {
-    span.live().count() > 0
+    span.live_count() > 0
 }
 
 // What is noted of the guest of the head at the place.

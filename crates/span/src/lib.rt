@@ -25,9 +25,9 @@
 //! A log that is [`Kept`] takes 8.5 bytes a change, and the words of each object that was put or
 //! set, for as long as its span lives. A span that works for ever and whose log nobody reads is a
 //! `Span<Counted>`: it keeps the number of changes alone, so a put and its free leave memory as it
-//! was, but once in a span's life: generations take a byte each until a slot passes 255, and 4
-//! bytes each from then on. Its contracts are the same, since they speak of the log as a list that
-//! proofs alone carry along; only `log` is missing.
+//! was, but once in a span's life: a slot takes a byte until one is put 128 times, and 4 bytes from
+//! then on. Its contracts are the same, since they speak of the log as a list that proofs alone
+//! carry along; only `log` is missing.
 //!
 //! # Examples
 //!
@@ -48,12 +48,12 @@ mod blocks;
 mod change;
 mod class;
 mod entry;
-mod generations;
 mod history;
 mod id;
 mod key;
 mod limits;
 mod log;
+mod marks;
 mod object;
 mod object_view;
 mod receipt;

@@ -3,36 +3,35 @@
 ghost use Rattle.std.specs.Prelude.{◌≡◌, ◌+◌, ◌<◌, ◌≤◌, ◌↔◌, IsTrue, OnOk, OnErr, IfOk, IfSome, MatchOption, [], ◌∷◌, ◌++◌, length, true, false};
 ghost use Rattle.std.specs.Bool.{OnTrue, OnFalse};
 ghost use Rattle.std.specs.FinSet as set;
-ghost use Rattle.bitmap.specs.declared.bits.TheConstants.{SLOTS};
-ghost use Rattle.span.specs.Order.{HasNoMemberFrom, IsLowestFrom};
 ghost use Rattle.span.specs.declared.change.Change.TheVariants as Change;
 
 use crate::class::Class;
-use crate::generations::Generations;
 use crate::id::SpanId;
 use crate::key::Key;
 use crate::log::{Kept, Log};
+use crate::marks::Marks;
 use crate::span_log::SpanLog;
-use bitmap::{Bits256, SLOTS};
+use bitmap::Bits256;
 use std::alloc::{AllocError, Global};
 use std::marker::Model;
 
 /// The slots of a class: which are live, at which generation, and the log of all that was done to
 /// them.
 ///
-/// A span is moved whenever a list of spans grows, so the generations stand outside of the struct,
-/// and come with the first put: a byte each, and 4 bytes each once one passes 255. The log has room
-/// for the free of each live slot at all times, so a free takes no memory. A log that is only
-/// [`Counted`](crate::Counted) takes none at all.
+/// A span is moved whenever a list of spans grows, so what is kept of each slot stands outside of
+/// the struct, and comes with the first put: a byte a slot, and 4 bytes once one was put 128 times.
+/// The log has room for the free of each live slot at all times, so a free takes no memory. A log
+/// that is only [`Counted`](crate::Counted) takes none at all.
 #[derive(Drop)]
 pub struct Span<L: Log = Kept> {
-    // A look-up reads these first five, which stand side by side.
+    // A look-up reads the id, the class and the marks.
     id: SpanId,
     gens: u32,
     class: Class,
-    live: Bits256,
-    generations: Generations,
-    worn: Bits256,
+    // Whether some slot may be worn. Which ones are, the marks say.
+    may_be_worn: bool,
+    live_count: u16,
+    marks: Marks,
     log: L,
 }
 
@@ -51,7 +50,7 @@ impl<L: Log> Model for Span<L> {
     ghost use Rattle.span.specs.Kept.{IsKept};
 
     ghost invariant = { λ s.
-        IsKept s.class s.gens s.live s.worn s.generations (L.changes s.log) (L.room s.log) };
+        IsKept s.class s.gens s.may_be_worn s.live_count s.marks (L.changes s.log) (L.room s.log) };
 }
 
 impl<L: Log> Span<L> {
@@ -70,18 +69,18 @@ impl<L: Log> Span<L> {
             id,
             gens,
             class,
-            live: Bits256::empty(),
-            worn: Bits256::empty(),
-            generations: Generations::new(alloc),
+            may_be_worn: false,
+            live_count: 0,
+            marks: Marks::new(alloc),
             log: L::new(alloc),
         }
     }
 
     /// Puts an object, given by its words, at a slot that is neither live nor worn, and answers its
     /// key, which was never given out before. It grows a log that is kept for this put and for the
-    /// frees of all live slots, and the list of generations at the first put and where a slot is
-    /// the first to pass generation 255. `Err` comes where memory runs out, and then the span is as
-    /// before.
+    /// frees of all live slots. It grows the list of marks at the first put of all, and where a
+    /// slot is the first that is put 128 times, or 2^31 times. `Err` comes where memory runs out,
+    /// and then the span is as before.
     #[inline(always)]
     pub fn put_at(&mut self, slot: u8, words: &[u128]) -> Result<Key, AllocError>
         requires on_page { slot < slots_in self.old.class }
@@ -105,13 +104,13 @@ impl<L: Log> Span<L> {
         ensures of_class { IsOfClass self.new.class self.new.log }
     {
         self.log
-            .reserve(self.live.count() as usize + 2, words.len())?;
-        self.generations.reserve_all(self.class, slot)?;
-        let generation = self.generations.give_next(slot);
+            .reserve(usize::from(self.live_count) + 2, words.len())?;
+        self.marks.reserve_all(self.class, slot)?;
+        let generation = self.marks.give_next(slot);
         self.log.push_put(slot, generation, self.class, words);
-        self.live.insert(slot);
+        self.live_count += 1;
         if generation == self.gens {
-            self.worn.insert(slot);
+            self.may_be_worn = true;
         }
         Ok(Key {
             span: self.id,
@@ -136,7 +135,7 @@ impl<L: Log> Span<L> {
         ensures on_page { OnTrue result (slot < slots_in self.now.class) }
         ensures legal { IsLegal self.now.gens self.now.log }
     {
-        self.live.contains(slot) && self.generations.generation_of(slot) == generation
+        self.marks.is_at(slot, generation)
     }
 
     /// The key of the lowest live slot from this one on, if one is live. Takes no memory.
@@ -145,11 +144,14 @@ impl<L: Log> Span<L> {
             (IsFirstHeld self.now.log slot) }
         ensures span { IfSome result (λ key. key.span ≡ self.now.id) }
     {
-        let Some(slot) = lowest_from(&self.live, slot) else {
+        if self.live_count == 0 {
+            return None;
+        }
+        let Some(slot) = self.marks.first_live(slot) else {
             return None;
         };
         let span = self.id;
-        let generation = self.generations.generation_of(slot);
+        let generation = self.marks.generation_of(slot);
         Some(Key {
             span,
             slot,
@@ -201,7 +203,7 @@ impl<L: Log> Span<L> {
         ensures of_class { IsOfClass self.new.class self.new.log }
     {
         self.log
-            .reserve_set(self.live.count() as usize + 1, words.len())?;
+            .reserve_set(usize::from(self.live_count) + 1, words.len())?;
         self.log.push_set(slot, generation, self.class, words);
         Ok(())
     }
@@ -250,23 +252,37 @@ impl<L: Log> Span<L> {
         ensures legal { IsLegal self.new.gens self.new.log }
     {
         self.log.push_free(slot, generation);
-        self.live.remove(slot);
+        self.marks.take_back(slot);
+        self.live_count -= 1;
     }
 
-    /// The slots that are live.
+    /// The slots that are live. It reads what is kept of each slot, if one is live.
     pub fn live(&self) -> Bits256
         ensures { result ≡ live_slots self.now.log }
     {
-        self.live
+        if self.live_count == 0 {
+            return Bits256::empty();
+        }
+        self.marks.live()
+    }
+
+    /// How many slots are live.
+    pub fn live_count(&self) -> u16
+        ensures { result ≡ set.len (live_slots self.now.log) }
+    {
+        self.live_count
     }
 
     /// The slots that were given their greatest generation, and take no put again. A worn slot may
-    /// be live.
-    // Lent, so that a caller that asks one word of it reads no more.
-    pub fn worn(&self) -> &Bits256
-        ensures { result.now ≡ worn_slots self.now.gens self.now.log }
+    /// be live. It reads what is kept of each slot once one is worn, and nothing before.
+    #[inline(always)]
+    pub fn worn(&self) -> Bits256
+        ensures { result ≡ worn_slots self.now.gens self.now.log }
     {
-        &self.worn
+        if !self.may_be_worn {
+            return Bits256::empty();
+        }
+        self.marks.slots_at(self.gens)
     }
 
     /// The class of its objects.
@@ -298,23 +314,6 @@ impl<L: Log> Span<L> {
     {
         self.log.len()
     }
-}
-
-// The lowest slot of the set from this one on. An empty set is not walked.
-fn lowest_from(slots: &Bits256, from: u32) -> Option<u8>
-    ensures lowest { MatchOption result (HasNoMemberFrom slots.now from)
-        (IsLowestFrom slots.now from) }
-    ensures in_range { IfSome result (λ slot. slot < SLOTS) }
-{
-    if slots.count() == 0 {
-        return None;
-    }
-    for slot in from..SLOTS as u32 {
-        if slots.contains(slot as u8) {
-            return Some(slot as u8);
-        }
-    }
-    None
 }
 
 impl Span<Kept> {

@@ -1,0 +1,63 @@
+-- The live slots of a log of a class, and of marks that follow it.
+use Rattle.std.proofs.Common.{zero, suc, ◌≡◌, ◌+◌, ◌%◌, ◌<◌, ◌≤◌, ℕ, Bool, true, false, List, length, Option, Some, None, get_or, is_some, ap, sym, subst, ◌∙◌, refl, inl, inr, eq-eqb, arith}
+use Rattle.std.specs.Ordering.{nat_cmp}
+use Rattle.std.specs.FinMap as map
+use Rattle.std.specs.FinSet.{contains, empty, len, empty_of_len}
+use Rattle.std.proofs.lemmas.Bool.{cases_lt, false_from_ne_true, true≢false}
+use Rattle.bitmap.specs.Slots.{SlotSet, IsBelow, slots_where}
+use Rattle.bitmap.specs.declared.bits.TheConstants.{SLOTS}
+use Rattle.span.specs.Kept.{Follows}
+use Rattle.span.specs.Log.{Held, IsOfClass, live_slots, replay}
+use Rattle.span.specs.Marks.{HasAllOrNone, HasNoLiveFrom, IsFirstLiveFrom, is_live_at, marks_of}
+use Rattle.span.specs.Order.{HasNoMemberFrom, IsLowestFrom}
+use Rattle.span.specs.declared.change.Change.{Change}
+use Rattle.span.specs.declared.class.Class.{Class}
+use Rattle.span.specs.declared.marks.Marks.{Marks}
+use Rattle.span.specs.declared.marks.Marks.TheVariants.{Bytes, Words, Longs}
+use Rattle.span.proofs.Keeping.{live-at}
+use Rattle.span.proofs.OfClass.{Fits-replay}
+use Rattle.span.proofs.Slots.{contains-live_slots}
+use Rattle.span.proofs.SlotsWhere.{len-slots_where-le, slots_where-below, slots_where-same}
+use Rattle.span.proofs.Widths.{slots_in-most}
+
+-- a live slot is one of a page
+pub IsBelow-live : (class : Class) (log : List Change) → IsOfClass class log → IsBelow (live_slots log) SLOTS
+IsBelow-live class log of_class slot inside = there (map.get (replay log) slot) refl (sym (contains-live_slots log slot) ∙ inside)
+  where
+    there : (o : Option Held) → map.get (replay log) slot ≡ o → is_some o ≡ true → slot < SLOTS
+    there None e h = absurd cc
+    there (Some held) e h = omega (arith, (Fits-replay class log of_class slot held e).0, slots_in-most class)
+
+pub len-live-most : (class : Class) (log : List Change) → IsOfClass class log → len (live_slots log) ≤ SLOTS
+len-live-most class log of_class =
+    subst (λ s. len s ≤ SLOTS) (slots_where-below (live_slots log) SLOTS (IsBelow-live class log of_class)) (len-slots_where-le (contains (live_slots log)) SLOTS)
+
+-- no more slots have a mark than a page has
+pub few-marks : (class : Class) (marks : Marks) → HasAllOrNone class marks → length (marks_of marks) ≤ SLOTS
+few-marks class (Bytes bytes) all = omega (arith, all, slots_in-most class)
+few-marks class (Words words) all = omega (arith, all, slots_in-most class)
+few-marks class (Longs longs) (inl none) = omega (arith, none)
+few-marks class (Longs longs) (inr all) = omega (arith, all, slots_in-most class)
+
+module _ (class : Class) (gens : ℕ) (log : List Change) (marks : List ℕ) (of_class : IsOfClass class log) (follows : Follows gens log marks) where
+  -- the slots with a mark of a live one are the live ones
+  pub live-are : slots_where (is_live_at marks) SLOTS ≡ live_slots log
+  live-are = slots_where-same (is_live_at marks) (contains (live_slots log)) SLOTS follows.live_is ∙ slots_where-below (live_slots log) SLOTS (IsBelow-live class log of_class)
+
+  pub none-live : (from : ℕ) → HasNoLiveFrom marks from → HasNoMemberFrom (live_slots log) from
+  none-live from none slot above = false_from_ne_true (contains (live_slots log) slot) (λ inside.
+      absurd (omega (arith, none slot above, live-at gens log marks follows slot (IsBelow-live class log of_class slot inside) inside)))
+
+  pub first-live : (from slot : ℕ) → slot < SLOTS → IsFirstLiveFrom marks from slot → IsLowestFrom (live_slots log) from slot
+  first-live from slot small first = record {
+    inside = sym (follows.live_is slot small) ∙ eq-eqb (get_or marks slot 0 % 2) 1 first.live;
+    not_below = first.not_below;
+    lower = λ other above inside. elim (cases_lt other slot) [
+      | inl before ↦ absurd (omega (arith, first.first other above before, live-at gens log marks follows other (IsBelow-live class log of_class other inside) inside))
+      | inr after ↦ after
+    ];
+  }
+
+-- where none is counted, none is live
+pub live-none : (log : List Change) → len (live_slots log) ≡ 0 → live_slots log ≡ empty
+live-none log none = empty_of_len (live_slots log) none
