@@ -130,6 +130,7 @@ impl<L: Log> Span<L> {
 
     /// Whether the slot is live at the generation: as [`Span::find`], for a caller that found the
     /// span by its id.
+    #[inline(always)]
     pub fn holds(&self, slot: u8, generation: u32) -> bool
         ensures live { IsTrue result ↔ Holds self.now.log slot generation }
         ensures on_page { OnTrue result (slot < slots_in self.now.class) }
