@@ -3,7 +3,7 @@ ghost use Rattle.std.specs.Prelude.{◌≡◌, IsSome, IsTrue, ◌↔◌};
 ghost use Rattle.groups.specs.Whole.{IsSoundWhole, whole_with};
 
 use crate::spans::Spans;
-use page::Page;
+use page::MaybePage;
 use span::{Kept, Log, SpanId};
 use std::marker::Model;
 
@@ -15,7 +15,7 @@ use std::marker::Model;
 #[derive(Drop)]
 pub struct Whole<L: Log = Kept> {
     spans: Spans<L>,
-    words: Option<Page>,
+    words: MaybePage,
 }
 
 impl<L: Log> Model for Whole<L> {
@@ -30,7 +30,7 @@ impl<L: Log> Model for Whole<L> {
 
 impl<L: Log> Whole<L> {
     /// The group of spans that are sound on the words.
-    pub fn new(spans: Spans<L>, words: Option<Page>) -> Whole<L>
+    pub fn new(spans: Spans<L>, words: MaybePage) -> Whole<L>
         requires { IsSoundWhole (whole_with spans words) }
         ensures { result ≡ whole_with spans words }
     {
@@ -60,7 +60,7 @@ impl<L: Log> Whole<L> {
     }
 
     /// The spans, and the words of their page.
-    pub fn into_parts(self) -> (Spans<L>, Option<Page>)
+    pub fn into_parts(self) -> (Spans<L>, MaybePage)
         ensures parts { self ≡ whole_with result.0 result.1 }
         ensures sound { IsSoundWhole self }
     {

@@ -1,6 +1,6 @@
 -- What contracts see of a page's words.
-use Rattle.std.specs.Prelude.{◌≡◌, ℕ, ◌+◌, ◌*◌, ◌/◌, ◌%◌, ◌==◌, List, if◌then◌else◌, length, map, replicate, slice_index}
-use Rattle.std.specs.List.{range_with_len}
+use Rattle.std.specs.Prelude.{◌≡◌, ℕ, ◌+◌, ◌*◌, ◌/◌, ◌%◌, ◌==◌, Bool, List, Option, None, Some, if◌then◌else◌, length, map, replicate, slice_index}
+use Rattle.std.specs.List.{list_all, range_with_len}
 use Rattle.std.specs.FinSet as set
 use Rattle.std.proofs.lemmas.List.FromFn.{length-map-range_with_len}
 use Rattle.std.specs.Coded.{Coded, Coded-set, coded_ℕ, coded_list}
@@ -56,3 +56,12 @@ copied words class slots others = record {
   whole = length-map-range_with_len (λ j. if set.contains slots (j / width_of class) then
       slice_index others.items j else slice_index words.items j) 0 SLOTS;
 }
+
+-- each word of the object is 0
+abbrev pub is_zeros : List ℕ → Bool
+is_zeros object = list_all (λ word. word == 0) object
+
+-- what a group has of a page: one with words in memory, or else one of zeros, or none
+abbrev pub page_of : Option Words → Bool → Option Words
+page_of (Some words) blank = Some words
+page_of None blank = if blank then Some blank_page else None

@@ -16,6 +16,10 @@
 //! ```
 #![tactic(auto)]
 
+mod maybe_page;
+mod on_page;
 mod page;
 
+pub use maybe_page::MaybePage;
+pub use on_page::{is_zeros, set_on, value_on};
 pub use page::Page;

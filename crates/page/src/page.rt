@@ -1,10 +1,11 @@
 // The words of a page.
-ghost use Rattle.std.specs.Prelude.{◌≡◌, ◌<◌, IfOk, length};
+ghost use Rattle.std.specs.Prelude.{◌≡◌, ◌<◌, IfOk, None, Some, if◌then◌else◌, length, unwrap_or};
 ghost use Rattle.bitmap.specs.declared.bits.TheConstants.{SLOTS};
-ghost use Rattle.page.specs.Words.{blank_page, copied, object_in, set_object};
+ghost use Rattle.page.specs.Words.{Words, blank_page, copied, is_zeros, object_in, set_object};
 ghost use Rattle.bitmap.specs.Slots.{IsBelow};
 ghost use Rattle.span.specs.Classes.{slots_in, width_of};
 
+use crate::on_page::{is_zeros, value_on};
 use bitmap::{Bits256, SLOTS};
 use span::Class;
 use std::alloc::{AllocError, Global};
@@ -87,13 +88,54 @@ impl Page {
         Ok(())
     }
 
-    /// Copies the objects at the slots from the same slots of the other page.
-    pub fn copy_from(&mut self, class: Class, other: &Page, slots: &Bits256)
+    /// A page of zeros for the object, if that has a word that is not 0. Zeros need no words in
+    /// memory: for them it is `None`, and no memory is asked for.
+    ///
+    /// # Errors
+    ///
+    /// `AllocError` where the 4,096 bytes are refused.
+    pub fn room_for(alloc: Global, object: &[u128]) -> Result<Option<Page>, AllocError>
+        ensures { IfOk result (λ page. page
+            ≡ (if is_zeros object.now then None else Some blank_page)) }
+    {
+        if is_zeros(object) {
+            return Ok(None);
+        }
+        let page = Page::blank(alloc)?;
+        Ok(Some(page))
+    }
+
+    /// Copies the objects at the slots from the same slots of the other page, which is one of zeros
+    /// where it has no words.
+    pub fn copy_from(&mut self, class: Class, other: &Option<Page>, slots: &Bits256)
         requires on_page { IsBelow slots.now (slots_in class) }
-        ensures { self.new ≡ copied self.old class slots.now other.now }
+        ensures { self.new ≡ copied self.old class slots.now (unwrap_or other.now blank_page) }
     {
         for slot in slots.iter() {
-            self.set_at(class, slot, other.value_at(class, slot));
+            self.set_at(class, slot, value_on(other, class, slot));
+        }
+    }
+
+    /// Keeps the objects at the slots, and makes all other words 0: as if a page of zeros had
+    /// copied them.
+    pub fn keep_only(&mut self, class: Class, slots: &Bits256)
+        ensures { self.new ≡ copied blank_page class slots.now self.old }
+    {
+        clear_outside(&mut self.words, class, slots);
+    }
+}
+
+// Makes the words outside of the slots 0.
+fn clear_outside(words: &mut Vec<u128>, class: Class, slots: &Bits256)
+    requires { length words.old.items ≡ SLOTS }
+    ensures long { length words.new.items ≡ SLOTS }
+    ensures kept { (others : Words) → others.items ≡ words.old.items
+        → words.new.items ≡ (copied blank_page class slots.now others).items }
+{
+    let width = class.words();
+    for place in 0..SLOTS {
+        if !slots.contains((place / width) as u8) {
+            words[place] = 0;
         }
     }
 }
