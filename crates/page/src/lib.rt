@@ -7,6 +7,11 @@
 //! pages become one, and the keys of both stay good (Mesh, PLDI 2019). Which span owns a slot is
 //! nothing that a page knows.
 //!
+//! A page on which only zeros were put needs no words in memory. So where a page may be missing or
+//! be one of zeros, its words are an `Option<Page>`, in which `None` stands for zeros: [`value_on`]
+//! reads an object there, and [`set_on`] writes one. A [`MaybePage`] says besides whether there is
+//! a page at all.
+//!
 //! # Examples
 //!
 //! ```

@@ -10,7 +10,7 @@ use super::{Shard, insert_reserved, lower_heads};
 use crate::error::PutError;
 use crate::group::Group;
 use groups::{Placed, Spans};
-use page::Page;
+use page::{MaybePage, Page, set_on};
 use span::{Class, Key, Log, Object, Span, SpanId};
 
 impl<L: Log> Shard<L> {
@@ -94,17 +94,17 @@ impl<L: Log> Shard<L> {
         };
         let mut head = Span::with_log(self.alloc, id, class, self.gens);
         let key = head.put_at(0, words)?;
-        let mut page = Page::blank(self.alloc)?;
+        let mut page = Page::room_for(self.alloc, words)?;
         self.groups.reserve(1)?;
         self.rooms.reserve(class, self.groups.len() + 1)?;
         self.heads
             .reserve(self.opened as usize + 1, self.groups.len() + 1)?;
-        page.set_at(class, 0, words);
+        set_on(&mut page, class, 0, words);
         let index = lower_heads(self.groups.as_slice(), id);
         insert_reserved(
             &mut self.groups,
             index,
-            Group::of(Spans::of(self.alloc, head), Some(page)),
+            Group::of(Spans::of(self.alloc, head), MaybePage::new(page, true)),
         );
         self.rooms.note_arrival(class, index, self.groups.len());
         self.heads

@@ -5,7 +5,7 @@ use Rattle.groups.specs.Spans.{SpansState, taken}
 use Rattle.groups.proofs.Maps.{at_err}
 use Rattle.shard.specs.Group.{GroupState, unusable}
 use Rattle.shard.proofs.OpenGroups.{HasNoRoom-open}
-use Rattle.shard.proofs.group.Group.put_on_new.Goals as goal
+use Rattle.shard.proofs.group.Group.put_on_zeros.Goals as goal
 
 pub returns-in_err-page-clause-room : goal.returns-in_err-page-clause-room
 returns-in_err-page-clause-room g c =

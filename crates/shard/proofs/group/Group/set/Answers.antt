@@ -1,37 +1,59 @@
-use Rattle.std.proofs.Common.{◌<◌, ◌≡◌, Some, length, slice_get, subst, sym}
-use Rattle.span.specs.Classes.{slots_in, width_of}
+use Rattle.std.proofs.Common.{◌<◌, ◌≡◌, ◌∙◌, Some, length, slice_get, ap, subst, sym}
 use Rattle.span.specs.State.{IsSettable, SpanState}
+use Rattle.page.specs.Words.{Words, blank_page, page_of, set_object}
 use Rattle.groups.specs.Group.{spans_of}
+use Rattle.groups.specs.Pages.{set_group}
 use Rattle.groups.specs.Sound.{IsSoundGroup}
+use Rattle.groups.specs.Spans.{SpansState, all_spans, with_set_at, with_span_at}
 use Rattle.groups.proofs.Lists.{there_at}
-use Rattle.groups.proofs.SetGroups.{fits_page}
-use Rattle.groups.proofs.StoredObjects.{paged_if_held}
 use Rattle.shard.specs.Group.{GroupState, group_of}
+use Rattle.shard.proofs.ZeroPages.{none_told, set_fits, set_in_place, set_on_new_page, set_paged, some_told, where_true}
 use Rattle.shard.proofs.group.Group.set.Goals as goal
 
-abbrev group : (g : _) → goal.After-set_at-arg-1 g → GroupState
-group g c = group_of c.self.inside.spans c.self.inside.page c.self.inside.closed
+-- the slot is on the page, and the words are as many as one of its objects has
+pub set_on-requires-clause-on_page : goal.set_on-requires-clause-on_page
+set_on-requires-clause-on_page g c =
+    rw c.class-class.ensures (set_fits c.self.inside.spans (page_of c.self.inside.words c.self.inside.blank) c.self.inside.closed
+    (subst IsSoundGroup (sym c.self.view_is) c.requires.sound) c.args.place (subst (λ (group : GroupState). c.args.place < length (spans_of group)) (sym c.self.view_is) c.requires.place)
+    c.args.slot c.args.generation c.args.words.now c.in_ok-set.field-0 c.if-not-branch.false (c.in_ok-set.ensures {u = tt}).found).0
 
--- the span that is set
-there : (g : _) (c : goal.After-set_at-arg-1 g) → (span : SpanState) × (slice_get (spans_of (group g c)) c.args.place ≡ Some span)
-there g c = there_at (spans_of (group g c)) c.args.place (subst (λ (group : GroupState). c.args.place < length (spans_of group)) (sym c.self.view_is) c.requires.place)
-
-sound : (g : _) (c : goal.After-set_at-arg-1 g) → IsSoundGroup (group g c)
-sound g c = subst IsSoundGroup (sym c.self.view_is) c.requires.sound
-
-settable : (g : _) (c : goal.After-set_at-arg-1 g) → IsSettable (there g c).0 c.args.slot c.args.generation c.args.words.now
-settable g c = ((c.in_ok-set.ensures {u = tt}).found (there g c).0 (there g c).1).0 c.if-not-branch.false
+pub set_on-requires-clause-width : goal.set_on-requires-clause-width
+set_on-requires-clause-width g c =
+    rw c.class-class.ensures (set_fits c.self.inside.spans (page_of c.self.inside.words c.self.inside.blank) c.self.inside.closed
+    (subst IsSoundGroup (sym c.self.view_is) c.requires.sound) c.args.place (subst (λ (group : GroupState). c.args.place < length (spans_of group)) (sym c.self.view_is) c.requires.place)
+    c.args.slot c.args.generation c.args.words.now c.in_ok-set.field-0 c.if-not-branch.false (c.in_ok-set.ensures {u = tt}).found).1
 
 -- its key is live, and so there is a page
-pub set_at-requires-clause-paged : goal.set_at-requires-clause-paged
-set_at-requires-clause-paged g c = paged_if_held (group g c) (sound g c) c.args.place (there g c).0 c.args.slot c.args.generation (there g c).1 (settable g c).0
+pub returns-clause-set : goal.returns-clause-set
+returns-clause-set g c =
+    let sound = subst IsSoundGroup (sym c.self.view_is) c.requires.sound in
+    let within = subst (λ (group : GroupState). c.args.place < length (spans_of group)) (sym c.self.view_is) c.requires.place in
+    let paged = set_paged c.self.inside.spans (page_of c.self.inside.words c.self.inside.blank) c.self.inside.closed sound c.args.place within c.args.slot c.args.generation c.args.words.now
+    c.in_ok-set.field-0 c.if-not-branch.false (c.in_ok-set.ensures {u = tt}).found in
+    subst (λ (group : GroupState). (span : SpanState) → slice_get (spans_of group) c.args.place ≡ Some span
+    → group_of c.set.new.self (page_of c.set_on.new.words c.self.inside.blank) c.self.inside.closed ≡ set_group group c.args.place span c.args.slot c.args.generation c.args.words.now)
+    c.self.view_is
+    (λ span here. set_in_place c.self.inside.spans c.set.new.self c.self.inside.words c.set_on.new.words c.self.inside.blank c.self.inside.closed sound c.args.place span here
+    c.args.slot c.args.generation c.args.words.now c.class-class.result c.class-class.ensures
+    (where_true c.in_ok-set.field-0 c.if-not-branch.false ((c.in_ok-set.ensures {u = tt}).set span here)) c.set_on.ensures.words c.set_on.ensures.same paged)
 
--- the slot is on the page, and the words are as many as one of its objects has
-fits : (g : _) (c : goal.After-set_at-arg-1 g) → (c.args.slot < slots_in c.class-class.result) × (length c.args.words.now ≡ width_of c.class-class.result)
-fits g c = rw c.class-class.ensures (fits_page (group g c) (sound g c) c.args.place (there g c).0 (there g c).1 c.args.slot c.args.generation c.args.words.now (settable g c))
+pub returns-in_default-clause-unknown : goal.returns-in_default-clause-unknown
+returns-in_default-clause-unknown g c =
+    let there = there_at (all_spans c.self.inside.spans) c.args.place (subst (λ (group : GroupState). c.args.place < length (spans_of group)) (sym c.self.view_is) c.requires.place) in
+    ap (λ (spans : SpansState). group_of spans (page_of c.self.inside.words c.self.inside.blank) c.self.inside.closed)
+    (none_told (c.set_on_zeros.new.spans ≡ c.self.inside.spans) (λ (page : Words). (page ≡ set_object blank_page there.0.class c.args.slot c.args.words.now)
+    × (c.set_on_zeros.new.spans ≡ with_span_at c.self.inside.spans c.args.place (with_set_at there.0 c.args.slot c.args.generation c.args.words.now)))
+    c.in_ok-page.field-0 c.in_default.is ((c.in_ok-page.ensures {u = tt}).set there.0 there.1))
+    ∙ c.self.view_is
 
-pub set_at-requires-clause-on_page : goal.set_at-requires-clause-on_page
-set_at-requires-clause-on_page g c = (fits g c).0
-
-pub set_at-requires-clause-width : goal.set_at-requires-clause-width
-set_at-requires-clause-width g c = (fits g c).1
+pub returns-then-not-is_zeros-clause-set : goal.returns-then-not-is_zeros-clause-set
+returns-then-not-is_zeros-clause-set g c =
+    subst (λ (group : GroupState). (span : SpanState) → slice_get (spans_of group) c.args.place ≡ Some span
+    → group_of c.set_on_zeros.new.spans (Some c.in-Some.page) c.self.inside.closed ≡ set_group group c.args.place span c.args.slot c.args.generation c.args.words.now)
+    c.self.view_is
+    (λ span here.
+    let told = some_told (c.set_on_zeros.new.spans ≡ c.self.inside.spans) (λ (page : Words). (page ≡ set_object blank_page span.class c.args.slot c.args.words.now)
+    × (c.set_on_zeros.new.spans ≡ with_span_at c.self.inside.spans c.args.place (with_set_at span c.args.slot c.args.generation c.args.words.now)))
+    c.in_ok-page.field-0 c.in-Some.page c.in-Some.is ((c.in_ok-page.ensures {u = tt}).set span here) in
+    set_on_new_page c.self.inside.spans c.set_on_zeros.new.spans c.self.inside.words c.in-Some.page c.self.inside.blank c.self.inside.closed c.args.place span
+    c.args.slot c.args.generation c.args.words.now (c.if-is_none.ensures {u = tt}) told.0 told.1)

@@ -32,6 +32,7 @@ use Rattle.shard.proofs.KnownGuests.{KnowsGuests-alone}
 use Rattle.shard.proofs.NotedGuests.{AreNoted-come}
 use Rattle.shard.proofs.PutInNew.{IsSound-put_in_new}
 use Rattle.shard.proofs.RoomBits.{HasRooms-arrived, HasRooms-arrived_other}
+use Rattle.shard.proofs.ZeroPages.{page_made, room_made}
 use Rattle.shard.proofs.shard.Shard.put_in_new.Goals as goal
 
 pub put_at-requires-clause-not_live : goal.put_at-requires-clause-not_live
@@ -58,7 +59,7 @@ made g c = new_group c.in-Some.id c.args.class c.self.inside.gens c.args.words.n
 group_now : (g : _) (c : goal.After-self-3-1 g) → c.of-2.result ≡ made g c
 group_now g c =
     c.of-2.ensures
-    ∙ rw (c.of.ensures, c.set_at.ensures, c.in_ok-page.ensures)
+    ∙ rw (c.of.ensures, c.new-2.ensures, page_made c.args.class 0 c.args.words.now _ c.in_ok-page.page c.in_ok-page.ensures c.set_on.new.words c.set_on.ensures.words)
     (ap (λ (head : SpanState). group_of (record { head = head; guests = [] }) (Some (set_object blank_page c.args.class 0 c.args.words.now)) false)
     (head_now g c))
 
@@ -234,7 +235,7 @@ invariant_of-self-in_err-reserve-3 g c =
 pub note_from-requires : goal.note_from-requires
 note_from-requires g c =
     let group : c.of-2.result ≡ new_group c.in-Some.id c.args.class c.self.inside.gens c.args.words.now = c.of-2.ensures
-    ∙ rw (c.of.ensures, c.set_at.ensures, c.in_ok-page.ensures)
+    ∙ rw (c.of.ensures, c.new-2.ensures, page_made c.args.class 0 c.args.words.now _ c.in_ok-page.page c.in_ok-page.ensures c.set_on.new.words c.set_on.ensures.words)
     (ap (λ (head : SpanState). group_of (record { head = head; guests = [] }) (Some (set_object blank_page c.args.class 0 c.args.words.now)) false)
     (c.in_ok-key.ensures.ok ∙ ap (λ (s : SpanState). with_put s 0 c.args.words.now) c.with_log-head.ensures)) in
     let lower = subst (λ (groups : List GroupState). IsLower head_id groups (rank c.in-Some.id) c.lower_heads-index.result) (c.as_slice.ensures.value ∙ c.in_ok-reserve.ensures.items)
@@ -249,3 +250,7 @@ note_from-requires g c =
     c.in_ok-reserve-3.ensures.base c.in_ok-reserve-3.ensures.same)
     c.self.invariant.pages_fit c.lower_heads-index.result (new_group c.in-Some.id c.args.class c.self.inside.gens c.args.words.now) place pages
     (λ own. omega (arith, c.in-Some.ensures.parts.1, c.in_ok-reserve-3.ensures.ok)) (omega (arith, c.in_ok-reserve-3.ensures.ok)))
+
+-- words are made where the object needs them
+pub set_on-requires-clause-room : goal.set_on-requires-clause-room
+set_on-requires-clause-room g c none = room_made _ c.in_ok-page.page c.in_ok-page.ensures none
