@@ -1,20 +1,22 @@
 -- A set in a group: it has a page, which the object fits, and it keeps its head.
-use Rattle.std.proofs.Common.{zero, suc, ◌≡◌, ◌<◌, ◌↔◌, ℕ, Option, Bool, true, false, length, Some, slice_get, ap, sym, subst, ◌∙◌, refl}
+use Rattle.std.proofs.Common.{zero, suc, ◌≡◌, ◌<◌, ◌↔◌, ℕ, Option, None, Bool, true, false, is_some, length, Some, slice_get, ap, sym, subst, ◌∙◌, refl}
 use Rattle.std.specs.Bool.{OnFalse, OnTrue}
-use Rattle.std.specs.Prelude.{Err, IfOk, IsSome, IsTrue, Ok, OnErr, Result}
+use Rattle.std.specs.Prelude.{Err, IfOk, IsSome, IsTrue, Ok, OnErr, Result, unwrap_or}
 use Rattle.span.proofs.OfClass.{Holds-on_page}
 use Rattle.span.specs.Classes.{slots_in, width_of}
 use Rattle.span.specs.Log.{IsOfClass, Value}
 use Rattle.span.specs.State.{IsSettable, SpanState}
 use Rattle.span.specs.declared.class.Class.{Class}
-use Rattle.page.specs.Words.{Words}
+use Rattle.page.specs.Words.{Words, blank_page, page_of, set_object}
+use Rattle.page.proofs.Zeros.{page_of-stays, words_of-page_of}
 use Rattle.groups.specs.Group.{spans_of}
-use Rattle.groups.specs.Pages.{set_group}
+use Rattle.groups.specs.Pages.{set_group, with_object}
 use Rattle.groups.specs.Sound.{IsSoundGroup}
 use Rattle.groups.specs.Spans.{IsSpanOf, SpansState, all_spans, with_set_at, with_span_at}
 use Rattle.groups.proofs.Lists.{there_at}
 use Rattle.groups.proofs.ReplacedGroups.{AreAlike-with_span, head-alike}
 use Rattle.groups.proofs.StoredObjects.{paged_if_held}
+use Rattle.shard.proofs.ZeroPages.{page_written}
 use Rattle.pool.specs.State.{PooledState, group_of}
 use Rattle.pool.proofs.Cases.{where_true}
 
@@ -45,6 +47,41 @@ module _ (spans : SpansState) (page : Option Words) (sound : IsSoundGroup (group
 
   pub page_to_set : IsSome page
   page_to_set = paged_if_held (group_of spans page) sound place span_there.0 slot generation span_there.1 settable.0
+
+-- a group of which a span and the page changed
+set_in_group : (spans new : SpansState) (page now : Option Words) (place : ℕ) (span : SpanState) (slot generation : ℕ) (value : Value)
+    → new ≡ with_span_at spans place (with_set_at span slot generation value) → now ≡ with_object page span.class slot value
+    → group_of new now ≡ set_group (group_of spans page) place span slot generation value
+set_in_group spans new page now zero span slot generation value new_is now_is = λ i. group_of (new_is i) (now_is i)
+set_in_group spans new page now (suc place) span slot generation value new_is now_is = λ i. group_of (new_is i) (now_is i)
+
+-- where the words were in memory, or the object is zeros
+pub set_in_place : (spans new : SpansState) (words now : Option Words) (blank : Bool) → IsSoundGroup (group_of spans (page_of words blank)) → (place : ℕ) (span : SpanState)
+    → slice_get (all_spans spans) place ≡ Some span → (slot generation : ℕ) (value : Value) (class : Class) → class ≡ new.head.class
+    → new ≡ with_span_at spans place (with_set_at span slot generation value)
+    → unwrap_or now blank_page ≡ set_object (unwrap_or words blank_page) class slot value → is_some now ≡ is_some words → IsSome (page_of words blank)
+    → group_of new (page_of now blank) ≡ set_group (group_of spans (page_of words blank)) place span slot generation value
+set_in_place spans new words now blank sound place span here slot generation value class class_is new_is set same there =
+    set_in_group spans new (page_of words blank) (page_of now blank) place span slot generation value new_is
+    (page_written words now blank class slot value set (page_of-stays words now blank same there) ∙ ap (λ (c : Class). with_object (page_of words blank) c slot value) of_span)
+  where
+    its : IsSpanOf spans.head.class span
+    its = sound.classes place span here
+
+    at_place : (place : ℕ) → (with_span_at spans place (with_set_at span slot generation value)).head.class ≡ span.class
+    at_place zero = refl
+    at_place (suc place) = sym its.class_is
+
+    of_span : class ≡ span.class
+    of_span = class_is ∙ ap (λ (s : SpansState). s.head.class) new_is ∙ at_place place
+
+-- where they were not
+pub set_on_new_page : (spans new : SpansState) (words : Option Words) (page : Words) (blank : Bool) (place : ℕ) (span : SpanState) (slot generation : ℕ) (value : Value)
+    → words ≡ None → page ≡ set_object blank_page span.class slot value → new ≡ with_span_at spans place (with_set_at span slot generation value)
+    → group_of new (Some page) ≡ set_group (group_of spans (page_of words blank)) place span slot generation value
+set_on_new_page spans new words page blank place span slot generation value none page_is new_is =
+    set_in_group spans new (page_of words blank) (Some page) place span slot generation value new_is
+    (ap Some (page_is ∙ ap (λ (w : Words). set_object w span.class slot value) (sym (words_of-page_of words blank ∙ ap (λ o. unwrap_or o blank_page) none))))
 
 module _ (group : PooledState) (place : ℕ) (span : SpanState) (here : slice_get (spans_of group) place ≡ Some span) (slot generation : ℕ) (value : Value) where
   head-set_group : (set_group group place span slot generation value).head.id ≡ group.head.id

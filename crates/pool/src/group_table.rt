@@ -143,10 +143,11 @@ impl<L: Log> GroupTable<L> {
     ///
     /// # Errors
     ///
-    /// `AllocError` in place of `true`, where the span's log could not grow. The groups are then as
-    /// they were.
+    /// `AllocError` in place of `true`, where the span's log could not grow, or memory was refused
+    /// for the words of a page that had only zeros. The groups are then as they were.
     pub(crate) fn set(
         &mut self,
+        alloc: Global,
         head: SpanId,
         place: usize,
         slot: u8,
@@ -176,7 +177,7 @@ impl<L: Log> GroupTable<L> {
         let Some(at) = place_of(&self.places, head) else {
             unreachable!();
         };
-        self.row[at].set(place, slot, generation, words)
+        self.row[at].set(alloc, place, slot, generation, words)
     }
 
     /// Frees the slot in the span at the place of the head's group, where it is live there at the

@@ -14,40 +14,50 @@ ghost use Rattle.groups.specs.Dead.{without_dead};
 ghost use Rattle.groups.specs.Group.{spans_of, summary, with_span};
 ghost use Rattle.bitmap.specs.declared.bits.TheConstants.{SLOTS};
 
-use groups::{Brief, Spans};
-use page::Page;
+use groups::{Brief, Spans, set_on_zeros};
+use page::{MaybePage, Page, is_zeros, set_on, value_on};
 use span::{Class, Counted, Entry, Log, Span, SpanId};
-use std::alloc::AllocError;
+use std::alloc::{AllocError, Global};
 use std::marker::Model;
 
 /// A head and its guests, and their page, which they have exactly while one of their slots is live.
+/// A page on which only zeros were put takes no memory.
 #[derive(Drop)]
 pub(crate) struct Pooled<L: Log> {
     spans: Spans<L>,
-    page: Option<Page>,
+    // The words of the page, if it has them in memory.
+    words: Option<Page>,
+    // Whether there is a page where it has no words in memory: one of zeros.
+    blank: bool,
 }
 
 impl<L: Log> Model for Pooled<L> {
+    ghost use Rattle.page.specs.Words.{page_of};
     ghost use Rattle.pool.specs.State.{PooledState, group_of};
 
     ghost Value = { PooledState };
 
-    ghost view = { λ g. group_of g.spans g.page };
+    ghost view = { λ g. group_of g.spans (page_of g.words g.blank) };
 }
 
 impl<L: Log> Pooled<L> {
     /// The group of the spans, with the page, if there is one.
-    pub(crate) fn new(spans: Spans<L>, page: Option<Page>) -> Pooled<L>
+    pub(crate) fn new(spans: Spans<L>, page: MaybePage) -> Pooled<L>
         ensures { result ≡ group_of spans page }
     {
-        Pooled { spans, page }
+        let (words, blank) = page.into_parts();
+        Pooled {
+            spans,
+            words,
+            blank,
+        }
     }
 
     /// The spans and the page.
-    pub(crate) fn into_parts(self) -> (Spans<L>, Option<Page>)
+    pub(crate) fn into_parts(self) -> (Spans<L>, MaybePage)
         ensures { self ≡ group_of result.0 result.1 }
     {
-        (self.spans, self.page)
+        (self.spans, MaybePage::new(self.words, self.blank))
     }
 
     /// The spans, without their page.
@@ -73,7 +83,7 @@ impl<L: Log> Pooled<L> {
             class: self.spans.class(),
             spans: self.spans.len(),
             occupied: self.spans.occupied(),
-            paged: self.page.is_some(),
+            paged: self.is_paged(),
             closed: false,
         }
     }
@@ -92,17 +102,14 @@ impl<L: Log> Pooled<L> {
         ensures object { result.now ≡ object_at self.now.page class slot }
         ensures width { length result.now ≡ width_of class }
     {
-        match &self.page {
-            Some(page) => page.value_at(class, slot),
-            None => unreachable!(),
-        }
+        value_on(&self.words, class, slot)
     }
 
     /// Whether it has a page.
     pub(crate) fn is_paged(&self) -> bool
         ensures { result ≡ is_some self.now.page }
     {
-        self.page.is_some()
+        self.words.is_some() || self.blank
     }
 
     /// How many spans it has, the head and its guests.
@@ -141,10 +148,11 @@ impl<L: Log> Pooled<L> {
     ///
     /// # Errors
     ///
-    /// `AllocError` in place of `true`, where the span's log could not grow. The group is then as
-    /// it was.
+    /// `AllocError` in place of `true`, where the span's log could not grow, or memory was refused
+    /// for the words of a page that had only zeros. The group is then as it was.
     pub(crate) fn set(
         &mut self,
+        alloc: Global,
         place: usize,
         slot: u8,
         generation: u32,
@@ -162,14 +170,19 @@ impl<L: Log> Pooled<L> {
             → OnErr result (IsSettable span slot generation words.now) }
         ensures err { OnErr result (self.new ≡ self.old) }
     {
+        if self.words.is_none() && !is_zeros(words) {
+            let spans = &mut self.spans;
+            let Some(page) = set_on_zeros(alloc, spans, place, slot, generation, words)? else {
+                return Ok(false);
+            };
+            self.words = Some(page);
+            return Ok(true);
+        }
         if !self.spans.set(place, slot, generation, words)? {
             return Ok(false);
         }
         let class = self.spans.class();
-        match &mut self.page {
-            Some(page) => page.set_at(class, slot, words),
-            None => unreachable!(),
-        }
+        set_on(&mut self.words, class, slot, words);
         Ok(true)
     }
 
@@ -196,7 +209,8 @@ impl<L: Log> Pooled<L> {
         ensures { GivesUp self.old self.new }
     {
         if self.spans.occupied().lowest().is_none() {
-            self.page = None;
+            self.words = None;
+            self.blank = false;
         }
     }
 }

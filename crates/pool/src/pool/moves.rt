@@ -9,7 +9,7 @@ ghost use Rattle.pool.specs.Sound.{IsSound};
 use super::Pool;
 use crate::pooled::Pooled;
 use groups::{Brief, Spans, Whole};
-use page::Page;
+use page::MaybePage;
 use span::{Log, SpanId};
 use std::alloc::AllocError;
 
@@ -96,12 +96,12 @@ impl<L: Log> Pool<L> {
 }
 
 // The page, where one of the spans' slots is live; else it goes.
-fn page_in_use<L: Log>(spans: &Spans<L>, page: Option<Page>) -> Option<Page>
+fn page_in_use<L: Log>(spans: &Spans<L>, page: MaybePage) -> MaybePage
     ensures emptied { union_of (all_spans spans.now) ≡ set.empty → result ≡ None }
     ensures live { union_of (all_spans spans.now) ≢ set.empty → result ≡ page }
 {
     if spans.occupied().lowest().is_none() {
-        return None;
+        return MaybePage::none();
     }
     page
 }

@@ -17,8 +17,9 @@ impl<L: Log> Pool<L> {
     ///
     /// # Errors
     ///
-    /// `AllocError` in place of `Yes`, where the span's log could not grow. The pool is then as it
-    /// was. A log that is only counted takes no memory, and refuses a set after 2^63 changes alone.
+    /// `AllocError` in place of `Yes`, where the span's log could not grow, or memory was refused
+    /// for a page that had only zeros until now. The pool is then as it was. A log that is only
+    /// counted takes no memory until 2^63 changes.
     pub fn set(&mut self, key: &Key, words: &[u128]) -> Result<Replaced, AllocError>
         ensures step { IfOk result (λ answer. Sets self.old key.now words.now answer self.new) }
         ensures found { IfOk result (λ answer. was_replaced answer
@@ -38,7 +39,7 @@ impl<L: Log> Pool<L> {
         let at = span.changes();
         if !self
             .groups
-            .set(head, place, key.slot, key.generation, words)?
+            .set(self.alloc, head, place, key.slot, key.generation, words)?
         {
             return Ok(Replaced::No(at));
         }
