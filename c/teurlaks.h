@@ -256,7 +256,8 @@ struct teurlaks_words_reply teurlaks_get_words(const struct teurlaks_handle *han
                                                size_t words_len);
 
 /* Sets the key to an object of one word, where it is live and has an object of one word, else TEURLAKS_NONE. The key stays, and so does
- * where its object stands. Takes no memory, and refuses with TEURLAKS_OUT_OF_MEMORY after 2^63 changes of a span alone. */
+ * where its object stands. Takes no memory, but for the first object on a page that is not zeros, and refuses with
+ * TEURLAKS_OUT_OF_MEMORY if that fails, or after 2^63 changes of a span. */
 uint32_t teurlaks_set(struct teurlaks_handle *handle, struct teurlaks_key key, struct teurlaks_word value);
 
 /* Sets the key to an object of 1 to 16 words, if its object has as many, as teurlaks_set does with

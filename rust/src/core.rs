@@ -506,7 +506,8 @@ impl Core {
     ///
     /// # Errors
     ///
-    /// [`Refused::OutOfMemory`], after 2^63 changes of a span alone. It takes no memory.
+    /// [`Refused::OutOfMemory`], after 2^63 changes of a span, or if memory fails for the first object on its page that is not zeros. No
+    /// other set takes memory.
     ///
     /// ```
     /// # use teurlaks::{Core, Limits};

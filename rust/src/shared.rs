@@ -181,7 +181,8 @@ impl<T: Copy> SharedStore<T> {
         self.find(key)?.lock().as_ref()?.get(inner(key))
     }
 
-    /// Sets the key to the value in place, and says whether it did: where it is live. It takes no memory.
+    /// Sets the key to the value in place, and says whether it did: where it is live. It takes memory only for the first value
+    /// on a page whose bytes are not all zeros.
     ///
     /// # Errors
     ///

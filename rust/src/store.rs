@@ -253,7 +253,8 @@ impl<T: Copy> Store<T> {
         Ok(store)
     }
 
-    /// Sets the key to the value in place, and says whether it did: where it is live. It takes no memory.
+    /// Sets the key to the value in place, and says whether it did: where it is live. It takes memory only for the first value
+    /// on a page whose bytes are not all zeros.
     ///
     /// # Errors
     ///

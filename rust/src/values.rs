@@ -25,11 +25,10 @@ const MOST_ALIGN: usize = 64;
 
 const NO_WORDS: [u128; MOST_WORDS] = [0; MOST_WORDS];
 
-/// How many words the core's object has beside a value of so many bytes. Each takes 16 bytes beside a
-/// value, and what folds leave of sparse pages falls about as one over their number: so values of four
-/// times the bytes have twice the words. Of a million values of 128, 240 or 1,024 bytes this took about
-/// the least in sum of a full slab, one of which 80 % were freed, and one of 90 %. Of 64 bytes two words
-/// took 4 % less in that sum, but a full slab took 19 % more.
+/// How many words the core's object has beside a value of so many bytes. The object is zeros, which take
+/// no memory. The more words it has, the fewer slots a page has, and what folds leave of sparse pages
+/// falls about as one over the words, but each page takes some memory of its own. The numbers were
+/// measured when each word still took 16 bytes.
 const fn words_beside(bytes: usize) -> usize {
     match bytes {
         0..=79 => 1,

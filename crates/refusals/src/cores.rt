@@ -132,6 +132,13 @@ fn add_puts(
     Ok(())
 }
 
+// Two puts of zeros of the class in the shard, on a page that takes no memory for them.
+fn add_zeros(events: &mut Vec<Event>, shard: u32, class: Class) -> Result<(), AllocError> {
+    let value = object(class, 0);
+    add(events, Event::Put { shard, value })?;
+    add(events, Event::Put { shard, value })
+}
+
 // Frees of the keys at those slots of the shard's first span.
 fn add_frees(events: &mut Vec<Event>, shard: u32, slots: &[u8]) -> Result<(), AllocError> {
     for slot in slots {
@@ -216,11 +223,15 @@ fn events_of(alloc: Global) -> Result<Vec<Event>, AllocError> {
     add_frees(&mut events, 0, &[0, 1])?;
     add_puts(&mut events, 0, Class::C64, 2)?;
     add_sets(&mut events, 0, 1, Class::C64, Class::C16)?;
+    add_zeros(&mut events, 0, Class::C128)?;
+    add_sets(&mut events, 0, 2, Class::C128, Class::C16)?;
+    add_zeros(&mut events, 0, Class::C144)?;
     add_puts(&mut events, 1, Class::C16, 12)?;
     add_frees(&mut events, 1, &[2, 3])?;
     add_later(&mut events)?;
     add(&mut events, Event::End { shard: 0 })?;
     add_sets(&mut events, 0, 1, Class::C64, Class::C256)?;
+    add_sets(&mut events, 0, 3, Class::C144, Class::C64)?;
     add_mark(&mut events, 1, Event::Mark)?;
     add_puts(&mut events, 2, Class::C16, 8)?;
     add_puts(&mut events, 2, Class::C240, 18)?;

@@ -35,3 +35,5 @@ mod pools;
 mod shards;
 #[cfg(test)]
 mod spans;
+#[cfg(test)]
+mod zeros;

@@ -29,6 +29,11 @@ pub(crate) fn first_of(class: Class, words: &[u128; 16]) -> Object {
     Object::of(class, &words[..class.words()])
 }
 
+/// The object of the class whose words are all zero.
+pub(crate) fn zeros(class: Class) -> Object {
+    first_of(class, &[0; 16])
+}
+
 /// What a look-up found, with the object in place of its words, which are lent.
 #[derive(Clone, Copy, PartialEq, Eq, Debug)]
 pub(crate) enum Sought {

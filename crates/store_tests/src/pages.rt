@@ -5,7 +5,7 @@
 ghost use Rattle.std.specs.Prelude.{◌<◌, ◌≤◌};
 ghost use Rattle.span.specs.Classes.{slots_in};
 
-use crate::objects::{first_of, object};
+use crate::objects::{object, zeros};
 use page::Page;
 use span::{CLASSES, Class, Object};
 use std::alloc::Global;
@@ -56,11 +56,6 @@ fn ends_of(alloc: Global, class: Class) -> Option<[Option<Object>; 4]> {
 fn last_slot(class: Class) -> u8 {
     let objects = 256usize.checked_div(class.words()).unwrap_or(0);
     u8::try_from(objects.saturating_sub(1)).unwrap_or(0)
-}
-
-// The object whose words are all zero.
-fn zeros(class: Class) -> Object {
-    first_of(class, &[0; 16])
 }
 
 // The same where the objects are apart.

@@ -21,8 +21,8 @@ impl<L: Log> Core<L> {
     /// given. A free of the key takes no memory afterwards, as before.
     ///
     /// It is refused by [`Refusal::OutOfMemory`] alone, and only in place of `true`, where the log
-    /// of the key's span could not grow. A log that is only counted takes no memory, and refuses a
-    /// set after 2^63 changes alone.
+    /// of the key's span could not grow, or memory was refused for a page that had only zeros until
+    /// now. A log that is only counted takes no memory until 2^63 changes.
     ///
     /// [`Event::Set`]: crate::Event::Set
     #[inline(always)]
