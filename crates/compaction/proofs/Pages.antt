@@ -27,7 +27,8 @@ use Rattle.arena_core.specs.declared.reply.Reply.TheVariants.{Retired, Trimmed, 
 use Rattle.arena_core.specs.Forgets.{Forgets, without_dead_guests}
 use Rattle.arena_core.specs.State.{CoreState, pages}
 use Rattle.arena_core.specs.Step.{CoreStep}
-use Rattle.compaction.specs.Compacts.{Takes, TakesAll, is_of_compaction}
+use Rattle.compaction.specs.Compacts.{Going, Takes, TakesAll, is_of_compaction}
+use Rattle.compaction.specs.declared.advanced.Advanced.{Advanced}
 
 -- how many of the groups have a page, and whether one has
 abbrev paged : {Closed : Type 0} → List (Group Closed) → ℕ
@@ -198,11 +199,11 @@ pages-forgetting old new count forgets = omega (
   paged-paged_in old.pool.groups,
 )
 
-pages-Takes : (taken : ℕ) (old new : CoreState) → Takes taken old new → pages new ≤ pages old
-pages-Takes taken old new (inl takes) = pages-event old new takes.event takes.reply takes.of takes.exact
-pages-Takes taken old new (inr (taken_is, inl (count, forgets))) = pages-forgetting old new count forgets
-pages-Takes taken old new (inr (taken_is, inr (has_plan, same))) = omega (arith, ap pages same)
+pages-Takes : (taken : ℕ) (tells : Advanced) (old new : Going) → Takes taken tells old new → pages new.core ≤ pages old.core
+pages-Takes taken tells old new (inl takes) = pages-event old.core new.core takes.event takes.reply takes.of takes.exact
+pages-Takes taken tells old new (inr (taken_is, inl takes)) = pages-forgetting old.core new.core takes.count takes.forgets
+pages-Takes taken tells old new (inr (taken_is, inr tries)) = omega (arith, ap (λ (g : Going). pages g.core) tries.same)
 
-pub pages-TakesAll : (steps taken : ℕ) (old new : CoreState) → TakesAll steps taken old new → pages new ≤ pages old
-pages-TakesAll zero taken old new (taken_is, same) = omega (arith, ap pages same)
-pages-TakesAll (suc steps) taken old new (mid, before, last, takes, step, taken_is) = omega (arith, pages-TakesAll steps before old mid takes, pages-Takes last mid new step)
+pub pages-TakesAll : (steps taken : ℕ) (old new : Going) → TakesAll steps taken old new → pages new.core ≤ pages old.core
+pages-TakesAll zero taken old new (taken_is, same) = omega (arith, ap (λ (g : Going). pages g.core) same)
+pages-TakesAll (suc steps) taken old new (mid, before, last, tells, takes, step, taken_is) = omega (arith, pages-TakesAll steps before old mid takes, pages-Takes last tells mid new step)

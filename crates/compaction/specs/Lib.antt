@@ -1,1 +1,3 @@
 pub mod Compacts
+pub mod Progress
+pub mod Told

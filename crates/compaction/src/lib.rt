@@ -6,25 +6,27 @@
 //! A step is one event of the core, or one forgetting:
 //!
 //! ```text
-//!   forget ─► trim each shard ─► choose ─► retire ─► mark some ─► fold .. ─► close ─► adopt ..
-//!                                  ▲                                                     │
-//!                                  └──────────── another round, if it is worth it ◄──────┤
-//!                                                                                        ▼
-//!                                                                     forget: it is done
+//!                                             ┌─► retire .. ─► adopt those that are kept ─┐
+//!                                             │                                           ▼
+//!   forget ─► trim each shard ─► mark some ─► │ ◄─ adopt .. ◄─ close ◄─ fold .. ◄─ mark some
+//!                                             ▼
+//!                                           forget: it is done
 //! ```
 //!
-//! A *round* retires the sparsest groups of the shards, has as many of these folded onto others as
-//! can be, by several marks if these plan enough, and has the shards adopt the rest again. The
-//! first two rounds look at 16 and at 64 groups: where pages fit each other, then these do. If
-//! neither is worth it, the compaction ends. Else rounds retire the sparsest half of all, as long
-//! as that is worth it, and then a quarter, an eighth and so on, but at most a sixteenth or 64. A
-//! round is worth it where it folds at least one of 16 groups that it retires. The budget has no
-//! part in that: it changes only when the steps are taken.
+//! A *round* retires the sparsest groups of the shards. The shards adopt some of these again, so
+//! that groups that fit each other are on different sides. As many as can be of the others are
+//! folded, by several marks if these plan enough, and the shards adopt the rest. How many pages and
+//! keys there are says which part of the pages a round retires (`rounds.rt`). First comes the share
+//! that can be expected to fold, or else some looks at the sparsest pages. Then come halves,
+//! quarters, eighths and so on, as long as these are worth it. A mark is worth another one if it
+//! plans at least one fold for 16 groups of its smaller side.
 //!
 //! The public facts (`specs/Compacts.antt`): all that a call does to the core are such steps, and
 //! they take no more than the budget, and no less while the compaction goes on. The map of keys
 //! that the core shows is as it was, also where a step is refused memory. The pages that a call
-//! counts are those that went. No plan is open once a compaction is done.
+//! counts are those that went. A compaction is done only after all shards were trimmed and the last
+//! mark was not worth another one, and no plan is open then. A caller that keeps something beside
+//! each page takes the steps one by one ([`Compaction::step`]), and is told each fold.
 //!
 //! # Examples
 //!
@@ -42,10 +44,17 @@
 //! ```
 #![tactic(auto)]
 
+mod advanced;
 mod compacted;
 mod compaction;
+mod division;
+mod occupancy;
+mod progress;
 mod round;
+mod rounds;
 mod turn;
 
+pub use advanced::Advanced;
 pub use compacted::{Compacted, Standing};
-pub use compaction::Compaction;
+pub use compaction::{Compaction, Taken};
+pub use progress::Progress;

@@ -1,10 +1,11 @@
 use Rattle.std.proofs.Common.{refl}
 use Rattle.arena_core.specs.declared.event.Event.TheVariants as event
-use Rattle.compaction.proofs.Steps.{Takes-event}
+use Rattle.compaction.specs.Compacts.{going}
+use Rattle.compaction.proofs.Steps.{Takes-event, leaves-told}
 use Rattle.compaction.proofs.compaction.Compaction.close.Goals as goal
 
-pub returns-then-self-clause-takes : goal.returns-then-self-clause-takes
-returns-then-self-clause-takes c = Takes-event 1 c.args.core.now c.step.new.self event.Close c.step.result refl refl c.step.ensures.exact
+pub returns-clause-takes : goal.returns-clause-takes
+returns-clause-takes c = Takes-event 1 c.advanced_by.result (going c.args.self.now.progress c.args.core.now) (going c.args.self.now.progress c.step-reply.new.self) event.Close c.step-reply.result refl refl c.advanced_by.ensures c.step-reply.ensures.exact refl
 
-pub returns-else-self-clause-takes : goal.returns-else-self-clause-takes
-returns-else-self-clause-takes c = Takes-event 1 c.args.core.now c.step.new.self event.Close c.step.result refl refl c.step.ensures.exact
+pub returns-clause-stands : goal.returns-clause-stands
+returns-clause-stands c = leaves-told c.advanced_by.result event.Close c.step-reply.result c.args.core.now c.step-reply.new.self refl c.advanced_by.ensures c.step-reply.ensures.exact

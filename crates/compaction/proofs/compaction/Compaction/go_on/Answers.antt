@@ -1,5 +1,5 @@
 use Rattle.std.proofs.Common.{◌≤◌, arith}
-use Rattle.arena_core.specs.State.{pages}
+use Rattle.compaction.specs.Compacts.{going}
 use Rattle.compaction.proofs.Pages.{pages-TakesAll}
 use Rattle.compaction.proofs.compaction.Compaction.go_on.Goals as goal
 
@@ -10,7 +10,7 @@ overflow_sub-result c =
       arith,
       c.totals-before.ensures.pages,
       c.totals-after.ensures.pages,
-      pages-TakesAll within.steps within.taken c.args.core.now c.take_steps-standing.new.core within.takes,
+      pages-TakesAll within.steps within.taken (going c.args.self.now.progress c.args.core.now) (going c.take_steps-standing.new.self.progress c.take_steps-standing.new.core) within.takes,
     )
 
 pub returns-clause-pages : goal.returns-clause-pages
@@ -20,5 +20,5 @@ returns-clause-pages c =
       arith,
       c.totals-before.ensures.pages,
       c.totals-after.ensures.pages,
-      pages-TakesAll within.steps within.taken c.args.core.now c.take_steps-standing.new.core within.takes,
+      pages-TakesAll within.steps within.taken (going c.args.self.now.progress c.args.core.now) (going c.take_steps-standing.new.self.progress c.take_steps-standing.new.core) within.takes,
     )

@@ -1,10 +1,11 @@
 use Rattle.std.proofs.Common.{refl}
 use Rattle.arena_core.specs.declared.event.Event.TheVariants as event
-use Rattle.compaction.proofs.Steps.{Takes-event}
+use Rattle.compaction.specs.Compacts.{going}
+use Rattle.compaction.proofs.Steps.{Takes-event, leaves-told}
 use Rattle.compaction.proofs.compaction.Compaction.mark.Goals as goal
 
-pub returns-in-Refused-clause-takes : goal.returns-in-Refused-clause-takes
-returns-in-Refused-clause-takes c = Takes-event 1 c.args.core.now c.step.new.self event.MarkSome c.step.result refl refl c.step.ensures.exact
+pub returns-clause-takes : goal.returns-clause-takes
+returns-clause-takes c = Takes-event 1 c.advanced_by.result (going c.args.self.now.progress c.args.core.now) (going c.note_marked.new.self.progress c.step-reply.new.self) event.MarkSome c.step-reply.result refl refl c.advanced_by.ensures c.step-reply.ensures.exact c.note_marked.ensures
 
-pub returns-in-Marked-clause-takes : goal.returns-in-Marked-clause-takes
-returns-in-Marked-clause-takes c = Takes-event 1 c.args.core.now c.step.new.self event.MarkSome c.step.result refl refl c.step.ensures.exact
+pub returns-clause-stands : goal.returns-clause-stands
+returns-clause-stands c = leaves-told c.advanced_by.result event.MarkSome c.step-reply.result c.args.core.now c.step-reply.new.self refl c.advanced_by.ensures c.step-reply.ensures.exact

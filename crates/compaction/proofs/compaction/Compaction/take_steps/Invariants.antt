@@ -1,13 +1,13 @@
 use Rattle.std.proofs.Common.{◌≡◌, ◌<◌, ◌+◌, ℕ}
 use Rattle.arena_core.specs.Sound.{IsSound}
 use Rattle.arena_core.specs.State.{shown}
-use Rattle.compaction.specs.Compacts.{TakesAll}
+use Rattle.compaction.specs.Compacts.{TakesAll, going}
 use Rattle.compaction.proofs.compaction.Compaction.take_steps.Given as goal
 
 -- the steps so far have taken what is gone of the budget
 abbrev pub invariant-loop-left : goal.invariant-loop-left
 invariant-loop-left l = record {
-  takes : (steps taken : ℕ) × TakesAll steps taken l.fn.core l.core × (taken + l.left ≡ l.fn.budget);
+  takes : (steps taken : ℕ) × TakesAll steps taken (going l.fn.self.progress l.fn.core) (going l.self.progress l.core) × (taken + l.left ≡ l.fn.budget);
   same : shown l.core ≡ shown l.fn.core;
   sound : l.left < l.fn.budget → IsSound l.core;
 }

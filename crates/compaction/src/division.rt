@@ -1,0 +1,32 @@
+// How a round divides the pages.
+
+/// A round retires the sparsest groups, and then has the shards adopt some of these again, those of
+/// the lowest heads. The rest is folded onto all that is in shards.
+#[derive(Clone, Copy)]
+pub(crate) struct Division {
+    /// How many groups are retired.
+    pub(crate) retired: usize,
+    /// How many of these the shards adopt again before the plan.
+    kept: usize,
+}
+
+impl Division {
+    /// So many of the sparsest groups, of which none is kept.
+    pub(crate) fn whole(retired: usize) -> Division {
+        Division { retired, kept: 0 }
+    }
+
+    /// So many of the sparsest groups, of which half is kept: so those that fit each other can be
+    /// on different sides.
+    pub(crate) fn halved(retired: usize) -> Division {
+        Division {
+            retired,
+            kept: retired / 2,
+        }
+    }
+
+    /// How many groups of those that were retired are kept, if fewer could be than were asked for.
+    pub(crate) fn kept_of(self, retired: usize) -> usize {
+        self.kept.saturating_mul(retired) / self.retired.max(1)
+    }
+}
