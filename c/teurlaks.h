@@ -195,6 +195,17 @@ struct teurlaks_compact_reply {
     size_t pages;
 };
 
+/* Of a step of a compaction: `more` as above, what the step took of the budget, and 1 if it was a
+ * fold, else 0, with the heads of its groups. */
+struct teurlaks_advance_reply {
+    uint32_t status;
+    uint32_t more;
+    size_t cost;
+    uint32_t folded;
+    struct teurlaks_span abandoned;
+    struct teurlaks_span owned;
+};
+
 /* The head of the adopted group, where the status is TEURLAKS_OK. */
 struct teurlaks_adopt_reply {
     uint32_t status;
@@ -341,6 +352,18 @@ uint32_t teurlaks_close(struct teurlaks_handle *handle);
  * TEURLAKS_OUT_OF_MEMORY, or TEURLAKS_PLAN_OPEN while a plan of the caller is open: the steps before that were taken, and a further call goes on
  * there. The certificate of the caller's last mark is kept. */
 struct teurlaks_compact_reply teurlaks_compact_within(struct teurlaks_handle *handle, size_t budget);
+
+/* Takes one step of such a compaction, which takes no more than `left` of a budget, or 1, for a
+ * caller that keeps something beside each page. If `folded` is 1 the group of `abandoned` is on the
+ * page of that of `owned` now, and its own page is gone; else each group is on the page that it
+ * had. The plans of a round compare at most 4,096 times `budget` pairs of groups, where less than
+ * 64 counts as 64. Else it is as above. */
+struct teurlaks_advance_reply teurlaks_compaction_step(struct teurlaks_handle *handle, size_t left,
+                                                       size_t budget);
+
+/* Gives the compaction up where it is: its plan is closed, and a further call begins anew. Groups
+ * that it has retired stay in the pool until they are adopted. */
+uint32_t teurlaks_compaction_give_up(struct teurlaks_handle *handle);
 
 /* Writes the text of the last mark's certificate into the first bytes of text, where text_len bytes are room enough. There is no room at
  * NULL, by which one asks how many they are. The text is of version 2, or of version 3 if a serial

@@ -162,6 +162,16 @@ TEURLAKS_INLINE struct teurlaks_compact_reply teurlaks_tested_compact_within(str
     return handle ? teurlaks_compact_within(handle, budget) : none;
 }
 
+TEURLAKS_INLINE struct teurlaks_advance_reply
+teurlaks_tested_compaction_step(struct teurlaks_handle *handle, size_t left, size_t budget) {
+    struct teurlaks_advance_reply none = {TEURLAKS_NO_CORE, 0, 0, 0, {0, 0}, {0, 0}};
+    return handle ? teurlaks_compaction_step(handle, left, budget) : none;
+}
+
+TEURLAKS_INLINE uint32_t teurlaks_tested_compaction_give_up(struct teurlaks_handle *handle) {
+    return handle ? teurlaks_compaction_give_up(handle) : TEURLAKS_NO_CORE;
+}
+
 TEURLAKS_INLINE struct teurlaks_adopt_reply teurlaks_tested_adopt(struct teurlaks_handle *handle, uint32_t shard) {
     struct teurlaks_adopt_reply none = {TEURLAKS_NO_CORE, {0, 0}};
     return handle ? teurlaks_adopt(handle, shard) : none;
@@ -368,6 +378,8 @@ TEURLAKS_INLINE struct teurlaks_arena_totals_reply teurlaks_tested_steward_total
 #define teurlaks_forget teurlaks_tested_forget
 #define teurlaks_trim teurlaks_tested_trim
 #define teurlaks_compact_within teurlaks_tested_compact_within
+#define teurlaks_compaction_step teurlaks_tested_compaction_step
+#define teurlaks_compaction_give_up teurlaks_tested_compaction_give_up
 #define teurlaks_adopt teurlaks_tested_adopt
 #define teurlaks_mark teurlaks_tested_mark
 #define teurlaks_mark_some teurlaks_tested_mark_some

@@ -1,12 +1,18 @@
 -- What a part of a compaction does.
-use Rattle.std.specs.Prelude.{◌≡◌, ◌+◌, ℕ, max, Option, Some}
+use Rattle.std.specs.Prelude.{◌≡◌, ◌+◌, ◌<◌, ◌≤◌, ℕ, max, Option, Some}
 use Rattle.arena_core.specs.Sound.{IsSound}
 use Rattle.arena_core.specs.State.{pages, shown}
-use Rattle.compaction.specs.Compacts.{IsWithin, Leaves}
+use Rattle.compaction.specs.Compacts.{IsWithin, Leaves, MayClose, Takes, going}
+use Rattle.compaction.specs.Progress.{fresh}
+use Rattle.compaction.specs.Told.{standing_of}
+use Rattle.compaction.specs.declared.advanced.Advanced.{Advanced}
+use Rattle.compaction.specs.declared.advanced.Advanced.TheVariants as advanced
 use Rattle.compaction.specs.declared.compacted.Standing.{Standing}
 use Rattle.compaction.specs.declared.compacted.Standing.TheVariants.{GoesOn, Done, Refused}
 use Rattle.teurlaks_c.specs.declared.held.Held.{Held}
+use Rattle.teurlaks_c.specs.declared.replies.AdvanceReply.{AdvanceReply}
 use Rattle.teurlaks_c.specs.declared.replies.CompactReply.{CompactReply}
+use Rattle.teurlaks_c.specs.Keys.{IsIdOf}
 use Rattle.teurlaks_c.specs.Status.{done, refusal_status}
 
 -- what C reads of how the compaction stands
@@ -24,10 +30,50 @@ pub record Compacts (old : Option Held) (budget : ℕ) (says : CompactReply) (ne
   pub standing : Standing
   pub before_is : old ≡ Some before
   pub after_is : new ≡ Some after
-  pub steps : IsWithin (max budget 1) standing before.core after.core
+  pub steps : IsWithin (max budget 1) standing
+      (going before.compaction.progress before.core) (going after.compaction.progress after.core)
   pub plain : shown after.core ≡ shown before.core
   pub pages_are : pages after.core + says.pages ≡ pages before.core
   pub stands : Leaves standing after.core
   pub sound : IsSound after.core
   pub same : after.last ≡ before.last
   pub says_is : SaysStanding says standing
+
+-- what C reads of what a step did
+abbrev pub SaysAdvanced : AdvanceReply → Advanced → Type 0
+SaysAdvanced says (advanced.Folded abandoned owned) = (says.status ≡ done) × (says.more ≡ 1)
+    × (says.folded ≡ 1) × IsIdOf says.abandoned abandoned × IsIdOf says.owned owned
+SaysAdvanced says advanced.Went = (says.status ≡ done) × (says.more ≡ 1) × (says.folded ≡ 0)
+SaysAdvanced says advanced.Done = (says.status ≡ done) × (says.more ≡ 0) × (says.folded ≡ 0)
+SaysAdvanced says (advanced.Refused refusal) = (says.status ≡ refusal_status refusal)
+    × (says.more ≡ 1) × (says.folded ≡ 0)
+
+-- the core takes one step of its compaction, which takes no more than is left, or 1; the map that
+-- it shows stays, and so does the certificate that is kept
+pub record Advances (old : Option Held) (left : ℕ) (says : AdvanceReply) (new : Option Held) :
+    Type 0 where
+  pub before : Held
+  pub after : Held
+  pub tells : Advanced
+  pub before_is : old ≡ Some before
+  pub after_is : new ≡ Some after
+  pub some : 0 < says.cost
+  pub at_most : says.cost ≤ max left 1
+  pub takes : Takes says.cost tells (going before.compaction.progress before.core)
+      (going after.compaction.progress after.core)
+  pub plain : shown after.core ≡ shown before.core
+  pub stands : Leaves (standing_of tells) after.core
+  pub sound : IsSound after.core
+  pub same : after.last ≡ before.last
+  pub says_is : SaysAdvanced says tells
+
+-- the core's plan is closed, if one is open, and its compaction begins anew
+pub record GivesUp (old new : Option Held) : Type 0 where
+  pub before : Held
+  pub after : Held
+  pub before_is : old ≡ Some before
+  pub after_is : new ≡ Some after
+  pub closes : MayClose before.core after.core
+  pub anew : after.compaction.progress ≡ fresh
+  pub plain : shown after.core ≡ shown before.core
+  pub same : after.last ≡ before.last

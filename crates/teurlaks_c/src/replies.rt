@@ -122,6 +122,19 @@ pub struct CompactReply {
     pub pages: usize,
 }
 
+/// What a step of a compaction answers: whether a further one has something to do (1 or 0), what it
+/// took of the budget, whether it was a fold (1 or 0), and the heads of the groups of that.
+#[repr(C)]
+#[derive(Clone, Copy)]
+pub struct AdvanceReply {
+    pub status: u32,
+    pub more: u32,
+    pub cost: usize,
+    pub folded: u32,
+    pub abandoned: RawSpan,
+    pub owned: RawSpan,
+}
+
 /// What an adoption answers: the head of the group where the status is `OK`.
 #[repr(C)]
 #[derive(Clone, Copy)]
