@@ -7,11 +7,10 @@ mod worn;
 pub(crate) use meshing::{certificate_text, done, letting_go, marked, meshing, stepped, MOST_GROUPS};
 pub use meshing::{Marked, Stepped};
 
-use crate::boxed::Late;
 use crate::bytes::{slots_for, words_for, Bytes, BytesKey, Words, MOST_BYTES, MOST_WORDS};
-use crate::compact::{Occupancy, Progress};
 use crate::key_bits::KeyBits;
 use crate::names::Key;
+use crate::occupancy::Occupancy;
 use crate::raw;
 use crate::refused::Refused;
 use crate::walk::{Drain, Iter, Keys};
@@ -172,8 +171,8 @@ pub struct Core {
     ended: u64,
     // A bit for each shard of which a trim has left groups without a page since such were given up.
     emptied: u64,
-    /// Where a compaction is, from its beginning to its end.
-    pub(crate) progress: Late<Progress>,
+    // How many pages went in calls of a compaction that were refused, and were not counted yet.
+    gone: usize,
 }
 
 /// Whose plan is open.
@@ -181,6 +180,7 @@ pub struct Core {
 pub(crate) enum Plan {
     None,
     Caller,
+    /// One of a compaction that is under way may be.
     Compaction,
 }
 
@@ -202,7 +202,7 @@ impl Core {
             live: 0,
             ended: 0,
             emptied: 0,
-            progress: Late::new(),
+            gone: 0,
         })
     }
 

@@ -10,6 +10,7 @@ mod compact;
 mod core;
 mod key_bits;
 mod names;
+mod occupancy;
 mod raw;
 mod refused;
 pub mod shared;

@@ -136,14 +136,23 @@ pub struct ForgetReply {
     pub count: usize,
 }
 
-/// C alone asks for it: a core of Rust compacts by rounds of its own.
 #[repr(C)]
 #[derive(Clone, Copy)]
-#[allow(dead_code)]
 pub struct CompactReply {
     pub status: u32,
     pub more: u32,
     pub pages: usize,
+}
+
+#[repr(C)]
+#[derive(Clone, Copy)]
+pub struct AdvanceReply {
+    pub status: u32,
+    pub more: u32,
+    pub cost: usize,
+    pub folded: u32,
+    pub abandoned: RawSpan,
+    pub owned: RawSpan,
 }
 
 #[repr(C)]
@@ -256,6 +265,8 @@ extern "C" {
     pub fn teurlaks_forget(handle: *mut Handle) -> ForgetReply;
     #[allow(dead_code)]
     pub fn teurlaks_compact_within(handle: *mut Handle, budget: usize) -> CompactReply;
+    pub fn teurlaks_compaction_step(handle: *mut Handle, left: usize, budget: usize) -> AdvanceReply;
+    pub fn teurlaks_compaction_give_up(handle: *mut Handle) -> u32;
     pub fn teurlaks_adopt(handle: *mut Handle, shard: u32) -> AdoptReply;
     pub fn teurlaks_mark(handle: *mut Handle) -> MarkReply;
     pub fn teurlaks_mark_some(handle: *mut Handle) -> MarkReply;

@@ -655,9 +655,7 @@ impl<T> Slab<T> {
     /// with it. Every key stays valid, and all groups are in shards afterwards, also those that an
     /// end or a retirement had left to the pool.
     ///
-    /// It goes by rounds, as [`Core::compact`] does, but only pages are retired whose values fit on
-    /// some other page by their number. So nothing is retired or planned if no two pages have as few
-    /// values together as one has slots. At which slots values are is seen by the plan alone.
+    /// It takes the steps of [`Core::compact`].
     ///
     /// Each fold copies the values of a page, and a plan looks at each pair of up to 4,096 pages on
     /// each side, those with the fewest values. A page that is folded takes no value of its own any
@@ -667,8 +665,7 @@ impl<T> Slab<T> {
     ///
     /// # Errors
     ///
-    /// - [`Refused::PlanOpen`]: a mark has opened a plan; then only pages without a value have
-    ///   gone;
+    /// - [`Refused::PlanOpen`]: a mark has opened a plan; then nothing has changed;
     /// - [`Refused::OutOfMemory`]: memory was refused; it stops where it is, every key has its value, and it may be tried again.
     ///
     /// ```
@@ -683,6 +680,7 @@ impl<T> Slab<T> {
     pub fn compact(&mut self) -> Result<usize, Refused> {
         self.give_up_vacant();
         let went = self.compact_all();
+        self.first = 0;
         self.values.cool();
         went
     }
@@ -692,8 +690,7 @@ impl<T> Slab<T> {
     /// stopped.
     ///
     /// What a step is, what a plan looks at, and which calls may be refused with
-    /// [`Refused::PlanOpen`] between two calls, is as of [`Core::compact_within`]. Beside that,
-    /// each retirement looks once at each page's number of values.
+    /// [`Refused::PlanOpen`] between two calls, is as of [`Core::compact_within`].
     ///
     /// # Errors
     ///
@@ -717,6 +714,7 @@ impl<T> Slab<T> {
     pub fn compact_within(&mut self, budget: usize) -> Result<Compacted, Refused> {
         self.give_up_vacant();
         let done = self.compact_some(budget);
+        self.first = 0;
         self.values.cool();
         done
     }
@@ -727,28 +725,12 @@ impl<T> Compact for Slab<T> {
         &mut self.core
     }
 
-    /// Of the pages whose values fit on another one by their number.
-    fn retire_sparse(&mut self, most: usize) -> Result<(), Refused> {
-        for (shard, count) in (0..self.core.shards()).zip(self.values.sparse_pages(most)?) {
-            if count == 0 || self.core.is_ended(shard) {
-                continue;
-            }
-            let count = self.core.retire(shard, count)?;
-            self.core.progress.note_retired(count);
-        }
-        Ok(())
+    fn make_room(&mut self) -> Result<(), Refused> {
+        self.values.make_room()
     }
 
-    fn step_one(&mut self) -> Result<Stepped, Refused> {
-        self.step()
-    }
-
-    fn close_plan(&mut self) -> Result<(), Refused> {
-        self.close()
-    }
-
-    fn adopt_one(&mut self, shard: u32) -> Result<Group, Refused> {
-        self.adopt(shard)
+    fn follow(&mut self, abandoned: Group, owned: Group) {
+        self.values.follow(abandoned, owned);
     }
 }
 

@@ -5,7 +5,6 @@ mod iterators;
 pub use iterators::{Drain, IntoIter, Iter, Keys, Values};
 
 use crate::bytes::{slots_for, words_for, MOST_BYTES, MOST_WORDS};
-use crate::compact::Compact;
 use crate::core::{ends_turn, Core, Limits, SHARDS};
 use crate::names::Key;
 use crate::refused::Refused;
@@ -395,7 +394,7 @@ impl<T> Store<T> {
     /// Ends a compaction in parts where it is.
     pub(crate) fn give_up_compaction(&mut self) {
         self.first = 0;
-        self.core.give_up();
+        self.core.give_up_compaction();
     }
 
     /// The live key that comes next after this one, as [`Core::next_live`].

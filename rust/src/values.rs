@@ -8,7 +8,7 @@
 use crate::blocks::Blocks;
 use crate::boxed::Late;
 use crate::bytes::{slots_for, MOST_WORDS};
-use crate::core::{Core, Stepped, MOST_SHARDS};
+use crate::core::{Core, Stepped};
 use crate::names::{Group, Key, Span};
 use crate::refused::Refused;
 use crate::spans::{number_of, Home, Spans};
@@ -363,17 +363,21 @@ impl<T> Values<T> {
 
     /// Has the core carry out the next fold, and follows it.
     pub fn step(&mut self, core: &mut Core) -> Result<Stepped, Refused> {
-        // A fold may bring one more span here, and takes no memory then.
-        self.spans.reserve(1)?;
+        self.make_room()?;
         let stepped = core.step()?;
         if let Stepped::Folded(abandoned, owned) = stepped {
-            self.fold(abandoned, owned);
+            self.follow(abandoned, owned);
         }
         Ok(stepped)
     }
 
+    /// Makes room to follow a fold, which may bring one more span here.
+    pub fn make_room(&mut self) -> Result<(), Refused> {
+        self.spans.reserve(1)
+    }
+
     /// Follows a fold: the values of the first group move to the page of the second, each to the slot where it is.
-    fn fold(&mut self, abandoned: Group, owned: Group) {
+    pub fn follow(&mut self, abandoned: Group, owned: Group) {
         let (head, host) = (abandoned.head(), owned.head());
         let Some(&from) = self.spans.find(head) else {
             return;
@@ -435,43 +439,6 @@ impl<T> Values<T> {
         if let Some(blocks) = self.blocks.get_mut() {
             blocks.cool();
         }
-    }
-
-    /// For each shard, how many of the pages with the fewest values it has, as far as that is
-    /// known: of so many in all, and of those alone whose values fit on another page by their
-    /// number.
-    ///
-    /// # Errors
-    ///
-    /// [`Refused::OutOfMemory`] where memory was refused.
-    pub fn sparse_pages(&self, most: usize) -> Result<[usize; MOST_SHARDS], Refused> {
-        let mut counts = [0; MOST_SHARDS];
-        let mut pages = self.pages()?;
-        pages.sort_unstable();
-        let [(least, _), (second, _), ..] = pages[..] else {
-            return Ok(counts);
-        };
-        let fits = |place: usize, live: u32| live + if place == 0 { second } else { least } <= Self::SLOTS as u32;
-        for (place, (live, shard)) in pages.into_iter().enumerate().take(most) {
-            if fits(place, live) {
-                counts[usize::from(shard)] += 1;
-            }
-        }
-        Ok(counts)
-    }
-
-    /// For each page with a value, how many it has, and its shard as far as that is known.
-    fn pages(&self) -> Result<Vec<(u32, u8)>, Refused> {
-        let mut pages = Vec::new();
-        pages
-            .try_reserve_exact(self.pages.len())
-            .map_err(|_| Refused::OutOfMemory)?;
-        pages.extend(self.pages.iter().map(|page| (0, page.shard)));
-        for home in self.spans.iter() {
-            pages[home.page as usize].0 += home.live;
-        }
-        pages.retain(|(live, _)| *live > 0);
-        Ok(pages)
     }
 
     /// How many values there are. It asks each span.

@@ -3,8 +3,9 @@
 use super::{Arena, Seat};
 use crate::background::{Background, Compacts, Policy};
 use crate::bytes::{slots_for, words_for};
-use crate::compact::{Compacted, Occupancy};
+use crate::compact::Compacted;
 use crate::core::Stepped;
+use crate::occupancy::Occupancy;
 use crate::refused::Refused;
 use std::io;
 use std::mem::size_of;

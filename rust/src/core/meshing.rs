@@ -1,8 +1,9 @@
 //! What a core does with whole groups: ends, begins, retirements, trims and adoptions, marks and their steps.
 
 use super::{Core, Plan};
-use crate::compact::{is_worth, Compact, Compacted};
+use crate::compact::{Advanced, Compacted};
 use crate::names::Group;
+use crate::occupancy::is_worth;
 use crate::raw;
 use crate::refused::Refused;
 
@@ -253,18 +254,6 @@ impl Core {
         Ok(marked)
     }
 
-    /// Marks as [`Core::mark_some`] does, for a compaction that may leave the plan open.
-    pub(crate) fn mark_for_compaction(&mut self) -> Result<Marked, Refused> {
-        let marked = self.mark_some()?;
-        self.plan = Plan::Compaction;
-        Ok(marked)
-    }
-
-    /// Whether a compaction has left its plan open.
-    pub(crate) fn plan_is_of_compaction(&self) -> bool {
-        self.plan == Plan::Compaction
-    }
-
     /// That a caller has no plan open.
     pub(crate) fn no_plan_of_caller(&self) -> Result<(), Refused> {
         match self.plan {
@@ -302,9 +291,9 @@ impl Core {
             return Err(Refused::NoPlan);
         }
         // SAFETY: as in `insert`.
-        done(unsafe { raw::teurlaks_close(&mut self.handle) })?;
+        let closed = done(unsafe { raw::teurlaks_close(&mut self.handle) });
         self.plan = Plan::None;
-        Ok(())
+        closed
     }
 
     /// Marks, takes all steps and closes, and says how many pages came back. The mark is that of [`Core::mark_some`]; where it may not have
@@ -331,9 +320,9 @@ impl Core {
     /// rounds take the sparsest half, quarter, eighth and so on, each once with all of it in the
     /// pool and once with half of it, until none in a row of all of these folds a sixteenth.
     ///
-    /// If what is live needs all pages even if these were full, nothing is retired or planned. What
-    /// can be expected takes live keys to stand at slots at random, and all objects to be as small
-    /// as the smallest that was ever put.
+    /// If what is live needs all pages even if these were full, nothing is retired. What can be
+    /// expected takes live keys to stand at slots at random, and all objects to be as small as the
+    /// smallest that the last plan saw.
     ///
     /// A page that is folded takes no object of its own any more, so each fold uses up one of the
     /// 4,294,967,295 pages that a shard may open in its life.
@@ -342,8 +331,7 @@ impl Core {
     ///
     /// # Errors
     ///
-    /// - [`Refused::PlanOpen`]: a mark has opened a plan; then only pages without a live key have
-    ///   gone;
+    /// - [`Refused::PlanOpen`]: a mark has opened a plan; then nothing has changed;
     /// - [`Refused::OutOfMemory`]: memory was refused; it stops where it is, every key has its
     ///   object, no plan is open, and it may be tried again.
     ///
@@ -359,12 +347,17 @@ impl Core {
     /// # Ok::<(), teurlaks::Refused>(())
     /// ```
     pub fn compact(&mut self) -> Result<usize, Refused> {
-        self.compact_all()
+        let done = self.compact_within(usize::MAX);
+        if done.is_err() {
+            self.give_up_compaction();
+        }
+        done.map(|done| done.pages)
     }
 
     /// Takes at most so many steps of a [compaction](Core::compact), at least one, and says how
     /// many pages went and whether there is more to do. The next call goes on where this one
-    /// stopped, and once there is no more to do, the next one begins anew.
+    /// stopped, and once there is no more to do, the next one begins anew. The steps are proved:
+    /// no key changes, and it is done only after a mark of it that is not worth another one.
     ///
     /// A step trims one shard, retires one group, plans, folds one pair, adopts one group, or
     /// forgets. A plan compares at most 4,096 times `budget` pairs of groups, where a budget below
@@ -408,7 +401,93 @@ impl Core {
     /// # Ok::<(), teurlaks::Refused>(())
     /// ```
     pub fn compact_within(&mut self, budget: usize) -> Result<Compacted, Refused> {
-        self.compact_some(budget)
+        self.begin_part()?;
+        if !self.is_open() {
+            return Ok(Compacted::default());
+        }
+        // SAFETY: as in `insert`.
+        let raw::CompactReply { status, more, pages } =
+            unsafe { raw::teurlaks_compact_within(&mut self.handle, budget) };
+        self.gone += pages;
+        self.counted(done(status).map(|()| more == 1))
+    }
+
+    /// Begins a part of a compaction, and says how many pages there are.
+    pub(crate) fn begin_part(&mut self) -> Result<usize, Refused> {
+        self.no_plan_of_caller()?;
+        if self.is_open() {
+            (self.plan, self.pool, self.emptied) = (Plan::Compaction, true, u64::MAX);
+        }
+        Ok(self.pages())
+    }
+
+    /// Takes one step of a compaction.
+    pub(crate) fn advance(&mut self, left: usize, budget: usize) -> Result<Advanced, Refused> {
+        if !self.is_open() {
+            return Ok(Advanced {
+                cost: 1,
+                folded: None,
+                more: false,
+            });
+        }
+        // SAFETY: as in `insert`.
+        let raw::AdvanceReply {
+            status,
+            more,
+            cost,
+            folded,
+            abandoned,
+            owned,
+        } = unsafe { raw::teurlaks_compaction_step(&mut self.handle, left, budget) };
+        done(status).map(|()| Advanced {
+            cost,
+            folded: (folded == 1).then_some((Group(abandoned), Group(owned))),
+            more: more == 1,
+        })
+    }
+
+    /// Ends a part that began with so many pages, after which there is more to do or not.
+    pub(crate) fn end_part(&mut self, before: usize, more: Result<bool, Refused>) -> Result<Compacted, Refused> {
+        self.gone += before - self.pages();
+        self.counted(more)
+    }
+
+    /// The pages that went, if the part was not refused.
+    fn counted(&mut self, more: Result<bool, Refused>) -> Result<Compacted, Refused> {
+        let more = more?;
+        if !more {
+            self.end_compaction();
+        }
+        let pages = std::mem::take(&mut self.gone);
+        Ok(Compacted { pages, more })
+    }
+
+    /// Ends a compaction that is done.
+    fn end_compaction(&mut self) {
+        self.plan = Plan::None;
+        // What no shard may adopt stays in the pool.
+        self.adopt_pooled();
+        self.give_up_worn();
+    }
+
+    /// Ends a compaction where it is: no plan of it is open, and the shards have the groups of the
+    /// pool as far as they may.
+    pub(crate) fn give_up_compaction(&mut self) {
+        if self.plan != Plan::Compaction {
+            return;
+        }
+        // SAFETY: as in `insert`. It is not refused.
+        unsafe { raw::teurlaks_compaction_give_up(&mut self.handle) };
+        (self.plan, self.gone) = (Plan::None, 0);
+        self.adopt_pooled();
+    }
+
+    /// Has the shards adopt the groups of the pool as far as they may.
+    fn adopt_pooled(&mut self) {
+        for shard in 0..self.shards() {
+            // What is refused stays in the pool, under the keys that it had.
+            while self.pool && self.adopt(shard).is_ok() {}
+        }
     }
 
     /// How many shards there are, with those that have ended.

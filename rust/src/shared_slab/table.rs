@@ -5,7 +5,7 @@ use super::page::{Owned, OwnedPage, Page};
 use super::slot::{Claim, Slot};
 use crate::blocks::Blocks;
 use crate::compact::{Compact, Compacted};
-use crate::core::{Core, Limits, Stepped};
+use crate::core::{Core, Limits};
 use crate::names::{Group, Key, Span};
 use crate::refused::Refused;
 use crate::spans::{Home, Spans};
@@ -258,31 +258,6 @@ impl<T> Table<T> {
         self.blocks.give(number);
     }
 
-    /// Follows a fold of the core: the values of the first group go to the page of the second, or
-    /// stay behind until they can. There is room for one more span, and for one more page behind.
-    fn follow(&mut self, abandoned: Group, owned: Group) {
-        let (head, host) = (abandoned.head(), owned.head());
-        for number in &self.behind {
-            let sheet = &mut self.pages[*number as usize];
-            if sheet.head == head {
-                sheet.head = host;
-            }
-        }
-        let Some(from) = self.spans.find(head).copied() else {
-            return;
-        };
-        self.pages[from.page as usize].head = host;
-        match self.spans.find(host).copied() {
-            None => self.make_main(host, from.page),
-            Some(to) if !self.move_values(from.page, to.page) => self.behind.push(from.page),
-            Some(_) => {}
-        }
-        // It is a head no more.
-        if from.live == 0 {
-            self.spans.remove(head);
-        }
-    }
-
     /// Makes a page that of the head, which has none.
     fn make_main(&mut self, head: Span, number: u32) {
         self.ready = false;
@@ -352,17 +327,6 @@ impl<T> Table<T> {
         self.set_hint(span, to);
     }
 
-    /// Carries out the next fold, and follows it.
-    fn step(&mut self) -> Result<Stepped, Refused> {
-        self.spans.reserve(1)?;
-        self.behind.try_reserve(1).map_err(|_| Refused::OutOfMemory)?;
-        let stepped = self.core.step()?;
-        if let Stepped::Folded(abandoned, owned) = stepped {
-            self.follow(abandoned, owned);
-        }
-        Ok(stepped)
-    }
-
     /// Takes so many steps of a compaction at most, which begins with what stayed behind earlier ones.
     pub fn compact_within(&mut self, budget: usize) -> Result<Compacted, Refused> {
         if !self.is_compacting {
@@ -378,7 +342,7 @@ impl<T> Table<T> {
     /// Ends a compaction where it is, if one has begun.
     pub fn give_up_compaction(&mut self) {
         if std::mem::take(&mut self.is_compacting) {
-            self.give_up();
+            self.core.give_up_compaction();
         }
     }
 
@@ -463,20 +427,34 @@ impl<T> Compact for Table<T> {
         &mut self.core
     }
 
-    fn retire_sparse(&mut self, most: usize) -> Result<(), Refused> {
-        self.core.retire_sparse(most)
+    fn make_room(&mut self) -> Result<(), Refused> {
+        self.spans.reserve(1)?;
+        self.behind.try_reserve(1).map_err(|_| Refused::OutOfMemory)
     }
 
-    fn step_one(&mut self) -> Result<Stepped, Refused> {
-        self.step()
-    }
-
-    fn close_plan(&mut self) -> Result<(), Refused> {
-        self.core.close()
-    }
-
-    fn adopt_one(&mut self, shard: u32) -> Result<Group, Refused> {
-        self.core.adopt(shard)
+    /// Follows a fold of the core: the values of the first group go to the page of the second, or
+    /// stay behind until they can. There is room for one more span, and for one more page behind.
+    fn follow(&mut self, abandoned: Group, owned: Group) {
+        let (head, host) = (abandoned.head(), owned.head());
+        for number in &self.behind {
+            let sheet = &mut self.pages[*number as usize];
+            if sheet.head == head {
+                sheet.head = host;
+            }
+        }
+        let Some(from) = self.spans.find(head).copied() else {
+            return;
+        };
+        self.pages[from.page as usize].head = host;
+        match self.spans.find(host).copied() {
+            None => self.make_main(host, from.page),
+            Some(to) if !self.move_values(from.page, to.page) => self.behind.push(from.page),
+            Some(_) => {}
+        }
+        // It is a head no more.
+        if from.live == 0 {
+            self.spans.remove(head);
+        }
     }
 }
 
