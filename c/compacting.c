@@ -72,6 +72,26 @@ static size_t pages_left(unsigned of_a_page, size_t budget) {
     return pages;
 }
 
+/* Steps one by one, of which each fold is told, and takes one page. */
+static void by_steps(void) {
+    struct teurlaks_handle core = {0};
+    fill(&core, 3);
+    struct teurlaks_advance_reply advanced;
+    size_t folds = 0;
+    do {
+        size_t was = teurlaks_totals(&core).pages;
+        advanced = teurlaks_compaction_step(&core, 9, 1000);
+        WANT(advanced.status == TEURLAKS_OK && 1 <= advanced.cost && advanced.cost <= 9);
+        WANT(teurlaks_totals(&core).pages == was - advanced.folded);
+        folds += advanced.folded;
+    } while (advanced.more);
+    WANT(folds > PAGES / 2);
+    look(&core);
+    WANT(teurlaks_compaction_step(&core, 9, 9).more == 1);
+    WANT(teurlaks_compaction_give_up(&core) == TEURLAKS_OK);
+    teurlaks_drop(&core);
+}
+
 /* What a caller does with plans of its own. */
 static void plans_of_a_caller(void) {
     struct teurlaks_handle core = {0};
@@ -113,6 +133,7 @@ int main(void) {
             WANT(least <= pages && pages <= PAGES && (of_a_page > 3 || pages <= 2 * least));
         }
     }
+    by_steps();
     plans_of_a_caller();
     long runs = 0;
     while (failing_after(runs)) runs++;
