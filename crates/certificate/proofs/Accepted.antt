@@ -1,45 +1,27 @@
 -- An accepted text is a text of what was read.
-use Rattle.std.proofs.Common.{ℕ, ◌≡◌, cond, true, false, List, [], ◌∷◌, ◌++◌, codes, map, Result, Ok, Err, refl, sym, ◌∙◌, ap, inl, inr}
+use Rattle.std.proofs.Common.{ℕ, ◌≡◌, cond, true, false, List, [], ◌∷◌, map, Result, Ok, refl, sym, ◌∙◌, ap, inl, inr, rules}
 use Rattle.std.specs.List.{AllByRecursion, join_with_byte}
 use Rattle.std.specs.Prelude.{IfOk}
-use Rattle.std.specs.Str.{bytes_eq}
 use Rattle.std.proofs.lemmas.List.{length-map}
 use Rattle.std.proofs.lemmas.List.Elements.{All-from_recursion}
 use Rattle.std.proofs.lemmas.List.Splits.{join_with_byte-slice_split}
-use Rattle.span.specs.Texts.{id_text}
 use Rattle.span.specs.declared.class.Class.TheVariants.{C16}
 use Rattle.span.specs.declared.entry.Entry.{Entry}
 use Rattle.certificate.specs.declared.certificate.Certificate.{Certificate}
-use Rattle.certificate.specs.declared.text.cause.Cause.TheVariants.{Form}
 use Rattle.certificate.specs.declared.text.cause.ReadError.{ReadError}
-use Rattle.certificate.specs.declared.text.cause.ReadError.TheVariants.{BadCertificate, OutOfMemory}
 use Rattle.certificate.specs.declared.text.version.Version.{Version}
 use Rattle.certificate.specs.declared.text.version.Version.TheVariants.{One, Two, Three}
 use Rattle.certificate.specs.declared.text.version.TheConstants.{TEXT_SPANS}
-use Rattle.certificate.specs.Grammar.{Reads, at_line, body_in, certificate_in, entry_parts, id_parts, is_wanted, line_in, needs_three, opening_of, outline_of, pair_parts, spans_in, version_in, version_of}
+use Rattle.certificate.specs.Grammar.{Reads, at_line, body_in, certificate_in, entry_parts, is_wanted, line_in, needs_version_three, opening_of, outline_of, spans_in, version_in, version_of}
 use Rattle.certificate.specs.Text.{IsTextOf, IsWritable, certificate_text, classless_text}
 use Rattle.certificate.specs.Words.{parts_of}
 use Rattle.certificate.proofs.ReadAgain.{classless_body, entry_body, pair_body, title_body}
 use Rattle.certificate.proofs.Rereading.{all_lines, lines_with, parts_of-classless_text, parts_of-text}
-use Rattle.certificate.proofs.Serials.{needs_three-read}
+use Rattle.certificate.proofs.Serials.{needs_version_three-read}
 use Rattle.certificate.proofs.Spelling.{>>=-ok, IsOfVersion, Spells, body_in-spells, entry_words, id_word, if-ok, line_in-spells, outline_lines, pair_words, same_bytes}
 
 version_in-spells : Spells version_in opening_of
-version_in-spells line version h = elim (bytes_eq line (opening_of One)) as (λ b. bytes_eq line (opening_of One) ≡ b
-    → cond b (Ok One) (cond (bytes_eq line (opening_of Two)) (Ok Two) (cond (bytes_eq line (opening_of Three)) (Ok Three) (Err Form))) ≡ Ok version → line ≡ opening_of version) [
-      | true ↦ λ first said.
-          let named : One ≡ version = cc said in
-          same_bytes line (opening_of One) first ∙ ap opening_of named
-      | false ↦ λ first said. elim (bytes_eq line (opening_of Two)) as (λ b. bytes_eq line (opening_of Two) ≡ b
-          → cond b (Ok Two) (cond (bytes_eq line (opening_of Three)) (Ok Three) (Err Form)) ≡ Ok version → line ≡ opening_of version) [
-            | true ↦ λ second said.
-                let named : Two ≡ version = cc said in
-                same_bytes line (opening_of Two) second ∙ ap opening_of named
-            | false ↦ λ second said.
-                let p = if-ok (bytes_eq line (opening_of Three)) Three version Form said in
-                same_bytes line (opening_of Three) p.0 ∙ ap opening_of p.1
-          ] refl said
-    ] refl h
+version_in-spells line version h = search (rules, same_bytes, if-ok)
 
 same_map : {X Y Z : Type 0} (g : Y → Z) (f : X → Y) (xs : List X) → map g (map f xs) ≡ map (λ x. g (f x)) xs
 same_map g f [] = refl
@@ -52,30 +34,17 @@ classes-version (x ∷ xs) h = (h.0 refl, classes-version xs h.1)
 -- the lines that are said are those that are written
 outline_lines-outline_of : (version : Version) (body : Entry → List ℕ) → ((x : Entry) → entry_words version (entry_parts x) ≡ body x) → (c : Certificate)
     → opening_of version ∷ outline_lines version (outline_of c) ≡ lines_with version body c
-outline_lines-outline_of version body same c =
-    let A = c.snapshot.abandoned in
-    let O = c.snapshot.owned in
-    let bodies : (xs : List Entry) → map (entry_words version) (map entry_parts xs) ≡ map body xs = λ xs. same_map (entry_words version) entry_parts xs ∙ (λ k. map (λ x. same x k) xs) in
-    let a : map (entry_words version) (map entry_parts A) ≡ map body A = bodies A in
-    let o : map (entry_words version) (map entry_parts O) ≡ map body O = bodies O in
-    let f : map pair_words (map pair_parts c.plan) ≡ map pair_body c.plan = same_map pair_words pair_parts c.plan in
-    let s : map id_word (map id_parts c.short) ≡ map id_text c.short = same_map id_word id_parts c.short in
-    (λ k. opening_of version
-    ∷ title_body (codes "abandoned") (length-map A entry_parts k) ∷ (a k
-    ++ title_body (codes "owned") (length-map O entry_parts k) ∷ (o k
-    ++ title_body (codes "folds") (length-map c.plan pair_parts k) ∷ (f k
-    ++ title_body (codes "short") (length-map c.short id_parts k) ∷ (s k
-    ++ codes "end" ∷ [] ∷ [])))))
+outline_lines-outline_of version body same c = search (rules, entry_words, same_map, pair_words, pair_body, id_word, title_body, length-map)
 
 -- a text of which all lines are those of another is that text
 same_text : (text other : List ℕ) → parts_of 10 text ≡ parts_of 10 other → text ≡ other
 same_text text other same = sym (join_with_byte-slice_split 10 text) ∙ ap (join_with_byte 10) same ∙ join_with_byte-slice_split 10 other
 
 -- what version 2 can say is written in it, and all else in version 3
-version_of-small : (c : Certificate) → needs_three (outline_of c) ≡ false → version_of (outline_of c) ≡ Two
+version_of-small : (c : Certificate) → needs_version_three (outline_of c) ≡ false → version_of (outline_of c) ≡ Two
 version_of-small c none = ap (λ b. cond b Three Two) none
 
-version_of-large : (c : Certificate) → needs_three (outline_of c) ≡ true → version_of (outline_of c) ≡ Three
+version_of-large : (c : Certificate) → needs_version_three (outline_of c) ≡ true → version_of (outline_of c) ≡ Three
 version_of-large c some = ap (λ b. cond b Three Two) some
 
 -- the text is written of the certificate, where these are the lines of the version that is written
@@ -89,11 +58,11 @@ IsTextOf-certificate_in c text w h =
     let p = >>=-ok (at_line 0 (line_in version_in (parts_of 10 text) 0)) (λ version. body_in version (parts_of 10 text)) (outline_of c) h in
     let body = body_in-spells p.0 (parts_of 10 text) (outline_of c) p.2 in
     named p.0 (line_in-spells version_in opening_of (parts_of 10 text) 0 p.0 version_in-spells p.1 ∙ ap (λ ps. opening_of p.0 ∷ ps) body.0) body.1 body.2 body.3
-    (λ small. needs_three-read p.0 (parts_of 10 text) (outline_of c) p.2 small)
+    (λ small. needs_version_three-read p.0 (parts_of 10 text) (outline_of c) p.2 small)
   where
     named : (version : Version) → parts_of 10 text ≡ opening_of version ∷ outline_lines version (outline_of c) → AllByRecursion (IsOfVersion version) (map entry_parts c.snapshot.abandoned)
         → AllByRecursion (IsOfVersion version) (map entry_parts c.snapshot.owned) → is_wanted version (outline_of c) ≡ true
-        → (spans_in version ≡ TEXT_SPANS → needs_three (outline_of c) ≡ false) → IsTextOf c text
+        → (spans_in version ≡ TEXT_SPANS → needs_version_three (outline_of c) ≡ false) → IsTextOf c text
     named One lines abandoned owned wanted small = inr (
       same_text text (classless_text c) (lines ∙ outline_lines-outline_of One classless_body (λ x. refl) c ∙ sym (parts_of-classless_text c w)),
       record {
@@ -108,5 +77,4 @@ IsTextOf-certificate_in c text w h =
 -- the same, of whatever reading answered
 pub IsTextOf-Reads : (answer : Result Certificate ReadError) (text : List ℕ) → Reads outline_of answer (certificate_in text) → IfOk answer IsWritable → IfOk answer (λ c. IsTextOf c text)
 IsTextOf-Reads (Ok c) text said writable = IsTextOf-certificate_in c text writable said
-IsTextOf-Reads (Err OutOfMemory) text said writable = tt
-IsTextOf-Reads (Err (BadCertificate line cause)) text said writable = tt
+IsTextOf-Reads answer text said writable = tt

@@ -1,5 +1,5 @@
 -- No plan has more pairs than a certificate shows
-use Rattle.std.proofs.Common.{◌+◌, ◌≤◌, ◌≡◌, Bool, true, false, not, List, [], ◌∷◌, length, map, ap, suc, ◌⊎◌, inl, inr, arith}
+use Rattle.std.proofs.Common.{◌+◌, ◌≤◌, ◌≡◌, Bool, true, false, not, List, [], ◌∷◌, length, map, ap, suc, ◌⊎◌, inl, inr, arith, rules}
 use Rattle.std.specs.List.{AllByRecursion, IsDistinct, filter, list_any}
 use Rattle.std.proofs.lemmas.Bool.{cases_Bool}
 use Rattle.std.proofs.lemmas.List.Elements.{recursion_from_All}
@@ -64,8 +64,4 @@ at_most same t g short pairs s p =
     omega arith
 
 pub best_from_certificate : {K : Type 0} (same : K → K → Bool) → Tells same → (g : Sides K) (pairs : List (K × K)) (short : List K) → IsCertificate same g pairs short → IsBest same g pairs
-best_from_certificate same t g pairs short c = record {
-  plan = c.plan;
-  most = λ other p. let bound : length other + length short ≤ length g.left + length (partners g short) = at_most same t g short other c.chosen p in
-      let equal : length pairs + length short ≡ length g.left + length (partners g short) = c.equation in omega arith;
-}
+best_from_certificate same t g pairs short c = search (rules, at_most)

@@ -1,5 +1,5 @@
 -- A list of items while it is read.
-use Rattle.std.proofs.Common.{ℕ, ◌+◌, ◌-◌, ◌<◌, ◌≤◌, ◌≡◌, List, [], ◌∷◌, ◌++◌, codes, length, map, get_or, Option, Some, None, option_map, Result, Ok, Err, refl, subst, sym, ◌∙◌, ap, arith, suc, inl, inr}
+use Rattle.std.proofs.Common.{ℕ, ◌+◌, ◌-◌, ◌<◌, ◌≤◌, ◌≡◌, List, [], ◌∷◌, ◌++◌, codes, length, map, get_or, Option, Some, None, option_map, Result, Ok, Err, refl, sym, ◌∙◌, ap, arith, suc, rules}
 use Rattle.std.proofs.lemmas.Bool.{cases_eq}
 use Rattle.std.proofs.lemmas.List.{append-nil, append_assoc, get_or_append_left, get_or_push, length-map, length_push, map_push}
 use Rattle.span.specs.declared.id.SpanId.{SpanId}
@@ -10,7 +10,7 @@ use Rattle.certificate.specs.declared.text.cause.Cause.{Cause}
 use Rattle.certificate.specs.declared.text.version.Version.{Version}
 use Rattle.certificate.specs.declared.text.cause.ReadError.{ReadError}
 use Rattle.certificate.specs.declared.text.cause.ReadError.TheVariants.{BadCertificate, OutOfMemory}
-use Rattle.certificate.specs.Grammar.{◌>>=◌, ComesAfter, Id, Listed, Outline, Reads, at_line, body_in, count_in, ending_in, entry_in, entry_parts, id_in, id_parts, item_in, items_in, line_in, list_in, pair_in, pair_parts}
+use Rattle.certificate.specs.Grammar.{◌>>=◌, ComesAfter, Id, Listed, Reads, at_line, body_in, count_in, ending_in, entry_in, entry_parts, id_in, id_parts, item_in, items_in, line_in, list_in, pair_in, pair_parts}
 use Rattle.certificate.specs.Words.{lines_of}
 
 -- a refusal that the grammar has, too
@@ -39,23 +39,7 @@ carried-push xs x (Err e) = refl
 
 -- one id more, that comes after the last one
 ascending-push : (ids : List SpanId) (y : SpanId) → IsAscending ids → ((i : ℕ) → i + 1 ≡ length ids → get_or (map rank ids) i 0 < rank y) → IsAscending (ids ++ y ∷ [])
-ascending-push ids y up late k l =
-    let long : length (map rank ids) ≡ length ids = length-map ids rank in
-    let more : length (map rank ids ++ rank y ∷ []) ≡ length (map rank ids) + 1 = length_push (map rank ids) (rank y) in
-    let all : map rank (ids ++ y ∷ []) ≡ map rank ids ++ rank y ∷ [] = map_push rank ids y in
-    let total : length (map rank (ids ++ y ∷ [])) ≡ length (map rank ids ++ rank y ∷ []) = ap length all in
-    let here : get_or (map rank (ids ++ y ∷ [])) k 0 ≡ get_or (map rank ids) k 0 = ap (λ xs. get_or xs k 0) all ∙ get_or_append_left (map rank ids) (rank y ∷ []) 0 k (omega arith) in
-    elim (cases_eq (k + 1) (length ids)) [
-      | inl e ↦
-          let next : get_or (map rank (ids ++ y ∷ [])) (k + 1) 0 ≡ rank y = ap (λ xs. get_or xs (k + 1) 0) all ∙ get_or_push (map rank ids) (rank y) 0 (k + 1) (omega arith) in
-          let less : get_or (map rank ids) k 0 < rank y = late k e in
-          omega arith
-      | inr n ↦
-          let next : get_or (map rank (ids ++ y ∷ [])) (k + 1) 0 ≡ get_or (map rank ids) (k + 1) 0 = ap (λ xs. get_or xs (k + 1) 0) all
-          ∙ get_or_append_left (map rank ids) (rank y ∷ []) 0 (k + 1) (omega arith) in
-          let less : get_or (map rank ids) k 0 < get_or (map rank ids) (k + 1) 0 = up k (omega arith) in
-          omega arith
-    ]
+ascending-push ids y up late k l = search (rules, length-map, length_push, map_push, get_or_append_left, cases_eq, get_or_push)
 
 -- the first k items of n have been read, and the last of them has this id
 pub record IsReading {X Y : Type 0} (parse : List ℕ → Result X Cause) (id_of : X → Id) (view : Y → X) (key : Y
@@ -70,20 +54,7 @@ pub record IsReading {X Y : Type 0} (parse : List ℕ → Result X Cause) (id_of
 module _ {X Y : Type 0} (parse : List ℕ → Result X Cause) (id_of : X → Id) (view : Y → X) (key : Y → SpanId) (keys : (y : Y)
     → id_of (view y) ≡ id_parts (key y)) (parts : List (List ℕ)) (at n : ℕ) where
   pub IsReading-start : IsReading parse id_of view key parts at n [] None 0
-  IsReading-start = record {
-    count = refl;
-    within = omega arith;
-    so_far = carried-nil (items_in parse id_of parts None at n) ∙ (λ i. carried [] (items_in parse id_of parts None (places i) (counts i)));
-    ascending = λ k l. absurd (omega arith);
-    first = λ e. refl;
-    latest = λ l i e n. absurd (omega arith);
-  }
-    where
-      places : at ≡ at + 0
-      places = omega arith
-
-      counts : n ≡ n - 0
-      counts = omega arith
+  IsReading-start = search (rules, carried-nil)
 
   module _ (done : List Y) (last : Option SpanId) (k : ℕ) (s : IsReading parse id_of view key parts at n done last k) where
     pub IsReading-more : (y : Y) → k < n → Ok (view y) ≡ line_in (item_in parse id_of (option_map id_parts last)) parts (at + k) → ComesAfter last (key y)
@@ -128,13 +99,7 @@ module _ {X Y : Type 0} (parse : List ℕ → Result X Cause) (id_of : X → Id)
         suc_of = omega arith
 
     pub IsReading-done : n ≤ k → items_in parse id_of parts None at n ≡ Ok (map view done)
-    IsReading-done past =
-        s.so_far
-        ∙ ap (λ m. carried (map view done) (items_in parse id_of parts (option_map id_parts last) (at + k) m)) (none_left)
-        ∙ ap Ok (append-nil (map view done))
-      where
-        none_left : n - k ≡ 0
-        none_left = omega arith
+    IsReading-done past = search (rules, option_map, append-nil)
 
 -- the items of a list, where its title is read
 module _ {X : Type 0} (title : List ℕ) (parse : List ℕ → Result X Cause) (id_of : X → Id) (parts : List (List ℕ)) (at : ℕ) where
@@ -154,16 +119,7 @@ pub body_in-lists : (version : Version) (parts : List (List ℕ)) (abandoned own
     → second ≡ 2 + length abandoned → third ≡ 3 + length abandoned + length owned → fourth ≡ 4 + length abandoned + length owned + length folds
     → fifth ≡ 5 + length abandoned + length owned + length folds + length short
     → body_in version parts ≡ ending_in version (record { abandoned = abandoned; owned = owned; folds = folds; short = short }) parts fifth
-body_in-lists version parts abandoned owned folds short second third fourth fifth a o f s two three four five =
-    let o' : list_in (codes "owned") (entry_in version) (λ x. x.id) parts (2 + length abandoned)
-    ≡ Ok owned = subst (λ p. list_in (codes "owned") (entry_in version) (λ x. x.id) parts p ≡ Ok owned) two o in
-    let f' : list_in (codes "folds") (pair_in version) (λ p. p.0) parts (3 + length abandoned + length owned) ≡ Ok folds = subst (λ p. list_in (codes "folds") (pair_in version) (λ p. p.0) parts p ≡ Ok folds) three f in
-    let s' : list_in (codes "short") (id_in version) (λ id. id) parts (4 + length abandoned + length owned + length folds)
-    ≡ Ok short = subst (λ p. list_in (codes "short") (id_in version) (λ id. id) parts p ≡ Ok short) four s in
-    let said : Outline = record { abandoned = abandoned; owned = owned; folds = folds; short = short } in
-    let all : body_in version parts
-    ≡ ending_in version said parts (5 + length abandoned + length owned + length folds + length short) = rw (a, o', f', s') refl in
-    all ∙ ap (ending_in version said parts) (sym five)
+body_in-lists version parts abandoned owned folds short second third fourth fifth a o f s two three four five = search (rules)
 
 -- a list of the text was read from the place on, and then another text and place are left: the same text, and the place past the list
 pub record IsPast {X Y : Type 0} (title : List ℕ) (parse : List ℕ → Result X Cause) (id_of : X → Id) (view : Y
@@ -180,26 +136,4 @@ pub body_in-read : (version : Version) {text text1 text2 text3 text4 : List ℕ}
     ≡ ending_in version (record { abandoned = map entry_parts abandoned; owned = map entry_parts owned; folds = map pair_parts folds; short = map id_parts short })
     (lines_of text4) at4
 body_in-read version {text} {text1} {text2} {text3} {text4} {at} {at1} {at2} {at3} {at4} abandoned owned folds short first a o f s =
-    let a_long = length-map abandoned entry_parts in
-    let o_long = length-map owned entry_parts in
-    let f_long = length-map folds pair_parts in
-    let s_long = length-map short id_parts in
-    let same2 : text2 ≡ text = o.text_is ∙ a.text_is in
-    let same3 : text3 ≡ text = f.text_is ∙ same2 in
-    let same4 : text4 ≡ text = s.text_is ∙ same3 in
-    let second : at1 ≡ 2 + length (map entry_parts abandoned) = omega (arith, a.place) in
-    let third : at2 ≡ 3 + length (map entry_parts abandoned) + length (map entry_parts owned) = omega (arith, o.place) in
-    let fourth : at3 ≡ 4 + length (map entry_parts abandoned) + length (map entry_parts owned) + length (map pair_parts folds) = omega (arith, f.place) in
-    let fifth : at4 ≡ 5 + length (map entry_parts abandoned) + length (map entry_parts owned) + length (map pair_parts folds) + length (map id_parts short) = omega (arith, s.place) in
-    body_in-lists version (lines_of text) (map entry_parts abandoned) (map entry_parts owned) (map pair_parts folds) (map id_parts short) at1 at2 at3 at4
-    (ap (list_in (codes "abandoned") (entry_in version) (λ x. x.id) (lines_of text)) (sym first) ∙ a.read)
-    ((λ i. list_in (codes "owned") (entry_in version) (λ x. x.id) (lines_of (sym a.text_is i)) at1) ∙ o.read)
-    ((λ i. list_in (codes "folds") (pair_in version) (λ p. p.0) (lines_of (sym same2 i)) at2) ∙ f.read)
-    ((λ i. list_in (codes "short") (id_in version) (λ id. id) (lines_of (sym same3 i)) at3) ∙ s.read)
-    second third fourth fifth
-    ∙ (λ i. ending_in version (record {
-      abandoned = map entry_parts abandoned;
-      owned = map entry_parts owned;
-      folds = map pair_parts folds;
-      short = map id_parts short;
-    }) (lines_of (sym same4 i)) at4)
+    search (rules, length-map, body_in-lists)

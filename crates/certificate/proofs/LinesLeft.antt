@@ -1,5 +1,6 @@
 -- A text that is read line by line: what is left of it, by its bytes and by its lines.
-use Rattle.std.proofs.Common.{ℕ, ◌+◌, ◌-◌, ◌<◌, ◌≤◌, ◌≡◌, ◌==◌, ◌&&◌, cond, Bool, true, false, List, [], ◌∷◌, length, get_or, take, drop, ◌≢◌, inl, inr, Some, None, Result, Ok, Err, refl, sym, ◌∙◌, ap, arith, zero, suc, nat_eq, lt-ltb, le-ltb, eq-eqb}
+use Rattle.std.proofs.lemmas.Grind.{common_steps}
+use Rattle.std.proofs.Common.{ℕ, ◌+◌, ◌-◌, ◌<◌, ◌≤◌, ◌≡◌, ◌==◌, ◌&&◌, cond, Bool, true, false, List, [], ◌∷◌, length, get_or, take, drop, ◌≢◌, Some, None, Result, Ok, Err, refl, sym, ◌∙◌, ap, arith, zero, suc, nat_eq, lt-ltb, le-ltb, eq-eqb, rules}
 use Rattle.std.specs.List.{join_with_byte, position_or_len}
 use Rattle.std.specs.Prelude.{position}
 use Rattle.std.proofs.lemmas.Bool.{cases_eq, cases_lt, ne_eqb}
@@ -17,24 +18,16 @@ abbrev pub is_feed : ℕ → Bool
 is_feed b = b == 10
 
 position-some : (xs : List ℕ) (end : ℕ) → position is_feed xs ≡ Some end → (end < length xs) × (position_or_len is_feed xs ≡ end)
-position-some xs end h = elim (cases_lt (position_or_len is_feed xs) (length xs)) [
-  | inl low ↦ let said = rw (lt-ltb (position_or_len is_feed xs) (length xs) low) at h in let same : position_or_len is_feed xs ≡ end = cc in (omega arith, same)
-  | inr past ↦ let said = rw (le-ltb (position_or_len is_feed xs) (length xs) past) at h in cc
-]
+position-some xs end h = search (rules, cases_lt, lt-ltb, le-ltb)
 
 position-none : (xs : List ℕ) → position is_feed xs ≡ None → length xs ≤ position_or_len is_feed xs
-position-none xs h = elim (cases_lt (position_or_len is_feed xs) (length xs)) [
-  | inl low ↦ let said = rw (lt-ltb (position_or_len is_feed xs) (length xs) low) at h in cc
-  | inr past ↦ past
-]
+position-none xs h = search (rules, cases_lt, lt-ltb)
 
 lines_of-no_feed : (xs : List ℕ) → length xs ≤ position_or_len is_feed xs → lines_of xs ≡ xs ∷ []
 lines_of-no_feed xs none = slice_split_none is_feed xs (λ k d l. fails_before_first is_feed xs k d (omega arith))
 
 lines_of-feed : (xs : List ℕ) (end : ℕ) → position is_feed xs ≡ Some end → lines_of xs ≡ take end xs ∷ lines_of (drop (end + 1) xs)
-lines_of-feed xs end h =
-    let p = position-some xs end h in
-    slice_split_first is_feed xs 0 (omega (arith, p.0, p.1)) ∙ ap (λ e. take e xs ∷ lines_of (drop (e + 1) xs)) p.1
+lines_of-feed xs end h = search (rules, position-some, slice_split_first)
 
 drop-nil : (n : ℕ) → ◌≡◌ {A = List ℕ} (drop n []) []
 drop-nil zero = refl
@@ -60,27 +53,20 @@ ended_if b = cond b (Ok tt) (Err Tail)
 module _ (text : List ℕ) (start at : ℕ) (left : drop at (lines_of text) ≡ lines_of (drop start text)) where
   -- where no line feed is left, no whole line is
   pub whole_line-cut : position is_feed (drop start text) ≡ None → whole_line (lines_of text) at ≡ Err Cut
-  whole_line-cut none =
-      let p = get_or-left (lines_of text) at (drop start text) [] (left ∙ lines_of-no_feed (drop start text) (position-none (drop start text) none)) in
-      rw (le-ltb (at + 1) (length (lines_of text)) (omega (arith, p.0))) refl
+  whole_line-cut none = search (rules, get_or-left, lines_of-no_feed, position-none, le-ltb)
 
   module _ (end : ℕ) (feed : position is_feed (drop start text) ≡ Some end) where
     next_left : drop at (lines_of text) ≡ take end (drop start text) ∷ lines_of (drop (end + 1) (drop start text))
     next_left = left ∙ lines_of-feed (drop start text) end feed
 
     pub whole_line-next : whole_line (lines_of text) at ≡ Ok (take end (drop start text))
-    whole_line-next =
-        let p = get_or-left (lines_of text) at (take end (drop start text)) (lines_of (drop (end + 1) (drop start text))) next_left in
-        let some = length-slice_split is_feed (drop (end + 1) (drop start text)) in
-        rw (lt-ltb (at + 1) (length (lines_of text)) (omega (arith, p.0, some))) (ap Ok p.1)
+    whole_line-next = search (rules, get_or-left, next_left, length-slice_split, lt-ltb)
 
     pub within-next : start ≤ length text → start + (end + 1) ≤ length text
     within-next within = let p = position-some (drop start text) end feed in omega (arith, p.0, length-drop start text)
 
     pub left-next : drop (at + 1) (lines_of text) ≡ lines_of (drop (start + (end + 1)) text)
-    left-next =
-        let p = get_or-left (lines_of text) at (take end (drop start text)) (lines_of (drop (end + 1) (drop start text))) next_left in
-        p.2 ∙ ap lines_of (drop-drop (end + 1) start text)
+    left-next = search (rules, get_or-left, next_left, drop-drop)
 
   more_left : start ≤ length text → start ≢ length text → (b : Bool) → (nat_eq (length (lines_of text)) (at + 1) && nat_eq (length (get_or (lines_of text) at [])) 0) ≡ b → ended_if b ≡ Err Tail
   more_left within more true ended =
@@ -92,10 +78,4 @@ module _ (text : List ℕ) (start at : ℕ) (left : drop at (lines_of text) ≡ 
 
   -- nothing follows where the last byte was read
   pub end_in-left : start ≤ length text → end_in (lines_of text) at ≡ ended_if (nat_eq start (length text))
-  end_in-left within = elim (cases_eq start (length text)) [
-    | inl all ↦
-        let none : drop start text ≡ [] = nil_from_length (drop start text) (omega (arith, length-drop start text)) in
-        let p = get_or-left (lines_of text) at [] [] (left ∙ ap lines_of none) in
-        rw (eq-eqb (length (lines_of text)) (at + 1) (omega (arith, p.0)), eq-eqb (length (get_or (lines_of text) at [])) 0 (ap length p.1), eq-eqb start (length text) all) refl
-    | inr some ↦ rw (ne_eqb start (length text) some) (more_left within some (nat_eq (length (lines_of text)) (at + 1) && nat_eq (length (get_or (lines_of text) at [])) 0) refl)
-  ]
+  end_in-left within = grind (arith, common_steps, cases_eq, nil_from_length, length-drop, get_or-left, eq-eqb, ne_eqb, more_left, nat_eq)

@@ -1,9 +1,9 @@
 -- The partners of a short set, group by group.
-use Rattle.std.proofs.Common.{◌≡◌, ℕ, ◌+◌, ◌*◌, ◌^◌, ◌<◌, ◌≤◌, ◌==◌, ◌&&◌, ◌||◌, Bool, true, false, not, cond, List, [], ◌∷◌, ◌++◌, None, length, map, take, count_by, get_or, ap, refl, sym, ◌∙◌, zero, suc, inl, inr, arith, eq-eqb, lt-ltb, nat_lt}
+use Rattle.std.proofs.lemmas.Grind.{common_steps}
+use Rattle.std.proofs.Common.{◌≡◌, ℕ, ◌+◌, ◌*◌, ◌^◌, ◌<◌, ◌≤◌, ◌==◌, ◌&&◌, ◌||◌, Bool, true, false, not, cond, List, [], ◌∷◌, ◌++◌, None, length, map, take, count_by, get_or, ap, refl, sym, ◌∙◌, zero, suc, inl, inr, arith, eq-eqb, lt-ltb, nat_lt, rules}
 use Rattle.std.specs.List.{filter, flat_map, list_any, slice_get}
 use Rattle.std.proofs.Math.Bool.{or-false}
 use Rattle.std.proofs.Math.Nat.{mul-le-mul_left, mul-suc}
-use Rattle.std.proofs.Math.Numerals.{add-one}
 use Rattle.std.proofs.Math.Seq.{take-suc}
 use Rattle.std.proofs.lemmas.Bool.{cases_Bool, cases_eq, cases_lt, le-ltb, ne_eqb, or_parts}
 use Rattle.std.proofs.lemmas.Grind.{flat_map-append}
@@ -56,19 +56,12 @@ filter-map test f own (x ∷ xs) same =
 
 count-filter : {X : Type 0} (test : X → Bool) (xs : List X) → count_by test xs ≡ length (filter test xs)
 count-filter test [] = refl
-count-filter test (x ∷ xs) = sum_by-cons (λ y. cond (test y) 1 0) x xs ∙ ap (λ n. cond (test x) 1 0 + n) (count-filter test xs) ∙ one (test x) x (filter test xs)
-  where
-    one : {Y : Type 0} (b : Bool) (y : Y) (ys : List Y) → cond b 1 0 + length ys ≡ length (cond b (y ∷ ys) ys)
-    one true y ys = omega arith
-    one false y ys = omega arith
+count-filter test (x ∷ xs) = grind (arith, common_steps, sum_by-cons, (count-filter test xs))
 
 -- some member of a filter
 any-filter : {X : Type 0} (p q : X → Bool) (xs : List X) → list_any q (filter p xs) ≡ list_any (λ x. p x && q x) xs
 any-filter p q [] = refl
-any-filter p q (x ∷ xs) = elim (cases_Bool (p x)) [
-  | inl e ↦ rw e (ap (λ b. q x || b) (any-filter p q xs))
-  | inr e ↦ rw e (any-filter p q xs)
-]
+any-filter p q (x ∷ xs) = search (rules, cases_Bool, (any-filter p q xs), (any-filter p q xs))
 
 any-map : {X Y : Type 0} (test : Y → Bool) (f : X → Y) (xs : List X) → list_any test (map f xs) ≡ list_any (λ x. test (f x)) xs
 any-map test f [] = refl
@@ -76,16 +69,11 @@ any-map test f (x ∷ xs) = ap (λ b. test (f x) || b) (any-map test f xs)
 
 any-flat_map : {X Y : Type 0} (test : Y → Bool) (f : X → List Y) (xs : List X) → list_any test (flat_map f xs) ≡ list_any (λ x. list_any test (f x)) xs
 any-flat_map test f [] = refl
-any-flat_map test f (x ∷ xs) =
-    ap (list_any test) (flat_map-cons f x xs) ∙ list_any-append test (f x) (flat_map f xs)
-    ∙ ap (λ b. list_any test (f x) || b) (any-flat_map test f xs)
+any-flat_map test f (x ∷ xs) = search (rules, flat_map-cons, list_any-append, (any-flat_map test f xs))
 
 -- two groups are of one class if their classes have one number
 same_number : (x y : Entry) → (number_of x.class == number_of y.class) ≡ (width_of x.class == width_of y.class)
-same_number x y = elim (cases_eq (number_of x.class) (number_of y.class)) [
-  | inl same ↦ eq-eqb _ _ same ∙ sym (eq-eqb _ _ (omega (arith, same, number_of-width x.class, number_of-width y.class)))
-  | inr other ↦ ne_eqb _ _ other ∙ sym (ne_eqb _ _ (λ e. other (omega (arith, e, number_of-width x.class, number_of-width y.class))))
-]
+same_number x y = search (rules, cases_eq, eq-eqb, number_of-width, ne_eqb)
 
 -- the members are the sets of the chosen groups, class by class
 abbrev pub AreMembers : Members → List Entry → List SpanId → Type 0
@@ -93,13 +81,7 @@ AreMembers members abandoned chosen = (number : ℕ) → number < CLASSES → me
 
 -- whether a group is compatible with a group of one of the ids, by the sets of those of its class
 pub fits_some-members : (members : Members) (abandoned : List Entry) (chosen : List SpanId) → AreMembers members abandoned chosen → (y : Entry) → fits_some members y ≡ fits_any abandoned chosen y
-fits_some-members members abandoned chosen are y =
-    ap (list_any (λ x. are_disjoint x y.occupied)) (are (number_of y.class) (number_of-most y.class))
-    ∙ any-map (λ x. are_disjoint x y.occupied) (λ (x : Entry). x.occupied) (filter (is_of_class (number_of y.class)) (flat_map (groups_with abandoned) chosen))
-    ∙ any-filter (is_of_class (number_of y.class)) (λ x. are_disjoint x.occupied y.occupied) (flat_map (groups_with abandoned) chosen)
-    ∙ (λ k. list_any (λ x. same_number x y k && are_disjoint x.occupied y.occupied) (flat_map (groups_with abandoned) chosen))
-    ∙ any-flat_map (λ x. are_compatible x y) (groups_with abandoned) chosen
-    ∙ (λ k. list_any (λ id. any-filter (λ x. same_span x.id id) (λ x. are_compatible x y) abandoned k) chosen)
+fits_some-members members abandoned chosen are y = search (rules, number_of-most, any-map, any-filter, same_number, any-flat_map)
 
 -- the groups that are
 pub filter-members : (members : Members) (abandoned owned : List Entry) (chosen : List SpanId) → AreMembers members abandoned chosen
@@ -137,21 +119,13 @@ groups_with-at (y ∷ ys) id (suc p) x up within is same =
 -- one more id
 pub groups_with-next : (abandoned : List Entry) (chosen : List SpanId) (k : ℕ) (id : SpanId) → k < length chosen → id ≡ get_or chosen k id
     → flat_map (groups_with abandoned) (take k chosen) ++ groups_with abandoned id ≡ flat_map (groups_with abandoned) (take (k + 1) chosen)
-groups_with-next abandoned chosen k id low is =
-    sym (
-    ap (flat_map (groups_with abandoned)) (ap (λ n. take n chosen) (add-one k) ∙ take-suc chosen k id low ∙ ap (λ y. take k chosen ++ y ∷ []) (sym is))
-    ∙ flat_map-append (groups_with abandoned) (take k chosen) (id ∷ [])
-    ∙ ap (λ l. flat_map (groups_with abandoned) (take k chosen) ++ l) (flat_map-cons (groups_with abandoned) id [] ∙ append-nil (groups_with abandoned id)))
+groups_with-next abandoned chosen k id low is = grind (arith, common_steps, take-suc, flat_map-append, flat_map-cons, append-nil)
 
 -- the ids of the groups that pass a test, of one more group
 module _ (test : Entry → Bool) (owned : List Entry) (n : ℕ) (y : Entry) (before found : List SpanId) (low : n < length owned) (read : y ≡ get_or owned n y)
     (is : found ≡ before ++ map (λ (y : Entry). y.id) (filter test (take n owned))) where
   more : before ++ map (λ (y : Entry). y.id) (filter test (take (n + 1) owned)) ≡ found ++ map (λ (y : Entry). y.id) (cond (test y) (y ∷ []) [])
-  more =
-      ap (λ l. before ++ map (λ (y : Entry). y.id) l) (filter_more test owned n y low ∙ ap (λ z. filter test (take n owned) ++ cond (test z) (z ∷ []) []) (sym read))
-      ∙ ap (λ l. before ++ l) (map-append (λ (y : Entry). y.id) (filter test (take n owned)) (cond (test y) (y ∷ []) []))
-      ∙ sym (append_assoc before (map (λ (y : Entry). y.id) (filter test (take n owned))) (map (λ (y : Entry). y.id) (cond (test y) (y ∷ []) [])))
-      ∙ ap (λ l. l ++ map (λ (y : Entry). y.id) (cond (test y) (y ∷ []) [])) (sym is)
+  more = grind (arith, common_steps, filter_more, map-append, append_assoc)
 
   pub passing-more : test y ≡ true → found ++ y.id ∷ [] ≡ before ++ map (λ (y : Entry). y.id) (filter test (take (n + 1) owned))
   passing-more passes = sym (more ∙ ap (λ b. found ++ map (λ (y : Entry). y.id) (cond b (y ∷ []) [])) passes)
@@ -174,19 +148,13 @@ module _ {X : Type 0} (test : X → Bool) where
       → get_or (filter test xs) (length (filter test (take i xs))) d ≡ get_or xs i d
   filter_at [] i d low passes = absurd (omega arith)
   filter_at (x ∷ xs) zero d low passes = rw passes refl
-  filter_at (x ∷ xs) (suc i) d low passes = elim (cases_Bool (test x)) [
-    | inl e ↦ rw e (filter_at xs i d (omega arith) passes)
-    | inr e ↦ rw e (filter_at xs i d (omega arith) passes)
-  ]
+  filter_at (x ∷ xs) (suc i) d low passes = search (rules, cases_Bool, (filter_at xs i d (omega arith) passes), (filter_at xs i d (omega arith) passes))
 
   pub filter_below : (xs : List X) (i : ℕ) (d : X) → i < length xs → test (get_or xs i d) ≡ true
       → length (filter test (take i xs)) < length (filter test xs)
   filter_below [] i d low passes = absurd (omega arith)
   filter_below (x ∷ xs) zero d low passes = rw passes (omega arith)
-  filter_below (x ∷ xs) (suc i) d low passes = elim (cases_Bool (test x)) [
-    | inl e ↦ rw e (let less = filter_below xs i d (omega arith) passes in omega (arith, less))
-    | inr e ↦ rw e (filter_below xs i d (omega arith) passes)
-  ]
+  filter_below (x ∷ xs) (suc i) d low passes = search (rules, cases_Bool, (filter_below xs i d (omega arith) passes))
 
 -- the row of a group among those of its class
 module _ (sets : List SlotSet) (number : ℕ) (owned : List Entry) (rows : List ℕ) (place : ℕ) (y : Entry)
@@ -201,11 +169,7 @@ module _ (sets : List SlotSet) (number : ℕ) (owned : List Entry) (rows : List 
 
   -- it stands among the rows
   pub row-within : words * at + words ≤ length rows
-  row-within =
-      let ends : row_words (length sets) * suc (length (filter (is_of_class number) (take place owned)))
-      ≤ row_words (length sets) * length (filter (is_of_class number) owned) = mul-le-mul_left (row_words (length sets)) below in
-      let more = mul-suc (row_words (length sets)) (length (filter (is_of_class number) (take place owned))) in
-      rw (wide, stands) (omega (arith, have.size, ends, more))
+  row-within = grind (arith, common_steps, mul-le-mul_left, below, more, mul-suc)
 
   same : row_at words rows at ≡ row_at (row_words (length sets)) rows (length (filter (is_of_class number) (take place owned)))
   same t = row_at (wide t) rows (stands t)
@@ -226,9 +190,7 @@ fits-other_class sets number y other = ap (λ b. b && list_any (λ x. are_disjoi
 -- how many of the class come before, of one more group
 pub rows_before : (number : ℕ) (owned : List Entry) (n count : ℕ) (y : Entry) (b : Bool) → n < length owned → y ≡ get_or owned n y → is_of_class number y ≡ b
     → count ≡ length (filter (is_of_class number) (take n owned)) → length (filter (is_of_class number) (take (n + 1) owned)) ≡ count + cond b 1 0
-rows_before number owned n count y b low read own is =
-    length-filter_more (is_of_class number) owned n y low
-    ∙ (λ t. sym is t + cond ((ap (is_of_class number) (sym read) ∙ own) t) 1 0)
+rows_before number owned n count y b low read own is = grind (arith, common_steps, length-filter_more)
 
 -- the bits of the groups that fit among the members of the classes below a number
 abbrev pub HasBelow : Members → List Entry → ℕ → List ℕ → Type 0
@@ -243,32 +205,12 @@ pub HasBelow-more : (members : Members) (owned : List Entry) (n : ℕ) (before a
     → ((place : ℕ) (d : Entry) → place < length owned → has_bit after place ≡ (has_bit before place || fits_among n (members_in members n) (get_or owned place d)))
     → HasBelow members owned (n + 1) after
 HasBelow-more members owned n before after below more place d within =
-    more place d within ∙ ap (λ b. b || fits_among n (members_in members n) (get_or owned place d)) (below place d within) ∙ joined (get_or owned place d)
-  where
-    joined : (y : Entry) → ((nat_lt (number_of y.class) n && fits_some members y) || fits_among n (members_in members n) y) ≡ (nat_lt (number_of y.class) (n + 1) && fits_some members y)
-    joined y = elim (cases_eq (number_of y.class) n) [
-      | inl same ↦
-          rw (le-ltb (number_of y.class) n (omega arith), eq-eqb (number_of y.class) n same, lt-ltb (number_of y.class) (n + 1) (omega arith))
-          (ap (λ m. list_any (λ x. are_disjoint x y.occupied) (members_in members m)) (sym same))
-      | inr other ↦ rw (ne_eqb (number_of y.class) n other) (or-false (nat_lt (number_of y.class) n && fits_some members y) ∙ ap (λ b. b && fits_some members y) (same_test other))
-    ]
-      where
-        same_test : (number_of y.class ≡ n → ⊥) → nat_lt (number_of y.class) n ≡ nat_lt (number_of y.class) (n + 1)
-        same_test other = elim (cases_lt (number_of y.class) n) [
-          | inl less ↦ rw (lt-ltb (number_of y.class) n less, lt-ltb (number_of y.class) (n + 1) (omega arith)) refl
-          | inr least ↦ rw (le-ltb (number_of y.class) n least, le-ltb (number_of y.class) (n + 1) (omega arith)) refl
-        ]
+    search (rules, more, below, nat_lt, cases_eq, same, le-ltb, eq-eqb, lt-ltb, ne_eqb, or-false, cases_lt)
 
 -- all classes that have members
 pub HasBelow-all : (members : Members) (owned : List Entry) (n : ℕ) (words : List ℕ) → length members.by_class.items ≤ n → HasBelow members owned n words
     → (place : ℕ) (d : Entry) → place < length owned → has_bit words place ≡ fits_some members (get_or owned place d)
-HasBelow-all members owned n words past below place d within = below place d within ∙ all (get_or owned place d)
-  where
-    all : (y : Entry) → (nat_lt (number_of y.class) n && fits_some members y) ≡ fits_some members y
-    all y = elim (cases_lt (number_of y.class) n) [
-      | inl low ↦ rw (lt-ltb (number_of y.class) n low) refl
-      | inr high ↦ rw (le-ltb (number_of y.class) n high) (sym (ap (list_any (λ x. are_disjoint x y.occupied)) (get_or_past members.by_class.items (number_of y.class) [] (omega (arith, past, high)))))
-    ]
+HasBelow-all members owned n words past below place d within = search (rules, below, nat_lt, cases_lt, lt-ltb, le-ltb, get_or_past)
 
 -- the partners, as a filter of the owned groups
 pub partners_of-filter : (s : Groups) (short : List SpanId) → IsAscending (ids s.owned) → partners_of s short ≡ map (λ (y : Entry). y.id) (filter (λ y. fits_any s.abandoned short y) s.owned)

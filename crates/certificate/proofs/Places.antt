@@ -1,5 +1,6 @@
 -- Sets of places of groups, and what they say of a list of ids while it is walked.
-use Rattle.std.proofs.Common.{◌≡◌, ℕ, ◌+◌, ◌<◌, ◌≤◌, ◌&&◌, ◌||◌, Bool, true, false, cond, List, [], ◌∷◌, ◌++◌, length, map, get_or, take, drop, ap, refl, subst, sym, ◌∙◌, inl, inr, arith, eqb, eq-eqb, eqb-true, lt-ltb, nat_lt, not, replicate, ◌/◌, ◌%◌, suc, count_by, sum_by}
+use Rattle.std.proofs.lemmas.Grind.{common_steps}
+use Rattle.std.proofs.Common.{◌≡◌, ℕ, ◌+◌, ◌<◌, ◌≤◌, ◌&&◌, ◌||◌, Bool, true, false, cond, List, [], ◌∷◌, ◌++◌, length, map, get_or, take, drop, ap, refl, subst, sym, ◌∙◌, inl, inr, arith, eqb, eq-eqb, eqb-true, lt-ltb, nat_lt, not, replicate, suc, count_by, sum_by, rules}
 use Rattle.std.specs.List.{IsDistinct, list_any, range_with_len}
 use Rattle.std.specs.List.Sorted.{IsStrictlyIncreasing}
 use Rattle.std.proofs.Math.Bool.{or-false}
@@ -27,10 +28,7 @@ use Rattle.certificate.specs.Chosen.{AreOnce, HasFitting, HasSeen, fits_any, fit
 
 -- no place is in
 pub has_bit-none : (words : List ℕ) (n place : ℕ) → words ≡ replicate n 0 → has_bit words place ≡ false
-has_bit-none words n place is = elim (cases_lt (place / 64) n) [
-  | inl low ↦ ap (λ ws. has_bit ws place) is ∙ rw (get_or-replicate {A = ℕ} n (place / 64) 0 0 low, bit_at-zero (place % 64)) refl
-  | inr past ↦ let long : length words ≡ n = ap length is ∙ length-replicate {A = ℕ} n 0 in has_bit-past words place (omega arith)
-]
+has_bit-none words n place is = search (rules, cases_lt, get_or-replicate, bit_at-zero, length-replicate, has_bit-past)
 
 -- one more place that is looked at
 pub count-more : (test : ℕ → Bool) (n : ℕ) → count_by test (range_with_len 0 (n + 1)) ≡ count_by test (range_with_len 0 n) + cond (test n) 1 0
@@ -72,16 +70,7 @@ IsAscending-drop n entries up = subst IsStrictlyIncreasing (drop-map rank n (ids
 -- two groups of one list with the same id stand at the same place
 pub place-same : (entries : List Entry) (id : SpanId) (p q : ℕ) (d e : Entry) → IsAscending (ids entries) → p < length entries → q < length entries
     → same_span (get_or entries p d).id id ≡ true → same_span (get_or entries q e).id id ≡ true → p ≡ q
-place-same entries id p q d e up p_in q_in same_p same_q =
-    let at_p : rank_at entries p ≡ rank id = rank_at-read entries p d p_in ∙ rank-same (get_or entries p d).id id same_p in
-    let at_q : rank_at entries q ≡ rank id = rank_at-read entries q e q_in ∙ rank-same (get_or entries q e).id id same_q in
-    elim (cases_eq p q) [
-      | inl same ↦ same
-      | inr other ↦ elim (cases_lt p q) [
-        | inl low ↦ absurd (omega (arith, rank_at-lt entries up p q low q_in))
-        | inr high ↦ absurd (omega (arith, rank_at-lt entries up q p (omega arith) p_in))
-      ]
-    ]
+place-same entries id p q d e up p_in q_in same_p same_q = search (rules, rank_at, rank_at-read, rank-same, cases_eq, cases_lt, rank_at-lt)
 
 -- ---- ids that were seen
 
@@ -91,17 +80,11 @@ any-more test before id = list_any-append test before (id ∷ []) ∙ ap (λ b. 
 
 -- an id that no group has
 pub has_id-none : (entries : List Entry) (id : SpanId) (q : ℕ) (d : Entry) → has_id entries id ≡ false → q < length entries → same_span (get_or entries q d).id id ≡ false
-has_id-none entries id q d none within = elim (cases_Bool (same_span (get_or entries q d).id id)) [
-  | inl same ↦ absurd (both_ways (has_id entries id) none (list_any_at (λ (x : Entry). same_span x.id id) entries q d within same))
-  | inr other ↦ other
-]
+has_id-none entries id q d none within = search (rules, cases_Bool, both_ways, list_any_at)
 
 module _ (entries : List Entry) (before : List SpanId) (id : SpanId) (old : List ℕ) (seen : HasSeen entries before old) where
   pub HasSeen-same : has_id entries id ≡ false → HasSeen entries (before ++ id ∷ []) old
-  HasSeen-same none q d within =
-      seen q d within ∙ sym (or-false (list_any (same_span (get_or entries q d).id) before))
-      ∙ ap (λ b. list_any (same_span (get_or entries q d).id) before || b) (sym (has_id-none entries id q d none within))
-      ∙ sym (any-more (same_span (get_or entries q d).id) before id)
+  HasSeen-same none q d within = search (rules, or-false, has_id-none, any-more)
 
   module _ (p : ℕ) (up : IsAscending (ids entries)) (p_in : p < length entries) (at : (d : Entry) → same_span (get_or entries p d).id id ≡ true) where
     pub HasSeen-more : (new : List ℕ) → ((q : ℕ) → has_bit new q ≡ (eqb q p || has_bit old q)) → HasSeen entries (before ++ id ∷ []) new
@@ -213,10 +196,7 @@ module _ (entries first rest : List Entry) (ids : List SpanId) (parts : entries 
   has_id-parts id = ap (λ xs. has_id xs id) parts ∙ list_any-append (λ (x : Entry). same_span x.id id) first rest
 
   pub AreOnce-parts : AreOnce first ids → AreOnce rest ids → AreOnce entries ids
-  AreOnce-parts left right i j d less within has = elim (or_cases (has_id first (get_or ids i d)) (has_id rest (get_or ids i d)) (sym (has_id-parts (get_or ids i d)) ∙ has)) [
-    | inl there ↦ left i j d less within there
-    | inr there ↦ right i j d less within there
-  ]
+  AreOnce-parts left right i j d less within has = search (rules, or_cases, has_id-parts)
 
   pub AreOnce-first : AreOnce entries ids → AreOnce first ids
   AreOnce-first once i j d less within has = once i j d less within (has_id-parts (get_or ids i d) ∙ or_left (has_id first (get_or ids i d)) _ has)
@@ -257,8 +237,7 @@ module _ (abandoned : List Entry) (before : List SpanId) (id : SpanId) (owned : 
 -- one more of the ids
 pub HasFitting-next : (abandoned : List Entry) (chosen : List SpanId) (owned : List Entry) (k : ℕ) (x : SpanId) (words : List ℕ) → k < length chosen → x ≡ get_or chosen k x
     → HasFitting abandoned (take k chosen ++ x ∷ []) owned words → HasFitting abandoned (take (k + 1) chosen) owned words
-HasFitting-next abandoned chosen owned k x words low is =
-    subst (λ xs. HasFitting abandoned xs owned words) (sym (ap (λ n. take n chosen) (add-one k) ∙ take-suc chosen k x low ∙ ap (λ y. take k chosen ++ y ∷ []) (sym is)))
+HasFitting-next abandoned chosen owned k x words low is = grind (arith, common_steps, take-suc)
 
 -- the first k groups were tested, and the bits of those that pass are in
 abbrev pub HasAdded : (Entry → Bool) → List Entry → ℕ → List ℕ → List ℕ → Type 0
@@ -270,29 +249,12 @@ module _ (test : Entry → Bool) (owned : List Entry) (old : List ℕ) where
 
   pub HasAdded-more : (k : ℕ) (mid new : List ℕ) (y : Entry) → HasAdded test owned k old mid → k < length owned → y ≡ get_or owned k y
       → ((q : ℕ) → has_bit new q ≡ (has_bit mid q || (eqb q k && test y))) → HasAdded test owned (k + 1) old new
-  HasAdded-more k mid new y added low is bits q d within = bits q ∙ ap (λ b. b || (eqb q k && test y)) (added q d within) ∙ elim (cases_eq q k) [
-    | inl same ↦
-        let read : get_or owned q d ≡ y = ap (λ n. get_or owned n d) same ∙ get_or_default owned k d y low ∙ sym is in
-        (λ t. (has_bit old q || (le-ltb q k (omega arith) t && test (get_or owned q d))) || (eq-eqb q k same t && test (sym read t)))
-        ∙ ap (λ b. b || test (get_or owned q d)) (or-false (has_bit old q))
-        ∙ ap (λ b. has_bit old q || (b && test (get_or owned q d))) (sym (lt-ltb q (k + 1) (omega arith)))
-    | inr other ↦
-        ap (λ b. (has_bit old q || (nat_lt q k && test (get_or owned q d))) || (b && test y)) (ne_eqb q k other)
-        ∙ or-false (has_bit old q || (nat_lt q k && test (get_or owned q d)))
-        ∙ ap (λ b. has_bit old q || (b && test (get_or owned q d))) (elim (cases_lt q k) [
-          | inl less ↦ lt-ltb q k less ∙ sym (lt-ltb q (k + 1) (omega arith))
-          | inr past ↦ le-ltb q k past ∙ sym (le-ltb q (k + 1) (omega arith))
-        ])
-  ]
+  HasAdded-more k mid new y added low is bits q d within = search (rules, cases_eq, get_or_default, le-ltb, eq-eqb, or-false, lt-ltb, nat_lt, ne_eqb, cases_lt)
 
   -- a group that does not pass adds no bit
   pub HasAdded-skip : (k : ℕ) (mid : List ℕ) (y : Entry) → HasAdded test owned k old mid → k < length owned → y ≡ get_or owned k y
       → test y ≡ false → HasAdded test owned (k + 1) old mid
-  HasAdded-skip k mid y added low is fails = HasAdded-more k mid mid y added low is (λ q. sym (ap (λ b. has_bit mid q || (eqb q k && b)) fails ∙ none (eqb q k) (has_bit mid q)))
-    where
-      none : (a b : Bool) → (b || (a && false)) ≡ b
-      none true b = or-false b
-      none false b = or-false b
+  HasAdded-skip k mid y added low is fails = search (rules, HasAdded-more, or-false)
 
   pub HasAdded-all : (k : ℕ) (new : List ℕ) → HasAdded test owned k old new → length owned ≤ k → (q : ℕ) (d : Entry) → q < length owned
       → has_bit new q ≡ (has_bit old q || test (get_or owned q d))

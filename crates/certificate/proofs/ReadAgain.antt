@@ -1,15 +1,17 @@
 -- What is written of an item is read again.
-use Rattle.std.proofs.Common.{ℕ, ◌+◌, ◌*◌, ◌/◌, ◌^◌, ◌<◌, ◌≤◌, ◌≡◌, ◌==◌, ◌||◌, not, true, List, [], ◌∷◌, ◌++◌, codes, length, get_or, Bool, false, Option, None, Some, Err, Ok, option_map, nat_eq, refl, sym, ◌∙◌, ap, arith, rules, zero, suc, inl, inr, nat_lt, nat_le, lt-ltb, eqb, eq-eqb}
+use Rattle.std.proofs.lemmas.Grind.{common_steps}
+use Rattle.std.proofs.Common.{ℕ, ◌+◌, ◌*◌, ◌/◌, ◌^◌, ◌<◌, ◌≤◌, ◌≡◌, true, List, [], ◌∷◌, ◌++◌, codes, length, get_or, Bool, Option, None, Some, Err, Ok, option_map, nat_eq, refl, sym, ◌∙◌, ap, arith, rules, zero, suc, inl, inr, nat_lt, nat_le, lt-ltb, eq-eqb}
 use Rattle.std.specs.Char.{is_ascii_digit}
 use Rattle.std.specs.Fmt.{decimal}
 use Rattle.std.specs.FinSet.{contains}
 use Rattle.std.specs.List.{filter, list_all, range_with_len}
 use Rattle.std.specs.Str.{bytes_eq}
+use Rattle.std.proofs.lemmas.Slice.Eq.{bytes_eq-Decides}
 use Rattle.std.proofs.lemmas.Bool.{and_from, and_parts, both_ways, cases_Bool, cases_eq, ltb-true, ne_eqb, le-leb, or_right}
 use Rattle.std.proofs.lemmas.Fmt.{decimal_digit, decimal_is_IsNumeral, first_decimal}
 use Rattle.std.proofs.lemmas.List.{append_assoc}
 use Rattle.std.proofs.lemmas.Str.Parse.{digit_at}
-use Rattle.bitmap.specs.HexText.{is_hex_digit, is_set_text, text_has}
+use Rattle.bitmap.specs.HexText.{is_hex_digit, text_has}
 use Rattle.bitmap.specs.Words.{IsBelow-slots_where}
 use Rattle.bitmap.specs.Slots.{IsBelow, SlotSet, members_below, set_text, slots_of_text}
 use Rattle.bitmap.proofs.HexText.{is_hex_digit-at, is_set_text-set_text, length-is_set_text}
@@ -22,9 +24,9 @@ use Rattle.span.proofs.Widths.{class_with-width, width_of-most}
 use Rattle.span.specs.declared.entry.Entry.{Entry}
 use Rattle.certificate.specs.declared.text.cause.Cause.TheVariants.{Limit}
 use Rattle.certificate.specs.declared.text.version.Version.{Version}
-use Rattle.certificate.specs.declared.text.version.Version.TheVariants.{One, Two, Three}
+use Rattle.certificate.specs.declared.text.version.Version.TheVariants.{One}
 use Rattle.certificate.specs.Grammar.{class_in, class_of_number, count_in, entry_in, entry_parts, id_in, id_parts, is_on_page, names_class, pair_in, pair_parts, slot_bytes, spans_in}
-use Rattle.certificate.specs.Number.{clip, is_numeral, number_in}
+use Rattle.certificate.specs.Number.{clip, number_in}
 use Rattle.certificate.specs.Text.{FitsClass, class_text}
 use Rattle.certificate.specs.Words.{parts_of}
 use Rattle.certificate.proofs.Split.{lacks, lacks-append, lacks-digits, lacks-high, parts-last, parts-word}
@@ -42,19 +44,7 @@ digit-test c low high = and_from (nat_le 48 c) (nat_le c 57) (le-leb 48 c low) (
 
 pub number_in-decimal : (n : ℕ) → n < 2 ^ 64 → number_in (decimal n) ≡ Some n
 number_in-decimal n fits =
-    let is = decimal_is_IsNumeral n fits in
-    let some : nat_lt 0 (length (decimal n)) ≡ true = lt-ltb 0 (length (decimal n)) is.0.0 in
-    let digits : list_all is_ascii_digit (decimal n) ≡ true = is_digits (decimal n) (λ i l. let d = digit_at (decimal n) i is.0.1 l in digit-test (get_or (decimal n) i 0) d.0 (omega (arith, d.1))) in
-    let front : (length (decimal n) == 1 || not (get_or (decimal n) 0 0 == 48)) ≡ true = elim (cases_eq n 0) [
-      | inl e ↦ rw (e, decimal_digit 0 (omega arith)) refl
-      | inr some' ↦
-          let high : 48 < get_or (decimal n) 0 0 = first_decimal n (omega arith) fits in
-          or_right (length (decimal n) == 1) (not (get_or (decimal n) 0 0 == 48)) (ap not (ne_eqb (get_or (decimal n) 0 0) 48 (λ e. absurd (omega arith))))
-    ] in
-    let numeral : is_numeral (decimal n)
-    ≡ true = and_from (nat_lt 0 (length (decimal n))) _ some
-    (and_from (length (decimal n) == 1 || not (get_or (decimal n) 0 0 == 48)) (list_all is_ascii_digit (decimal n)) front digits) in
-    rw numeral (ap Some is.1)
+    search (rules, decimal_is_IsNumeral, nat_lt, lt-ltb, is_digits, digit_at, digit-test, cases_eq, decimal_digit, first_decimal, or_right, ne_eqb, and_from)
 
 lacks-decimal : (c n : ℕ) → c < 48 → n < 2 ^ 64 → lacks c (decimal n) ≡ true
 lacks-decimal c n low fits = lacks-digits c (decimal n) low (decimal_is_IsNumeral n fits).0.1
@@ -72,18 +62,10 @@ abbrev pub HasSerial : Version → SpanId → Type 0
 HasSerial version id = id.serial < spans_in version
 
 pub id_in-text : (version : Version) (id : SpanId) → HasSerial version id → id_in version (id_text id) ≡ Ok (id_parts id)
-id_in-text version id within =
-    let parts : parts_of 46 (id_text id) ≡ decimal id.shard ∷ decimal id.serial ∷ [] =
-    ap (parts_of 46) (append_assoc (decimal id.shard) (codes ".") (decimal id.serial))
-    ∙ parts-word 46 (decimal id.shard) (decimal id.serial) (lacks-decimal 46 id.shard (omega arith) (shard-fits id))
-    ∙ ap (λ ps. decimal id.shard ∷ ps) (parts-last 46 (decimal id.serial) (lacks-decimal 46 id.serial (omega arith) (serial-fits id))) in
-    rw (parts, number_in-decimal id.shard (shard-fits id), number_in-decimal id.serial (serial-fits id), lt-ltb id.shard MOST_SHARDS id.shard_in_range, lt-ltb id.serial (spans_in version) within) refl
+id_in-text version id within = search (rules, append_assoc, parts-word, lacks-decimal, shard-fits, parts-last, serial-fits, number_in-decimal, lt-ltb)
 
 pub lacks-id_text : (c : ℕ) (id : SpanId) → c < 46 → lacks c (id_text id) ≡ true
-lacks-id_text c id low =
-    lacks-append c (decimal id.shard ++ codes ".") (decimal id.serial)
-    (lacks-append c (decimal id.shard) (codes ".") (lacks-decimal c id.shard (omega arith) (shard-fits id)) (and_from (not (eqb 46 c)) true (ap not (ne_eqb 46 c (λ e. absurd (omega arith)))) refl))
-    (lacks-decimal c id.serial (omega arith) (serial-fits id))
+lacks-id_text c id low = search (rules, lacks-append, lacks-decimal, shard-fits, and_from, ne_eqb, serial-fits)
 
 -- ---- lines
 
@@ -91,9 +73,7 @@ high-digit : (c : ℕ) → is_hex_digit c ≡ true → 48 ≤ c
 high-digit c h = search rules
 
 lacks-set_text : (c : ℕ) (slots : SlotSet) → c < 48 → lacks c (set_text slots) ≡ true
-lacks-set_text c slots low =
-    let is : is_set_text (set_text slots) ≡ true = is_set_text-set_text slots in
-    lacks-high c (set_text slots) low (λ i l. high-digit (get_or (set_text slots) i 0) (is_hex_digit-at (set_text slots) is i (omega (arith, l, length-is_set_text (set_text slots) is))))
+lacks-set_text c slots low = grind (arith, common_steps, is_set_text-set_text, lacks-high, high-digit, is_hex_digit-at, length-is_set_text)
 
 -- a class by the bytes of its slots
 pub class_with-slot_bytes : (class : Class) → class_with (slot_bytes class / 16) ≡ class
@@ -106,19 +86,13 @@ slot_bytes-most class = omega (arith, width_of-most class)
 pub class_of_number-none : (version : Version) (number : Option ℕ) (bytes : ℕ) → Some bytes ≡ option_map clip number
     → (slot_bytes (class_with (bytes / 16)) ≡ bytes → ⊥) → Err Limit ≡ class_of_number version number
 class_of_number-none version None bytes is none = cc
-class_of_number-none version (Some n) bytes is none =
-    let same : bytes ≡ clip n = cc is in
-    let other : nat_eq (slot_bytes (class_with (n / 16))) n ≡ false = ne_eqb (slot_bytes (class_with (n / 16))) n (λ e.
-    let kept : bytes ≡ n = omega (arith, same, e, slot_bytes-most (class_with (n / 16))) in
-    none (ap (λ m. slot_bytes (class_with (m / 16))) kept ∙ e ∙ sym kept)) in
-    rw other refl
+class_of_number-none version (Some n) bytes is none = search (rules, nat_eq, ne_eqb, slot_bytes-most)
 
 slot_bytes-fits : (class : Class) → slot_bytes class < 2 ^ 64
 slot_bytes-fits class = omega (arith, slot_bytes-most class)
 
 class_in-text : (version : Version) (class : Class) → names_class version class ≡ true → class_in version (class_text class) ≡ Ok class
-class_in-text version class named =
-    rw (number_in-decimal (slot_bytes class) (slot_bytes-fits class), class_with-slot_bytes class, eq-eqb (slot_bytes class) (slot_bytes class) refl, named) refl
+class_in-text version class named = search (rules, number_in-decimal, slot_bytes-fits, class_with-slot_bytes, eq-eqb)
 
 lacks-class_text : (c : ℕ) (class : Class) → c < 48 → lacks c (class_text class) ≡ true
 lacks-class_text c class low = lacks-decimal c (slot_bytes class) low (slot_bytes-fits class)
@@ -126,10 +100,7 @@ lacks-class_text c class low = lacks-decimal c (slot_bytes class) low (slot_byte
 -- what holds of the members of a filter
 all-filter : (p q : ℕ → Bool) (xs : List ℕ) → ((x : ℕ) → q x ≡ true → p x ≡ true) → list_all p (filter q xs) ≡ true
 all-filter p q [] h = refl
-all-filter p q (x ∷ xs) h = elim (cases_Bool (q x)) [
-  | inl e ↦ rw e (and_from (p x) (list_all p (filter q xs)) (h x e) (all-filter p q xs h))
-  | inr e ↦ rw e (all-filter p q xs h)
-]
+all-filter p q (x ∷ xs) h = search (rules, cases_Bool, and_from, (all-filter p q xs h), (all-filter p q xs h))
 
 is_on_page-below : (class : Class) (slots : SlotSet) → IsBelow slots (slots_in class) → is_on_page class slots ≡ true
 unfolding members_below
@@ -164,16 +135,12 @@ abbrev pub entry_body : Entry → List ℕ
 entry_body x = id_text x.id ++ (codes " " ++ (class_text x.class ++ (codes " " ++ set_text x.occupied)))
 
 parts_of-entry_body : (x : Entry) → parts_of 32 (entry_body x) ≡ id_text x.id ∷ class_text x.class ∷ set_text x.occupied ∷ []
-parts_of-entry_body x =
-    parts-word 32 (id_text x.id) (class_text x.class ++ (codes " " ++ set_text x.occupied)) (lacks-id_text 32 x.id (omega arith))
-    ∙ ap (λ ps. id_text x.id ∷ ps) (parts-word 32 (class_text x.class) (set_text x.occupied) (lacks-class_text 32 x.class (omega arith)))
-    ∙ ap (λ ps. id_text x.id ∷ class_text x.class ∷ ps) (parts-last 32 (set_text x.occupied) (lacks-set_text 32 x.occupied (omega arith)))
+parts_of-entry_body x = search (rules, parts-word, lacks-id_text, lacks-class_text, parts-last, lacks-set_text)
 
 -- the lines of groups in the version have a class
 abbrev pub HasClasses : Version → Type 0
 HasClasses One = ⊥
-HasClasses Two = Unit {0}
-HasClasses Three = Unit {0}
+HasClasses other = Unit {0}
 
 -- the version names the serial and the class of the group
 abbrev pub HasNames : Version → Entry → Type 0
@@ -182,36 +149,25 @@ HasNames version x = HasSerial version x.id × (names_class version x.class ≡ 
 pub entry_in-body : (version : Version) → HasClasses version → (x : Entry) → HasNames version x → slots_of_text (set_text x.occupied) ≡ x.occupied
     → FitsClass x → entry_in version (entry_body x) ≡ Ok (entry_parts x)
 entry_in-body One classes x named back fits = absurd classes
-entry_in-body Two classes x named back fits =
-    rw (parts_of-entry_body x, id_in-text Two x.id named.0, class_in-text Two x.class named.1, is_set_text-set_text x.occupied, back, is_on_page-below x.class x.occupied fits) refl
-entry_in-body Three classes x named back fits =
-    rw (parts_of-entry_body x, id_in-text Three x.id named.0, class_in-text Three x.class named.1, is_set_text-set_text x.occupied, back, is_on_page-below x.class x.occupied fits) refl
+entry_in-body version classes x named back fits =
+    rw (parts_of-entry_body x, id_in-text version x.id named.0, class_in-text version x.class named.1, is_set_text-set_text x.occupied, back, is_on_page-below x.class x.occupied fits) refl
 
 pub lacks-entry_body : (x : Entry) → lacks 10 (entry_body x) ≡ true
-lacks-entry_body x =
-    lacks-append 10 (id_text x.id) (codes " " ++ (class_text x.class ++ (codes " " ++ set_text x.occupied))) (lacks-id_text 10 x.id (omega arith))
-    (lacks-append 10 (codes " ") (class_text x.class ++ (codes " " ++ set_text x.occupied)) refl
-    (lacks-append 10 (class_text x.class) (codes " " ++ set_text x.occupied) (lacks-class_text 10 x.class (omega arith))
-    (lacks-append 10 (codes " ") (set_text x.occupied) refl (lacks-set_text 10 x.occupied (omega arith)))))
+lacks-entry_body x = search (rules, lacks-append, lacks-id_text, lacks-class_text, lacks-set_text)
 
 -- a group's line in version 1
 abbrev pub classless_body : Entry → List ℕ
 classless_body x = id_text x.id ++ (codes " " ++ set_text x.occupied)
 
 pub lacks-classless_body : (x : Entry) → lacks 10 (classless_body x) ≡ true
-lacks-classless_body x = lacks-append 10 (id_text x.id) (codes " " ++ set_text x.occupied) (lacks-id_text 10 x.id (omega arith))
-    (lacks-append 10 (codes " ") (set_text x.occupied) refl (lacks-set_text 10 x.occupied (omega arith)))
+lacks-classless_body x = search (rules, lacks-append, lacks-id_text, lacks-set_text)
 
 -- a fold's line
 abbrev pub pair_body : SpanId × SpanId → List ℕ
 pair_body p = id_text p.0 ++ (codes " " ++ id_text p.1)
 
 pub pair_in-body : (version : Version) (p : SpanId × SpanId) → HasSerial version p.0 × HasSerial version p.1 → pair_in version (pair_body p) ≡ Ok (pair_parts p)
-pair_in-body version p within =
-    let parts : parts_of 32 (pair_body p) ≡ id_text p.0 ∷ id_text p.1 ∷ [] =
-    parts-word 32 (id_text p.0) (id_text p.1) (lacks-id_text 32 p.0 (omega arith))
-    ∙ ap (λ ps. id_text p.0 ∷ ps) (parts-last 32 (id_text p.1) (lacks-id_text 32 p.1 (omega arith))) in
-    rw (parts, id_in-text version p.0 within.0, id_in-text version p.1 within.1) refl
+pair_in-body version p within = search (rules, parts-word, lacks-id_text, parts-last, id_in-text)
 
 pub lacks-pair_body : (p : SpanId × SpanId) → lacks 10 (pair_body p) ≡ true
 lacks-pair_body p = lacks-append 10 (id_text p.0) (codes " " ++ id_text p.1) (lacks-id_text 10 p.0 (omega arith)) (lacks-append 10 (codes " ") (id_text p.1) refl (lacks-id_text 10 p.1 (omega arith)))
@@ -221,15 +177,10 @@ abbrev pub title_body : List ℕ → ℕ → List ℕ
 title_body title n = title ++ (codes " " ++ decimal n)
 
 bytes_eq-same : (xs : List ℕ) → bytes_eq xs xs ≡ true
-bytes_eq-same [] = refl
-bytes_eq-same (x ∷ xs) = and_from (eqb x x) (bytes_eq xs xs) (eq-eqb x x refl) (bytes_eq-same xs)
+bytes_eq-same xs = (bytes_eq-Decides xs xs).1 refl
 
 pub count_in-body : (title : List ℕ) (n : ℕ) → lacks 32 title ≡ true → n ≤ MOST_GROUPS → count_in title (title_body title n) ≡ Ok n
-count_in-body title n plain few =
-    let fits : n < 2 ^ 64 = omega arith in
-    let parts : parts_of 32 (title_body title n) ≡ title ∷ decimal n ∷ [] =
-    parts-word 32 title (decimal n) plain ∙ ap (λ ps. title ∷ ps) (parts-last 32 (decimal n) (lacks-decimal 32 n (omega arith) fits)) in
-    rw (parts, bytes_eq-same title, number_in-decimal n fits, le-leb n MOST_GROUPS few) refl
+count_in-body title n plain few = search (rules, parts-word, parts-last, lacks-decimal, bytes_eq-same, number_in-decimal, le-leb)
 
 pub lacks-title_body : (title : List ℕ) (n : ℕ) → lacks 10 title ≡ true → n ≤ MOST_GROUPS → lacks 10 (title_body title n) ≡ true
 lacks-title_body title n plain few = lacks-append 10 title (codes " " ++ decimal n) plain (lacks-append 10 (codes " ") (decimal n) refl (lacks-decimal 10 n (omega arith) (omega arith)))

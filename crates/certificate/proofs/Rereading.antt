@@ -1,5 +1,5 @@
 -- The lines of a written certificate, read at their places.
-use Rattle.std.proofs.Common.{ℕ, ◌+◌, ◌<◌, ◌≤◌, ◌≡◌, true, List, [], ◌∷◌, ◌++◌, codes, length, map, get_or, Option, Some, None, option_map, Result, Ok, refl, subst, sym, ◌∙◌, ap, arith, suc, lt-ltb, eq-eqb}
+use Rattle.std.proofs.Common.{ℕ, ◌+◌, ◌<◌, ◌≤◌, ◌≡◌, true, List, [], ◌∷◌, ◌++◌, codes, length, map, get_or, Option, Some, None, option_map, Result, Ok, refl, subst, sym, ◌∙◌, ap, arith, suc, lt-ltb, eq-eqb, rules}
 use Rattle.std.specs.Fmt.{decimal}
 use Rattle.std.specs.List.{AllByRecursion}
 use Rattle.std.proofs.lemmas.List.{append_assoc, length-append, length-map, map-id}
@@ -13,9 +13,9 @@ use Rattle.mesh_graph.specs.Groups.{IsAscending, ids}
 use Rattle.certificate.specs.declared.certificate.Certificate.{Certificate}
 use Rattle.certificate.specs.declared.text.cause.Cause.{Cause}
 use Rattle.certificate.specs.declared.text.version.Version.{Version}
-use Rattle.certificate.specs.declared.text.version.Version.TheVariants.{One, Two, Three}
+use Rattle.certificate.specs.declared.text.version.Version.TheVariants.{One}
 use Rattle.certificate.specs.Grammar.{◌>>=◌, ComesAfter, Id, at_line, body_in, certificate_in, count_in, end_in, entry_in, entry_parts, id_in, id_parts, is_wanted, item_in, items_in, last_in, line_in, list_in, opening_of, order_of, outline_of, pair_in, pair_parts, version_in, version_of}
-use Rattle.certificate.specs.Text.{FitsClass, IsReadable, IsWritable, certificate_text, class_text, classless_line, classless_text, entry_line, id_line, lines_text, list_text, pair_line, text_with}
+use Rattle.certificate.specs.Text.{FitsClass, IsReadable, IsWritable, certificate_text, classless_line, classless_text, entry_line, id_line, lines_text, list_text, pair_line, text_with}
 use Rattle.certificate.specs.Words.{parts_of}
 use Rattle.certificate.proofs.Items.{body_in-lists}
 use Rattle.certificate.proofs.ReadAgain.{HasClasses, HasNames, HasSerial, classless_body, count_in-body, entry_body, entry_in-body, id_in-text, lacks-classless_body, lacks-entry_body, lacks-id_text, lacks-pair_body, lacks-title_body, pair_body, pair_in-body, title_body}
@@ -27,10 +27,7 @@ use Rattle.mesh_graph.specs.declared.build.TheConstants.{MOST_GROUPS}
 parts_of-lines : {X : Type 0} (line body : X → List ℕ) → ((x : X) → line x ≡ body x ++ 10 ∷ []) → ((x : X) → lacks 10 (body x) ≡ true)
     → (xs : List X) (rest : List ℕ) → parts_of 10 (lines_text line xs ++ rest) ≡ map body xs ++ parts_of 10 rest
 parts_of-lines line body is plain [] rest = refl
-parts_of-lines line body is plain (x ∷ xs) rest =
-    ap (parts_of 10) (append_assoc (line x) (lines_text line xs) rest ∙ ap (λ t. t ++ (lines_text line xs ++ rest)) (is x) ∙ append_assoc (body x) (10 ∷ []) (lines_text line xs ++ rest))
-    ∙ parts-word 10 (body x) (lines_text line xs ++ rest) (plain x)
-    ∙ ap (λ ps. body x ∷ ps) (parts_of-lines line body is plain xs rest)
+parts_of-lines line body is plain (x ∷ xs) rest = search (rules, append_assoc, parts-word, (parts_of-lines line body is plain xs rest))
 
 parts_of-list : {X : Type 0} (title : List ℕ) (line body : X → List ℕ) → lacks 10 title ≡ true → ((x : X) → line x ≡ body x ++ 10 ∷ [])
     → ((x : X) → lacks 10 (body x) ≡ true) → (xs : List X) (rest : List ℕ) → length xs ≤ MOST_GROUPS
@@ -43,10 +40,7 @@ parts_of-list title line body head is plain xs rest few =
     ∙ ap (λ ps. title_body title (length xs) ∷ ps) (parts_of-lines line body is plain xs rest)
 
 entry_line-body : (x : Entry) → entry_line x ≡ entry_body x ++ 10 ∷ []
-entry_line-body x =
-    let rest : List ℕ = class_text x.class ++ (codes " " ++ set_text x.occupied) in
-    ap (λ t. id_text x.id ++ 32 ∷ t) (sym (append_assoc (class_text x.class) (32 ∷ set_text x.occupied) (10 ∷ [])))
-    ∙ sym (append_assoc (id_text x.id) (32 ∷ rest) (10 ∷ []))
+entry_line-body x = search (rules, append_assoc)
 
 classless_line-body : (x : Entry) → classless_line x ≡ classless_body x ++ 10 ∷ []
 classless_line-body x = sym (append_assoc (id_text x.id) (32 ∷ set_text x.occupied) (10 ∷ []))
@@ -76,8 +70,7 @@ all_lines version c = lines_with version entry_body c
 
 lacks-opening_of : (version : Version) → lacks 10 (opening_of version) ≡ true
 lacks-opening_of One = refl
-lacks-opening_of Two = refl
-lacks-opening_of Three = refl
+lacks-opening_of version = refl
 
 parts_of-text_with : (version : Version) (line body : Entry → List ℕ) → ((x : Entry) → line x ≡ body x ++ 10 ∷ [])
     → ((x : Entry) → lacks 10 (body x) ≡ true) → (c : Certificate) → IsWritable c
@@ -117,9 +110,7 @@ at-front (y ∷ front) x rest d = at-front front x rest d
 
 line_in-at : {X : Type 0} (parse : List ℕ → Result X Cause) (front : List (List ℕ)) (line : List ℕ) (rest : List (List ℕ)) → 0 < length rest
     → line_in parse (front ++ line ∷ rest) (length front) ≡ parse line
-line_in-at parse front line rest some =
-    let all : length (front ++ line ∷ rest) ≡ length front + length (line ∷ rest) = length-append front (line ∷ rest) in
-    rw (lt-ltb (length front + 1) (length (front ++ line ∷ rest)) (omega arith), at-front front line rest []) refl
+line_in-at parse front line rest some = search (rules, length-append, lt-ltb, at-front)
 
 -- each comes after the one before it
 abbrev Chain : {Y : Type 0} → (Y → SpanId) → Option SpanId → List Y → Type 0

@@ -1,5 +1,5 @@
 -- The serials and classes that a version names: of what is read in it, and of what is written in it.
-use Rattle.std.proofs.Common.{ℕ, ◌<◌, ◌≡◌, ◌||◌, cond, not, nat_eq, arith, Bool, true, false, List, [], ◌∷◌, map, Ok, refl, sym, ◌∙◌, ap, subst, inl, inr}
+use Rattle.std.proofs.Common.{ℕ, ◌<◌, ◌≡◌, ◌||◌, not, nat_eq, arith, Bool, true, false, List, [], ◌∷◌, map, Ok, refl, sym, ◌∙◌, ap, subst, rules}
 use Rattle.std.specs.List.{AllByRecursion, list_any}
 use Rattle.std.proofs.lemmas.Bool.{cases_Bool, leb-false, lt-leb, not-false, or_left}
 use Rattle.span.specs.Classes.{width_of}
@@ -11,7 +11,7 @@ use Rattle.certificate.specs.declared.certificate.Certificate.{Certificate}
 use Rattle.certificate.specs.declared.text.version.Version.{Version}
 use Rattle.certificate.specs.declared.text.version.Version.TheVariants.{One, Two, Three}
 use Rattle.certificate.specs.declared.text.version.TheConstants.{TEXT_SPANS}
-use Rattle.certificate.specs.Grammar.{Id, Listed, Outline, body_in, class_in, entry_in, entry_of_words, entry_parts, id_in, id_of_parts, id_parts, is_beyond_two, is_large, names_class, needs_three, outline_of, pair_in, pair_of_words, pair_parts, spans_in, version_of}
+use Rattle.certificate.specs.Grammar.{Id, Listed, Outline, body_in, class_in, entry_in, entry_of_words, entry_parts, id_in, id_of_parts, id_parts, is_beyond_version_two, is_large, names_class, needs_version_three, outline_of, pair_in, pair_of_words, spans_in, version_of}
 use Rattle.certificate.specs.Number.{number_in}
 use Rattle.certificate.specs.Words.{parts_of}
 use Rattle.certificate.proofs.ReadAgain.{HasNames, HasSerial}
@@ -28,10 +28,8 @@ abbrev HaveNumbers : Version → Id × Id → Type 0
 HaveNumbers version p = HasNumber version p.0 × HasNumber version p.1
 
 id_of_parts-serial : (version : Version) (parts : List (List ℕ)) (i : Id) → id_of_parts version parts ≡ Ok i → HasNumber version i
-id_of_parts-serial version [] i h = cc
-id_of_parts-serial version (shard ∷ []) i h = cc
 id_of_parts-serial version (shard ∷ serial ∷ []) i h = (id_of_numbers-ok version (number_in shard) (number_in serial) i h).3
-id_of_parts-serial version (shard ∷ serial ∷ more ∷ rest) i h = cc
+id_of_parts-serial version parts i h = cc
 
 id_in-serial : (version : Version) (word : List ℕ) (i : Id) → id_in version word ≡ Ok i → HasNumber version i
 id_in-serial version word i h = id_of_parts-serial version (parts_of 46 word) i h
@@ -41,38 +39,24 @@ abbrev HasListed : Version → Listed → Type 0
 HasListed version x = HasNumber version x.id × (names_class version x.class ≡ true)
 
 entry_of_words-named : (version : Version) (words : List (List ℕ)) (x : Listed) → entry_of_words version words ≡ Ok x → HasListed version x
-entry_of_words-named One [] x h = cc
-entry_of_words-named One (id ∷ []) x h = cc
 entry_of_words-named One (id ∷ set ∷ []) x h =
     let p = entry_of-ok (id_in One id) (Ok C16) set x h in
     let same : C16 ≡ x.class = cc p.1 in
     (id_in-serial One id x.id p.0, ap (names_class One) (sym same))
-entry_of_words-named One (id ∷ set ∷ more ∷ rest) x h = cc
-entry_of_words-named Two [] x h = cc
-entry_of_words-named Two (id ∷ []) x h = cc
-entry_of_words-named Two (id ∷ class ∷ []) x h = cc
-entry_of_words-named Two (id ∷ class ∷ set ∷ []) x h =
-    let p = entry_of-ok (id_in Two id) (class_in Two class) set x h in
-    (id_in-serial Two id x.id p.0, class_in-named Two class x.class p.1)
-entry_of_words-named Two (id ∷ class ∷ set ∷ more ∷ rest) x h = cc
-entry_of_words-named Three [] x h = cc
-entry_of_words-named Three (id ∷ []) x h = cc
-entry_of_words-named Three (id ∷ class ∷ []) x h = cc
-entry_of_words-named Three (id ∷ class ∷ set ∷ []) x h =
-    let p = entry_of-ok (id_in Three id) (class_in Three class) set x h in
-    (id_in-serial Three id x.id p.0, class_in-named Three class x.class p.1)
-entry_of_words-named Three (id ∷ class ∷ set ∷ more ∷ rest) x h = cc
+entry_of_words-named One (id ∷ class ∷ set ∷ []) x h = cc
+entry_of_words-named version (id ∷ class ∷ set ∷ []) x h =
+    let p = entry_of-ok (id_in version id) (class_in version class) set x h in
+    (id_in-serial version id x.id p.0, class_in-named version class x.class p.1)
+entry_of_words-named version words x h = cc
 
 entry_in-named : (version : Version) (line : List ℕ) (x : Listed) → entry_in version line ≡ Ok x → HasListed version x
 entry_in-named version line x h = entry_of_words-named version (parts_of 32 line) x h
 
 pair_of_words-serial : (version : Version) (words : List (List ℕ)) (p : Id × Id) → pair_of_words version words ≡ Ok p → HaveNumbers version p
-pair_of_words-serial version [] p h = cc
-pair_of_words-serial version (a ∷ []) p h = cc
 pair_of_words-serial version (a ∷ b ∷ []) p h =
     let q = both-ok (id_in version a) (id_in version b) p h in
     (id_in-serial version a p.0 q.0, id_in-serial version b p.1 q.1)
-pair_of_words-serial version (a ∷ b ∷ more ∷ rest) p h = cc
+pair_of_words-serial version words p h = cc
 
 pair_in-serial : (version : Version) (line : List ℕ) (p : Id × Id) → pair_in version line ≡ Ok p → HaveNumbers version p
 pair_in-serial version line p h = pair_of_words-serial version (parts_of 32 line) p h
@@ -91,12 +75,12 @@ small-class One class small named = or_left (nat_eq (width_of class) 1) (nat_eq 
 small-class Two class small named = named
 small-class Three class small named = absurd (omega (arith, small))
 
-small-listed : (version : Version) (x : Listed) → spans_in version ≡ TEXT_SPANS → HasListed version x → is_beyond_two x ≡ false
+small-listed : (version : Version) (x : Listed) → spans_in version ≡ TEXT_SPANS → HasListed version x → is_beyond_version_two x ≡ false
 small-listed version x small named = ap (λ b. b || not (names_class Two x.class)) (small-number version x.id small named.0) ∙ ap not (small-class version x.class small named.1)
 
 -- what it says, version 2 can say
-pub needs_three-read : (version : Version) (parts : List (List ℕ)) (o : Outline) → body_in version parts ≡ Ok o → spans_in version ≡ TEXT_SPANS → needs_three o ≡ false
-needs_three-read version parts o h small =
+pub needs_version_three-read : (version : Version) (parts : List (List ℕ)) (o : Outline) → body_in version parts ≡ Ok o → spans_in version ≡ TEXT_SPANS → needs_version_three o ≡ false
+needs_version_three-read version parts o h small =
     let a = >>=-ok _ _ o h in
     let w = >>=-ok _ _ o a.2 in
     let f = >>=-ok _ _ o w.2 in
@@ -107,13 +91,13 @@ needs_three-read version parts o h small =
     let owned = list_in-have (entry_in version) (λ x. x.id) (HasListed version) (entry_in-named version) parts _ _ w.0 w.1 in
     let folds = list_in-have (pair_in version) (λ p. p.0) (HaveNumbers version) (pair_in-serial version) parts _ _ f.0 f.1 in
     let short = list_in-have (id_in version) (λ id. id) (HasNumber version) (id_in-serial version) parts _ _ s.0 s.1 in
-    let no_abandoned : list_any is_beyond_two a.0 ≡ false = list_any-none (HasListed version) is_beyond_two (λ x n. small-listed version x small n) a.0 abandoned in
-    let no_owned : list_any is_beyond_two w.0 ≡ false = list_any-none (HasListed version) is_beyond_two (λ x n. small-listed version x small n) w.0 owned in
+    let no_abandoned : list_any is_beyond_version_two a.0 ≡ false = list_any-none (HasListed version) is_beyond_version_two (λ x n. small-listed version x small n) a.0 abandoned in
+    let no_owned : list_any is_beyond_version_two w.0 ≡ false = list_any-none (HasListed version) is_beyond_version_two (λ x n. small-listed version x small n) w.0 owned in
     let no_folds : list_any (λ (p : Id × Id). is_large p.0 || is_large p.1) f.0
     ≡ false = list_any-none (HaveNumbers version) (λ p. is_large p.0 || is_large p.1)
     (λ p n. ap (λ b. b || is_large p.1) (small-number version p.0 small n.0) ∙ small-number version p.1 small n.1) f.0 folds in
     let no_short : list_any is_large s.0 ≡ false = list_any-none (HasNumber version) is_large (λ i n. small-number version i small n) s.0 short in
-    ap needs_three (sym same) ∙ rw (no_abandoned, no_owned, no_folds, no_short) refl
+    ap needs_version_three (sym same) ∙ rw (no_abandoned, no_owned, no_folds, no_short) refl
 
 -- ---- what is written
 
@@ -136,42 +120,15 @@ each-one P has (y ∷ ys) = (has y, each-one P has ys)
 small-serial : (id : SpanId) → is_large (id_parts id) ≡ false → HasSerial Two id
 small-serial id none = leb-false TEXT_SPANS id.serial none
 
-small-names : (x : Entry) → is_beyond_two (entry_parts x) ≡ false → HasNames Two x
-small-names x none =
-    let both = or-none (is_large (id_parts x.id)) (not (names_class Two x.class)) none in
-    (small-serial x.id both.0, not-false (names_class Two x.class) both.1)
+small-names : (x : Entry) → is_beyond_version_two (entry_parts x) ≡ false → HasNames Two x
+small-names x none = search (rules, or-none, small-serial, not-false)
 
-IsNamed-small : (c : Certificate) → needs_three (outline_of c) ≡ false → IsNamed Two c
-IsNamed-small c none =
-    let o = outline_of c in
-    let a = or-none (list_any is_beyond_two o.abandoned) (list_any is_beyond_two o.owned || (list_any (λ p. is_large p.0 || is_large p.1) o.folds || list_any is_large o.short)) none in
-    let w = or-none (list_any is_beyond_two o.owned) (list_any (λ p. is_large p.0 || is_large p.1) o.folds || list_any is_large o.short) a.1 in
-    let f = or-none (list_any (λ p. is_large p.0 || is_large p.1) o.folds) (list_any is_large o.short) w.1 in
-    record {
-      classes = tt;
-      abandoned = none-passes entry_parts is_beyond_two (HasNames Two) small-names c.snapshot.abandoned a.0;
-      owned = none-passes entry_parts is_beyond_two (HasNames Two) small-names c.snapshot.owned w.0;
-      folds = none-passes pair_parts (λ p. is_large p.0 || is_large p.1) (λ p. HasSerial Two p.0 × HasSerial Two p.1)
-          (λ p low. let both = or-none (is_large (id_parts p.0)) (is_large (id_parts p.1)) low in (small-serial p.0 both.0, small-serial p.1 both.1)) c.plan f.0;
-      short = none-passes id_parts is_large (HasSerial Two) small-serial c.short f.1;
-      wanted = refl;
-      opening = refl;
-    }
+IsNamed-small : (c : Certificate) → needs_version_three (outline_of c) ≡ false → IsNamed Two c
+IsNamed-small c none = search (rules, or-none, none-passes, HasNames, small-names, HasSerial, small-serial)
 
-IsNamed-large : (c : Certificate) → needs_three (outline_of c) ≡ true → IsNamed Three c
-IsNamed-large c some = record {
-  classes = tt;
-  abandoned = each-one (HasNames Three) (λ x. (x.id.serial_in_range, refl)) c.snapshot.abandoned;
-  owned = each-one (HasNames Three) (λ x. (x.id.serial_in_range, refl)) c.snapshot.owned;
-  folds = each-one (λ p. HasSerial Three p.0 × HasSerial Three p.1) (λ p. (p.0.serial_in_range, p.1.serial_in_range)) c.plan;
-  short = each-one (HasSerial Three) (λ id. id.serial_in_range) c.short;
-  wanted = some;
-  opening = refl;
-}
+IsNamed-large : (c : Certificate) → needs_version_three (outline_of c) ≡ true → IsNamed Three c
+IsNamed-large c some = search (rules, each-one, HasNames, HasSerial)
 
 -- the version that is written names each serial and each class
 pub IsNamed-version_of : (c : Certificate) → IsNamed (version_of (outline_of c)) c
-IsNamed-version_of c = elim (cases_Bool (needs_three (outline_of c))) [
-  | inl some ↦ subst (λ v. IsNamed v c) (sym (ap (λ b. cond b Three Two) some)) (IsNamed-large c some)
-  | inr none ↦ subst (λ v. IsNamed v c) (sym (ap (λ b. cond b Three Two) none)) (IsNamed-small c none)
-]
+IsNamed-version_of c = search (rules, cases_Bool, IsNamed, IsNamed-large, IsNamed-small)

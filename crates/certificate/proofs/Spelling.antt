@@ -1,5 +1,6 @@
 -- A text that the grammar accepts is spelled in one way: as the certificate that it says is written.
-use Rattle.std.proofs.Common.{ℕ, ◌+◌, ◌/◌, ◌^◌, ◌<◌, ◌≤◌, ◌≡◌, ◌==◌, ◌&&◌, ◌||◌, cond, not, Bool, true, false, List, [], ◌∷◌, ◌++◌, codes, length, map, get_or, drop, Option, Some, None, Result, Ok, Err, refl, sym, subst, ◌∙◌, ap, arith, zero, suc, inl, inr, nat_lt, nat_le, nat_eq, eqb-true}
+use Rattle.std.proofs.lemmas.Grind.{common_steps}
+use Rattle.std.proofs.Common.{ℕ, ◌+◌, ◌/◌, ◌^◌, ◌<◌, ◌≤◌, ◌≡◌, ◌==◌, ◌&&◌, ◌||◌, cond, not, Bool, true, false, List, [], ◌∷◌, ◌++◌, codes, length, map, get_or, drop, Option, Some, None, Result, Ok, Err, refl, sym, subst, ◌∙◌, ap, arith, zero, suc, inl, inr, nat_lt, nat_le, nat_eq, eqb-true, rules}
 use Rattle.std.specs.Char.{is_ascii_digit}
 use Rattle.std.specs.Fmt.{decimal}
 use Rattle.std.specs.List.{AllByRecursion, join_with_byte, list_all}
@@ -11,19 +12,17 @@ use Rattle.std.proofs.lemmas.List.{append_assoc, drop_more, length-drop, nil_fro
 use Rattle.std.proofs.lemmas.List.Splits.{join_with_byte-slice_split}
 use Rattle.std.proofs.lemmas.Slice.Eq.{bytes_eq-Decides}
 use Rattle.std.proofs.lemmas.Str.Parse.{IsNumeralModel}
-use Rattle.bitmap.specs.HexText.{is_set_text}
-use Rattle.bitmap.specs.Slots.{SlotSet, set_text, slots_of_text}
+use Rattle.bitmap.specs.Slots.{SlotSet, set_text}
 use Rattle.bitmap.proofs.HexText.{set_text-slots_of_text}
 use Rattle.span.specs.Classes.{class_with}
 use Rattle.span.specs.declared.class.Class.{Class}
 use Rattle.span.specs.declared.class.Class.TheVariants.{C16}
 use Rattle.span.specs.declared.limits.TheConstants.{MOST_SHARDS, MOST_SPANS}
 use Rattle.certificate.specs.declared.text.cause.Cause.{Cause}
-use Rattle.certificate.specs.declared.text.cause.Cause.TheVariants as cause
-use Rattle.certificate.specs.declared.text.cause.Cause.TheVariants.{Cut, Form, Limit, Set, Tail}
+use Rattle.certificate.specs.declared.text.cause.Cause.TheVariants.{Form, Limit}
 use Rattle.certificate.specs.declared.text.version.Version.{Version}
-use Rattle.certificate.specs.declared.text.version.Version.TheVariants.{One, Two, Three}
-use Rattle.certificate.specs.Grammar.{◌>>=◌, Id, Listed, Outline, at_line, body_in, both, class_in, class_of_number, closing_in, count_in, count_of_number, count_of_words, end_in, ending_in, entry_in, entry_of, entry_of_words, fixed_in, id_in, id_of_numbers, id_of_parts, is_on_page, is_wanted, item_in, items_in, last_in, line_in, list_in, names_class, order_of, pair_in, pair_of_words, set_in, slot_bytes, spans_in}
+use Rattle.certificate.specs.declared.text.version.Version.TheVariants.{One}
+use Rattle.certificate.specs.Grammar.{◌>>=◌, Id, Listed, Outline, at_line, body_in, both, class_in, class_of_number, count_in, count_of_number, count_of_words, end_in, ending_in, entry_in, entry_of, id_in, id_of_numbers, id_of_parts, is_wanted, item_in, items_in, last_in, line_in, list_in, names_class, pair_in, pair_of_words, set_in, slot_bytes, spans_in}
 use Rattle.certificate.specs.Number.{is_numeral, number_in}
 use Rattle.certificate.specs.Text.{class_text}
 use Rattle.certificate.specs.Words.{parts_of}
@@ -52,10 +51,7 @@ if-ok false x y e h = cc
 -- ---- words
 
 number_in-some : (word : List ℕ) (n : ℕ) → number_in word ≡ Some n → (is_numeral word ≡ true) × (digits_value 10 word ≡ n)
-number_in-some word n h = elim (is_numeral word) as (λ b. cond b (Some (digits_value 10 word)) None ≡ Some n → (b ≡ true) × (digits_value 10 word ≡ n)) [
-  | true ↦ λ e. (refl, cc)
-  | false ↦ λ e. cc
-] h
+number_in-some word n h = search (rules)
 
 own_digits : IsNumeralModel (AllDigits 10) (digits_value 10)
 own_digits = record { to = λ ds h. h; from = λ ds h. h; same = λ ds h. refl }
@@ -79,33 +75,17 @@ id_word i = decimal i.0 ++ codes "." ++ decimal i.1
 
 pub id_of_numbers-ok : (version : Version) (a b : Option ℕ) (i : Id) → id_of_numbers version a b ≡ Ok i
     → (a ≡ Some i.0) × (b ≡ Some i.1) × (i.0 < MOST_SHARDS) × (i.1 < spans_in version)
-id_of_numbers-ok version (Some a) (Some b) i h =
-    let p = if-ok (nat_lt a MOST_SHARDS && nat_lt b (spans_in version)) (a, b) i Limit h in
-    let both = and_parts (nat_lt a MOST_SHARDS) (nat_lt b (spans_in version)) p.0 in
-    let shard : a ≡ i.0 = ap (λ (x : Id). x.0) p.1 in
-    let serial : b ≡ i.1 = ap (λ (x : Id). x.1) p.1 in
-    let low : a < MOST_SHARDS = ltb-true a MOST_SHARDS both.0 in
-    let few : b < spans_in version = ltb-true b (spans_in version) both.1 in
-    (ap Some shard, ap Some serial, omega arith, subst (λ n. n < spans_in version) serial few)
-id_of_numbers-ok version (Some a) None i h = cc
-id_of_numbers-ok version None b i h = cc
+id_of_numbers-ok version (Some a) (Some b) i h = search (rules, if-ok, nat_lt, and_parts, ltb-true)
+id_of_numbers-ok version a b i h = cc
 
 -- no version names a serial that no span has
 pub spans_in-all : (version : Version) → spans_in version ≤ MOST_SPANS
 spans_in-all One = omega arith
-spans_in-all Two = omega arith
-spans_in-all Three = omega arith
+spans_in-all version = omega arith
 
 id_of_parts-ok : (version : Version) (parts : List (List ℕ)) (i : Id) → id_of_parts version parts ≡ Ok i → parts ≡ decimal i.0 ∷ decimal i.1 ∷ []
-id_of_parts-ok version [] i h = cc
-id_of_parts-ok version (shard ∷ []) i h = cc
-id_of_parts-ok version (shard ∷ serial ∷ []) i h =
-    let p = id_of_numbers-ok version (number_in shard) (number_in serial) i h in
-    let all = spans_in-all version in
-    let first : shard ≡ decimal i.0 = word-number shard i.0 p.0 (omega (arith, p.2)) in
-    let second : serial ≡ decimal i.1 = word-number serial i.1 p.1 (omega (arith, p.3)) in
-    (λ k. first k ∷ second k ∷ [])
-id_of_parts-ok version (shard ∷ serial ∷ more ∷ rest) i h = cc
+id_of_parts-ok version (shard ∷ serial ∷ []) i h = search (rules, id_of_numbers-ok, spans_in-all, word-number)
+id_of_parts-ok version parts i h = cc
 
 word-id : (version : Version) (word : List ℕ) (i : Id) → id_in version word ≡ Ok i → word ≡ id_word i
 word-id version word i h =
@@ -133,10 +113,7 @@ pub class_in-named : (version : Version) (word : List ℕ) (class : Class) → c
 class_in-named version word class h = (class_of_number-ok version (number_in word) class h).1
 
 word-set : (class : Class) (word : List ℕ) (slots : SlotSet) → set_in class word ≡ Ok slots → word ≡ set_text slots
-word-set class word slots h =
-    let p = if-ok (is_set_text word && is_on_page class (slots_of_text word)) (slots_of_text word) slots Set h in
-    let both = and_parts (is_set_text word) (is_on_page class (slots_of_text word)) p.0 in
-    sym (set_text-slots_of_text word both.0) ∙ ap set_text p.1
+word-set class word slots h = search (rules, if-ok, and_parts, set_text-slots_of_text)
 
 -- ---- lines
 
@@ -150,16 +127,13 @@ two_words line first second h = sym (join_with_byte-slice_split 32 line) ∙ ap 
 -- a group's line in each version
 abbrev pub entry_words : Version → Listed → List ℕ
 entry_words One x = id_word x.id ++ (codes " " ++ set_text x.occupied)
-entry_words Two x = id_word x.id ++ (codes " " ++ (class_text x.class ++ (codes " " ++ set_text x.occupied)))
-entry_words Three x = id_word x.id ++ (codes " " ++ (class_text x.class ++ (codes " " ++ set_text x.occupied)))
+entry_words other x = id_word x.id ++ (codes " " ++ (class_text x.class ++ (codes " " ++ set_text x.occupied)))
 
 three_words : (line first second third : List ℕ) → parts_of 32 line ≡ first ∷ second ∷ third ∷ [] → line ≡ first ++ (codes " " ++ (second ++ (codes " " ++ third)))
 three_words line first second third h = sym (join_with_byte-slice_split 32 line) ∙ ap (join_with_byte 32) h
 
 pub both-ok : {A B : Type 0} (a : Result A Cause) (b : Result B Cause) (p : A × B) → both a b ≡ Ok p → (a ≡ Ok p.0) × (b ≡ Ok p.1)
-both-ok {A} {B} (Ok a) (Ok b) p h =
-    let same : (a, b) ≡ p = cc h in
-    (ap (λ (y : A × B). Ok y.0) same, ap (λ (y : A × B). Ok y.1) same)
+both-ok {A} {B} (Ok a) (Ok b) p h = search (rules)
 both-ok (Err Form) b p h = cc
 both-ok a (Err Form) p h = cc
 both-ok a b p h = cc
@@ -177,57 +151,22 @@ entry_of-ok id class set x h =
     )
 
 entry_in-spells : (version : Version) → Spells (entry_in version) (entry_words version)
-entry_in-spells version line x h = spelled version (parts_of 32 line) refl h
-  where
-    spelled : (version : Version) (words : List (List ℕ)) → parts_of 32 line ≡ words → entry_of_words version words ≡ Ok x → line ≡ entry_words version x
-    spelled One [] e h = cc
-    spelled One (id ∷ []) e h = cc
-    spelled One (id ∷ set ∷ []) e h =
-        let p = entry_of-ok (id_in One id) (Ok C16) set x h in
-        two_words line (id_word x.id) (set_text x.occupied) (e ∙ (λ k. word-id One id x.id p.0 k ∷ p.2 k ∷ []))
-    spelled One (id ∷ set ∷ more ∷ rest) e h = cc
-    spelled Two [] e h = cc
-    spelled Two (id ∷ []) e h = cc
-    spelled Two (id ∷ class ∷ []) e h = cc
-    spelled Two (id ∷ class ∷ set ∷ []) e h =
-        let p = entry_of-ok (id_in Two id) (class_in Two class) set x h in
-        three_words line (id_word x.id) (class_text x.class) (set_text x.occupied) (e ∙ (λ k. word-id Two id x.id p.0 k ∷ word-class Two class x.class p.1 k ∷ p.2 k ∷ []))
-    spelled Two (id ∷ class ∷ set ∷ more ∷ rest) e h = cc
-    spelled Three [] e h = cc
-    spelled Three (id ∷ []) e h = cc
-    spelled Three (id ∷ class ∷ []) e h = cc
-    spelled Three (id ∷ class ∷ set ∷ []) e h =
-        let p = entry_of-ok (id_in Three id) (class_in Three class) set x h in
-        three_words line (id_word x.id) (class_text x.class) (set_text x.occupied) (e ∙ (λ k. word-id Three id x.id p.0 k ∷ word-class Three class x.class p.1 k ∷ p.2 k ∷ []))
-    spelled Three (id ∷ class ∷ set ∷ more ∷ rest) e h = cc
+entry_in-spells version line x h = search (rules, entry_of-ok, two_words, word-id, three_words, word-class)
 
 -- in version 1 a group is of 16 bytes a slot
 abbrev pub IsOfVersion : Version → Listed → Type 0
 IsOfVersion version x = version ≡ One → x.class ≡ C16
 
 entry_in-version : (version : Version) (line : List ℕ) (x : Listed) → entry_in version line ≡ Ok x → IsOfVersion version x
-entry_in-version Two line x h is = cc
-entry_in-version Three line x h is = cc
-entry_in-version One line x h is = named (parts_of 32 line) h
-  where
-    named : (words : List (List ℕ)) → entry_of_words One words ≡ Ok x → x.class ≡ C16
-    named [] h = cc
-    named (id ∷ []) h = cc
-    named (id ∷ set ∷ []) h = let p = entry_of-ok (id_in One id) (Ok C16) set x h in cc p.1
-    named (id ∷ set ∷ more ∷ rest) h = cc
+entry_in-version One line x h is = search (rules, entry_of-ok)
+entry_in-version version line x h is = cc
 
 abbrev pub pair_words : Id × Id → List ℕ
 pair_words p = id_word p.0 ++ (codes " " ++ id_word p.1)
 
 pair_of_words-ok : (version : Version) (words : List (List ℕ)) (p : Id × Id) → pair_of_words version words ≡ Ok p → words ≡ id_word p.0 ∷ id_word p.1 ∷ []
-pair_of_words-ok version [] p h = cc
-pair_of_words-ok version (a ∷ []) p h = cc
-pair_of_words-ok version (a ∷ b ∷ []) p h =
-    let q = both-ok (id_in version a) (id_in version b) p h in
-    let first : a ≡ id_word p.0 = word-id version a p.0 q.0 in
-    let second : b ≡ id_word p.1 = word-id version b p.1 q.1 in
-    (λ k. first k ∷ second k ∷ [])
-pair_of_words-ok version (a ∷ b ∷ more ∷ rest) p h = cc
+pair_of_words-ok version (a ∷ b ∷ []) p h = search (rules, both-ok, word-id)
+pair_of_words-ok version words p h = cc
 
 pair_in-spells : (version : Version) → Spells (pair_in version) pair_words
 pair_in-spells version line p h = two_words line (id_word p.0) (id_word p.1) (pair_of_words-ok version (parts_of 32 line) p h)
@@ -237,35 +176,18 @@ same_bytes xs ys h = (bytes_eq-Decides xs ys).0 h
 
 count_of_number-ok : (number : Option ℕ) (n : ℕ) → count_of_number number ≡ Ok n → (number ≡ Some n) × (n ≤ MOST_GROUPS)
 count_of_number-ok None n h = cc
-count_of_number-ok (Some m) n h =
-    let p = if-ok (nat_le m MOST_GROUPS) m n Limit h in
-    let few : m ≤ MOST_GROUPS = leb-true m MOST_GROUPS p.0 in
-    (ap Some p.1, omega (arith, p.1))
+count_of_number-ok (Some m) n h = search (rules, if-ok, nat_le, leb-true)
 
 count_of_words-ok : (title : List ℕ) (words : List (List ℕ)) (n : ℕ) → count_of_words title words ≡ Ok n → words ≡ title ∷ decimal n ∷ []
-count_of_words-ok title [] n h = cc
-count_of_words-ok title (word ∷ []) n h = cc
-count_of_words-ok title (word ∷ number ∷ []) n h = elim (bytes_eq word title) as (λ b. bytes_eq word title ≡ b
-    → cond b (count_of_number (number_in number)) (Err Form) ≡ Ok n → (word ∷ number ∷ []) ≡ title ∷ decimal n ∷ []) [
-      | true ↦ λ same said.
-          let p = count_of_number-ok (number_in number) n said in
-          let first : word ≡ title = same_bytes word title same in
-          let second : number ≡ decimal n = word-number number n p.0 (omega (arith, p.1)) in
-          (λ k. first k ∷ second k ∷ [])
-      | false ↦ λ same said. cc
-    ] refl h
-count_of_words-ok title (word ∷ number ∷ more ∷ rest) n h = cc
+count_of_words-ok title (word ∷ number ∷ []) n h = search (rules, count_of_number-ok, same_bytes, word-number)
+count_of_words-ok title words n h = cc
 
 count_in-spells : (title : List ℕ) → Spells (count_in title) (title_body title)
 count_in-spells title line n h = two_words line title (decimal n) (count_of_words-ok title (parts_of 32 line) n h)
 
 -- the last line is one word, of a text whose version is wanted
 last_in-ok : (wanted : Bool) (line : List ℕ) (done : Unit {0}) → last_in wanted line ≡ Ok done → (line ≡ codes "end") × (wanted ≡ true)
-last_in-ok wanted line done h =
-    let p = >>=-ok (fixed_in (codes "end") line) (λ fine. cond wanted (Ok tt) (Err cause.Version)) done h in (
-      same_bytes line (codes "end") (if-ok (bytes_eq line (codes "end")) tt p.0 Form p.1).0,
-      (if-ok wanted tt done cause.Version p.2).0,
-    )
+last_in-ok wanted line done h = search (rules, same_bytes, if-ok)
 
 last_in-spells : (wanted : Bool) → Spells (last_in wanted) (λ done. codes "end")
 last_in-spells wanted line done h = (last_in-ok wanted line done h).0
@@ -273,32 +195,19 @@ last_in-spells wanted line done h = (last_in-ok wanted line done h).0
 -- ---- lines at their places
 
 line_in-ok : {X : Type 0} (parse : List ℕ → Result X Cause) (parts : List (List ℕ)) (at : ℕ) (x : X) → line_in parse parts at ≡ Ok x → (at + 1 < length parts) × (parse (get_or parts at []) ≡ Ok x)
-line_in-ok parse parts at x h = elim (nat_lt (at + 1) (length parts)) as (λ b. nat_lt (at + 1) (length parts) ≡ b
-    → (cond b (Ok (get_or parts at [])) (Err Cut) >>= parse) ≡ Ok x → (at + 1 < length parts) × (parse (get_or parts at []) ≡ Ok x)) [
-      | true ↦ λ within said. (ltb-true (at + 1) (length parts) within, said)
-      | false ↦ λ within said. cc
-    ] refl h
+line_in-ok parse parts at x h = search (rules, nat_lt, ltb-true)
 
 -- a line that was read stands first of those that were left
 pub line_in-spells : {X : Type 0} (parse : List ℕ → Result X Cause) (spelled : X → List ℕ) (parts : List (List ℕ)) (at : ℕ) (x : X) → Spells parse spelled
     → at_line at (line_in parse parts at) ≡ Ok x → drop at parts ≡ spelled x ∷ drop (at + 1) parts
-line_in-spells parse spelled parts at x spells h =
-    let p = line_in-ok parse parts at x (at_line-ok at (line_in parse parts at) x h) in
-    drop_more parts at [] (omega (arith, p.0)) ∙ ap (λ line. line ∷ drop (at + 1) parts) (spells (get_or parts at []) x p.1)
+line_in-spells parse spelled parts at x spells h = search (rules, line_in-ok, at_line-ok, drop_more)
 
 item_in-spells : {X : Type 0} (parse : List ℕ → Result X Cause) (spelled : X → List ℕ) (id_of : X → Id) (last : Option Id) → Spells parse spelled → Spells (item_in parse id_of last) spelled
-item_in-spells parse spelled id_of last spells line x h =
-    let p = >>=-ok (parse line) (λ x. order_of last (id_of x) >>= (λ fine. Ok x)) x h in
-    let q = >>=-ok (order_of last (id_of p.0)) (λ fine. Ok p.0) x p.2 in
-    let same : p.0 ≡ x = cc q.2 in
-    spells line p.0 p.1 ∙ ap spelled same
+item_in-spells parse spelled id_of last spells line x h = search (rules)
 
 module _ {X : Type 0} (parse : List ℕ → Result X Cause) (spelled : X → List ℕ) (id_of : X → Id) (spells : Spells parse spelled) (parts : List (List ℕ)) where
   items_in-spells : (last : Option Id) (at n : ℕ) (xs : List X) → items_in parse id_of parts last at n ≡ Ok xs → (drop at parts ≡ map spelled xs ++ drop (at + n) parts) × (length xs ≡ n)
-  items_in-spells last at zero xs h =
-      let none : [] ≡ xs = cc h in
-      let here : at ≡ at + 0 = omega arith in
-      ((λ k. drop (here k) parts) ∙ ap (λ ys. map spelled ys ++ drop (at + 0) parts) none, ap length (sym none))
+  items_in-spells last at zero xs h = search (rules)
   items_in-spells last at (suc n) xs h =
       let p = >>=-ok (at_line at (line_in (item_in parse id_of last) parts at)) (λ x. items_in parse id_of parts (Some (id_of x)) (at + 1) n >>= (λ more. Ok (x ∷ more))) xs h in
       let q = >>=-ok (items_in parse id_of parts (Some (id_of p.0)) (at + 1) n) (λ more. Ok (p.0 ∷ more)) xs p.2 in
@@ -325,16 +234,10 @@ module _ {X : Type 0} (parse : List ℕ → Result X Cause) (spelled : X → Lis
 -- what holds of each item that is read holds of those of a list
 module _ {X : Type 0} (parse : List ℕ → Result X Cause) (id_of : X → Id) (P : X → Type 0) (has : (line : List ℕ) (x : X) → parse line ≡ Ok x → P x) (parts : List (List ℕ)) where
   item_in-has : (last : Option Id) (line : List ℕ) (x : X) → item_in parse id_of last line ≡ Ok x → P x
-  item_in-has last line x h =
-      let p = >>=-ok (parse line) (λ x. order_of last (id_of x) >>= (λ fine. Ok x)) x h in
-      let q = >>=-ok (order_of last (id_of p.0)) (λ fine. Ok p.0) x p.2 in
-      let same : p.0 ≡ x = cc q.2 in
-      subst P same (has line p.0 p.1)
+  item_in-has last line x h = search (rules)
 
   items_in-have : (last : Option Id) (at n : ℕ) (xs : List X) → items_in parse id_of parts last at n ≡ Ok xs → AllByRecursion P xs
-  items_in-have last at zero xs h =
-      let none : [] ≡ xs = cc h in
-      subst (AllByRecursion P) none tt
+  items_in-have last at zero xs h = search (rules)
   items_in-have last at (suc n) xs h =
       let p = >>=-ok (at_line at (line_in (item_in parse id_of last) parts at)) (λ x. items_in parse id_of parts (Some (id_of x)) (at + 1) n >>= (λ more. Ok (x ∷ more))) xs h in
       let q = >>=-ok (items_in parse id_of parts (Some (id_of p.0)) (at + 1) n) (λ more. Ok (p.0 ∷ more)) xs p.2 in
@@ -350,14 +253,7 @@ module _ {X : Type 0} (parse : List ℕ → Result X Cause) (id_of : X → Id) (
 
 -- the end is one empty line
 pub end_in-ok : (parts : List (List ℕ)) (at : ℕ) (done : Unit {0}) → at_line at (end_in parts at) ≡ Ok done → drop at parts ≡ [] ∷ []
-end_in-ok parts at done h =
-    let p = if-ok (nat_eq (length parts) (at + 1) && nat_eq (length (get_or parts at [])) 0) tt done Tail (at_line-ok at (end_in parts at) done h) in
-    let both = and_parts (nat_eq (length parts) (at + 1)) (nat_eq (length (get_or parts at [])) 0) p.0 in
-    let long : length parts ≡ at + 1 = eqb-true (length parts) (at + 1) both.0 in
-    let empty : length (get_or parts at []) ≡ 0 = eqb-true (length (get_or parts at [])) 0 both.1 in
-    let none : get_or parts at [] ≡ [] = nil_from_length (get_or parts at []) empty in
-    let past : drop (at + 1) parts ≡ [] = nil_from_length (drop (at + 1) parts) (omega (arith, length-drop (at + 1) parts)) in
-    drop_more parts at [] (omega arith) ∙ (λ k. none k ∷ past k)
+end_in-ok parts at done h = grind (arith, common_steps, if-ok, nat_eq, at_line-ok, and_parts, eqb-true, nil_from_length, length-drop, drop_more)
 
 -- ---- certificates
 
@@ -386,17 +282,7 @@ record IsEnding (version : Version) (said : Outline) (parts : List (List ℕ)) (
   same : said ≡ o
 
 ending_in-ok : (version : Version) (said : Outline) (parts : List (List ℕ)) (at : ℕ) (o : Outline) → ending_in version said parts at ≡ Ok o → IsEnding version said parts at o
-ending_in-ok version said parts at o h =
-    let wanted : Bool = is_wanted version said in
-    let c = >>=-ok (closing_in wanted parts at) (λ done. Ok said) o h in
-    let e = >>=-ok (at_line at (line_in (last_in wanted) parts at)) (λ ended. at_line (at + 1) (end_in parts (at + 1))) c.0 c.1 in
-    let last = line_in-ok (last_in wanted) parts at e.0 (at_line-ok at (line_in (last_in wanted) parts at) e.0 e.1) in
-    record {
-      lines = line_in-spells (last_in wanted) (λ done. codes "end") parts at e.0 (last_in-spells wanted) e.1
-          ∙ ap (λ ps. codes "end" ∷ ps) (end_in-ok parts (at + 1) c.0 e.2);
-      wanted = (last_in-ok wanted (get_or parts at []) e.0 last.1).1;
-      same = said-once _ _ _ refl c.2;
-    }
+ending_in-ok version said parts at o h = grind (arith, common_steps, line_in-ok, at_line-ok, line_in-spells, last_in-spells, end_in-ok, last_in-ok, said-once)
 
 pub ending_in-same : (version : Version) (said : Outline) (parts : List (List ℕ)) (at : ℕ) (o : Outline) → ending_in version said parts at ≡ Ok o → said ≡ o
 ending_in-same version said parts at o h = (ending_in-ok version said parts at o h).same

@@ -1,5 +1,6 @@
 -- What the tests of the checker mean
-use Rattle.std.proofs.Common.{ℕ, ◌+◌, ◌<◌, ◌≡◌, Bool, true, false, ◌&&◌, ◌||◌, List, [], ◌∷◌, length, map, get_or, refl, sym, ◌∙◌, ap, inl, inr, arith, zero, suc}
+use Rattle.std.proofs.lemmas.Grind.{common_steps}
+use Rattle.std.proofs.Common.{ℕ, ◌+◌, ◌<◌, ◌≡◌, Bool, true, false, ◌&&◌, ◌||◌, List, [], ◌∷◌, length, map, get_or, refl, sym, ◌∙◌, inl, inr, arith, zero, suc, rules}
 use Rattle.std.specs.List.{All, AllByRecursion, IsDistinct, list_all, list_any}
 use Rattle.std.proofs.lemmas.Bool.{cases_Bool, both_ways, or_cases, or_left, or_right, and_parts, and_from}
 use Rattle.std.proofs.lemmas.List.Elements.{All-from_recursion, recursion_from_All}
@@ -18,13 +19,7 @@ pub tells_span : Tells same_span
 tells_span = record { one = same_id_from_test; itself = λ x. test_from_same_id x x refl }
 
 flip : {K : Type 0} (same : K → K → Bool) → Tells same → (x y : K) → same x y ≡ same y x
-flip same t x y = elim (cases_Bool (same x y)) [
-  | inl e ↦ e ∙ sym (ap (λ z. same y z) (t.one x y e) ∙ t.itself y)
-  | inr e ↦ elim (cases_Bool (same y x)) [
-    | inl e' ↦ absurd (both_ways (same x y) e (ap (λ z. same x z) (t.one y x e') ∙ t.itself x))
-    | inr e' ↦ e ∙ sym e'
-  ]
-]
+flip same t x y = search (rules, cases_Bool, both_ways)
 
 -- what each member that passes shows, the list's test shows
 any_elim : {X : Type 0} (test : X → Bool) (r : Bool) (xs : List X) → ((x : X) → test x ≡ true → r ≡ true) → list_any test xs ≡ true → r ≡ true
@@ -57,11 +52,7 @@ among_right s a b h = sym (among-ids s.owned b) ∙
 -- a list in which each passes
 module _ {X : Type 0} (test : X → Bool) (P : X → Type 0) where
   pub All-from_list_all : (xs : List X) → ((x : X) → test x ≡ true → P x) → list_all test xs ≡ true → All P xs
-  All-from_list_all xs h all = All-from_recursion P xs (each xs all)
-    where
-      each : (ys : List X) → list_all test ys ≡ true → AllByRecursion P ys
-      each [] e = tt
-      each (y ∷ ys) e = let p : (test y ≡ true) × (list_all test ys ≡ true) = and_parts (test y) (list_all test ys) e in (h y p.0, each ys p.1)
+  All-from_list_all xs h all = grind (arith, common_steps, All-from_recursion, and_parts)
 
   pub list_all-from_All : (xs : List X) → ((x : X) → P x → test x ≡ true) → All P xs → list_all test xs ≡ true
   list_all-from_All xs h all = each xs (recursion_from_All P xs all)
@@ -72,10 +63,7 @@ module _ {X : Type 0} (test : X → Bool) (P : X → Type 0) where
 
 -- the ids of groups, none twice
 pub choice-from_tests : (entries : List Entry) (chosen : List SpanId) → list_all (λ id. has_id entries id) chosen ≡ true → IsDistinct same_span chosen → IsChoice same_span (ids entries) chosen
-choice-from_tests entries chosen all distinct = record {
-  within = All-from_list_all (λ id. has_id entries id) (λ id. among same_span id (ids entries) ≡ true) chosen (λ id h. sym (among-ids entries id) ∙ h) all;
-  distinct = distinct;
-}
+choice-from_tests entries chosen all distinct = grind (arith, common_steps, All-from_list_all, among-ids)
 
 pub tests-from_choice : (entries : List Entry) (chosen : List SpanId) → IsChoice same_span (ids entries) chosen → list_all (λ id. has_id entries id) chosen ≡ true
 tests-from_choice entries chosen c =

@@ -225,24 +225,24 @@ abbrev pub is_large : Id → Bool
 is_large id = nat_le TEXT_SPANS id.1
 
 -- a group that version 2 cannot say: its serial is large, or its class has no name there
-abbrev pub is_beyond_two : Listed → Bool
-is_beyond_two x = is_large x.id || not (names_class Two x.class)
+abbrev pub is_beyond_version_two : Listed → Bool
+is_beyond_version_two x = is_large x.id || not (names_class Two x.class)
 
 -- version 2 has no text for it
-abbrev pub needs_three : Outline → Bool
-needs_three o =
-    list_any is_beyond_two o.abandoned || (list_any is_beyond_two o.owned
+abbrev pub needs_version_three : Outline → Bool
+needs_version_three o =
+    list_any is_beyond_version_two o.abandoned || (list_any is_beyond_version_two o.owned
     || (list_any (λ p. is_large p.0 || is_large p.1) o.folds || list_any is_large o.short))
 
 -- the version of the text that is written: version 3 says what version 2 cannot
 abbrev pub version_of : Outline → Version
-version_of o = if needs_three o then Three else Two
+version_of o = if needs_version_three o then Three else Two
 
 -- a text of version 3 says what version 2 cannot, so one of them alone has a text for it
 abbrev pub is_wanted : Version → Outline → Bool
 is_wanted One o = true
 is_wanted Two o = true
-is_wanted Three o = needs_three o
+is_wanted Three o = needs_version_three o
 
 -- the last line, of a text whose version is wanted or not
 abbrev pub last_in : Bool → List ℕ → Result (Unit {0}) Cause

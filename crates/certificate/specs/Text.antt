@@ -13,7 +13,7 @@ use Rattle.certificate.specs.declared.certificate.Certificate.{Certificate}
 use Rattle.mesh_graph.specs.declared.build.TheConstants.{MOST_GROUPS}
 use Rattle.certificate.specs.declared.text.version.Version.{Version}
 use Rattle.certificate.specs.declared.text.version.Version.TheVariants.{One}
-use Rattle.certificate.specs.Grammar.{needs_three, opening_of, outline_of, slot_bytes, version_of}
+use Rattle.certificate.specs.Grammar.{needs_version_three, opening_of, outline_of, slot_bytes, version_of}
 
 -- the bytes of a slot of the class, in digits
 abbrev pub class_text : Class → List ℕ
@@ -76,7 +76,7 @@ classless_text c = text_with One classless_line c
 pub record IsClassless (c : Certificate) : Type 0 where
   pub abandoned : All (λ x. x.class ≡ C16) c.snapshot.abandoned
   pub owned : All (λ x. x.class ≡ C16) c.snapshot.owned
-  pub serials : needs_three (outline_of c) ≡ false
+  pub serials : needs_version_three (outline_of c) ≡ false
 
 -- the text that is written of the certificate, or its text of version 1, if that can say it
 abbrev pub IsTextOf : Certificate → List ℕ → Type 0

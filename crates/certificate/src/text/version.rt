@@ -1,7 +1,7 @@
 // The versions of the text.
 ghost use Rattle.std.specs.Prelude.{◌≡◌, ◌||◌};
 ghost use Rattle.std.specs.List.{list_any};
-ghost use Rattle.certificate.specs.Grammar.{entry_parts, id_parts, is_beyond_two, is_large, needs_three, outline_of};
+ghost use Rattle.certificate.specs.Grammar.{entry_parts, id_parts, is_beyond_version_two, is_large, needs_version_three, outline_of};
 
 use crate::certificate::Certificate;
 use mesh_graph::Entry;
@@ -30,7 +30,7 @@ impl Version {
     pub(super) fn of(certificate: &Certificate) -> Version
         ensures { result ≡ version_of (outline_of certificate.now) }
     {
-        if needs_three(certificate) {
+        if needs_version_three(certificate) {
             Version::Three
         } else {
             Version::Two
@@ -43,7 +43,7 @@ impl Version {
     {
         match self {
             Version::One | Version::Two => true,
-            Version::Three => needs_three(certificate),
+            Version::Three => needs_version_three(certificate),
         }
     }
 
@@ -81,8 +81,8 @@ impl Version {
 }
 
 /// Whether version 2 has no text for it: it does not name some serial or some class.
-fn needs_three(certificate: &Certificate) -> bool
-    ensures { result ≡ needs_three (outline_of certificate.now) }
+fn needs_version_three(certificate: &Certificate) -> bool
+    ensures { result ≡ needs_version_three (outline_of certificate.now) }
 {
     if has_group_beyond_two(certificate.snapshot.abandoned()) {
         return true;
@@ -97,7 +97,7 @@ fn needs_three(certificate: &Certificate) -> bool
 }
 
 fn has_group_beyond_two(groups: &[Entry]) -> bool
-    ensures { result ≡ list_any (λ x. is_beyond_two (entry_parts x)) groups.now }
+    ensures { result ≡ list_any (λ x. is_beyond_version_two (entry_parts x)) groups.now }
 {
     groups.iter().any(|group| is_large(group.id) || !Version::Two.names(group.class))
 }
