@@ -1,7 +1,6 @@
 -- What the lines bind, one line more.
-use Rattle.std.proofs.Common.{◌≡◌, ℕ, ◌+◌, ◌≤◌, ◌⊎◌, false, List, [], ◌∷◌, ◌++◌, length, Option, Some, None, is_some, arith, refl, sym, ap, ◌∙◌, inl, inr, subst}
-use Rattle.std.specs.Option.{option_map_or, option_or}
-use Rattle.std.specs.Str.{bytes_eq}
+use Rattle.std.proofs.Common.{◌≡◌, ℕ, ◌+◌, ◌⊎◌, false, List, [], ◌∷◌, ◌++◌, length, Option, Some, None, is_some, refl, sym, inl, inr, rules}
+use Rattle.std.specs.Option.{option_or}
 use Rattle.std.proofs.lemmas.Bool.Decides.{nat_tests}
 use Rattle.trace_text.proofs.Tests.{chosen, same_bytes}
 use Rattle.trace_text.proofs.Clips.{all_fine}
@@ -9,10 +8,9 @@ use Rattle.trace_text.specs.Earlier.{Few, IsFew}
 use Rattle.trace_text.specs.Causes.{binding_at, binding_from, binding_of, binds_again, call_binding, first_cause, is_call, is_call_over, keys_at, keys_in, marks, marks_at}
 use Rattle.trace_text.specs.declared.header.Header.{Header}
 use Rattle.trace_text.specs.declared.line.Call.{Call}
-use Rattle.trace_text.specs.declared.line.Call.TheVariants.{Put, Fill, Get, Set, Free, Sweep, Later, Tend, Trim, Retire, End, Begin}
+use Rattle.trace_text.specs.declared.line.Call.TheVariants.{Put, Fill}
 use Rattle.trace_text.specs.declared.line.Line.{Line}
 use Rattle.trace_text.specs.declared.line.Line.TheVariants as line
-use Rattle.trace_text.specs.declared.line.Keys.TheVariants.{One, Many}
 use Rattle.trace_text.specs.declared.line.Binding.{Binding}
 
 or_none : {X : Type 0} (o : Option X) → option_or o None ≡ o
@@ -25,24 +23,11 @@ or_assoc (Some x) p q = refl
 
 binding_from-push : (place section first : ℕ) (name : List ℕ) (ls : List Line) (l : Line)
     → binding_from place section first name (ls ++ l ∷ []) ≡ option_or (binding_from place section first name ls) (binding_at (place + length ls) (section + marks ls) (first + keys_in ls) name l)
-binding_from-push place section first name [] l =
-    let here : place + length {A = Line} [] ≡ place = omega arith in
-    let mark : section + 0 ≡ section = omega arith in
-    let key : first + 0 ≡ first = omega arith in
-    rw (here, mark, key) (or_none (binding_at place section first name l))
-binding_from-push place section first name (m ∷ ms) l =
-    let here : place + length (m ∷ ms) ≡ (place + 1) + length ms = omega arith in
-    let mark : section + (marks_at m + marks ms) ≡ (section + marks_at m) + marks ms = omega arith in
-    let key : first + (keys_at m + keys_in ms) ≡ (first + keys_at m) + keys_in ms = omega arith in
-    rw (here, mark, key) (ap (λ o. option_or (binding_at place section first name m) o) (binding_from-push (place + 1) (section + marks_at m) (first + keys_at m) name ms l)
-    ∙ or_assoc (binding_at place section first name m) (binding_from (place + 1) (section + marks_at m) (first + keys_at m) name ms) _)
+binding_from-push place section first name [] l = search (rules, or_none)
+binding_from-push place section first name (m ∷ ms) l = search (rules, or_assoc, (binding_from-push (place + 1) (section + marks_at m) (first + keys_at m) name ms l))
 
 pub binding_of-push : (name : List ℕ) (ls : List Line) (l : Line) → binding_of name (ls ++ l ∷ []) ≡ option_or (binding_of name ls) (binding_at (length ls) (marks ls) (keys_in ls) name l)
-binding_of-push name ls l =
-    let here : 0 + length ls ≡ length ls = omega arith in
-    let mark : 0 + marks ls ≡ marks ls = omega arith in
-    let key : 0 + keys_in ls ≡ keys_in ls = omega arith in
-    binding_from-push 0 0 0 name ls l ∙ rw (here, mark, key) refl
+binding_of-push name ls l = search (rules, binding_from-push)
 
 none_from : {X : Type 0} (o : Option X) → is_some o ≡ false → o ≡ None
 none_from None e = refl
@@ -51,32 +36,15 @@ none_from (Some x) e = cc
 -- a call that is not refused binds a name that was not bound
 fresh_name : (ls : List Line) (place section first thread : ℕ) (name : List ℕ) (c : Call) (b : Binding) → binds_again ls c ≡ false
     → call_binding place section first name thread c ≡ Some b → binding_of name ls ≡ None
-fresh_name ls place section first thread name (Put bound class v) b free e = elim (chosen (bytes_eq bound name) _ _ (Some b) e) [
-  | inl p ↦ let same = same_bytes bound name p.0 in none_from (binding_of name ls) (rw same at free)
-  | inr p ↦ cc p.1
-]
-fresh_name ls place section first thread name (Fill bound class n v) b free e = elim (chosen (bytes_eq bound name) _ _ (Some b) e) [
-  | inl p ↦ let same = same_bytes bound name p.0 in none_from (binding_of name ls) (rw same at free)
-  | inr p ↦ cc p.1
-]
-fresh_name ls place section first thread name (Get key) b free e = cc
-fresh_name ls place section first thread name (Set key class v) b free e = cc
-fresh_name ls place section first thread name (Free key) b free e = cc
-fresh_name ls place section first thread name (Sweep bound from to) b free e = cc
-fresh_name ls place section first thread name (Later key) b free e = cc
-fresh_name ls place section first thread name Tend b free e = cc
-fresh_name ls place section first thread name Trim b free e = cc
-fresh_name ls place section first thread name (Retire most) b free e = cc
-fresh_name ls place section first thread name End b free e = cc
-fresh_name ls place section first thread name Begin b free e = cc
+fresh_name ls place section first thread name (Put bound class v) b free e = search (rules, chosen, same_bytes, none_from)
+fresh_name ls place section first thread name (Fill bound class n v) b free e = search (rules, chosen, same_bytes, none_from)
+fresh_name ls place section first thread name c b free e = cc
 
 -- so does a line
 pub fresh : (h : Header) (ls : List Line) (place section first : ℕ) (name : List ℕ) (l : Line) (b : Binding) → first_cause h ls l ≡ None
     → binding_at place section first name l ≡ Some b → binding_of name ls ≡ None
-fresh h ls place section first name line.Silent b fine e = cc
-fresh h ls place section first name line.Mark b fine e = cc
-fresh h ls place section first name (line.Adopt s) b fine e = cc
 fresh h ls place section first name (line.Call t c) b fine e = fresh_name ls place section first t name c b (all_fine h ls (line.Call t c) fine).bound e
+fresh h ls place section first name l b fine e = cc
 
 pub either_first : {X : Type 0} (o p : Option X) → ((x : X) → p ≡ Some x → o ≡ None) → option_or p o ≡ option_or o p
 either_first o None free = sym (or_none o)
@@ -84,39 +52,18 @@ either_first o (Some x) free = rw (free x refl) refl
 
 few_call : (before : List Line) (place section first thread : ℕ) (name : List ℕ) (c : Call) (b : Binding) → is_call_over before c ≡ false
     → call_binding place section first name thread c ≡ Some b → IsFew b.keys
-few_call before place section first thread name (Put bound class v) b within e = elim (chosen (bytes_eq bound name) _ _ (Some b) e) [
-  | inl p ↦ let is : One ≡ b.keys = ap (λ o. option_map_or (λ (x : Binding). x.keys) o One) p.1 in subst IsFew is (omega arith)
-  | inr p ↦ cc p.1
-]
-few_call before place section first thread name (Fill bound class n v) b within e = elim (chosen (bytes_eq bound name) _ _ (Some b) e) [
-  | inl p ↦ let is : Many n ≡ b.keys = ap (λ o. option_map_or (λ (x : Binding). x.keys) o One) p.1 in
-      let small : n ≤ 262144 = grind (arith, nat_tests) in subst IsFew is small
-  | inr p ↦ cc p.1
-]
-few_call before place section first thread name (Get key) b within e = cc
-few_call before place section first thread name (Set key class v) b within e = cc
-few_call before place section first thread name (Free key) b within e = cc
-few_call before place section first thread name (Sweep bound from to) b within e = cc
-few_call before place section first thread name (Later key) b within e = cc
-few_call before place section first thread name Tend b within e = cc
-few_call before place section first thread name Trim b within e = cc
-few_call before place section first thread name (Retire most) b within e = cc
-few_call before place section first thread name End b within e = cc
-few_call before place section first thread name Begin b within e = cc
+few_call before place section first thread name (Put bound class v) b within e = search (rules, chosen)
+few_call before place section first thread name (Fill bound class n v) b within e = search (rules, chosen, nat_tests)
+few_call before place section first thread name c b within e = cc
 
 few_at : (before : List Line) (place section first : ℕ) (name : List ℕ) (l : Line) (b : Binding) → is_call (is_call_over before) l ≡ false
     → binding_at place section first name l ≡ Some b → IsFew b.keys
-few_at before place section first name line.Silent b within e = cc
-few_at before place section first name line.Mark b within e = cc
-few_at before place section first name (line.Adopt s) b within e = cc
 few_at before place section first name (line.Call t c) b within e = few_call before place section first t name c b within e
+few_at before place section first name l b within e = cc
 
 pub of_either : {X : Type 0} (o p : Option X) (x : X) → option_or o p ≡ Some x → (o ≡ Some x) ⊎ (p ≡ Some x)
 of_either None p x e = inr e
 of_either (Some y) p x e = inl e
 
 pub few-push : (ls : List Line) (l : Line) → Few ls → is_call (is_call_over ls) l ≡ false → Few (ls ++ l ∷ [])
-few-push ls l few within name b e = elim (of_either (binding_of name ls) (binding_at (length ls) (marks ls) (keys_in ls) name l) b (sym (binding_of-push name ls l) ∙ e)) [
-  | inl old ↦ few name b old
-  | inr new ↦ few_at ls (length ls) (marks ls) (keys_in ls) name l b within new
-]
+few-push ls l few within name b e = search (rules, of_either, binding_of-push, few_at)

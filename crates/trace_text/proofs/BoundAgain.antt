@@ -1,5 +1,5 @@
 -- The first cause of a line, where it is asked last whether the line binds a name again.
-use Rattle.std.proofs.Common.{◌≡◌, Bool, true, false, List, ℕ, Option, Some, None, Ok, Err, refl}
+use Rattle.std.proofs.Common.{◌≡◌, Bool, true, false, List, ℕ, Option, Some, None, Ok, Err, refl, rules}
 use Rattle.std.specs.Prelude.{if◌then◌else◌}
 use Rattle.trace_text.specs.Causes.{binds_again, classed, comes_early, first_cause, is_call, is_call_of, reads_unknown}
 use Rattle.trace_text.specs.Earlier.{Few}
@@ -10,7 +10,7 @@ use Rattle.trace_text.specs.Within.{IsNextUnlessBound, cause_but_bound, within}
 use Rattle.trace_text.specs.declared.cause.Cause.{Cause}
 use Rattle.trace_text.specs.declared.cause.Cause.TheVariants.{Limit, Thread, Ended, Adopt, Bound, Unknown, Early}
 use Rattle.trace_text.specs.declared.header.Header.{Header}
-use Rattle.trace_text.specs.declared.line.Call.TheVariants.{Put, Fill, Get, Set, Free, Sweep, Later, Tend, Trim, Retire, End, Begin}
+use Rattle.trace_text.specs.declared.line.Call.TheVariants.{Get, Set, Free, Sweep, Later, Begin}
 use Rattle.trace_text.specs.declared.line.Line.{Line}
 use Rattle.trace_text.specs.declared.line.Line.TheVariants as line
 use Rattle.trace_text.proofs.Texts.{fine_line, refused_line}
@@ -29,84 +29,51 @@ others limit thread ended adopt unknown early =
 
 all-none : (limit thread ended adopt bound unknown early : Bool) → others limit thread ended adopt unknown early ≡ None → bound ≡ false
     → all limit thread ended adopt bound unknown early ≡ None
-all-none true thread ended adopt bound unknown early none fresh = cc
-all-none false true ended adopt bound unknown early none fresh = cc
-all-none false false true adopt bound unknown early none fresh = cc
-all-none false false false true bound unknown early none fresh = cc
-all-none false false false false true unknown early none fresh = cc
 all-none false false false false false unknown early none fresh = none
+all-none limit thread ended adopt bound unknown early none fresh = cc
 
 all-bound : (limit thread ended adopt bound unknown early : Bool) → others limit thread ended adopt unknown early ≡ None → bound ≡ true
     → all limit thread ended adopt bound unknown early ≡ Some Bound
-all-bound true thread ended adopt bound unknown early none again = cc
-all-bound false true ended adopt bound unknown early none again = cc
-all-bound false false true adopt bound unknown early none again = cc
-all-bound false false false true bound unknown early none again = cc
 all-bound false false false false true unknown early none again = refl
-all-bound false false false false false unknown early none again = cc
+all-bound limit thread ended adopt bound unknown early none again = cc
 
 all-other : (limit thread ended adopt bound unknown early : Bool) (c : Cause) → (bound ≡ true → unknown ≡ false) → (bound ≡ true → early ≡ false)
     → others limit thread ended adopt unknown early ≡ Some c → all limit thread ended adopt bound unknown early ≡ Some c
-all-other true thread ended adopt bound unknown early c known late some = some
-all-other false true ended adopt bound unknown early c known late some = some
-all-other false false true adopt bound unknown early c known late some = some
-all-other false false false true bound unknown early c known late some = some
-all-other false false false false false unknown early c known late some = some
 all-other false false false false true true early c known late some = let clash : true ≡ false = known refl in cc
 all-other false false false false true false true c known late some = let clash : true ≡ false = late refl in cc
 all-other false false false false true false false c known late some = cc
+all-other limit thread ended adopt bound unknown early c known late some = some
 
 -- what is wrong with the thread that calls is the first cause, where no number is outside its range
 pub unless-caller : (limit thread ended adopt unknown early : Bool) (place : ℕ) (c : Cause) → limit ≡ false → (if thread then Some Thread else (if ended then Some Ended else None)) ≡ Some c
     → Err c ≡ unless (others limit thread ended adopt unknown early) place
-unless-caller true thread ended adopt unknown early place c within is = cc
-unless-caller false true ended adopt unknown early place c within is = cc
 unless-caller false false true adopt unknown early place c within is = cc
-unless-caller false false false adopt unknown early place c within is = cc
+unless-caller limit thread ended adopt unknown early place c within is = cc
 
 -- and where nothing is wrong with that either, and no mark must follow, what is wrong with what it reads
 pub unless-no_caller : (limit thread ended adopt unknown early : Bool) (place : ℕ) → limit ≡ false → (if thread then Some Thread else (if ended then Some Ended else None)) ≡ None → adopt ≡ false
     → unless (if unknown then Some Unknown else (if early then Some Early else None)) place ≡ unless (others limit thread ended adopt unknown early) place
-unless-no_caller true thread ended adopt unknown early place within is free = cc
-unless-no_caller false true ended adopt unknown early place within is free = cc
-unless-no_caller false false true adopt unknown early place within is free = cc
-unless-no_caller false false false true unknown early place within is free = cc
 unless-no_caller false false false false unknown early place within is free = refl
+unless-no_caller limit thread ended adopt unknown early place within is free = cc
 
 -- a line that binds a name reads none
 known : (before : List Line) (l : Line) → is_call (binds_again before) l ≡ true → is_call (reads_unknown before) l ≡ false
-known before line.Silent binds = refl
-known before line.Mark binds = refl
-known before (line.Adopt s) binds = refl
-known before (line.Call t (Put n class v)) binds = refl
-known before (line.Call t (Fill n class k v)) binds = refl
 known before (line.Call t (Get k)) binds = cc
 known before (line.Call t (Set k class v)) binds = cc
 known before (line.Call t (Free k)) binds = cc
 known before (line.Call t (Sweep n a b)) binds = cc
 known before (line.Call t (Later k)) binds = cc
-known before (line.Call t Tend) binds = refl
-known before (line.Call t Trim) binds = refl
-known before (line.Call t (Retire most)) binds = refl
-known before (line.Call t End) binds = refl
 known before (line.Call t Begin) binds = cc
+known before l binds = refl
 
 late : (before : List Line) (l : Line) → is_call (binds_again before) l ≡ true → is_call_of (comes_early before) l ≡ false
-late before line.Silent binds = refl
-late before line.Mark binds = refl
-late before (line.Adopt s) binds = refl
-late before (line.Call t (Put n class v)) binds = refl
-late before (line.Call t (Fill n class k v)) binds = refl
 late before (line.Call t (Get k)) binds = cc
 late before (line.Call t (Set k class v)) binds = cc
 late before (line.Call t (Free k)) binds = cc
 late before (line.Call t (Sweep n a b)) binds = cc
 late before (line.Call t (Later k)) binds = cc
-late before (line.Call t Tend) binds = refl
-late before (line.Call t Trim) binds = refl
-late before (line.Call t (Retire most)) binds = refl
-late before (line.Call t End) binds = refl
 late before (line.Call t Begin) binds = cc
+late before l binds = refl
 
 -- another cause is the first of all
 pub first_cause-other : (h : Header) (before : List Line) (l : Line) (c : Cause) → cause_but_bound h before l ≡ Some c → first_cause h before l ≡ Some c
@@ -115,7 +82,4 @@ first_cause-other h before l c = all-other _ _ _ _ _ _ _ c (known before l) (lat
 -- a line that is read and has no other cause is the next one, unless it binds a name again
 pub next_unless_bound : (h : Header) (before : List Line) (bytes : List ℕ) (l given : Line) → IsWithinLimits h → Few before → within (form_of h.version bytes) ≡ Ok l → given ≡ classed before l
     → cause_but_bound h before given ≡ None → IsNextUnlessBound h before bytes given
-next_unless_bound h before bytes l given limits few read is none = (
-  (λ fresh. fine_line h before bytes l given limits few read is (all-none _ _ _ _ _ _ _ none fresh)),
-  (λ again. refused_line h before bytes l given Bound limits few read is (all-bound _ _ _ _ _ _ _ none again)),
-)
+next_unless_bound h before bytes l given limits few read is none = search (rules, fine_line, all-none, refused_line, all-bound)

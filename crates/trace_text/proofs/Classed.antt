@@ -10,92 +10,38 @@ use Rattle.trace_text.specs.Within.{clip_line, is_value_over}
 use Rattle.trace_text.specs.declared.header.Version.{Version}
 use Rattle.trace_text.specs.declared.name.Reference.{Reference}
 use Rattle.trace_text.specs.declared.line.Binding.{Binding}
-use Rattle.trace_text.specs.declared.line.Call.TheVariants.{Put, Fill, Get, Set, Free, Sweep, Later, Tend, Trim, Retire, End, Begin}
+use Rattle.trace_text.specs.declared.line.Call.TheVariants.{Put, Set}
 use Rattle.trace_text.specs.declared.line.Keys.{Keys}
-use Rattle.trace_text.specs.declared.line.Keys.TheVariants.{One, Many}
+use Rattle.trace_text.specs.declared.line.Keys.TheVariants.{One}
 use Rattle.trace_text.specs.declared.line.Line.{Line}
 use Rattle.trace_text.specs.declared.line.Line.TheVariants as line
 use Rattle.trace_text.proofs.Lines.{plain}
 
 -- the class of a set is in none of its words
 pub HasForm-classed : (version : Version) (before : List Line) (bytes : List ℕ) (w : Line) → HasForm version w bytes → HasForm version (classed before w) bytes
-HasForm-classed version before bytes line.Silent form = form
-HasForm-classed version before bytes line.Mark form = form
-HasForm-classed version before bytes (line.Adopt s) form = form
 HasForm-classed version before bytes (line.Call t (Put name class v)) form = form
-HasForm-classed version before bytes (line.Call t (Fill name class n v)) form = form
-HasForm-classed version before bytes (line.Call t (Get key)) form = form
-HasForm-classed version before bytes (line.Call t (Set key class v)) form = form
-HasForm-classed version before bytes (line.Call t (Free key)) form = form
-HasForm-classed version before bytes (line.Call t (Sweep name from to)) form = form
-HasForm-classed version before bytes (line.Call t (Later key)) form = form
-HasForm-classed version before bytes (line.Call t Tend) form = form
-HasForm-classed version before bytes (line.Call t Trim) form = form
-HasForm-classed version before bytes (line.Call t (Retire most)) form = form
-HasForm-classed version before bytes (line.Call t End) form = form
-HasForm-classed version before bytes (line.Call t Begin) form = form
+HasForm-classed version before bytes w form = form
 
 -- a class that is given twice is the one that is given once
 pub classed-again : (before : List Line) (w : Line) → classed before (classed before w) ≡ classed before w
-classed-again before line.Silent = refl
-classed-again before line.Mark = refl
-classed-again before (line.Adopt s) = refl
 classed-again before (line.Call t (Put name class v)) = refl
-classed-again before (line.Call t (Fill name class n v)) = refl
-classed-again before (line.Call t (Get key)) = refl
-classed-again before (line.Call t (Set key class v)) = refl
-classed-again before (line.Call t (Free key)) = refl
-classed-again before (line.Call t (Sweep name from to)) = refl
-classed-again before (line.Call t (Later key)) = refl
-classed-again before (line.Call t Tend) = refl
-classed-again before (line.Call t Trim) = refl
-classed-again before (line.Call t (Retire most)) = refl
-classed-again before (line.Call t End) = refl
-classed-again before (line.Call t Begin) = refl
+classed-again before w = refl
 
 -- and the one that stood there before is nothing to it
 pub classed-plain : (before : List Line) (w : Line) → classed before (plain w) ≡ classed before w
-classed-plain before line.Silent = refl
-classed-plain before line.Mark = refl
-classed-plain before (line.Adopt s) = refl
 classed-plain before (line.Call t (Put name class v)) = refl
-classed-plain before (line.Call t (Fill name class n v)) = refl
-classed-plain before (line.Call t (Get key)) = refl
-classed-plain before (line.Call t (Set key class v)) = refl
-classed-plain before (line.Call t (Free key)) = refl
-classed-plain before (line.Call t (Sweep name from to)) = refl
-classed-plain before (line.Call t (Later key)) = refl
-classed-plain before (line.Call t Tend) = refl
-classed-plain before (line.Call t Trim) = refl
-classed-plain before (line.Call t (Retire most)) = refl
-classed-plain before (line.Call t End) = refl
-classed-plain before (line.Call t Begin) = refl
+classed-plain before w = refl
 
 -- a value is over in any class
 pub value_over-classed : (before : List Line) (w : Line) → is_call is_value_over (classed before w) ≡ is_call is_value_over w
-value_over-classed before line.Silent = refl
-value_over-classed before line.Mark = refl
-value_over-classed before (line.Adopt s) = refl
 value_over-classed before (line.Call t (Put name class v)) = refl
-value_over-classed before (line.Call t (Fill name class n v)) = refl
-value_over-classed before (line.Call t (Get key)) = refl
-value_over-classed before (line.Call t (Set key class v)) = refl
-value_over-classed before (line.Call t (Free key)) = refl
-value_over-classed before (line.Call t (Sweep name from to)) = refl
-value_over-classed before (line.Call t (Later key)) = refl
-value_over-classed before (line.Call t Tend) = refl
-value_over-classed before (line.Call t Trim) = refl
-value_over-classed before (line.Call t (Retire most)) = refl
-value_over-classed before (line.Call t End) = refl
-value_over-classed before (line.Call t Begin) = refl
+value_over-classed before w = refl
 
 -- ---- clipping an index changes no class
 
 is_of_kind-clip : (i : Option ℕ) (keys : Keys) → is_of_kind (option_map clip i) keys ≡ is_of_kind i keys
 is_of_kind-clip None One = refl
-is_of_kind-clip None (Many n) = refl
-is_of_kind-clip (Some i) One = refl
-is_of_kind-clip (Some i) (Many n) = refl
+is_of_kind-clip i keys = refl
 
 same_class : (i : Option ℕ) (o : Option Binding)
     → option_map_or (λ (b : Binding). cond (is_of_kind (option_map clip i) b.keys) b.class C16) o C16
@@ -107,18 +53,5 @@ class_named-clip : (before : List Line) (key : Reference) → class_named before
 class_named-clip before key = same_class key.index (binding_of key.name before)
 
 pub classed-clip : (before : List Line) (w : Line) → classed before (clip_line w) ≡ clip_line (classed before w)
-classed-clip before line.Silent = refl
-classed-clip before line.Mark = refl
-classed-clip before (line.Adopt s) = refl
-classed-clip before (line.Call t (Put name class v)) = refl
-classed-clip before (line.Call t (Fill name class n v)) = refl
-classed-clip before (line.Call t (Get key)) = refl
 classed-clip before (line.Call t (Set key class v)) = ap (λ k. line.Call (clip t) (Set (clip_reference key) k v)) (class_named-clip before key)
-classed-clip before (line.Call t (Free key)) = refl
-classed-clip before (line.Call t (Sweep name from to)) = refl
-classed-clip before (line.Call t (Later key)) = refl
-classed-clip before (line.Call t Tend) = refl
-classed-clip before (line.Call t Trim) = refl
-classed-clip before (line.Call t (Retire most)) = refl
-classed-clip before (line.Call t End) = refl
-classed-clip before (line.Call t Begin) = refl
+classed-clip before w = refl

@@ -1,5 +1,5 @@
 -- Clipping a number changes no cause.
-use Rattle.std.proofs.Common.{◌≡◌, ℕ, ◌+◌, ◌-◌, ◌^◌, ◌≤◌, ◌&&◌, ◌||◌, not, nat_lt, nat_le, Bool, true, false, List, [], ◌∷◌, Option, Some, None, option_map, find, arith, refl, sym, ap, ap₂, ◌∙◌, inl, inr}
+use Rattle.std.proofs.Common.{◌≡◌, ℕ, ◌+◌, ◌-◌, ◌^◌, ◌≤◌, ◌&&◌, ◌||◌, not, nat_lt, nat_le, Bool, true, false, List, [], ◌∷◌, Option, Some, None, option_map, find, arith, refl, sym, ap, ap₂, ◌∙◌, inl, inr, rules}
 use Rattle.std.specs.Option.{option_map_or}
 use Rattle.std.proofs.lemmas.Bool.Decides.{nat_tests}
 use Rattle.std.proofs.lemmas.Bool.{and_parts, cases_Bool}
@@ -19,7 +19,7 @@ use Rattle.trace_text.specs.declared.earlier.TheConstants.{MOST_RETIRED}
 use Rattle.trace_text.specs.declared.header.Header.{Header}
 use Rattle.trace_text.specs.declared.name.Reference.{Reference}
 use Rattle.trace_text.specs.declared.line.Call.{Call}
-use Rattle.trace_text.specs.declared.line.Call.TheVariants.{Put, Fill, Get, Set, Free, Sweep, Later, Tend, Trim, Retire, End, Begin}
+use Rattle.trace_text.specs.declared.line.Call.TheVariants.{Put, Fill, Get, Set, Free, Sweep, Later, Retire}
 use Rattle.trace_text.specs.declared.line.Line.{Line}
 use Rattle.trace_text.specs.declared.line.Line.TheVariants as line
 use Rattle.trace_text.specs.declared.line.Keys.{Keys}
@@ -57,10 +57,7 @@ abbrev is_fill_over : Class → (count value : ℕ) → Bool
 is_fill_over class count value = not (nat_le 1 count && nat_le count 262144) || nat_le (2 ^ 128) (last_word class (value + count - 1))
 
 clip-count : (class : Class) (n v : ℕ) → is_fill_over class (clip n) v ≡ is_fill_over class n v
-clip-count class n v = elim (cases_Bool (nat_le n 262144)) [
-  | inl few ↦ let same : clip n ≡ n = grind (arith, nat_tests) in ap (λ k. is_fill_over class k v) same
-  | inr many ↦ let large : nat_le (clip n) 262144 ≡ false = grind (arith, nat_tests) in rw (many, large, and_false (nat_le 1 n), and_false (nat_le 1 (clip n))) refl
-]
+clip-count class n v = search (rules, cases_Bool, nat_le, nat_tests, and_false)
 
 clip-count_near : (class : Class) (n v : ℕ) → is_fill_over class (clip n) v ≡ false → clip n ≡ n
 clip-count_near class n v fine = grind (arith, nat_tests)
@@ -70,11 +67,7 @@ abbrev is_retire_over : ℕ → Bool
 is_retire_over most = not (nat_le 1 most && nat_le most MOST_RETIRED)
 
 clip-most : (n : ℕ) → is_retire_over (clip n) ≡ is_retire_over n
-clip-most n = elim (cases_Bool (nat_le n MOST_RETIRED)) [
-  | inl few ↦ let same : clip n ≡ n = grind (arith, nat_tests) in ap is_retire_over same
-  | inr many ↦ let large : nat_le (clip n) MOST_RETIRED ≡ false = grind (arith, nat_tests) in
-      rw (many, large, and_false (nat_le 1 n), and_false (nat_le 1 (clip n))) refl
-]
+clip-most n = search (rules, cases_Bool, nat_le, nat_tests, and_false)
 
 clip-most_near : (n : ℕ) → is_retire_over (clip n) ≡ false → clip n ≡ n
 clip-most_near n fine = grind (arith, nat_tests)
@@ -89,102 +82,44 @@ last-over class n v over = grind (arith, nat_tests, width_of-least class)
 -- ---- calls
 
 has_key-clip : (i : Option ℕ) (keys : Keys) → IsFew keys → has_key (option_map clip i) keys ≡ has_key i keys
-has_key-clip None One few = refl
-has_key-clip None (Many n) few = refl
-has_key-clip (Some i) One few = refl
 has_key-clip (Some i) (Many n) few = clip-index i n few
+has_key-clip i keys few = refl
 
 has_range-clip : (from to : ℕ) (keys : Keys) → IsFew keys → has_range (clip from) (clip to) keys ≡ has_range from to keys
 has_range-clip from to One few = refl
 has_range-clip from to (Many n) few = clip-range from to n few
 
 has_keys-clip : (c : Call) (keys : Keys) → IsFew keys → has_keys (clip_call c) keys ≡ has_keys c keys
-has_keys-clip (Put name class v) keys few = refl
-has_keys-clip (Fill name class n v) keys few = refl
 has_keys-clip (Get key) keys few = has_key-clip key.index keys few
 has_keys-clip (Set key class v) keys few = has_key-clip key.index keys few
 has_keys-clip (Free key) keys few = has_key-clip key.index keys few
 has_keys-clip (Sweep name from to) keys few = has_range-clip from to keys few
 has_keys-clip (Later key) keys few = has_key-clip key.index keys few
-has_keys-clip Tend keys few = refl
-has_keys-clip Trim keys few = refl
-has_keys-clip (Retire most) keys few = refl
-has_keys-clip End keys few = refl
-has_keys-clip Begin keys few = refl
+has_keys-clip c keys few = refl
 
 read_name-clip : (c : Call) → read_name (clip_call c) ≡ read_name c
 read_name-clip (Put name class v) = refl
-read_name-clip (Fill name class n v) = refl
-read_name-clip (Get key) = refl
-read_name-clip (Set key class v) = refl
-read_name-clip (Free key) = refl
-read_name-clip (Sweep name from to) = refl
-read_name-clip (Later key) = refl
-read_name-clip Tend = refl
-read_name-clip Trim = refl
-read_name-clip (Retire most) = refl
-read_name-clip End = refl
-read_name-clip Begin = refl
+read_name-clip c = refl
 
 bound_name-clip : (c : Call) → bound_name (clip_call c) ≡ bound_name c
 bound_name-clip (Put name class v) = refl
-bound_name-clip (Fill name class n v) = refl
-bound_name-clip (Get key) = refl
-bound_name-clip (Set key class v) = refl
-bound_name-clip (Free key) = refl
-bound_name-clip (Sweep name from to) = refl
-bound_name-clip (Later key) = refl
-bound_name-clip Tend = refl
-bound_name-clip Trim = refl
-bound_name-clip (Retire most) = refl
-bound_name-clip End = refl
-bound_name-clip Begin = refl
+bound_name-clip c = refl
 
 begins_again-clip : (c : Call) → begins_again (clip_call c) ≡ begins_again c
 begins_again-clip (Put name class v) = refl
-begins_again-clip (Fill name class n v) = refl
-begins_again-clip (Get key) = refl
-begins_again-clip (Set key class v) = refl
-begins_again-clip (Free key) = refl
-begins_again-clip (Sweep name from to) = refl
-begins_again-clip (Later key) = refl
-begins_again-clip Tend = refl
-begins_again-clip Trim = refl
-begins_again-clip (Retire most) = refl
-begins_again-clip End = refl
-begins_again-clip Begin = refl
+begins_again-clip c = refl
 
 over-clip : (before : List Line) (c : Call) → is_call_over before (clip_call c) ≡ is_call_over before c
-over-clip before (Put name class v) = refl
 over-clip before (Fill name class n v) = clip-count class n v
-over-clip before (Get key) = refl
-over-clip before (Set key class v) = refl
-over-clip before (Free key) = refl
-over-clip before (Sweep name from to) = refl
-over-clip before (Later key) = refl
-over-clip before Tend = refl
-over-clip before Trim = refl
 over-clip before (Retire most) = clip-most most
-over-clip before End = refl
-over-clip before Begin = refl
+over-clip before c = refl
 
 -- a value that is over makes its call so
 pub over-value : (before : List Line) (w : Line) → is_call is_value_over w ≡ true → is_call (is_call_over before) w ≡ true
-over-value before line.Silent over = cc
-over-value before line.Mark over = cc
-over-value before (line.Adopt s) over = cc
 over-value before (line.Call t (Put name class v)) over = word-over class v over
 over-value before (line.Call t (Fill name class n v)) over = last-over class n v over
-over-value before (line.Call t (Get key)) over = cc
 over-value before (line.Call t (Set key class v)) over = word-over class v over
-over-value before (line.Call t (Free key)) over = cc
-over-value before (line.Call t (Sweep name from to)) over = cc
-over-value before (line.Call t (Later key)) over = cc
-over-value before (line.Call t Tend) over = cc
-over-value before (line.Call t Trim) over = cc
-over-value before (line.Call t (Retire most)) over = cc
-over-value before (line.Call t End) over = cc
-over-value before (line.Call t Begin) over = cc
+over-value before w over = cc
 
 -- ---- causes
 
@@ -199,15 +134,12 @@ same_unknown before c None few = refl
 same_unknown before c (Some name) few = ap not (same_keys c (binding_of name before) (few name))
 
 holds-clip : (h : Header) (before : List Line) (t : ℕ) (c : Call) → Few before → (k : Cause) → holds h before (line.Call t (clip_call c)) k ≡ holds h before (line.Call t c) k
-holds-clip h before t c few cause.Header = refl
-holds-clip h before t c few cause.Form = refl
 holds-clip h before t c few cause.Limit = over-clip before c
-holds-clip h before t c few cause.Thread = refl
 holds-clip h before t c few cause.Ended = rw (begins_again-clip c) refl
-holds-clip h before t c few cause.Adopt = refl
 holds-clip h before t c few cause.Bound = rw (bound_name-clip c) refl
 holds-clip h before t c few cause.Unknown = rw (read_name-clip c) (same_unknown before c (read_name c) few)
 holds-clip h before t c few cause.Early = rw (begins_again-clip c, read_name-clip c) refl
+holds-clip h before t c few k = refl
 
 find_same : (p q : Cause → Bool) → ((k : Cause) → p k ≡ q k) → (ks : List Cause) → find p ks ≡ find q ks
 find_same p q same [] = refl
@@ -215,27 +147,20 @@ find_same p q same (k ∷ ks) = rw (same k, find_same p q same ks) refl
 
 -- what is wrong with a line that was clipped is what is wrong with the line
 pub first_cause-clip : (h : Header) (before : List Line) (w : Line) → IsWithinLimits h → Few before → first_cause h before (clip_line w) ≡ first_cause h before w
-first_cause-clip h before line.Silent within few = refl
-first_cause-clip h before line.Mark within few = refl
-first_cause-clip h before (line.Adopt s) within few = elim (cases_Bool (nat_le h.shards s)) [
-  | inl far ↦ rw (clip-thread h.shards s within.shards, far) refl
-  | inr near ↦ rw (clip-near h.shards s within.shards near) refl
-]
+first_cause-clip h before (line.Adopt s) within few = search (rules, cases_Bool, nat_le, clip-thread, clip-near)
 first_cause-clip h before (line.Call t c) within few = elim (cases_Bool (nat_le h.shards t)) [
   | inl far ↦ rw (over-clip before c, clip-thread h.shards t within.shards, far) refl
   | inr near ↦ rw (clip-near h.shards t within.shards near)
       (find_same (holds h before (line.Call t (clip_call c))) (holds h before (line.Call t c)) (holds-clip h before t c few)
       (cause.Limit ∷ cause.Thread ∷ cause.Ended ∷ cause.Adopt ∷ cause.Bound ∷ cause.Unknown ∷ cause.Early ∷ []))
 ]
+first_cause-clip h before w within few = refl
 
 -- ---- a line that is not refused was not clipped
 
 -- where no test of the list holds, neither the first does nor one of the others
 pub none_found : (p : Cause → Bool) (k : Cause) (ks : List Cause) → find p (k ∷ ks) ≡ None → (p k ≡ false) × (find p ks ≡ None)
-none_found p k ks none = elim (chosen (p k) (Some k) (find p ks) None none) [
-  | inl found ↦ cc found.1
-  | inr other ↦ (other.0, other.1)
-]
+none_found p k ks none = search (rules, chosen)
 
 -- no cause holds of the line
 pub record AllFine (h : Header) (before : List Line) (w : Line) : Type 0 where
@@ -247,16 +172,7 @@ pub record AllFine (h : Header) (before : List Line) (w : Line) : Type 0 where
   pub in_time : holds h before w cause.Early ≡ false
 
 pub all_fine : (h : Header) (before : List Line) (w : Line) → first_cause h before w ≡ None → AllFine h before w
-all_fine h before w none =
-    let p = holds h before w in
-    let limit = none_found p cause.Limit (cause.Thread ∷ cause.Ended ∷ cause.Adopt ∷ cause.Bound ∷ cause.Unknown ∷ cause.Early ∷ []) none in
-    let thread = none_found p cause.Thread (cause.Ended ∷ cause.Adopt ∷ cause.Bound ∷ cause.Unknown ∷ cause.Early ∷ []) limit.1 in
-    let ended = none_found p cause.Ended (cause.Adopt ∷ cause.Bound ∷ cause.Unknown ∷ cause.Early ∷ []) thread.1 in
-    let adopt = none_found p cause.Adopt (cause.Bound ∷ cause.Unknown ∷ cause.Early ∷ []) ended.1 in
-    let bound = none_found p cause.Bound (cause.Unknown ∷ cause.Early ∷ []) adopt.1 in
-    let unknown = none_found p cause.Unknown (cause.Early ∷ []) bound.1 in
-    let early = none_found p cause.Early [] unknown.1 in
-    record { within = limit.0; thread = thread.0; ended = ended.0; bound = bound.0; known = unknown.0; in_time = early.0 }
+all_fine h before w none = search (rules, none_found)
 
 key_near : (i : Option ℕ) (keys : Keys) → IsFew keys → has_key (option_map clip i) keys ≡ true → option_map clip i ≡ i
 key_near None keys few has = refl
@@ -265,10 +181,7 @@ key_near (Some i) (Many n) few has = ap Some (clip-index_near i n few has)
 
 key_known : (i : Option ℕ) (o : Option Binding) → ((b : Binding) → o ≡ Some b → IsFew b.keys) → not (option_map_or (λ b. has_key (option_map clip i) b.keys) o false) ≡ false → option_map clip i ≡ i
 key_known i None few known = cc
-key_known i (Some b) few known = elim (cases_Bool (has_key (option_map clip i) b.keys)) [
-  | inl has ↦ key_near i b.keys (few b refl) has
-  | inr other ↦ let bad : true ≡ false = rw other at known in cc
-]
+key_known i (Some b) few known = search (rules, cases_Bool, option_map, key_near)
 
 range_near : (from to : ℕ) (keys : Keys) → IsFew keys → has_range (clip from) (clip to) keys ≡ true → (clip from ≡ from) × (clip to ≡ to)
 range_near from to One few has = cc
@@ -277,34 +190,24 @@ range_near from to (Many n) few has = let parts = and_parts (nat_le (clip from) 
 range_known : (from to : ℕ) (o : Option Binding) → ((b : Binding) → o ≡ Some b → IsFew b.keys)
     → not (option_map_or (λ b. has_range (clip from) (clip to) b.keys) o false) ≡ false → (clip from ≡ from) × (clip to ≡ to)
 range_known from to None few known = cc
-range_known from to (Some b) few known = elim (cases_Bool (has_range (clip from) (clip to) b.keys)) [
-  | inl has ↦ range_near from to b.keys (few b refl) has
-  | inr other ↦ let bad : true ≡ false = rw other at known in cc
-]
+range_known from to (Some b) few known = search (rules, cases_Bool, range_near)
 
 same_reference : (key : Reference) → option_map clip key.index ≡ key.index → clip_reference key ≡ key
 same_reference key e = ap (λ i. record { name = key.name; index = i }) e
 
 call_known : (before : List Line) (c : Call) → Few before → is_call_over before (clip_call c) ≡ false → reads_unknown before (clip_call c) ≡ false → clip_call c ≡ c
-call_known before (Put name class v) few within known = refl
 call_known before (Fill name class n v) few within known = ap (λ k. Fill name class k v) (clip-count_near class n v within)
 call_known before (Get key) few within known = ap Get (same_reference key (key_known key.index (binding_of key.name before) (few key.name) known))
 call_known before (Set key class v) few within known = ap (λ k. Set k class v) (same_reference key (key_known key.index (binding_of key.name before) (few key.name) known))
 call_known before (Free key) few within known = ap Free (same_reference key (key_known key.index (binding_of key.name before) (few key.name) known))
 call_known before (Later key) few within known = ap Later (same_reference key (key_known key.index (binding_of key.name before) (few key.name) known))
-call_known before Tend few within known = refl
-call_known before Trim few within known = refl
 call_known before (Retire most) few within known = ap Retire (clip-most_near most within)
-call_known before End few within known = refl
-call_known before Begin few within known = refl
 call_known before (Sweep name from to) few within known = let near = range_known from to (binding_of name before) (few name) known in ap₂ (λ a b. Sweep name a b) near.0 near.1
+call_known before c few within known = refl
 
 pub clip_line-fine : (h : Header) (before : List Line) (w : Line) → IsWithinLimits h → Few before → first_cause h before (clip_line w) ≡ None → clip_line w ≡ w
-clip_line-fine h before line.Silent within few fine = refl
-clip_line-fine h before line.Mark within few fine = refl
-clip_line-fine h before (line.Adopt s) within few fine =
-    let thread = (all_fine h before (line.Adopt (clip s)) fine).thread in
-    ap (λ x. line.Adopt x) (clip-near h.shards s within.shards (sym (clip-thread h.shards s within.shards) ∙ thread))
+clip_line-fine h before (line.Adopt s) within few fine = search (rules, all_fine, clip-near, clip-thread)
 clip_line-fine h before (line.Call t c) within few fine =
     let all = all_fine h before (line.Call (clip t) (clip_call c)) fine in
     ap₂ (λ x y. line.Call x y) (clip-near h.shards t within.shards (sym (clip-thread h.shards t within.shards) ∙ all.thread)) (call_known before c few all.within all.known)
+clip_line-fine h before w within few fine = refl

@@ -1,5 +1,5 @@
 -- A text that spells a trace has no fault, and spells no other trace.
-use Rattle.std.proofs.Common.{◌≡◌, ℕ, true, false, List, [], ◌∷◌, ◌++◌, Some, None, Result, Ok, Err, IfOk, IfErr, refl, sym, ap, ◌∙◌, inl, inr, subst, append_assoc, append-nil}
+use Rattle.std.proofs.Common.{◌≡◌, ℕ, true, false, List, [], ◌∷◌, ◌++◌, Result, Ok, Err, IfOk, IfErr, refl, sym, ◌∙◌, inl, inr, subst, append_assoc, append-nil, rules}
 use Rattle.trace_text.specs.declared.header.Header.{Header}
 use Rattle.trace_text.specs.declared.header.Version.{Version}
 use Rattle.trace_text.specs.declared.line.Line.{Line}
@@ -7,7 +7,7 @@ use Rattle.trace_text.specs.declared.cause.Cause.{Cause}
 use Rattle.trace_text.specs.declared.cause.ParseError.{ParseError}
 use Rattle.trace_text.specs.declared.cause.ParseError.TheVariants.{OutOfMemory, BadTrace}
 use Rattle.trace_text.specs.declared.trace.Trace.{Trace}
-use Rattle.trace_text.specs.Causes.{BeginsAtFault, HasCause, IsNextLine, AreReadAs, SaysAfter, awaits_mark, classed, first_cause}
+use Rattle.trace_text.specs.Causes.{BeginsAtFault, HasCause, IsNextLine, AreReadAs, SaysAfter, awaits_mark}
 use Rattle.trace_text.specs.Words.{lines_of}
 use Rattle.trace_text.specs.Trace.{Spells, IsTrace, IsFault, IsFaultAt, IsReadAs}
 use Rattle.trace_text.proofs.Heads.{HasHeader-fine, HasHeader-same}
@@ -16,35 +16,27 @@ use Rattle.trace_text.proofs.Classed.{classed-plain}
 
 -- after the same lines bytes say one line
 same_line : (version : Version) (before : List Line) (bytes : List ℕ) (v w : Line) → SaysAfter version before bytes v → SaysAfter version before bytes w → v ≡ w
-same_line version before bytes v w hv hw =
-    let e = form_again version v bytes hv.0 in
-    let f = form_again version w bytes hw.0 in
-    let same : plain v ≡ plain w = cc in
-    hv.1 ∙ sym (classed-plain before v) ∙ ap (classed before) same ∙ classed-plain before w ∙ sym hw.1
+same_line version before bytes v w hv hw = search (rules, form_again, plain, classed-plain)
 
 -- bytes that are the next line are not at fault
 next_or_fault : (h : Header) (before : List Line) (bytes : List ℕ) (l : Line) (c : Cause) → IsNextLine h before bytes l → HasCause h before bytes c → ⊥
 next_or_fault h before bytes l c next (inl none) = none.1 l next.0.0
-next_or_fault h before bytes l c next (inr (w, form, first)) =
-    let one : w ≡ l = same_line h.version before bytes w l form next.0 in
-    let clash : Some c ≡ None = sym first ∙ ap (first_cause h before) one ∙ next.1 in cc
+next_or_fault h before bytes l c next (inr (w, form, first)) = search (rules, same_line)
 
 -- lines of which neither one nor the end is at fault, and of which one is, or the end
 read_or_fault : (h : Header) (before : List Line) (above rest : List (List ℕ)) (ls ms : List Line) (c : Cause)
     → AreReadAs h before (above ++ rest) ls → awaits_mark (before ++ ls) ≡ false → AreReadAs h before above ms → BeginsAtFault h (before ++ ms) rest c → ⊥
 read_or_fault h before [] [] [] [] c all settled fine fault = let clash : true ≡ false = sym fault.1 ∙ settled in cc
-read_or_fault h before [] [] (l ∷ ls) ms c all settled fine fault = absurd all
 read_or_fault h before [] [] [] (m ∷ ms) c all settled fine fault = absurd fine
-read_or_fault h before [] (bytes ∷ below) [] ms c all settled fine fault = absurd all
 read_or_fault h before [] (bytes ∷ below) (l ∷ ls) [] c all settled fine fault = next_or_fault h before bytes l c all.0 (rw append-nil at fault)
 read_or_fault h before [] (bytes ∷ below) (l ∷ ls) (m ∷ ms) c all settled fine fault = absurd fine
-read_or_fault h before (t ∷ ts) rest [] ms c all settled fine fault = absurd all
 read_or_fault h before (t ∷ ts) rest (l ∷ ls) [] c all settled fine fault = absurd fine
 read_or_fault h before (t ∷ ts) rest (l ∷ ls) (m ∷ ms) c all settled fine fault =
     let one : l ≡ m = same_line h.version before t l m all.0.0 fine.0.0 in
     let P : Line → Type 0 = λ x. AreReadAs h (before ++ x ∷ []) (ts ++ rest) ls in
     let Q : Line → Type 0 = λ x. awaits_mark (before ++ x ∷ ls) ≡ false in
     read_or_fault h (before ++ m ∷ []) ts rest ls ms c (subst P one all.1) (rw append_assoc (subst Q one settled)) fine.1 (rw append_assoc fault)
+read_or_fault h before above rest ls ms c all settled fine fault = absurd all
 
 -- a text that spells a trace has no first fault
 pub spelled_has_no_fault : (text : List ℕ) (h : Header) (lines : List Line) (n : ℕ) (c : Cause) → Spells text h lines → IsFaultAt text n c → ⊥
@@ -57,14 +49,13 @@ spelled_has_no_fault text h lines n c spelled (inr (g, below, head, fault)) =
 -- texts are read as one list of lines
 same_lines : (h : Header) (before : List Line) (texts : List (List ℕ)) (ls ms : List Line) → AreReadAs h before texts ls → AreReadAs h before texts ms → ls ≡ ms
 same_lines h before [] [] [] a b = refl
-same_lines h before [] (l ∷ ls) ms a b = absurd a
 same_lines h before [] [] (m ∷ ms) a b = absurd b
-same_lines h before (t ∷ ts) [] ms a b = absurd a
 same_lines h before (t ∷ ts) (l ∷ ls) [] a b = absurd b
 same_lines h before (t ∷ ts) (l ∷ ls) (m ∷ ms) a b =
     let one : m ≡ l = same_line h.version before t m l b.0.0 a.0.0 in
     let P : Line → Type 0 = λ x. AreReadAs h (before ++ x ∷ []) ts ms in
     let more = same_lines h (before ++ l ∷ []) ts ls ms a.1 (subst P one b.1) in cc
+same_lines h before texts ls ms a b = absurd a
 
 -- so it is read, as the trace that it spells
 pub spelled_is_read : (text : List ℕ) (h : Header) (lines : List Line) (r : Result Trace ParseError) → Spells text h lines → IfOk r (IsTrace text) → IfErr r (IsFault text) → IsReadAs r h lines

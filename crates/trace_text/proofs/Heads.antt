@@ -1,9 +1,8 @@
 -- The header of a text, line by line.
-use Rattle.std.proofs.Common.{◌≡◌, ℕ, ◌+◌, ◌==◌, if◌then◌else◌, true, List, [], ◌∷◌, ◌++◌, length, get_or, Option, Some, None, arith, rules, refl, sym, ap, ◌∙◌, inl, inr, subst}
+use Rattle.std.proofs.Common.{◌≡◌, ℕ, ◌+◌, ◌==◌, if◌then◌else◌, true, List, [], ◌∷◌, ◌++◌, length, get_or, Option, Some, None, rules, refl, sym, ap, ◌∙◌, inl, inr, subst}
 use Rattle.std.specs.Str.{bytes_eq}
 use Rattle.std.proofs.lemmas.Slice.Eq.{bytes_eq-Decides}
 use Rattle.std.specs.Int.{IsInRange}
-use Rattle.certificate.specs.Number.{number_in}
 use Rattle.trace_text.specs.Form.{AreWords, Verb}
 use Rattle.trace_text.specs.Form as form
 use Rattle.trace_text.specs.Header.{BeginWith, FailsField, FailsHeader, Field, HasHeader, IsAtFault, IsHeaderFault, IsWithin, Opening, SaysNumber, Size, field_in, fields, number_of, numbers_of, opening_of}
@@ -23,17 +22,7 @@ use Rattle.trace_text.proofs.Tests.{chosen, same_bytes}
 pub FailsHeader-below : (above more : List Field) (field : Field) (numbers : List ℕ) (number : ℕ) (lines rest : List (List ℕ)) (e : ParseError)
     → fields ≡ above ++ field ∷ more → number ≡ length above + 1 → BeginWith above numbers lines rest → FailsField field number rest e → FailsHeader lines e
 FailsHeader-below above more field numbers number lines rest OutOfMemory split place fine fails = absurd fails
-FailsHeader-below above more field numbers number lines rest (BadTrace line c) split place fine fails = record {
-  above = above;
-  field = field;
-  more = more;
-  split = split;
-  place = fails.0 ∙ place;
-  numbers = numbers;
-  rest = rest;
-  fine = fine;
-  fault = fails.1;
-}
+FailsHeader-below above more field numbers number lines rest (BadTrace line c) split place fine fails = search (rules)
 
 -- a word and a number are found in the two words that say them
 field_in-says : (word : List ℕ) (words : List (List ℕ)) (n : ℕ) → AreWords words (Verb word ∷ form.Number n ∷ []) → field_in word words ≡ Some n
@@ -44,13 +33,8 @@ field_in-says word (a ∷ b ∷ c ∷ more) n says = absurd says.1.1
 
 -- and where they are found, the two words say them
 field_in-found : (word : List ℕ) (words : List (List ℕ)) (n : ℕ) → field_in word words ≡ Some n → AreWords words (Verb word ∷ form.Number n ∷ [])
-field_in-found word [] n e = cc
-field_in-found word (a ∷ []) n e = cc
-field_in-found word (a ∷ b ∷ []) n e = elim (chosen (bytes_eq a word) (number_in b) None (Some n) e) [
-  | inl p ↦ (same_bytes a word p.0, (p.1, tt))
-  | inr p ↦ cc
-]
-field_in-found word (a ∷ b ∷ c ∷ more) n e = cc
+field_in-found word (a ∷ b ∷ []) n e = search (rules, chosen, same_bytes)
+field_in-found word words n e = cc
 
 -- its number is outside the range
 pub size_outside : (word bytes : List ℕ) (most : ℕ) (number : Number) (lines rest : List (List ℕ)) → lines ≡ bytes ∷ rest
@@ -74,47 +58,32 @@ of_number n =
 
 of_number_of : (version : Version) → of_number (number_of version) ≡ version
 of_number_of One = refl
-of_number_of Two = refl
-of_number_of Three = refl
-of_number_of Four = refl
-of_number_of Five = refl
-of_number_of Six = refl
+of_number_of version = refl
 
 -- the last byte of each first line is its version's digit
 digit_of-opening : (version : Version) → get_or (opening_of version) 5 0 ≡ 48 + number_of version
 digit_of-opening One = refl
-digit_of-opening Two = refl
-digit_of-opening Three = refl
-digit_of-opening Four = refl
-digit_of-opening Five = refl
-digit_of-opening Six = refl
+digit_of-opening version = refl
 
 -- so each version has its own first line
 opening_of-same : (version other : Version) → opening_of version ≡ opening_of other → version ≡ other
-opening_of-same version other same =
-    let digits : 48 + number_of version ≡ 48 + number_of other = sym (digit_of-opening version) ∙ ap (λ bytes. get_or bytes 5 0) same ∙ digit_of-opening other in
-    let numbers : number_of version ≡ number_of other = omega (arith, digits) in
-    sym (of_number_of version) ∙ ap of_number numbers ∙ of_number_of other
+opening_of-same version other same = search (rules, digit_of-opening, of_number_of)
 
 -- a line says one number
 says_one : (field : Field) (line : List ℕ) (n m : ℕ) → SaysNumber field n line → SaysNumber field m line → n ≡ m
 says_one Opening line n m (version, is, says) (other, is_other, says_other) = says ∙ ap number_of (opening_of-same version other (sym is ∙ is_other)) ∙ sym says_other
-says_one (Size word most) line n m a b =
-    let e : Some n ≡ Some m = sym (field_in-says word (words_of line) n a) ∙ field_in-says word (words_of line) m b in cc
+says_one (Size word most) line n m a b = search (rules, field_in-says)
 
 -- lines begin with fields that say one list of numbers, and one list stands below them
 BeginWith-same : (fs : List Field) (ns ms : List ℕ) (lines below other : List (List ℕ)) → BeginWith fs ns lines below → BeginWith fs ms lines other → (ns ≡ ms) × (below ≡ other)
 BeginWith-same [] [] [] lines below other a b = (refl, sym a ∙ b)
 BeginWith-same [] [] (m ∷ ms) lines below other a b = absurd b
-BeginWith-same [] (n ∷ ns) ms lines below other a b = absurd a
-BeginWith-same (f ∷ fs) [] ms lines below other a b = absurd a
-BeginWith-same (f ∷ fs) (n ∷ ns) [] [] below other a b = absurd a
 BeginWith-same (f ∷ fs) (n ∷ ns) [] (line ∷ lines) below other a b = absurd b
-BeginWith-same (f ∷ fs) (n ∷ ns) (m ∷ ms) [] below other a b = absurd a
 BeginWith-same (f ∷ fs) (n ∷ ns) (m ∷ ms) (line ∷ lines) below other a b =
     let one = says_one f line n m a.0.0 b.0.0 in
     let more = BeginWith-same fs ns ms lines below other a.1 b.1 in
     (ap (λ x. x ∷ ns) one ∙ ap (λ xs. m ∷ xs) more.0, more.1)
+BeginWith-same fs ns ms lines below other a b = absurd a
 
 -- the header of these numbers
 abbrev of_numbers : List ℕ → Header

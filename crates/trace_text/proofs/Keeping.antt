@@ -1,5 +1,5 @@
 -- What is kept for a place.
-use Rattle.std.proofs.Common.{◌≡◌, ℕ, zero, suc, ◌+◌, ◌<◌, ◌≤◌, true, false, List, [], ◌∷◌, ◌++◌, length, get_or, map, Option, Some, None, slice_get, arith, refl, sym, ap, ◌∙◌, ◌⊎◌, inl, inr}
+use Rattle.std.proofs.Common.{◌≡◌, ℕ, zero, suc, ◌+◌, ◌<◌, ◌≤◌, true, false, List, [], ◌∷◌, ◌++◌, length, get_or, map, Option, Some, None, slice_get, arith, refl, sym, ap, ◌∙◌, ◌⊎◌, inl, inr, rules}
 use Rattle.std.specs.List.{find, range_with_len}
 use Rattle.std.specs.Option.{option_map_or, option_or}
 use Rattle.std.proofs.lemmas.Bool.Decides.{nat_tests}
@@ -71,36 +71,15 @@ slice_get-push : {X : Type 0} (xs : List X) (y : X) (n : ℕ) (x : X) → slice_
 slice_get-push [] y zero x here = inr (refl, cc)
 slice_get-push [] y (suc n) x here = absurd cc
 slice_get-push (z ∷ zs) y zero x here = inl here
-slice_get-push (z ∷ zs) y (suc n) x here = elim (slice_get-push zs y n x here) [
-  | inl old ↦ inl old
-  | inr new ↦ inr (ap suc new.0, new.1)
-]
+slice_get-push (z ∷ zs) y (suc n) x here = search (rules, (slice_get-push zs y n x here))
 
 -- lines in order are so among one more
 pub AreInOrder-more : (kept : List KeptLine) (count : ℕ) → AreInOrder kept count → AreInOrder kept (count + 1)
-AreInOrder-more kept count order = record {
-  ascend = order.ascend;
-  below = λ n a here. omega (arith, order.below n a here);
-}
+AreInOrder-more kept count order = search (rules)
 
 -- and so are they with one for the next place
 pub AreInOrder-push : (kept : List KeptLine) (count : ℕ) (new : KeptLine) → new.place ≡ count → AreInOrder kept count → AreInOrder (kept ++ new ∷ []) (count + 1)
-AreInOrder-push kept count new is order = record {
-  ascend = λ low high a b less first second. elim (slice_get-push kept new high b second) [
-    | inl upper ↦ elim (slice_get-push kept new low a first) [
-      | inl lower ↦ order.ascend low high a b less lower upper
-      | inr last ↦ absurd (omega (arith, less, last.0, slice_get_within kept high b upper))
-    ]
-    | inr upper ↦ elim (slice_get-push kept new low a first) [
-      | inl lower ↦ omega (arith, order.below low a lower, is, ap (λ (k : KeptLine). k.place) upper.1)
-      | inr last ↦ absurd (omega (arith, less, last.0, upper.0))
-    ]
-  ];
-  below = λ n a here. elim (slice_get-push kept new n a here) [
-    | inl old ↦ omega (arith, order.below n a old)
-    | inr last ↦ omega (arith, is, ap (λ (k : KeptLine). k.place) last.1)
-  ];
-}
+AreInOrder-push kept count new is order = search (rules, slice_get-push, slice_get_within)
 
 -- two functions that agree below a number make the same list
 map-range-same : {X : Type 0} (d : X) (f g : ℕ → X) (n : ℕ) → ((i : ℕ) → i < n → f i ≡ g i) → map f (range_with_len 0 n) ≡ map g (range_with_len 0 n)
@@ -112,18 +91,14 @@ or-none (Some x) = refl
 
 -- what was found is found in a list with one more for another place
 find-old : (kept : List KeptLine) (new : KeptLine) (place : ℕ) → (new.place ≡ place → ⊥) → find (is_at place) (kept ++ new ∷ []) ≡ find (is_at place) kept
-find-old kept new place other = find-append (is_at place) kept (new ∷ []) ∙ ap (option_or (find (is_at place) kept)) (find-none (new ∷ []) place (alone new)) ∙ or-none (find (is_at place) kept) where
-  alone : (m : KeptLine) → (n : ℕ) (a : KeptLine) → slice_get (new ∷ []) n ≡ Some a → a.place ≡ place → ⊥
-  alone m zero a here same = let is : new ≡ a = cc in other (ap (λ (k : KeptLine). k.place) is ∙ same)
-  alone m (suc n) a here same = absurd cc
+find-old kept new place other = search (rules, find-append, find-none, or-none)
 
 -- nothing is kept for the place below the last line
 find-next : (kept : List KeptLine) (count : ℕ) → AreInOrder kept count → find (is_at count) kept ≡ None
 find-next kept count order = find-none kept count (λ n a here same. omega (arith, same, order.below n a here))
 
 find-new : (kept : List KeptLine) (count : ℕ) (new : KeptLine) → new.place ≡ count → AreInOrder kept count → find (is_at count) (kept ++ new ∷ []) ≡ Some new
-find-new kept count new is order =
-    find-append (is_at count) kept (new ∷ []) ∙ ap (λ o. option_or o (find (is_at count) (new ∷ []))) (find-next kept count order) ∙ rw (there new count is) refl
+find-new kept count new is order = search (rules, find-append, find-next, there)
 
 -- a line more, of which something is kept
 module _ {X : Type 0} (d : X) (f : KeptLine → X) where
@@ -146,24 +121,19 @@ module _ {X : Type 0} (d : X) (f : KeptLine → X) where
 -- what stands at a place
 pub kept_line : (kept : List KeptLine) (count place : ℕ) (one : KeptLine) → place < length (map (line_kept kept) (range_with_len 0 count)) → find (is_at place) kept ≡ Some one
     → slice_get (map (line_kept kept) (range_with_len 0 count)) place ≡ Some one.line
-kept_line kept count place one less found =
-    slice_get-map-range (line_kept kept) count place (omega (arith, less, length-map-range_with_len (line_kept kept) 0 count))
-    ∙ ap (λ o. Some (option_map_or (λ (k : KeptLine). k.line) o Silent)) found
+kept_line kept count place one less found = search (rules, slice_get-map-range, length-map-range_with_len)
 
 pub kept_line-none : (kept : List KeptLine) (count place : ℕ) → place < length (map (line_kept kept) (range_with_len 0 count)) → find (is_at place) kept ≡ None
     → slice_get (map (line_kept kept) (range_with_len 0 count)) place ≡ Some Silent
-kept_line-none kept count place less none =
-    slice_get-map-range (line_kept kept) count place (omega (arith, less, length-map-range_with_len (line_kept kept) 0 count)) ∙ ap (λ o. Some (option_map_or (λ (k : KeptLine). k.line) o Silent)) none
+kept_line-none kept count place less none = search (rules, slice_get-map-range, length-map-range_with_len)
 
 pub kept_read : (kept : List KeptLine) (count place : ℕ) (one : KeptLine) → place < length (map (line_kept kept) (range_with_len 0 count)) → find (is_at place) kept ≡ Some one
     → slice_get (map (place_kept kept) (range_with_len 0 count)) place ≡ Some one.reads
-kept_read kept count place one less found =
-    slice_get-map-range (place_kept kept) count place (omega (arith, less, length-map-range_with_len (line_kept kept) 0 count)) ∙ ap (λ o. Some (option_map_or (λ (k : KeptLine). k.reads) o 0)) found
+kept_read kept count place one less found = search (rules, slice_get-map-range, length-map-range_with_len)
 
 pub kept_read-none : (kept : List KeptLine) (count place : ℕ) → place < length (map (line_kept kept) (range_with_len 0 count)) → find (is_at place) kept ≡ None
     → slice_get (map (place_kept kept) (range_with_len 0 count)) place ≡ Some 0
-kept_read-none kept count place less none =
-    slice_get-map-range (place_kept kept) count place (omega (arith, less, length-map-range_with_len (line_kept kept) 0 count)) ∙ ap (λ o. Some (option_map_or (λ (k : KeptLine). k.reads) o 0)) none
+kept_read-none kept count place less none = search (rules, slice_get-map-range, length-map-range_with_len)
 
 -- one line more
 pub lines-push : (kept : List KeptLine) (count : ℕ) (new : KeptLine) → new.place ≡ count → AreInOrder kept count

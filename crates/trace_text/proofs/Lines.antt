@@ -1,8 +1,7 @@
 -- The form of a line, as a function and as a relation.
-use Rattle.std.proofs.Common.{◌≡◌, ℕ, ◌<◌, ◌≤◌, ◌==◌, ◌&&◌, ◌||◌, not, nat_lt, ◌⊎◌, true, false, List, [], ◌∷◌, length, Option, Some, None, option_map, codes, slice_index, arith, rules, refl, sym, ap, inl, inr, subst}
-use Rattle.std.specs.List.{slice_split, onto_first, list_all}
-use Rattle.std.specs.Char.{is_ascii_digit}
-use Rattle.std.specs.Str.Parse.{digits_value}
+use Rattle.std.proofs.lemmas.Grind.{common_steps}
+use Rattle.std.proofs.Common.{◌≡◌, ℕ, ◌<◌, ◌≤◌, ◌==◌, nat_lt, ◌⊎◌, true, false, List, [], ◌∷◌, length, Option, Some, None, option_map, codes, slice_index, arith, rules, refl, sym, inl, inr, subst}
+use Rattle.std.specs.List.{onto_first}
 use Rattle.std.proofs.lemmas.Bool.Decides.{nat_tests}
 use Rattle.certificate.proofs.Digits.{is_digit-range}
 use Rattle.std.specs.Option.{option_and_then}
@@ -14,16 +13,16 @@ use Rattle.span.specs.declared.class.Class.TheVariants.{C16}
 use Rattle.trace_text.specs.declared.header.Version.{Version}
 use Rattle.trace_text.specs.declared.name.Reference.{Reference}
 use Rattle.trace_text.specs.declared.line.Call.{Call}
-use Rattle.trace_text.specs.declared.line.Call.TheVariants.{Put, Fill, Get, Set, Free, Sweep, Later, Tend, Trim, Retire, End, Begin}
+use Rattle.trace_text.specs.declared.line.Call.TheVariants.{Put, Fill, Get, Set, Free, Sweep, Later, Tend, Trim, End, Begin}
 use Rattle.trace_text.specs.declared.line.Line.{Line}
 use Rattle.trace_text.specs.declared.line.Line.TheVariants as line
-use Rattle.certificate.specs.Number.{number_in, is_numeral}
+use Rattle.certificate.specs.Number.{number_in}
 use Rattle.trace_text.specs.Name.{is_name}
 use Rattle.trace_text.specs.Reference.{reference_in}
 use Rattle.trace_text.specs.Words.{words_of}
 use Rattle.trace_text.proofs.Tests.{chosen, same_bytes}
 use Rattle.trace_text.proofs.Verbs.{class_filled-again, class_filled-found, class_put-again, class_put-found}
-use Rattle.trace_text.specs.Form.{Word, Verb, Number, Named, Refers, IsWord, AreWords, SaysLine, HasForm, has_verb, class_filled, class_put, fill_verb, put_verb, set_verb, trim_verb, retire_verb, begin_verb, verb_of, words_of_call, bare_call, key_call, retire_call, aimed_call, with_name, value_call, set_call, valued_call, with_two, counted_call, thread_line, one_word, two_words, form_of_words, form_of}
+use Rattle.trace_text.specs.Form.{Word, Verb, Number, Named, Refers, IsWord, AreWords, SaysLine, HasForm, has_verb, class_filled, class_put, fill_verb, put_verb, set_verb, retire_verb, verb_of, words_of_call, bare_call, key_call, retire_call, aimed_call, with_name, value_call, set_call, valued_call, with_two, counted_call, thread_line, one_word, two_words, form_of_words, form_of}
 
 mapped : {A B : Type 0} (f : A → B) (o : Option A) (b : B) → option_map f o ≡ Some b → (a : A) × (o ≡ Some a) × (f a ≡ b)
 mapped f None b e = cc
@@ -36,25 +35,12 @@ SaysCall words call = AreWords words (words_of_call call)
 -- ---- what is read has that form
 
 bare_found : (verb : List ℕ) (w : Call) → bare_call verb ≡ Some w → SaysCall (verb ∷ []) w
-bare_found verb w e = elim (chosen (bytes_eq verb (codes "end")) _ _ (Some w) e) [
-  | inl p ↦ let is : End ≡ w = cc p.1 in subst (SaysCall (verb ∷ [])) is (same_bytes verb (codes "end") p.0, tt)
-  | inr p ↦ elim (chosen (bytes_eq verb (codes "tend")) _ _ (Some w) p.1) [
-    | inl q ↦ let is : Tend ≡ w = cc q.1 in subst (SaysCall (verb ∷ [])) is (same_bytes verb (codes "tend") q.0, tt)
-    | inr q ↦ elim (chosen (bytes_eq verb trim_verb) _ _ (Some w) q.1) [
-      | inl r ↦ let is : Trim ≡ w = cc r.1 in subst (SaysCall (verb ∷ [])) is (same_bytes verb trim_verb r.0, tt)
-      | inr r ↦ elim (chosen (bytes_eq verb begin_verb) _ _ (Some w) r.1) [
-        | inl s ↦ let is : Begin ≡ w = cc s.1 in subst (SaysCall (verb ∷ [])) is (same_bytes verb begin_verb s.0, tt)
-        | inr s ↦ cc
-      ]
-    ]
-  ]
-]
+bare_found verb w e = search (rules, chosen, same_bytes)
 
 -- a call on a key, by its verb
 one_key : (call : Reference → Call) (verb key text : List ℕ) (w : Call) → ((k : Reference) → words_of_call (call k) ≡ Verb text ∷ Refers k ∷ []) → verb ≡ text
     → option_map call (reference_in key) ≡ Some w → SaysCall (verb ∷ key ∷ []) w
-one_key call verb key text w says is e = let parts = mapped call (reference_in key) w e in
-    subst (SaysCall (verb ∷ key ∷ [])) parts.2 (subst (AreWords (verb ∷ key ∷ [])) (sym (says parts.0)) (is, (parts.1, tt)))
+one_key call verb key text w says is e = search (rules, mapped)
 
 key_found : (verb key : List ℕ) (w : Call) → key_call verb key ≡ Some w → SaysCall (verb ∷ key ∷ []) w
 key_found verb key w e = elim (chosen (bytes_eq verb (codes "get")) _ _ (Some w) e) [
@@ -69,8 +55,7 @@ key_found verb key w e = elim (chosen (bytes_eq verb (codes "get")) _ _ (Some w)
 ]
 
 retire_found : (verb most : List ℕ) (w : Call) → verb ≡ retire_verb → retire_call most ≡ Some w → SaysCall (verb ∷ most ∷ []) w
-retire_found verb most w is e = let parts = mapped Retire (number_in most) w e in
-    subst (SaysCall (verb ∷ most ∷ [])) parts.2 (is, (parts.1, tt))
+retire_found verb most w is e = search (rules, mapped)
 
 aimed_found : (verb word : List ℕ) (w : Call) → aimed_call verb word ≡ Some w → SaysCall (verb ∷ word ∷ []) w
 aimed_found verb word w e = elim (chosen (bytes_eq verb retire_verb) _ _ (Some w) e) [
@@ -125,10 +110,7 @@ thread_found version thread verb call more w e found = elim (chosen (has_verb ve
 ]
 
 one_found : (version : Version) (word : List ℕ) (w : Line) → one_word word ≡ Some w → SaysLine version w (word ∷ [])
-one_found version word w e = elim (chosen (bytes_eq word (codes "mark")) _ _ (Some w) e) [
-  | inl p ↦ let is : line.Mark ≡ w = cc p.1 in let P : Line → Type 0 = λ v. SaysLine version v (word ∷ []) in subst P is (same_bytes word (codes "mark") p.0, tt)
-  | inr p ↦ cc
-]
+one_found version word w e = search (rules, chosen, same_bytes)
 
 two_words_found : (version : Version) (first second : List ℕ) (w : Line) → two_words version first second ≡ Some w → SaysLine version w (first ∷ second ∷ [])
 two_words_found version first second w e = elim (chosen (bytes_eq first (codes "adopt")) _ _ (Some w) e) [
@@ -138,19 +120,16 @@ two_words_found version first second w e = elim (chosen (bytes_eq first (codes "
 ]
 
 words_found : (version : Version) (words : List (List ℕ)) (w : Line) → form_of_words version words ≡ Some w → SaysLine version w words
-words_found version [] w e = cc
 words_found version (a ∷ []) w e = one_found version a w e
 words_found version (a ∷ b ∷ []) w e = two_words_found version a b w e
 words_found version (a ∷ b ∷ c ∷ []) w e = thread_found version a b (aimed_call b c) (c ∷ []) w e (aimed_found b c)
 words_found version (a ∷ b ∷ c ∷ d ∷ []) w e = thread_found version a b (valued_call b c d) (c ∷ d ∷ []) w e (valued_found b c d)
 words_found version (a ∷ b ∷ c ∷ d ∷ f ∷ []) w e = thread_found version a b (counted_call b c d f) (c ∷ d ∷ f ∷ []) w e (counted_found b c d f)
-words_found version (a ∷ b ∷ c ∷ d ∷ f ∷ g ∷ more) w e = cc
+words_found version words w e = cc
 
 says_form : (version : Version) (bytes : List ℕ) (w : Line) → SaysLine version w (words_of bytes) → HasForm version w bytes
 says_form version bytes line.Silent says = absurd says
-says_form version bytes (line.Call t c) says = says
-says_form version bytes (line.Adopt s) says = says
-says_form version bytes line.Mark says = says
+says_form version bytes w says = says
 
 silent_found : (version : Version) (bytes : List ℕ) (w : Line) → (bytes ≡ []) ⊎ ((remark : List ℕ) × (bytes ≡ 35 ∷ remark)) → Some line.Silent ≡ Some w → HasForm version w bytes
 silent_found version bytes w is e = let same : line.Silent ≡ w = cc in let P : Line → Type 0 = λ v. HasForm version v bytes in subst P same is
@@ -158,10 +137,7 @@ silent_found version bytes w is e = let same : line.Silent ≡ w = cc in let P :
 -- what is read has that form
 pub form_found : (version : Version) (bytes : List ℕ) (w : Line) → form_of version bytes ≡ Some w → HasForm version w bytes
 form_found version [] w e = silent_found version [] w (inl refl) e
-form_found version (b ∷ bs) w e = elim (chosen (b == 35) _ _ (Some w) e) [
-  | inl p ↦ silent_found version (b ∷ bs) w (inr (bs, ap (λ c. c ∷ bs) (search (rules, p.0)))) p.1
-  | inr p ↦ says_form version (b ∷ bs) w (words_found version (words_of (b ∷ bs)) w p.1)
-]
+form_found version (b ∷ bs) w e = search (rules, chosen, silent_found, says_form, words_found)
 
 -- ---- what has a form is read
 
@@ -211,22 +187,11 @@ one (a ∷ b ∷ more) p says = absurd says.1
 -- a number begins with a digit
 first_of_number : (word : List ℕ) (n : ℕ) → number_in word ≡ Some n → (0 < length word) × (48 ≤ slice_index word 0) × (slice_index word 0 < 58)
 first_of_number [] n e = cc
-first_of_number (c ∷ cs) n e =
-    let numeral = cond_some (is_numeral (c ∷ cs)) (digits_value 10 (c ∷ cs)) n e in
-    let parts = and_parts (nat_lt 0 (length (c ∷ cs))) ((length (c ∷ cs) == 1 || not (slice_index (c ∷ cs) 0 == 48)) && list_all is_ascii_digit (c ∷ cs)) numeral.0 in
-    let digits = and_parts (length (c ∷ cs) == 1 || not (slice_index (c ∷ cs) 0 == 48)) (list_all is_ascii_digit (c ∷ cs)) parts.1 in
-    let first = and_parts (is_ascii_digit c) (list_all is_ascii_digit cs) digits.1 in
-    let range = is_digit-range c first.0 in
-    (omega arith, range.0, omega (arith, range.1))
+first_of_number (c ∷ cs) n e = search (rules, cond_some, and_parts, nat_lt, slice_index, is_digit-range)
 
 -- so it is no `adopt`
 not_adopt : (word : List ℕ) (n : ℕ) → number_in word ≡ Some n → bytes_eq word (codes "adopt") ≡ false
-not_adopt word n is = elim (cases_Bool (bytes_eq word (codes "adopt"))) [
-  | inl same ↦ let first = first_of_number word n is in
-      let large : slice_index word 0 ≡ 97 = rw (same_bytes word (codes "adopt") same) refl in
-      absurd (omega (arith, first.2, large))
-  | inr other ↦ other
-]
+not_adopt word n is = search (rules, cases_Bool, first_of_number, slice_index, same_bytes)
 
 thread_again : (version : Version) (thread verb : List ℕ) (t : ℕ) (call : Option Call) (c : Call) → has_verb version (verb_of c) ≡ true → verb ≡ verb_of c
     → number_in thread ≡ Some t → call ≡ Some c → thread_line version thread verb call ≡ Some (line.Call t c)
@@ -252,35 +217,21 @@ two_again call name bytes first second a b named fst snd = rw (fst, snd) (named_
 
 fill_again : (class : Class) (name bytes first second : List ℕ) (n v : ℕ) → (bytes ≡ name) × (is_name name ≡ true) → number_in first ≡ Some n
     → number_in second ≡ Some v → counted_call (fill_verb class) bytes first second ≡ Some (Fill name class n v)
-fill_again class name bytes first second n v named fst snd =
-    rw (class_filled-again class) (two_again (λ m a b. Fill m class a b) name bytes first second n v named fst snd)
+fill_again class name bytes first second n v named fst snd = search (rules, class_filled-again, two_again)
 
 -- a line whose words say a thread's call is read as that
 call_again : (version : Version) (words : List (List ℕ)) (t : ℕ) (c : Call) → SaysLine version (line.Call t c) words → form_of_words version words ≡ Some (line.Call t (plain_call c))
 call_again version words t (Put name class v) says = let w = one_more words (Number t) _ says.1 in let u = three w.1 _ _ _ w.4 in
     rw (w.2, u.3, u.4) (thread_again version w.0 _ t _ (Put name class v) says.0 refl w.3 (valued_again class name u.2 v u.1 u.5 u.6))
-call_again version words t (Set key class v) says = let w = one_more words (Number t) _ says.1 in let u = three w.1 _ _ _ w.4 in
-    rw (w.2, u.3, u.4) (thread_again version w.0 _ t _ (Set key C16 v) says.0 refl w.3 (set_again key u.1 u.2 v u.5 u.6))
+call_again version words t (Set key class v) says = search (rules, one_more, three, thread_again, set_again)
 call_again version words t (Fill name class n v) says = let w = one_more words (Number t) _ says.1 in let u = four w.1 _ _ _ _ w.4 in
     rw (w.2, u.4, u.5) (thread_again version w.0 _ t _ (Fill name class n v) says.0 refl w.3 (fill_again class name u.1 u.2 u.3 n v u.6 u.7 u.8))
-call_again version words t (Sweep name from to) says = let w = one_more words (Number t) _ says.1 in let u = four w.1 _ _ _ _ w.4 in
-    rw (w.2, u.4, u.5) (thread_again version w.0 _ t _ (Sweep name from to) says.0 refl w.3 (two_again (λ m a b. Sweep m a b) name u.1 u.2 u.3 from to u.6 u.7 u.8))
-call_again version words t (Get key) says = let w = one_more words (Number t) _ says.1 in let u = two w.1 _ _ w.4 in
-    rw (w.2, u.2, u.3) (thread_again version w.0 _ t _ (Get key) says.0 refl w.3 (rw u.4 refl))
-call_again version words t (Free key) says = let w = one_more words (Number t) _ says.1 in let u = two w.1 _ _ w.4 in
-    rw (w.2, u.2, u.3) (thread_again version w.0 _ t _ (Free key) says.0 refl w.3 (rw u.4 refl))
-call_again version words t (Later key) says = let w = one_more words (Number t) _ says.1 in let u = two w.1 _ _ w.4 in
-    rw (w.2, u.2, u.3) (thread_again version w.0 _ t _ (Later key) says.0 refl w.3 (rw u.4 refl))
-call_again version words t Tend says = let w = one_more words (Number t) _ says.1 in let u = one w.1 _ w.4 in
-    rw (w.2, u.1, u.2, not_adopt w.0 t w.3) (thread_again version w.0 _ t _ Tend says.0 refl w.3 refl)
-call_again version words t Trim says = let w = one_more words (Number t) _ says.1 in let u = one w.1 _ w.4 in
-    rw (w.2, u.1, u.2, not_adopt w.0 t w.3) (thread_again version w.0 _ t _ Trim says.0 refl w.3 refl)
-call_again version words t (Retire most) says = let w = one_more words (Number t) _ says.1 in let u = two w.1 _ _ w.4 in
-    rw (w.2, u.2, u.3) (thread_again version w.0 _ t _ (Retire most) says.0 refl w.3 (rw u.4 refl))
-call_again version words t Begin says = let w = one_more words (Number t) _ says.1 in let u = one w.1 _ w.4 in
-    rw (w.2, u.1, u.2, not_adopt w.0 t w.3) (thread_again version w.0 _ t _ Begin says.0 refl w.3 refl)
-call_again version words t End says = let w = one_more words (Number t) _ says.1 in let u = one w.1 _ w.4 in
-    rw (w.2, u.1, u.2, not_adopt w.0 t w.3) (thread_again version w.0 _ t _ End says.0 refl w.3 refl)
+call_again version words t (Sweep name from to) says = search (rules, one_more, four, thread_again, two_again)
+call_again version words t Tend says = search (rules, one_more, one, not_adopt, thread_again)
+call_again version words t Trim says = search (rules, one_more, one, not_adopt, thread_again)
+call_again version words t Begin says = search (rules, one_more, one, not_adopt, thread_again)
+call_again version words t End says = search (rules, one_more, one, not_adopt, thread_again)
+call_again version words t c says = search (rules, one_more, two, thread_again)
 
 adopt_again : (version : Version) (words : List (List ℕ)) (a b : List ℕ) (s : ℕ) → words ≡ a ∷ b ∷ [] → a ≡ codes "adopt" → number_in b ≡ Some s → form_of_words version words ≡ Some (line.Adopt s)
 adopt_again version words a b s split is number = rw (split, is, number) refl
@@ -293,12 +244,9 @@ words_again : (version : Version) (words : List (List ℕ)) (w : Line) → SaysL
     → (form_of_words version words ≡ Some (plain w)) × (first : List ℕ) × (more : List (List ℕ)) × (words ≡ first ∷ more) × (0 < length first)
     × (35 < slice_index first 0)
 words_again version words line.Silent says = absurd says
-words_again version words (line.Adopt s) says = let u = two words _ _ says in
-    (adopt_again version words u.0 u.1 s u.2 u.3 u.4, u.0, u.1 ∷ [], u.2, rw u.3 (omega arith), rw u.3 (omega arith))
-words_again version words line.Mark says = let u = one words _ says in
-    (mark_again version words u.0 u.1 u.2, u.0, [], u.1, rw u.2 (omega arith), rw u.2 (omega arith))
-words_again version words (line.Call t c) says = let w = one_more words (Number t) _ says.1 in let first = first_of_number w.0 t w.3 in
-    (call_again version words t c says, w.0, w.1, w.2, first.0, omega (arith, first.1))
+words_again version words (line.Adopt s) says = search (rules, two, adopt_again)
+words_again version words line.Mark says = search (rules, one, mark_again)
+words_again version words (line.Call t c) says = grind (arith, common_steps, one_more, first_of_number, call_again)
 
 first_word : (b : ℕ) (parts : List (List ℕ)) (word : List ℕ) (words : List (List ℕ)) → onto_first b parts ≡ word ∷ words → slice_index word 0 ≡ b
 first_word b [] word words e = let is : b ∷ [] ≡ word = cc in rw (← is) refl
@@ -309,22 +257,14 @@ above_remark b h = grind (arith, nat_tests)
 
 -- so a line of such words is no remark
 no_remark : (b : ℕ) (bs word : List ℕ) (words : List (List ℕ)) → words_of (b ∷ bs) ≡ word ∷ words → 0 < length word → 35 < slice_index word 0 → (b == 35) ≡ false
-no_remark b bs word words e some above =
-    elim (chosen (b == 32) ([] ∷ slice_split (λ c. c == 32) bs) (onto_first b (slice_split (λ c. c == 32) bs)) (word ∷ words) e) [
-      | inl p ↦ let empty : [] ≡ word = cc p.1 in let none = rw (← empty) at some in absurd (omega (arith, none))
-      | inr p ↦ above_remark b (omega (arith, above, first_word b (slice_split (λ c. c == 32) bs) word words p.1))
-    ]
+no_remark b bs word words e some above = search (rules, chosen, above_remark, first_word)
 
 bytes_again : (version : Version) (bytes : List ℕ) (w : Line) → SaysLine version w (words_of bytes) → form_of version bytes ≡ Some (plain w)
-bytes_again version [] w says = let again = words_again version (words_of []) w says in
-    let empty : [] ≡ again.1 = let e : [] ∷ [] ≡ again.1 ∷ again.2 = again.3 in cc in let none = rw (← empty) at again.4 in absurd (omega (arith, none))
-bytes_again version (b ∷ bs) w says = let again = words_again version (words_of (b ∷ bs)) w says in
-    rw (no_remark b bs again.1 again.2 again.3 again.4 again.5) again.0
+bytes_again version [] w says = search (rules, words_again)
+bytes_again version (b ∷ bs) w says = search (rules, words_again, no_remark)
 
 -- what has a form is read as that line, but for the class of a set
 pub form_again : (version : Version) (w : Line) (bytes : List ℕ) → HasForm version w bytes → form_of version bytes ≡ Some (plain w)
 form_again version line.Silent bytes (inl e) = rw e refl
 form_again version line.Silent bytes (inr (remark, e)) = rw e refl
-form_again version (line.Call t c) bytes says = bytes_again version bytes (line.Call t c) says
-form_again version (line.Adopt s) bytes says = bytes_again version bytes (line.Adopt s) says
-form_again version line.Mark bytes says = bytes_again version bytes line.Mark says
+form_again version w bytes says = bytes_again version bytes w says

@@ -1,5 +1,5 @@
 -- The lines of a text, one after another.
-use Rattle.std.proofs.Common.{◌≡◌, ℕ, ◌+◌, ◌⊎◌, true, List, [], ◌∷◌, ◌++◌, length, take, Option, Some, None, Ok, Err, zero, suc, arith, refl, sym, ap, ◌∙◌, inl, inr, subst, append_assoc, append-nil}
+use Rattle.std.proofs.Common.{◌≡◌, ℕ, ◌+◌, ◌⊎◌, true, List, [], ◌∷◌, ◌++◌, length, take, Option, Some, None, Ok, Err, zero, suc, arith, refl, sym, ap, ◌∙◌, inl, inr, subst, append_assoc, append-nil, rules}
 use Rattle.std.specs.List.{slice_get}
 use Rattle.trace_text.specs.declared.line.Line.{Line}
 use Rattle.trace_text.specs.declared.header.Header.{Header}
@@ -20,23 +20,16 @@ AreReadAs-push : (h : Header) (before : List Line) (texts : List (List ℕ)) (li
     → IsNextLine h (before ++ lines) bytes l → AreReadAs h before (texts ++ bytes ∷ []) (lines ++ l ∷ [])
 AreReadAs-push h before [] [] bytes l all next = (subst (λ b. IsNextLine h b bytes l) (append-nil before) next, tt)
 AreReadAs-push h before (b ∷ bs) (m ∷ ms) bytes l (first, rest) next = (first, AreReadAs-push h (before ++ m ∷ []) bs ms bytes l rest (rw append_assoc next))
-AreReadAs-push h before [] (m ∷ ms) bytes l all next = absurd all
-AreReadAs-push h before (b ∷ bs) [] bytes l all next = absurd all
+AreReadAs-push h before texts lines bytes l all next = absurd all
 
 -- what is kept of a line that has a form
 within_ok : (form : Option Line) (l : Line) → within form ≡ Ok l → (w : Line) × (form ≡ Some w) × (clip_line w ≡ l)
 within_ok None l e = cc
-within_ok (Some w) l e = elim (chosen (is_call is_value_over w) (Err cause.Limit) (Ok (clip_line w)) (Ok l) e) [
-  | inl p ↦ cc p.1
-  | inr p ↦ (w, refl, cc p.1)
-]
+within_ok (Some w) l e = search (rules, chosen)
 
 within_err : (form : Option Line) (c : Cause) → within form ≡ Err c → ((form ≡ None) × (c ≡ cause.Form)) ⊎ ((w : Line) × (form ≡ Some w) × (is_call is_value_over w ≡ true) × (c ≡ cause.Limit))
 within_err None c e = inl (refl, cc)
-within_err (Some w) c e = elim (chosen (is_call is_value_over w) (Err cause.Limit) (Ok (clip_line w)) (Err c) e) [
-  | inl p ↦ inr (w, refl, p.0, cc p.1)
-  | inr p ↦ cc p.1
-]
+within_err (Some w) c e = search (rules, chosen)
 
 -- a form, with the class that it is given
 says_classed : (h : Header) (before : List Line) (bytes : List ℕ) (w : Line) → form_of h.version bytes ≡ Some w → SaysAfter h.version before bytes (classed before w)
@@ -45,13 +38,7 @@ says_classed h before bytes w read = (HasForm-classed h.version before bytes w (
 -- a line that is read, given its class and not refused is a line of the trace
 pub fine_line : (h : Header) (before : List Line) (bytes : List ℕ) (l given : Line) → IsWithinLimits h → Few before → within (form_of h.version bytes) ≡ Ok l
     → given ≡ classed before l → first_cause h before given ≡ None → IsNextLine h before bytes given
-fine_line h before bytes l given within few read is fine =
-    let w = within_ok (form_of h.version bytes) l read in
-    let clipped : clip_line (classed before w.0) ≡ given = sym (classed-clip before w.0) ∙ ap (classed before) w.2 ∙ sym is in
-    let whole = clip_line-fine h before (classed before w.0) within few (rw clipped fine) in
-    let same : classed before w.0 ≡ given = sym whole ∙ clipped in
-    let P : Line → Type 0 = λ v. SaysAfter h.version before bytes v × (first_cause h before v ≡ None) in
-    subst P same (says_classed h before bytes w.0 w.1, sym (first_cause-clip h before (classed before w.0) within few) ∙ ap (first_cause h before) clipped ∙ fine)
+fine_line h before bytes l given within few read is fine = search (rules, within_ok, classed-clip, clip_line-fine, says_classed, first_cause-clip)
 
 -- a line that is read, given its class and refused is at fault
 pub refused_line : (h : Header) (before : List Line) (bytes : List ℕ) (l given : Line) (c : Cause) → IsWithinLimits h → Few before
@@ -72,8 +59,7 @@ unread_line h before bytes c read = elim (within_err (form_of h.version bytes) c
 AreReadAs-length : (h : Header) (before : List Line) (texts : List (List ℕ)) (lines : List Line) → AreReadAs h before texts lines → length lines ≡ length texts
 AreReadAs-length h before [] [] all = refl
 AreReadAs-length h before (b ∷ bs) (m ∷ ms) all = omega (arith, AreReadAs-length h (before ++ m ∷ []) bs ms all.1)
-AreReadAs-length h before [] (m ∷ ms) all = absurd all
-AreReadAs-length h before (b ∷ bs) [] all = absurd all
+AreReadAs-length h before texts lines all = absurd all
 
 -- of those texts the first ones are read as these lines, and the rest stand below
 pub record SoFar (h : Header) (texts rest : List (List ℕ)) (lines : List Line) : Type 0 where
@@ -97,15 +83,7 @@ SoFar-more h texts rest more lines bytes l far next fine = record {
 -- the first line of the rest is at fault
 pub SoFar-fault : (h : Header) (texts rest more : List (List ℕ)) (lines : List Line) (bytes : List ℕ) (n : ℕ) (c : Cause) → SoFar h texts rest lines
     → rest ≡ bytes ∷ more → HasCause h lines bytes c → n ≡ length lines + 6 → IsFirstFault h texts n c
-SoFar-fault h texts rest more lines bytes n c far next fault place = record {
-  above = far.above;
-  rest = bytes ∷ more;
-  split = far.split ∙ ap (λ ls. far.above ++ ls) next;
-  place = omega (arith, place, AreReadAs-length h [] far.above lines far.fine);
-  lines = lines;
-  fine = far.fine;
-  fault = fault;
-}
+SoFar-fault h texts rest more lines bytes n c far next fault place = search (rules, AreReadAs-length)
 
 -- the end of the text at fault
 pub end_fault : (h : Header) (texts : List (List ℕ)) (lines : List Line) (n : ℕ) → AreReadAs h [] texts lines → awaits_mark lines ≡ true → n ≡ length lines + 6 → IsFirstFault h texts n cause.Adopt
@@ -123,10 +101,9 @@ end_fault h texts lines n fine awaits place = record {
 AreReadAs-fine : (h : Header) (before : List Line) (texts : List (List ℕ)) (lines : List Line) (place : ℕ) (l : Line) → AreReadAs h before texts lines
     → slice_get lines place ≡ Some l → first_cause h (before ++ take place lines) l ≡ None
 AreReadAs-fine h before [] [] place l all at = cc
-AreReadAs-fine h before [] (m ∷ ms) place l all at = absurd all
-AreReadAs-fine h before (b ∷ bs) [] place l all at = absurd all
 AreReadAs-fine h before (b ∷ bs) (m ∷ ms) zero l all at = let is : m ≡ l = cc at in rw append-nil (subst (λ (x : Line). first_cause h before x ≡ None) is all.0.1)
 AreReadAs-fine h before (b ∷ bs) (m ∷ ms) (suc place) l all at = rw append_assoc at (AreReadAs-fine h (before ++ m ∷ []) bs ms place l all.1 at)
+AreReadAs-fine h before texts lines place l all at = absurd all
 
 pub IsSound-AreReadAs : (h : Header) (texts : List (List ℕ)) (lines : List Line) → AreReadAs h [] texts lines → IsSound h lines
 IsSound-AreReadAs h texts lines all = λ place l at. AreReadAs-fine h [] texts lines place l all at

@@ -2,6 +2,7 @@
 
 ghost use Rattle.std.specs.Prelude.{◌≡◌, ◌+◌, ◌<◌, ◌≤◌, ◌^◌, length};
 ghost use Rattle.std.specs.List.{range_with_len};
+ghost use Rattle.span.specs.Classes.{width_of};
 ghost use Rattle.trace_text.specs.Objects.{counted_from, last_word};
 
 use span::{Class, Object};
@@ -17,6 +18,18 @@ pub fn count_up(words: &mut [u128], base: u128)
     }
 }
 
+/// Writes the words of the object of the class that counts up from that base into the first of the
+/// room, and lends them.
+pub fn counted_in(room: &mut [u128; 16], class: Class, base: u128) -> &[u128]
+    requires { last_word class base < 2 ^ 128 }
+    ensures words { result.now ≡ counted_from class base }
+    ensures width { length result.now ≡ width_of class }
+{
+    let words = &mut room[..class.words()];
+    count_up(words, base);
+    words
+}
+
 /// The object of the class that counts up from that base: its words are the base, one more than
 /// that, and so on.
 pub fn counting_from(class: Class, base: u128) -> Object
@@ -27,9 +40,7 @@ pub fn counting_from(class: Class, base: u128) -> Object
         Class::C16 => Object::c16(base),
         _ => {
             let mut room = [0; 16];
-            let words = &mut room[..class.words()];
-            count_up(words, base);
-            Object::of(class, words)
+            Object::of(class, counted_in(&mut room, class, base))
         }
     }
 }

@@ -80,7 +80,7 @@ mod verb;
 mod words;
 
 pub use cause::{Cause, ParseError};
-pub use counting::{count_up, counting_from};
+pub use counting::{count_up, counted_in, counting_from};
 pub use header::{Header, TRACE_PAGES, Version};
 pub use line::{Binding, Call, Keys, Line};
 pub use line_list::LineList;
