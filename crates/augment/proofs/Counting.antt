@@ -1,5 +1,5 @@
 -- The listed pairs and the listed short set: no member twice, and how many there are
-use Rattle.std.proofs.Common.{ℕ, ◌+◌, ◌<◌, ◌≡◌, ◌≢◌, Bool, true, false, List, [], ◌∷◌, length, map, Option, Some, None, refl, sym, ◌∙◌, ap, inl, inr, arith, get_or, cond, zero, suc}
+use Rattle.std.proofs.Common.{ℕ, ◌+◌, ◌<◌, ◌≡◌, ◌≢◌, Bool, true, false, List, [], ◌∷◌, length, map, Option, Some, None, refl, ◌∙◌, ap, inl, inr, arith, get_or, cond, zero, suc, rules}
 use Rattle.std.specs.List.{AllByRecursion, IsDistinct, filter}
 use Rattle.std.proofs.lemmas.Bool.{cases_Bool, or_left, or_right}
 use Rattle.std.proofs.lemmas.List.{get_or_default}
@@ -11,10 +11,9 @@ use Rattle.certificate.proofs.Members.{Tells, all_among}
 use Rattle.augment.proofs.Listing.{apart_at}
 
 pub each_left : {K : Type 0} (P : K → Type 0) (right left : List K) (ms : List (Option ℕ)) → AllByRecursion P left → AllByRecursion P (map (λ p. p.0) (pairs_of right left ms))
-each_left P right [] ms h = tt
-each_left P right (a ∷ left) [] h = tt
 each_left P right (a ∷ left) (None ∷ ms) h = each_left P right left ms h.1
 each_left P right (a ∷ left) (Some j ∷ ms) h = (h.0, each_left P right left ms h.1)
+each_left P right left ms h = tt
 
 pub left_distinct : {K : Type 0} (same : K → K → Bool) (right left : List K) (ms : List (Option ℕ)) → IsDistinct same left → IsDistinct same (map (λ p. p.0) (pairs_of right left ms))
 unfolding IsDistinct
@@ -24,11 +23,10 @@ left_distinct same right (a ∷ left) (None ∷ ms) d = left_distinct same right
 left_distinct same right (a ∷ left) (Some j ∷ ms) d = (each_left (λ y. same a y ≡ false) right left ms d.0, left_distinct same right left ms d.1)
 
 each_kept : {K : Type 0} (P : K → Type 0) (reached : List Bool) (left : List K) (ms : List (Option ℕ)) → AllByRecursion P left → AllByRecursion P (short_of reached left ms)
-each_kept P reached [] ms h = tt
-each_kept P reached (a ∷ left) [] h = tt
 each_kept P reached (a ∷ left) (m ∷ ms) h =
     let rest : AllByRecursion P (short_of reached left ms) = each_kept P reached left ms h.1 in
     elim (cases_Bool (is_short reached m)) [ inl e ↦ rw e (h.0, rest) | inr e ↦ rw e rest ]
+each_kept P reached left ms h = tt
 
 pub short_distinct : {K : Type 0} (same : K → K → Bool) (reached : List Bool) (left : List K) (ms : List (Option ℕ)) → IsDistinct same left → IsDistinct same (short_of reached left ms)
 unfolding IsDistinct
@@ -66,10 +64,9 @@ each_in_filter same t P test ys h = each_passing same P test ys ys h (all_among 
 -- no owned place has two mates
 pub each_second : {K : Type 0} (P : K → Type 0) (right left : List K) (ms : List (Option ℕ)) → ((i j : ℕ) (d : K) → mate ms i ≡ Some j → P (get_or right j d))
     → AllByRecursion P (map (λ p. p.1) (pairs_of right left ms))
-each_second P right [] ms h = tt
-each_second P right (a ∷ left) [] h = tt
 each_second P right (a ∷ left) (None ∷ ms) h = each_second P right left ms (λ i j d m. h (suc i) j d m)
 each_second P right (a ∷ left) (Some j ∷ ms) h = (h 0 j a refl, each_second P right left ms (λ i j d m. h (suc i) j d m))
+each_second P right left ms h = tt
 
 pub right_distinct : {K : Type 0} (same : K → K → Bool) → Tells same → (right left : List K) (ms : List (Option ℕ)) → IsDistinct same right
     → ((i j : ℕ) → mate ms i ≡ Some j → j < length right) → ((i a j : ℕ) → mate ms i ≡ Some j → mate ms a ≡ Some j → i ≡ a)
@@ -91,40 +88,33 @@ right_distinct same t right (a ∷ left) (Some q ∷ ms) u k once =
 
 -- the passed ids of the right side that have a mate
 abbrev pub passed_of : {K : Type 0} → List Bool → List K → List K → List (Option ℕ) → List K
-passed_of reached right [] ms = []
-passed_of reached right (a ∷ left) [] = []
 passed_of reached right (a ∷ left) (None ∷ ms) = passed_of reached right left ms
 passed_of reached right (a ∷ left) (Some j ∷ ms) = cond (is_passed reached j) (get_or right j a ∷ passed_of reached right left ms) (passed_of reached right left ms)
+passed_of reached right other other_2 = []
 
 pub passed_at : {K : Type 0} (same : K → K → Bool) → Tells same → (reached : List Bool) (right left : List K) (ms : List (Option ℕ)) (i j : ℕ) (d : K)
     → length ms ≡ length left → mate ms i ≡ Some j → j < length right → is_passed reached j ≡ true
     → among same (get_or right j d) (passed_of reached right left ms) ≡ true
-passed_at same t reached right [] [] i j d n m j_in e = let no : None ≡ Some j = m in cc
 passed_at same t reached right [] (x ∷ ms) i j d n m j_in e = absurd (omega arith)
 passed_at same t reached right (a ∷ left) [] i j d n m j_in e = absurd (omega arith)
-passed_at same t reached right (a ∷ left) (None ∷ ms) zero j d n m j_in e = let no : None ≡ Some j = m in cc
 passed_at same t reached right (a ∷ left) (None ∷ ms) (suc i) j d n m j_in e = passed_at same t reached right left ms i j d (omega arith) m j_in e
-passed_at same t reached right (a ∷ left) (Some q ∷ ms) zero j d n m j_in e =
-    let qj : q ≡ j = cc in
-    let here : get_or right j d ≡ get_or right q a = get_or_default right j d a j_in ∙ ap (λ x. get_or right x a) (sym qj) in
-    let mq : is_passed reached q ≡ true = ap (is_passed reached) qj ∙ e in
-    rw mq (or_left (same (get_or right j d) (get_or right q a)) _ (ap (λ x. same x (get_or right q a)) here ∙ t.itself (get_or right q a)))
+passed_at same t reached right (a ∷ left) (Some q ∷ ms) zero j d n m j_in e = search (rules, get_or_default, or_left)
 passed_at same t reached right (a ∷ left) (Some q ∷ ms) (suc i) j d n m j_in e =
     let rest : among same (get_or right j d) (passed_of reached right left ms) ≡ true = passed_at same t reached right left ms i j d (omega arith) m j_in e in
     elim (cases_Bool (is_passed reached q)) [
       | inl f ↦ rw f (or_right (same (get_or right j d) (get_or right q a)) _ rest)
       | inr f ↦ rw f rest
     ]
+passed_at same t reached right left ms i j d n m j_in e = let no : None ≡ Some j = m in cc
 
 -- each place is left out, or has a mate that was passed, or one that is not
 pub counted : {K : Type 0} (reached : List Bool) (right left : List K) (ms : List (Option ℕ)) → length ms ≡ length left
     → length (pairs_of right left ms) + length (short_of reached left ms) ≡ length left + length (passed_of reached right left ms)
 counted reached right [] [] n = refl
-counted reached right [] (m ∷ ms) n = absurd (omega arith)
-counted reached right (a ∷ left) [] n = absurd (omega arith)
 counted reached right (a ∷ left) (None ∷ ms) n =
     let rest : length (pairs_of right left ms) + length (short_of reached left ms) ≡ length left + length (passed_of reached right left ms) = counted reached right left ms (omega arith) in
     omega arith
 counted reached right (a ∷ left) (Some j ∷ ms) n =
     let rest : length (pairs_of right left ms) + length (short_of reached left ms) ≡ length left + length (passed_of reached right left ms) = counted reached right left ms (omega arith) in
     elim (cases_Bool (is_passed reached j)) [ inl e ↦ rw e (omega arith) | inr e ↦ rw e (omega arith) ]
+counted reached right left ms n = absurd (omega arith)

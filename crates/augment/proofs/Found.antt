@@ -1,5 +1,5 @@
 -- What the last search leaves is an outcome
-use Rattle.std.proofs.Common.{ℕ, ◌<◌, ◌≡◌, Bool, true, List, length, Option, Some, None, sym, ◌∙◌, ap, subst, inl, inr, arith, get_or, zero, suc}
+use Rattle.std.proofs.Common.{ℕ, ◌<◌, ◌≡◌, Bool, true, List, length, Option, Some, None, sym, ◌∙◌, ap, inl, inr, arith, get_or, zero, suc, rules}
 use Rattle.std.proofs.lemmas.List.{get_or-map, length-map}
 use Rattle.std.proofs.lemmas.Option.{slice_get-get_or}
 use Rattle.span.specs.declared.id.SpanId.{SpanId}
@@ -33,10 +33,7 @@ any_compatible-ids graph up_a up_b i j d i_in j_in =
 
 -- who is in the short set was reached
 stands : (graph : Groups) (onto : List (Option ℕ)) (reached : List Bool) → (s : IsSearched graph onto reached) → (i : ℕ) → i < length onto → is_short reached (mate onto i) ≡ true → IsReached s.entries i
-stands graph onto reached s i h e = elim (mate_cases (mate onto i)) [
-  | inl m ↦ s.search.left_out i h m
-  | inr m ↦ s.search.mates_stand i m.0 (let f : is_short reached (Some m.0) ≡ true = subst (λ x. is_short reached x ≡ true) m.1 e in f) m.1
-]
+stands graph onto reached s i h e = search (rules, mate_cases)
 
 -- a closed test holds of each entry
 passes : (graph : Groups) (onto : List (Option ℕ)) (reached : List Bool) (s : IsSearched graph onto reached) (test : ℕ → Bool)

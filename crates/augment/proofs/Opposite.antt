@@ -1,5 +1,5 @@
 -- Places that were passed, and the bits of those that were not.
-use Rattle.std.proofs.Common.{ℕ, ◌+◌, ◌*◌, ◌-◌, ◌/◌, ◌%◌, ◌^◌, ◌<◌, ◌≡◌, ◌==◌, Bool, true, false, not, List, length, length-set, get_or, set, get_or-set_same, get_or-set_other, bit_and, ap, sym, ◌∙◌, inl, inr, arith, w64, replicate}
+use Rattle.std.proofs.Common.{ℕ, ◌+◌, ◌*◌, ◌-◌, ◌/◌, ◌%◌, ◌^◌, ◌<◌, ◌≡◌, ◌==◌, Bool, true, false, not, List, length, length-set, get_or, set, get_or-set_same, get_or-set_other, bit_and, ap, sym, ◌∙◌, inl, inr, arith, w64, replicate, rules}
 use Rattle.std.specs.Int.{bit_at, bit_not}
 use Rattle.std.proofs.lemmas.Bool.{both_ways, cases_Bool, cases_eq}
 use Rattle.std.proofs.lemmas.List.{get_or-replicate, length-replicate}
@@ -49,16 +49,8 @@ opposite-pass unpassed passed place word opposite within is =
 -- a compatible place whose bit is off was passed
 pub passed-from_bits : (graph : Groups) (unpassed : List ℕ) (passed : List Bool) (g q : ℕ) → AreOpposite unpassed passed → length passed ≡ length graph.owned
     → (has_bit unpassed q ≡ true → compatible_at graph g q ≡ false) → compatible_at graph g q ≡ true → is_passed passed q ≡ true
-passed-from_bits graph unpassed passed g q opposite long off fits =
-    let within : q < length passed = rw long (compatible_at-within graph g q fits) in
-    elim (cases_Bool (is_passed passed q)) [
-      | inl e ↦ e
-      | inr e ↦ absurd (both_ways (compatible_at graph g q) (off (opposite.bits q within ∙ ap not e)) fits)
-    ]
+passed-from_bits graph unpassed passed g q opposite long off fits = search (rules, compatible_at-within, cases_Bool, both_ways)
 
 -- a place whose bit is on was not passed
 pub unpassed-from_bit : (unpassed : List ℕ) (passed : List Bool) (q : ℕ) → AreOpposite unpassed passed → q < length passed → has_bit unpassed q ≡ true → is_passed passed q ≡ false
-unpassed-from_bit unpassed passed q opposite within on = elim (cases_Bool (is_passed passed q)) [
-  | inl e ↦ absurd (both_ways (has_bit unpassed q) (opposite.bits q within ∙ ap not e) on)
-  | inr e ↦ e
-]
+unpassed-from_bit unpassed passed q opposite within on = search (rules, cases_Bool, both_ways)

@@ -1,5 +1,5 @@
 -- The mates that a search leaves, and the places that it has passed, name a best plan and its short set
-use Rattle.std.proofs.Common.{ℕ, ◌+◌, ◌<◌, ◌≤◌, ◌≡◌, ◌≢◌, Bool, true, false, List, [], ◌∷◌, length, map, Option, Some, None, refl, sym, ◌∙◌, ap, subst, ◌⊎◌, inl, inr, arith, get_or}
+use Rattle.std.proofs.Common.{ℕ, ◌+◌, ◌<◌, ◌≤◌, ◌≡◌, ◌≢◌, Bool, true, false, List, [], ◌∷◌, length, map, Option, Some, None, refl, sym, ◌∙◌, ap, subst, ◌⊎◌, inl, inr, arith, get_or, rules}
 use Rattle.std.specs.List.{All, IsDistinct, list_any}
 use Rattle.std.proofs.lemmas.Bool.{cases_Bool, both_ways, or_cases, or_left, or_right}
 use Rattle.std.proofs.lemmas.List.{get_or_default}
@@ -60,11 +60,7 @@ plan_from_outcome same t g onto reached o = record {
 
 short_choice : {K : Type 0} (same : K → K → Bool) → Tells same → (g : Sides K) (onto : List (Option ℕ)) (reached : List Bool) → IsOutcome same g onto reached
     → IsChoice same g.left (short_of reached g.left onto)
-short_choice same t g onto reached o = record {
-  within = All-from_recursion (λ x. among same x g.left ≡ true) (short_of reached g.left onto)
-      (each_short (λ x. among same x g.left ≡ true) reached g.left onto (λ i d l s. among_at same t g.left i d l));
-  distinct = short_distinct same reached g.left onto o.left_once;
-}
+short_choice same t g onto reached o = search (rules, All-from_recursion, each_short, among_at, short_distinct)
 
 -- each partner of the short set is a mate that was passed
 partner_passed : {K : Type 0} (same : K → K → Bool) → Tells same → (g : Sides K) (onto : List (Option ℕ)) (reached : List Bool) → IsOutcome same g onto reached

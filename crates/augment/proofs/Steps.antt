@@ -1,5 +1,5 @@
 -- The loops of a search: what each keeps
-use Rattle.std.proofs.Common.{ℕ, ◌+◌, ◌<◌, ◌≤◌, ◌≡◌, ◌≢◌, Bool, true, false, List, [], ◌∷◌, ◌++◌, length, Option, Some, None, sym, ◌∙◌, ap, subst, inl, inr, arith, set, length-set, get_or-set_same, get_or-set_other}
+use Rattle.std.proofs.Common.{ℕ, ◌+◌, ◌<◌, ◌≤◌, ◌≡◌, ◌≢◌, Bool, true, false, List, [], ◌∷◌, ◌++◌, length, Option, Some, None, ◌∙◌, ap, subst, inl, inr, arith, set, length-set, get_or-set_same, get_or-set_other, rules}
 use Rattle.std.proofs.lemmas.Bool.{cases_eq, cases_lt}
 use Rattle.std.proofs.lemmas.List.{length_push}
 use Rattle.augment.specs.declared.walks.Reached.{Reached}
@@ -16,15 +16,7 @@ pub record IsStarting (onto : List (Option ℕ)) (entries : List Reached) (i : �
   pub all : (a : ℕ) → a < i → mate onto a ≡ None → IsReached entries a
 
 pub starting_skip : (onto : List (Option ℕ)) (entries : List Reached) (i : ℕ) → IsStarting onto entries i → mate onto i ≢ None → IsStarting onto entries (i + 1)
-starting_skip onto entries i s m = record {
-  below = λ t h. let b : group entries t < i = s.below t h in omega arith;
-  out = s.out;
-  rising = s.rising;
-  all = λ a h n. elim (cases_lt a i) [
-    | inl l ↦ s.all a l n
-    | inr l ↦ let ai : i ≡ a = omega arith in absurd (m (ap (mate onto) ai ∙ n))
-  ];
-}
+starting_skip onto entries i s m = search (rules, cases_lt)
 
 pub starting_push : (onto : List (Option ℕ)) (entries : List Reached) (i : ℕ) → IsStarting onto entries i → mate onto i ≡ None
     → IsStarting onto (entries ++ record { group = i; before = 0 } ∷ []) (i + 1)
@@ -71,14 +63,7 @@ pub record IsReaching (graph : Groups) (onto : List (Option ℕ)) (entries : Lis
 below_more_partner : (graph : Groups) (reached : List Bool) (g from k : ℕ) → ((q : ℕ) → q < from → compatible_at graph g q ≡ true → is_passed reached q ≡ true)
     → ((q : ℕ) → from ≤ q → q < k → compatible_at graph g q ≡ true → is_passed reached q ≡ true) → is_passed reached k ≡ true → (q : ℕ) → q < k + 1
     → compatible_at graph g q ≡ true → is_passed reached q ≡ true
-below_more_partner graph reached g from k below least here q h j =
-    elim (cases_lt q from) [
-      | inl l ↦ below q l j
-      | inr l ↦ elim (cases_lt q k) [
-        | inl m ↦ least q l m j
-        | inr m ↦ let qk : q ≡ k = omega arith in ap (is_passed reached) qk ∙ here
-      ]
-    ]
+below_more_partner graph reached g from k below least here q h j = search (rules, cases_lt)
 
 pub reaching_push : (graph : Groups) (onto planned : List (Option ℕ)) (entries : List Reached) (reached : List Bool) (at g from total owned k i : ℕ)
     → ArePaired onto planned → IsReaching graph onto entries reached at g from total owned
@@ -111,20 +96,4 @@ reaching_push graph onto planned entries reached at g from total owned k i paire
 pub reaching_end : (graph : Groups) (onto : List (Option ℕ)) (entries : List Reached) (reached : List Bool) (at g from total owned : ℕ)
     → IsReaching graph onto entries reached at g from total owned → ((q : ℕ) → from ≤ q → compatible_at graph g q ≡ true → is_passed reached q ≡ true)
     → IsSearch graph onto entries reached (at + 1)
-reaching_end graph onto entries reached at g from total owned s none = record {
-  linked = s.search.linked;
-  passed = s.search.passed;
-  mates_stand = s.search.mates_stand;
-  are_planned = s.search.are_planned;
-  left_out = s.search.left_out;
-  closed = λ t k h j. elim (cases_lt t at) [
-    | inl l ↦ s.search.closed t k l j
-    | inr l ↦
-        let ta : t ≡ at = omega arith in
-        let jg : compatible_at graph g k ≡ true = ap (λ x. compatible_at graph x k) (sym (ap (group entries) ta ∙ s.group_is)) ∙ j in
-        elim (cases_lt k from) [
-          | inl f ↦ s.below k f jg
-          | inr f ↦ none k f jg
-        ]
-  ];
-}
+reaching_end graph onto entries reached at g from total owned s none = search (rules, cases_lt)

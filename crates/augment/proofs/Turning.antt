@@ -1,6 +1,5 @@
 -- Turning round the pairs of a walk: what holds after each pair
-use Rattle.std.proofs.Common.{ℕ, ◌+◌, ◌<◌, ◌≤◌, ◌≡◌, true, List, length, Option, Some, None, refl, sym, ◌∙◌, inl, inr, arith, set, length-set, get_or-set_same, get_or-set_other, cond}
-use Rattle.std.specs.Option.{is_some}
+use Rattle.std.proofs.Common.{ℕ, ◌<◌, ◌≤◌, ◌≡◌, true, List, length, Option, Some, None, sym, ◌∙◌, arith, set, length-set, get_or-set_same, get_or-set_other, rules}
 use Rattle.std.proofs.lemmas.Bool.{cases_eq}
 use Rattle.std.proofs.lemmas.List.Sums.{sum_by-set}
 use Rattle.augment.specs.declared.walks.Reached.{Reached}
@@ -23,20 +22,10 @@ pub record IsTurning (graph : Groups) (entries : List Reached) (start start_plan
 
 -- a write of a compatible mate keeps each pair compatible
 pub joins-set : (graph : Groups) (onto : List (Option ℕ)) (i j : ℕ) → i < length onto → Joins graph onto → compatible_at graph i j ≡ true → Joins graph (set onto i (Some j))
-joins-set graph onto i j il joins e = λ a b h. elim (cases_eq a i) [
-  | inl s ↦
-      let at : mate (set onto i (Some j)) i ≡ Some j = get_or-set_same onto i (Some j) None il in
-      let jb : j ≡ b = cc in
-      let t : compatible_at graph a b ≡ compatible_at graph i j = cc in
-      t ∙ e
-  | inr n ↦ joins a b (sym (get_or-set_other onto i a (Some j) None n) ∙ h)
-]
+joins-set graph onto i j il joins e = search (rules, cases_eq, get_or-set_same, get_or-set_other)
 
 pub count_moved : (onto : List (Option ℕ)) (i j k : ℕ) → i < length onto → mate onto i ≡ Some k → pair_count (set onto i (Some j)) ≡ pair_count onto
-count_moved onto i j k il was =
-    let sums : pair_count (set onto i (Some j)) + cond {A = ℕ} (is_some (mate onto i)) 1 0 ≡ pair_count onto + 1 = sum_by-set (λ m. cond (is_some m) 1 0) onto i (Some j) None il in
-    let old : cond {A = ℕ} (is_some (mate onto i)) 1 0 ≡ 1 = rw was refl in
-    omega arith
+count_moved onto i j k il was = search (rules, sum_by-set)
 
 pub turning_more : (graph : Groups) (entries : List Reached) (start start_planned onto planned planned' : List (Option ℕ)) (last free left : ℕ)
     → AreReached graph start entries → ArePaired onto planned → IsTurning graph entries start start_planned onto planned last free
