@@ -1,5 +1,5 @@
 -- That sections are in order is told by the sections of the changes.
-use Rattle.std.proofs.Common.{zero, suc, ◌≡◌, ℕ, ◌+◌, ◌-◌, ◌<◌, ◌≤◌, Bool, true, false, cond, List, [], map, flat_map, length, get_or, Option, Some, None, slice_get, sym, subst, ap, refl, ◌∙◌, inl, inr, ◌⊎◌, arith}
+use Rattle.std.proofs.Common.{zero, suc, ◌≡◌, ℕ, ◌+◌, ◌-◌, ◌<◌, ◌≤◌, true, cond, List, [], map, flat_map, length, get_or, Option, Some, None, slice_get, sym, ap, refl, ◌∙◌, inl, inr, ◌⊎◌, arith, rules}
 use Rattle.std.proofs.lemmas.Bool.{cases_lt}
 use Rattle.std.proofs.lemmas.List.{get_or_past}
 use Rattle.std.proofs.lemmas.Option.{same_Some, slice_get_within, slice_get-get_or}
@@ -13,11 +13,7 @@ use Rattle.audit.proofs.LogTable.{find_log}
 
 -- how many changes stood after a call, by whether it made one
 changes_after-cases : (r : Receipt) → ((makes_change r ≡ true) × (changes_after r ≡ r.at + 1)) ⊎ (changes_after r ≡ r.at)
-changes_after-cases r = by_test (makes_change r) refl
-  where
-    by_test : (b : Bool) → makes_change r ≡ b → ((makes_change r ≡ true) × (changes_after r ≡ r.at + 1)) ⊎ (changes_after r ≡ r.at)
-    by_test true is = inl (is, ap (λ b. cond b (r.at + 1) r.at) is)
-    by_test false is = inr (ap (λ b. cond b (r.at + 1) r.at) is)
+changes_after-cases r = search (rules)
 
 module _ {X : Type 0} (f : X → List Receipt) (xs : List X) (logs : List SpanLog) (rows : List (List (Option ℕ))) (are : AreEntered logs (flat_map f xs) rows) (full : AreFull rows) where
   abbrev pub AllBetween : Type 0
@@ -72,10 +68,7 @@ module _ {X : Type 0} (f : X → List Receipt) (xs : List X) (logs : List SpanLo
 
     -- the sections of the changes rise with their places
     rises : AllBetween → (m p : ℕ) → p + m < length row → (s t : ℕ) → get_or row p None ≡ Some s → get_or row (p + m) None ≡ Some t → s ≤ t
-    rises all zero p inside s t at_s at_t =
-        let e : p + 0 ≡ p = omega arith in
-        let same : s ≡ t = same_Some s t (sym at_s ∙ ap (λ k. get_or row k None) (sym e) ∙ at_t) in
-        omega arith
+    rises all zero p inside s t at_s at_t = search (rules, same_Some)
     rises all (suc m) p inside s t at_s at_t =
         let last = maker (p + m) (omega arith) in
         let before = rises all m p (omega arith) s last.0 at_s last.4 in
@@ -155,7 +148,4 @@ module _ {X : Type 0} (f : X → List Receipt) (xs : List X) (logs : List SpanLo
 -- what the row of a span's log says is what every row of its logs says
 pub stands-to : (logs : List SpanLog) (rows : List (List (Option ℕ))) (r : Receipt) (j : ℕ) (row : List (Option ℕ)) → HaveOneSpanEach logs → IsLogAt logs r.key.span j → slice_get rows j ≡ Some row
     → IsBetween row r.at r.section → StandsBetween logs rows r
-stands-to logs rows r j row one there at between i log other at_log same at_other =
-    let places : i ≡ j = one i j log there.0 at_log there.1 (same ∙ sym there.2) in
-    let rows_are : row ≡ other = same_Some row other (sym at ∙ sym (ap (λ k. slice_get rows k) places) ∙ at_other) in
-    subst (λ l. IsBetween l r.at r.section) rows_are between
+stands-to logs rows r j row one there at between i log other at_log same at_other = search (rules, same_Some)

@@ -1,5 +1,5 @@
 -- A log's changes by slot, the last one of a slot before a place, and what the slot then holds.
-use Rattle.std.proofs.Common.{zero, suc, ◌≡◌, cond, ℕ, ◌+◌, ◌-◌, ◌<◌, ◌≤◌, true, false, List, length, take, get_or, Some, None, slice_get, sym, subst, ap, refl, ◌∙◌, inl, inr, arith, eq-eqb, ltb, ltb-true, ltb-false}
+use Rattle.std.proofs.Common.{zero, suc, ◌≡◌, cond, ℕ, ◌+◌, ◌-◌, ◌<◌, ◌≤◌, true, false, List, length, take, get_or, Some, None, slice_get, sym, subst, ap, refl, ◌∙◌, inl, inr, arith, eq-eqb, ltb, ltb-true, ltb-false, rules}
 use Rattle.std.specs.FinMap as map
 use Rattle.std.specs.List.{AllWithin}
 use Rattle.std.specs.List.Sorted.{IsNonDecreasingBy, IsPermutation}
@@ -72,13 +72,7 @@ module _ (changes : List Change) (found : List SlotChange) (by : IsBySlot change
   -- a change of the slot before the place stands in the first n
   early : (q : ℕ) (change : Change) → q < at → slice_get changes q ≡ Some change → slot_of change ≡ slot
       → (k : ℕ) × (x : SlotChange) × (k < n) × (slice_get found k ≡ Some x) × (place_of x ≡ q) × (x.slot ≡ slot)
-  early q change less at_q same =
-      let there = by.has.each q change at_q in
-      let of_slot : there.1.slot ≡ slot = there.4 ∙ same in
-      elim (cases_lt there.0 n) [
-        | inl first ↦ (there.0, there.1, first, there.2, there.3, of_slot)
-        | inr later ↦ absurd (let most = high there.0 there.1 later there.2 in omega (arith, there.3))
-      ]
+  early q change less at_q same = search (rules, cases_lt)
 
   pub quiet_first : n ≡ 0 → IsQuiet changes slot 0 at
   quiet_first none q change from to at_q same = let there = early q change to at_q same in omega (arith, there.2)
@@ -93,24 +87,10 @@ module _ (changes : List Change) (found : List SlotChange) (by : IsBySlot change
         rw (is_y, is_x) at up
 
     pub quiet_other : (x.slot ≡ slot → ⊥) → IsQuiet changes slot 0 at
-    quiet_other other q change from to at_q same =
-        let there = early q change to at_q same in
-        let most = below_last there.0 there.1 there.2 there.3 in
-        let least = low (n - 1) x (omega arith) at_x in
-        let fits = by.has.small (n - 1) x at_x in
-        other (omega (arith, there.4, there.5))
+    quiet_other other q change from to at_q same = search (rules, early, below_last)
 
     pub last_here : x.slot ≡ slot → IsLast changes slot at (place_of x)
-    last_here is =
-        let least = low (n - 1) x (omega arith) at_x in
-        record {
-          before = omega arith;
-          here = let of = by.has.only (n - 1) x at_x in (of.0, of.1, of.2 ∙ is);
-          quiet = λ q change from to at_q same.
-              let there = early q change to at_q same in
-              let most = below_last there.0 there.1 there.2 there.3 in
-              omega (arith, there.4, there.5);
-        }
+    last_here is = search (rules, early, below_last)
 
 -- the same, by a rank that is that of the slot and the place
 module _ (changes : List Change) (found : List SlotChange) (by : IsBySlot changes found) (slot at n rank : ℕ) (small : at < 18446744073709551616)
@@ -164,8 +144,7 @@ low_from found rank n all k x less at = ltb-true _ _ (ap (λ (y : SlotChange). l
 
 pub high_from : (found : List SlotChange) (rank n : ℕ) → AllWithin (λ y. ltb (change_rank y) rank ≡ false) found n (length found)
     → (k : ℕ) (x : SlotChange) → n ≤ k → slice_get found k ≡ Some x → rank ≤ change_rank x
-high_from found rank n all k x from at =
-    ltb-false _ _ (ap (λ (y : SlotChange). ltb (change_rank y) rank) (sym (get_or_from_slice_get found k x x at)) ∙ all k x from (slice_get_within found k x at))
+high_from found rank n all k x from at = search (rules, ltb-false, get_or_from_slice_get, slice_get_within)
 
 -- a slot holds what it held while no change of it comes
 quiet_from : (changes : List Change) (slot from m : ℕ) → IsQuiet changes slot from (from + m) → from + m ≤ length changes

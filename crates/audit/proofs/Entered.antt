@@ -1,5 +1,5 @@
 -- Receipts that are entered, one after another, as those of the changes that they make.
-use Rattle.std.proofs.Common.{zero, suc, ◌≡◌, ℕ, ◌+◌, ◌<◌, Bool, true, false, List, [], ◌∷◌, ◌++◌, map, flat_map, take, drop, length, set, get_or, Option, Some, None, slice_get, sym, subst, ap, refl, ◌∙◌, inl, inr, ◌⊎◌, arith, get_or-set_same, get_or-set_other}
+use Rattle.std.proofs.Common.{◌≡◌, ℕ, ◌+◌, ◌<◌, Bool, true, false, List, [], ◌∷◌, ◌++◌, map, flat_map, take, drop, length, set, get_or, Option, Some, None, slice_get, sym, subst, ap, refl, ◌∙◌, inl, inr, ◌⊎◌, arith, get_or-set_same, get_or-set_other, rules}
 use Rattle.std.proofs.lemmas.Bool.{cases_eq}
 use Rattle.std.proofs.lemmas.List.{length-set, map-set, append-nil, append_assoc, take-append-drop}
 use Rattle.std.proofs.lemmas.Grind.{flat_map-append}
@@ -21,14 +21,7 @@ use Rattle.audit.proofs.Replies.{take_more}
 -- a receipt of the calls with one more
 last_cases : (calls : List Receipt) (r : Receipt) (k : ℕ) (a : Receipt) → slice_get (calls ++ r ∷ []) k ≡ Some a
     → ((k < length calls) × (slice_get calls k ≡ Some a)) ⊎ ((k ≡ length calls) × (r ≡ a))
-last_cases calls r k a at = elim (get_cases calls (r ∷ []) k a at) [
-  | inl before ↦ inl (slice_get_within calls k a before, before)
-  | inr after ↦ only after.0 after.1 after.2
-]
-  where
-    only : (i : ℕ) → k ≡ length calls + i → slice_get (r ∷ []) i ≡ Some a → ((k < length calls) × (slice_get calls k ≡ Some a)) ⊎ ((k ≡ length calls) × (r ≡ a))
-    only zero e at = inr (omega arith, same_Some r a at)
-    only (suc i) e at = absurd cc
+last_cases calls r k a at = search (rules, get_cases, slice_get_within, same_Some)
 
 last_at : (calls : List Receipt) (r : Receipt) → slice_get (calls ++ r ∷ []) (length calls) ≡ Some r
 last_at calls r = get_right calls (r ∷ []) (length calls) 0 r (omega arith) refl
@@ -102,22 +95,7 @@ module _ (logs : List SpanLog) (calls : List Receipt) (rows : List (List (Option
         cc
 
     MakeChanges-more : MakeChanges logs (calls ++ r ∷ [])
-    MakeChanges-more = record {
-      known = λ k a at. elim (last_cases calls r k a at) [
-        | inl before ↦ are.good.known k a before.1
-        | inr last ↦ subst (IsKnown logs) last.1 known
-      ];
-      once = λ k l a b at_k at_l makes_a makes_b spans places. elim (last_cases calls r k a at_k) [
-        | inl before_k ↦ elim (last_cases calls r l b at_l) [
-          | inl before_l ↦ are.good.once k l a b before_k.1 before_l.1 makes_a makes_b spans places
-          | inr last_l ↦ absurd (never k a before_k.1 makes_a (spans ∙ sym (ap (λ (x : Receipt). x.key.span) last_l.1)) (places ∙ sym (ap (λ (x : Receipt). x.at) last_l.1)))
-        ]
-        | inr last_k ↦ elim (last_cases calls r l b at_l) [
-          | inl before_l ↦ absurd (never l b before_l.1 makes_b (sym spans ∙ sym (ap (λ (x : Receipt). x.key.span) last_k.1)) (sym places ∙ sym (ap (λ (x : Receipt). x.at) last_k.1)))
-          | inr last_l ↦ last_k.0 ∙ sym last_l.0
-        ]
-      ];
-    }
+    MakeChanges-more = search (rules, last_cases, never)
 
     IsRowOf-here : IsRowOf (calls ++ r ∷ []) log (set row r.at (Some r.section))
     IsRowOf-here = record {
@@ -179,10 +157,7 @@ module _ (logs : List SpanLog) (calls : List Receipt) (rows : List (List (Option
 -- the row of a log has each place of it
 pub row_inside : (logs : List SpanLog) (calls : List Receipt) (rows : List (List (Option ℕ))) (r : Receipt) → AreEntered logs calls rows → (j : ℕ) → (there : IsLogAt logs r.key.span j)
     → (row : List (Option ℕ)) → slice_get rows j ≡ Some row → r.at < length (log_of logs r.key.span) → r.at < length row
-row_inside logs calls rows r are j there row at_row inside =
-    let is = (are.rows_are.each j there.0 row there.1 at_row).len in
-    let items : length (log_of logs r.key.span) ≡ length (kept_changes there.0.log) = ap length there.3 in
-    omega arith
+row_inside logs calls rows r are j there row at_row inside = search (rules)
 
 pub entered_by : (logs : List SpanLog) (calls : List Receipt) (rows : List (List (Option ℕ))) (b : Bool) → (b ≡ true → AreEntered logs calls rows) → (b ≡ false → MakeChanges logs calls → ⊥)
     → WereEntered logs calls rows b
@@ -203,9 +178,7 @@ front_of before list n = append_assoc before (take n list) (drop n list) ∙ ap 
 -- where the first of a list are not entered, all of it is not
 pub front_unknown : (logs : List SpanLog) (before list : List Receipt) (n : ℕ) (r : Receipt) → slice_get list n ≡ Some r → (MakeChanges logs ((before ++ take n list) ++ r ∷ []) → ⊥)
     → MakeChanges logs (before ++ list) → ⊥
-front_unknown logs before list n r at unknown good =
-    unknown (subst (MakeChanges logs) (sym (front_more before list n r at))
-    (MakeChanges-front logs (before ++ take (n + 1) list) (drop (n + 1) list) (subst (MakeChanges logs) (sym (front_of before list (n + 1))) good)))
+front_unknown logs before list n r at unknown good = search (rules, front_more, MakeChanges-front, front_of)
 
 -- the same of lists
 module _ {X : Type 0} (f : X → List Receipt) (xs : List X) (n : ℕ) (x : X) (at : slice_get xs n ≡ Some x) where
@@ -217,22 +190,16 @@ module _ {X : Type 0} (f : X → List Receipt) (xs : List X) (n : ℕ) (x : X) (
   flat_of = sym (flat_map-append f (take (n + 1) xs) (drop (n + 1) xs)) ∙ ap (flat_map f) (take-append-drop (n + 1) xs)
 
   pub flat_unknown : (logs : List SpanLog) → (MakeChanges logs (flat_map f (take n xs) ++ f x) → ⊥) → MakeChanges logs (flat_map f xs) → ⊥
-  flat_unknown logs unknown good =
-      unknown (subst (MakeChanges logs) (sym flat_more) (MakeChanges-front logs (flat_map f (take (n + 1) xs)) (flat_map f (drop (n + 1) xs)) (subst (MakeChanges logs) (sym flat_of) good)))
+  flat_unknown logs unknown good = search (rules, flat_more, MakeChanges-front, flat_of)
 
 -- nothing is entered yet
 pub IsRowOf-none : (log : SpanLog) (row : List (Option ℕ)) → length row ≡ length (kept_changes log.log) → ((at : ℕ) → get_or row at None ≡ None) → IsRowOf [] log row
-IsRowOf-none log row long none = record {
-  len = long;
-  marked = λ k at r at_k makes. absurd cc;
-  made = λ at section there. let e : None ≡ Some section = sym (none at) ∙ there in absurd cc;
-}
+IsRowOf-none log row long none = search (rules)
 
 -- the change at a receipt's place is the one at that place of its span's log
 same_change : (logs : List SpanLog) (span : SpanId) (r : Receipt) (at : ℕ) (c d : Change) → slice_get (log_of logs r.key.span) r.at ≡ Some c → r.key.span ≡ span → r.at ≡ at
     → slice_get (log_of logs span) at ≡ Some d → c ≡ d
-same_change logs span r at c d at_c spans places at_d =
-    same_Some c d (sym at_c ∙ ap (λ s. slice_get (log_of logs s) r.at) spans ∙ ap (λ k. slice_get (log_of logs span) k) places ∙ at_d)
+same_change logs span r at c d at_c spans places at_d = search (rules, same_Some)
 
 CallMakes-same : (call : Call) (key : Key) (c d : Change) → c ≡ d → CallMakes call key c → CallMakes call key d
 CallMakes-same call key c d same makes = subst (CallMakes call key) same makes
@@ -279,14 +246,7 @@ module _ {X : Type 0} (f : X → List Receipt) (xs : List X) (logs : List SpanLo
           by_value (Some s) is = (s, is)
 
   pub MakeChanges-from : ChangesHaveReceipts logs (map f xs) → MakeChanges logs (flat_map f xs)
-  MakeChanges-from all = record {
-    known = λ k r at makes. let there = flat_from f xs k r at in all.known there.0 there.1 r there.2 makes;
-    once = λ k l a b at_k at_l makes_a makes_b spans places.
-        let place_a = flat_from f xs k a at_k in
-        let place_b = flat_from f xs l b at_l in
-        let same = all.once place_a.0 place_a.1 place_b.0 place_b.1 a b place_a.2 place_b.2 makes_a makes_b spans places in
-        sym place_a.3 ∙ (λ n. place f xs (same.0 n) (same.1 n)) ∙ place_b.3;
-  }
+  MakeChanges-from all = search (rules, flat_from, place)
 
   pub AreFull-from : (rows : List (List (Option ℕ))) → AreEntered logs (flat_map f xs) rows → HaveOneSpanEach logs → ChangesHaveReceipts logs (map f xs) → AreFull rows
   AreFull-from rows are one all j row at_row at inside none =

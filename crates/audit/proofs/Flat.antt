@@ -1,5 +1,5 @@
 -- The receipts of all lists, list after list.
-use Rattle.std.proofs.Common.{zero, suc, ◌≡◌, ℕ, ◌+◌, List, [], ◌∷◌, ◌++◌, map, flat_map, length, get_or, Some, slice_get, ap, refl, ◌∙◌, inl, inr, ◌⊎◌, arith}
+use Rattle.std.proofs.Common.{zero, suc, ◌≡◌, ℕ, ◌+◌, List, [], ◌∷◌, ◌++◌, map, flat_map, length, get_or, Some, slice_get, ap, refl, ◌∙◌, inl, inr, ◌⊎◌, arith, rules}
 use Rattle.std.proofs.lemmas.Option.{slice_get_within}
 
 pub get_left : {Y : Type 0} (l m : List Y) (i : ℕ) (y : Y) → slice_get l i ≡ Some y → slice_get (l ++ m) i ≡ Some y
@@ -15,10 +15,7 @@ get_right (x ∷ l) m (suc k) i y e at = get_right l m k i y (omega arith) at
 pub get_cases : {Y : Type 0} (l m : List Y) (k : ℕ) (y : Y) → slice_get (l ++ m) k ≡ Some y → (slice_get l k ≡ Some y) ⊎ ((i : ℕ) × (k ≡ length l + i) × (slice_get m i ≡ Some y))
 get_cases [] m k y at = inr (k, omega arith, at)
 get_cases (x ∷ l) m zero y at = inl at
-get_cases (x ∷ l) m (suc k) y at = elim (get_cases l m k y at) [
-  | inl left ↦ inl left
-  | inr right ↦ inr (right.0, omega (arith, right.1), right.2)
-]
+get_cases (x ∷ l) m (suc k) y at = search (rules, (get_cases l m k y at))
 
 module _ {X Y : Type 0} (f : X → List Y) where
   -- where the element at an index of a list stands among all

@@ -1,5 +1,5 @@
 -- What the verdicts on all lists say of the whole agreement.
-use Rattle.std.proofs.Common.{◌≡◌, ℕ, ◌<◌, List, [], length, map, flat_map, get_or, Option, Some, None, IfSome, MatchOption, subst, refl, arith}
+use Rattle.std.proofs.Common.{◌≡◌, ℕ, ◌<◌, List, [], length, map, flat_map, get_or, Option, Some, None, IfSome, MatchOption, subst, refl, arith, rules}
 use Rattle.std.proofs.lemmas.List.{length-map}
 use Rattle.span.specs.declared.receipt.Receipt.{Receipt}
 use Rattle.span.specs.declared.span_log.SpanLog.{SpanLog}
@@ -21,19 +21,16 @@ if_some P found x is holds = subst (λ o. IfSome o P) is holds
 -- what a verdict says that is none of some
 right_of : (logs : List SpanLog) (rows : List (List (Option ℕ))) (list : List Receipt) (v : Verdict) → IsVerdict logs rows list v
     → (v ≡ verdict.OutOfMemory → ⊥) → (v ≡ verdict.Reply → ⊥) → IsRightList logs list
-right_of logs rows list verdict.Passed is no_memory no_reply = is.0
 right_of logs rows list verdict.Reply is no_memory no_reply = absurd (no_reply refl)
-right_of logs rows list verdict.Order is no_memory no_reply = is.0
-right_of logs rows list verdict.Barrier is no_memory no_reply = is.0
 right_of logs rows list verdict.OutOfMemory is no_memory no_reply = absurd (no_memory refl)
+right_of logs rows list v is no_memory no_reply = is.0
 
 order_of : (logs : List SpanLog) (rows : List (List (Option ℕ))) (list : List Receipt) (v : Verdict) → IsVerdict logs rows list v → (v ≡ verdict.OutOfMemory → ⊥) → (v ≡ verdict.Reply → ⊥)
     → (v ≡ verdict.Order → ⊥) → IsInOrder list
-order_of logs rows list verdict.Passed is no_memory no_reply no_order = is.1
 order_of logs rows list verdict.Reply is no_memory no_reply no_order = absurd (no_reply refl)
 order_of logs rows list verdict.Order is no_memory no_reply no_order = absurd (no_order refl)
-order_of logs rows list verdict.Barrier is no_memory no_reply no_order = is.1
 order_of logs rows list verdict.OutOfMemory is no_memory no_reply no_order = absurd (no_memory refl)
+order_of logs rows list v is no_memory no_reply no_order = is.1
 
 between_of : (logs : List SpanLog) (rows : List (List (Option ℕ))) (list : List Receipt) (v : Verdict) → IsVerdict logs rows list v → (v ≡ verdict.OutOfMemory → ⊥) → (v ≡ verdict.Reply → ⊥)
     → (v ≡ verdict.Order → ⊥) → (v ≡ verdict.Barrier → ⊥) → StandBetween logs rows list
@@ -46,10 +43,7 @@ between_of logs rows list verdict.OutOfMemory is no_memory no_reply no_order no_
 -- a verdict for each place below the number of lists, read from the lists themselves
 pub AreVerdicts-each : {X : Type 0} (f : X → List Receipt) (xs : List X) (logs : List SpanLog) (rows : List (List (Option ℕ))) (verdicts : List Verdict) → length verdicts ≡ length xs
     → ((w : ℕ) → w < length xs → IsVerdict logs rows (get_or (map f xs) w []) (get_or verdicts w verdict.OutOfMemory)) → AreVerdicts logs rows (map f xs) verdicts
-AreVerdicts-each f xs logs rows verdicts long each = record {
-  len = let same = length-map xs f in omega arith;
-  each = λ w less. each w (let same = length-map xs f in omega arith);
-}
+AreVerdicts-each f xs logs rows verdicts long each = search (rules, length-map)
 
 module _ {X : Type 0} (f : X → List Receipt) (xs : List X) (logs : List SpanLog) (rows : List (List (Option ℕ))) (verdicts : List Verdict)
     (are : AreVerdicts logs rows (map f xs) verdicts) where
@@ -86,16 +80,9 @@ module _ {X : Type 0} (f : X → List Receipt) (xs : List X) (logs : List SpanLo
   -- the first part that fails in any list is the first that fails in all
   pub judged : LogsAreLegal logs → ChangesHaveReceipts logs (map f xs) → AreEntered logs (flat_map f xs) rows → AreFull rows → (cause : Option AuditCause) → IsFirstCause verdicts cause
       → MatchOption cause (Agreement logs (map f xs)) (FailsFirst logs (map f xs))
-  judged legal changes entered full None none = record {
-    log = legal;
-    change = changes;
-    reply = all_right none.0 none.1;
-    order = all_in_order none.0 none.1 none.2;
-    barrier = sections_all f xs logs rows entered full (all_right none.0 none.1) (all_between none.0 none.1 none.2 none.3);
-  }
-  judged legal changes entered full (Some Cause.Log) is = absurd is
-  judged legal changes entered full (Some Cause.Change) is = absurd is
+  judged legal changes entered full None none = search (rules, all_right, all_in_order, sections_all, all_between)
   judged legal changes entered full (Some Cause.Reply) has = (legal, changes, λ right. at_some verdict.Reply has (right has.0))
   judged legal changes entered full (Some Cause.Order) is = (legal, changes, all_right is.1 is.2, λ order. (at_some verdict.Order is.0).1 (order is.0.0))
   judged legal changes entered full (Some Cause.Barrier) is =
       (legal, changes, all_right is.1 is.2, all_in_order is.1 is.2 is.3, λ order. (at_some verdict.Barrier is.0).2 (between_all f xs logs rows entered full order is.0.0))
+  judged legal changes entered full cause is = absurd is

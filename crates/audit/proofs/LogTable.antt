@@ -1,5 +1,5 @@
 -- The table by which a span's log is found.
-use Rattle.std.proofs.Common.{zero, suc, ◌≡◌, ℕ, ◌+◌, ◌-◌, ◌<◌, ◌≤◌, Bool, true, false, cond, eqb, eq-eqb, List, [], ◌∷◌, length, get_or, Some, slice_get, sym, subst, ap, refl, ◌∙◌, inl, inr, ◌⊎◌, arith}
+use Rattle.std.proofs.Common.{zero, suc, ◌≡◌, ℕ, ◌+◌, ◌-◌, ◌<◌, ◌≤◌, Bool, true, false, cond, eqb, eq-eqb, List, [], ◌∷◌, length, get_or, Some, slice_get, sym, subst, ap, refl, ◌∙◌, inl, inr, ◌⊎◌, arith, rules}
 use Rattle.std.specs.Cmp.{nat_eq_equiv}
 use Rattle.std.specs.List.Sorted.{IsNonDecreasingBy, IsPermutation}
 use Rattle.std.proofs.lemmas.Bool.{both_ways, cases_Bool, cases_lt, cases_eq, ne_eqb}
@@ -19,10 +19,7 @@ use Rattle.audit.specs.declared.log.LogPlaces.{LogPlaces}
 use Rattle.audit.proofs.BySlot.{moved}
 
 pub same_rank : (a b : SpanId) → rank a ≡ rank b → a ≡ b
-same_rank a b ranks =
-    let serial_a = a.serial_in_range in
-    let serial_b = b.serial_in_range in
-    same_id a b (omega arith) (omega arith)
+same_rank a b ranks = search (rules, same_id)
 
 -- a span has no log, or one at some index
 pub find_log : (logs : List SpanLog) (span : SpanId)

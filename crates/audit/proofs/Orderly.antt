@@ -1,5 +1,5 @@
 -- A table of spans beside the calls that were passed: for each span the most changes that one of them left.
-use Rattle.std.proofs.Common.{◌≡◌, ℕ, ◌+◌, ◌-◌, ◌<◌, ◌≤◌, true, false, cond, List, [], length, set, get_or, Some, slice_get, sym, ap, subst, ◌∙◌, inl, inr, arith, get_or-set_same, get_or-set_other}
+use Rattle.std.proofs.Common.{◌≡◌, ℕ, ◌+◌, ◌-◌, ◌<◌, ◌≤◌, cond, List, [], length, set, get_or, Some, slice_get, sym, ap, subst, ◌∙◌, inl, inr, arith, get_or-set_same, get_or-set_other, rules}
 use Rattle.std.proofs.lemmas.Bool.{cases_Bool, cases_lt, cases_eq}
 use Rattle.std.proofs.lemmas.Option.{same_Some, slice_get_cases, slice_get_within}
 use Rattle.span.specs.declared.receipt.Receipt.{Receipt}
@@ -16,10 +16,7 @@ IsInOrderBelow list n = (i j : ℕ) (a b : Receipt) → slice_get list i ≡ Som
     (a.section ≤ b.section) × (a.key.span ≡ b.key.span → changes_after a ≤ b.at)
 
 pub changes_after-low : (r : Receipt) → r.at ≤ changes_after r
-changes_after-low r = elim (makes_change r) as (λ b. r.at ≤ cond b (r.at + 1) r.at) [
-  | true ↦ omega arith
-  | false ↦ omega arith
-]
+changes_after-low r = search (rules)
 
 pub goes_back : (list : List Receipt) (i : ℕ) → GoesBack list i → IsInOrder list → ⊥
 goes_back list i back order = let p = (order back.0 i back.1 back.2 back.4 back.5 (omega (arith, back.3))).0 in omega (arith, back.6)
@@ -27,18 +24,7 @@ goes_back list i back order = let p = (order back.0 i back.1 back.2 back.4 back.
 -- two calls that the table has at one place are on one span: those on spans without a log leave nothing
 pub too_early : (logs : List SpanLog) (list : List Receipt) (n : ℕ) (left : List ℕ) (r : Receipt) → LeaveNothing logs list → IsLeftBelow logs list n left → slice_get list n ≡ Some r
     → r.at < get_or left (place_in logs r.key.span) 0 → IsInOrder list → ⊥
-too_early logs list n left r nothing is_left at early order = elim (is_left.from (place_in logs r.key.span)) [
-  | inl none ↦ omega arith
-  | inr w ↦ elim (cases_lt (place_in logs w.1.key.span) (length logs)) [
-    | inl has ↦
-        let p = (order w.0 n w.1 r w.3 at w.2).1 (place_in-same logs w.1.key.span r.key.span w.4 has) in
-        omega (arith, w.5)
-    | inr past ↦
-        let most = place_in-le logs w.1.key.span in
-        let none = nothing w.0 w.1 w.3 (log_of-past logs w.1.key.span (omega arith)) in
-        omega (arith, w.5)
-  ]
-]
+too_early logs list n left r nothing is_left at early order = search (rules, cases_lt, place_in-same, place_in-le, log_of-past)
 
 -- a call that was answered right, and that makes the change of its place if it makes one, leaves nothing where there are no changes
 pub LeaveNothing-from : (logs : List SpanLog) (list : List Receipt) → ((i : ℕ) (r : Receipt) → slice_get list i ≡ Some r → IsRightReply logs r)
@@ -158,18 +144,11 @@ IsLeftFrom-more logs list n left r is at inside q = elim (cases_eq q (place_in l
 ]
 
 pub IsClear-all : (logs : List SpanLog) (list : List Receipt) (n : ℕ) (left : List ℕ) → IsLeftFrom logs list n left → length list ≤ n → IsClear left
-IsClear-all logs list n left is past q = elim (is q) [
-  | inl none ↦ none
-  | inr w ↦ let within = slice_get_within list w.0 w.1 w.3 in absurd (omega (arith, w.2))
-]
+IsClear-all logs list n left is past q = search (rules, slice_get_within)
 
 pub all_passed : (list : List Receipt) (n : ℕ) → IsInOrderBelow list n → length list ≤ n → IsInOrder list
 all_passed list n below past i j a b at_i at_j less = below i j a b at_i at_j less (let within = slice_get_within list j b at_j in omega arith)
 
 -- the section of a call, and that of the call before it
 pub sections-GoesBack : (list : List Receipt) (i : ℕ) (b a : Receipt) → 1 ≤ i → slice_get list i ≡ Some b → slice_get list (i - 1) ≡ Some a → GoesBack list i → b.section < a.section
-sections-GoesBack list i b a some at_b at_a back =
-    let k : back.0 ≡ i - 1 = omega (arith, back.3) in
-    let same_a : back.1 ≡ a = same_Some back.1 a (sym back.4 ∙ ap (λ k. slice_get list k) k ∙ at_a) in
-    let same_b : back.2 ≡ b = same_Some back.2 b (sym back.5 ∙ at_b) in
-    rw (← same_a, ← same_b) back.6
+sections-GoesBack list i b a some at_b at_a back = search (rules, same_Some)

@@ -1,8 +1,8 @@
 -- What a slot holds after the changes of a log.
-use Rattle.std.proofs.Common.{suc, ◌≡◌, ℕ, ◌+◌, Bool, true, false, cond, eqb, List, [], ◌∷◌, ◌++◌, take, Option, Some, None, option_map, slice_get, get_or, ap, refl, ◌∙◌, arith}
+use Rattle.std.proofs.Common.{suc, ◌≡◌, ℕ, ◌+◌, cond, eqb, List, [], ◌∷◌, ◌++◌, take, Some, None, option_map, slice_get, get_or, ap, ◌∙◌, arith, rules}
 use Rattle.std.proofs.lemmas.Option.{slice_get_within, get_or_from_slice_get}
 use Rattle.span.specs.declared.change.Change.{Change}
-use Rattle.span.specs.Log.{Held, replay}
+use Rattle.span.specs.Log.{replay}
 use Rattle.span.proofs.Changes.{get-put, get-set, get-free}
 use Rattle.std.specs.FinMap as map
 use Rattle.std.specs.Ordering.{nat_cmp}
@@ -18,11 +18,7 @@ get_more log (Change.Free slot generation) q = get-free log slot generation q
 -- the generation of it
 pub generation_more : (log : List Change) (c : Change) (q : ℕ)
     → option_map generation_of (map.get (replay (log ++ c ∷ [])) q) ≡ cond (eqb q (slot_of c)) (option_map generation_of (left_by c)) (option_map generation_of (map.get (replay log) q))
-generation_more log c q = ap (option_map generation_of) (get_more log c q) ∙ outside (eqb q (slot_of c)) (left_by c) (map.get (replay log) q)
-  where
-    outside : (b : Bool) (x y : Option Held) → option_map generation_of (cond b x y) ≡ cond b (option_map generation_of x) (option_map generation_of y)
-    outside true x y = refl
-    outside false x y = refl
+generation_more log c q = search (rules, option_map, get_more)
 
 pub get_none : (q : ℕ) → map.get (replay []) q ≡ None
 unfolding replay

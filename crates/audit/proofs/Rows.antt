@@ -1,19 +1,18 @@
 -- Rows of sections: what is told is set in both lists, and a full row has all of its sections.
-use Rattle.std.proofs.Common.{zero, suc, ◌≡◌, ℕ, ◌<◌, Bool, true, false, if◌then◌else◌, List, [], ◌∷◌, map, length, replicate, set, get_or, Some, None, ap, refl, ◌∙◌, arith}
+use Rattle.std.proofs.lemmas.Grind.{common_steps}
+use Rattle.std.proofs.Common.{zero, suc, ◌≡◌, ℕ, ◌<◌, Bool, true, false, if◌then◌else◌, List, [], ◌∷◌, map, length, replicate, set, get_or, Some, None, ap, refl, arith}
 use Rattle.audit.specs.declared.row.Row.{Row}
 use Rattle.audit.specs.Tables.{AreFull, IsFull, filled_row, told_sections}
 
 pub length-told_sections : (sections : List ℕ) (told : List Bool) → length told ≡ length sections → length (told_sections sections told) ≡ length sections
 length-told_sections [] [] same = refl
-length-told_sections [] (b ∷ told) same = absurd cc
-length-told_sections (s ∷ sections) [] same = absurd cc
 length-told_sections (s ∷ sections) (b ∷ told) same = ap suc (length-told_sections sections told (omega (arith, same)))
+length-told_sections sections told same = absurd cc
 
 pub untold_at : (sections : List ℕ) (told : List Bool) (at : ℕ) → get_or told at false ≡ false → get_or (told_sections sections told) at None ≡ None
-untold_at [] told at is = refl
-untold_at (s ∷ sections) [] at is = refl
 untold_at (s ∷ sections) (b ∷ told) zero is = ap (λ b. if b then Some s else None) is
 untold_at (s ∷ sections) (b ∷ told) (suc at) is = untold_at sections told at is
+untold_at sections told at is = refl
 
 pub told_at : (sections : List ℕ) (told : List Bool) (at : ℕ) → length told ≡ length sections → get_or told at false ≡ true
     → (s : ℕ) × (get_or (told_sections sections told) at None ≡ Some s)
@@ -25,19 +24,17 @@ told_at (s ∷ sections) (b ∷ told) (suc at) same is = told_at sections told a
 
 pub told_sections-set : (sections : List ℕ) (told : List Bool) (at section : ℕ) → length told ≡ length sections
     → told_sections (set sections at section) (set told at true) ≡ set (told_sections sections told) at (Some section)
-told_sections-set [] [] at section same = refl
 told_sections-set [] (b ∷ told) at section same = absurd cc
 told_sections-set (s ∷ sections) [] at section same = absurd cc
-told_sections-set (s ∷ sections) (b ∷ told) zero section same = refl
 told_sections-set (s ∷ sections) (b ∷ told) (suc at) section same = ap (λ l. (if b then Some s else None) ∷ l) (told_sections-set sections told at section (omega (arith, same)))
+told_sections-set sections told at section same = refl
 
 -- a row that is full has all of its sections
 all_told : (sections : List ℕ) (told : List Bool) → length told ≡ length sections → IsFull (told_sections sections told) → map Some sections ≡ told_sections sections told
 all_told [] [] same full = refl
-all_told [] (b ∷ told) same full = absurd cc
-all_told (s ∷ sections) [] same full = absurd cc
 all_told (s ∷ sections) (true ∷ told) same full = ap (λ l. Some s ∷ l) (all_told sections told (omega (arith, same)) (λ at less none. full (suc at) (omega arith) none))
 all_told (s ∷ sections) (false ∷ told) same full = absurd (full 0 (omega arith) refl)
+all_told sections told same full = absurd cc
 
 pub all_full : (rows : List Row) → AreFull (map filled_row rows) → map (λ (row : Row). map Some row.sections.items) rows ≡ map filled_row rows
 all_full [] full = refl
@@ -46,12 +43,7 @@ all_full (row ∷ rows) full = λ i. all_told row.sections.items row.told.items 
 
 -- at first nothing is told
 pub get_or-none_told : (told : List Bool) (n at : ℕ) → told ≡ replicate n false → get_or told at false ≡ false
-get_or-none_told told n at is = ap (λ l. get_or l at false) is ∙ same n at
-  where
-    same : (n at : ℕ) → get_or (replicate n false) at false ≡ false
-    same zero at = refl
-    same (suc n) zero = refl
-    same (suc n) (suc at) = same n at
+get_or-none_told told n at is = grind (arith, common_steps)
 
 -- sections that are all the same
 pub all_same : (sections : List ℕ) (section : ℕ) → ((k : ℕ) → k < length sections → get_or sections k section ≡ section) → sections ≡ replicate (length sections) section

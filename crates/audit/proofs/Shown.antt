@@ -1,5 +1,5 @@
 -- What the plain map holds beside a span's changes, and what one more change does to both.
-use Rattle.std.proofs.Common.{◌≡◌, ℕ, ◌+◌, ◌≤◌, Bool, true, false, cond, ◌&&◌, ◌||◌, eqb, List, [], ◌∷◌, ◌++◌, length, Option, Some, None, IsSomeAnd, sym, subst, ap, refl, inl, inr, arith, ◌∙◌, eq-eqb, eqb-true}
+use Rattle.std.proofs.Common.{◌≡◌, ℕ, ◌+◌, ◌≤◌, Bool, true, false, cond, ◌&&◌, eqb, List, [], ◌∷◌, ◌++◌, length, Option, Some, None, IsSomeAnd, sym, ap, refl, arith, ◌∙◌, eq-eqb, eqb-true, rules}
 use Rattle.std.specs.Ordering.{nat_cmp}
 use Rattle.std.specs.FinMap as map
 use Rattle.std.proofs.lemmas.Bool.{cases_eq, ne_eqb}
@@ -31,12 +31,7 @@ Shows-empty span = record {
 value_after_change : (before after : List Change) (slot : ℕ) (left : Option Held)
     → ((q : ℕ) → map.get (replay after) q ≡ cond (eqb q slot) left (map.get (replay before) q))
     → (key : Key) → value_after after key ≡ cond (eqb slot key.slot) (value_if key.generation left) (value_after before key)
-value_after_change before after slot left at key =
-    ap (value_if key.generation) (at key.slot)
-    ∙ elim (cases_eq slot key.slot) [
-      | inl same ↦ rw (eq-eqb key.slot slot (sym same), eq-eqb slot key.slot same) refl
-      | inr other ↦ rw (ne_eqb key.slot slot (λ e. other (sym e)), ne_eqb slot key.slot other) refl
-    ]
+value_after_change before after slot left at key = search (rules, cases_eq, eq-eqb, ne_eqb)
 
 -- a key of another generation than the one that its slot holds has no value
 no_value : (held : Option Held) (generation other : ℕ) → IsSomeAnd held (λ h. h.generation ≡ generation) → eqb generation other ≡ false
@@ -61,69 +56,22 @@ module _ (span : SpanId) (changes : List Change) (m : PlainMap) (shows : Shows s
       → ((other : ℕ) → eqb key.generation other ≡ false → value_if other left ≡ None)
       → ((other : Key) → other.slot ≡ key.slot → eqb key.generation other.generation ≡ false → value_after changes other ≡ None)
       → (other : Key) → other.span ≡ span → cond (same_key key other) here (m.value_of other) ≡ value_after (changes ++ change ∷ []) other
-  shown change left here at equal differ gone other same_too =
-      ap (λ b. cond b here (m.value_of other)) (same_key-is other same_too)
-      ∙ ap (λ v. cond (eqb key.slot other.slot && eqb key.generation other.generation) here v) (shows.values other same_too)
-      ∙ pick (eqb key.slot other.slot) (eqb key.generation other.generation) here (value_if other.generation left) (value_after changes other)
-      (equal other.generation) (differ other.generation) (λ slots. gone other (sym (eqb-true key.slot other.slot slots)))
-      ∙ sym (value_after_change changes (changes ++ change ∷ []) key.slot left at other)
+  shown change left here at equal differ gone other same_too = search (rules, same_key-is, pick, eqb-true, value_after_change)
 
   issued_before : (change : Change) (other : Key) → other.span ≡ span → m.is_issued other ≡ true → other.generation ≤ puts_of other.slot (changes ++ change ∷ [])
   issued_before change other same_too is = omega (arith, shows.issued other same_too is, puts_of-push other.slot changes change)
 
   Shows-put : (value : Value) → map.get (replay changes) key.slot ≡ None → key.generation ≡ puts_of key.slot changes + 1
       → Shows span (changes ++ Change.Put key.slot key.generation value ∷ []) (with_put m key value)
-  Shows-put value free next = record {
-    values = shown (Change.Put key.slot key.generation value) (Some (record { generation = key.generation; value = value })) (Some value)
-        (get-put changes key.slot key.generation value)
-        (λ other equal. rw equal refl)
-        (λ other differ. rw differ refl)
-        (λ other slots differ. ap (value_if other.generation) (ap (map.get (replay changes)) slots ∙ free));
-    issued = λ other same_too is. by_test other same_too (same_key key other) refl is;
-  }
-    where
-      by_test : (other : Key) → other.span ≡ span → (b : Bool) → same_key key other ≡ b → (b || m.is_issued other) ≡ true
-          → other.generation ≤ puts_of other.slot (changes ++ Change.Put key.slot key.generation value ∷ [])
-      by_test other same_too true this is =
-          let both : (eqb key.slot other.slot && eqb key.generation other.generation) ≡ true = sym (same_key-is other same_too) ∙ this in
-          let slots : key.slot ≡ other.slot = eqb-true key.slot other.slot (first (eqb key.slot other.slot) (eqb key.generation other.generation) both) in
-          let generations : key.generation ≡ other.generation = eqb-true key.generation other.generation (second (eqb key.slot other.slot) (eqb key.generation other.generation) both) in
-          let pushed = puts_of-push other.slot changes (Change.Put key.slot key.generation value) in
-          let more : puts_of other.slot (changes ++ Change.Put key.slot key.generation value ∷ []) ≡ puts_of other.slot changes + 1 =
-          pushed ∙ ap (λ b. puts_of other.slot changes + cond b 1 0) (eq-eqb key.slot other.slot slots) in
-          let before : puts_of key.slot changes ≡ puts_of other.slot changes = ap (λ s. puts_of s changes) slots in
-          omega arith
-        where
-          first : (x y : Bool) → (x && y) ≡ true → x ≡ true
-          first true y h = refl
-          first false y h = absurd cc
-
-          second : (x y : Bool) → (x && y) ≡ true → y ≡ true
-          second true y h = h
-          second false y h = absurd cc
-      by_test other same_too false this is = issued_before (Change.Put key.slot key.generation value) other same_too is
+  Shows-put value free next = search (rules, shown, get-put, same_key-is, eqb-true, puts_of-push, eq-eqb, issued_before)
 
   Shows-set : (value : Value) → IsSomeAnd (map.get (replay changes) key.slot) (λ held. held.generation ≡ key.generation)
       → Shows span (changes ++ Change.Set key.slot key.generation value ∷ []) (with_value m key value)
-  Shows-set value holds = record {
-    values = shown (Change.Set key.slot key.generation value) (Some (record { generation = key.generation; value = value })) (Some value)
-        (get-set changes key.slot key.generation value)
-        (λ other equal. rw equal refl)
-        (λ other differ. rw differ refl)
-        (λ other slots differ. no_value (map.get (replay changes) other.slot) key.generation other.generation (rw slots holds) differ);
-    issued = issued_before (Change.Set key.slot key.generation value);
-  }
+  Shows-set value holds = search (rules, shown, get-set, no_value, issued_before)
 
   Shows-free : IsSomeAnd (map.get (replay changes) key.slot) (λ held. held.generation ≡ key.generation)
       → Shows span (changes ++ Change.Free key.slot key.generation ∷ []) (without m key)
-  Shows-free holds = record {
-    values = shown (Change.Free key.slot key.generation) None None
-        (get-free changes key.slot key.generation)
-        (λ other equal. refl)
-        (λ other differ. refl)
-        (λ other slots differ. no_value (map.get (replay changes) other.slot) key.generation other.generation (rw slots holds) differ);
-    issued = issued_before (Change.Free key.slot key.generation);
-  }
+  Shows-free holds = search (rules, shown, get-free, no_value, issued_before)
 
 -- a slot that may be set holds something of the generation
 held_at : (held : Option Held) (generation : ℕ) (value : Value) → IsSomeAnd held (λ h. (h.generation ≡ generation) × (length h.value ≡ length value))
@@ -140,45 +88,22 @@ after_call _ key m = m
 
 pub Shows-change : (span : SpanId) (gens : ℕ) (changes : List Change) (m : PlainMap) (call : Call) (key : Key) (change : Change) → Shows span changes m → key.span ≡ span
     → IsLegalAfter gens changes change → CallMakes call key change → Shows span (changes ++ change ∷ []) (after_call call key m)
-Shows-change span gens changes m (Call.Put value) key (Change.Put slot generation put_value) shows same legal makes =
-    let e : Change.Put key.slot key.generation value ≡ Change.Put slot generation put_value = cc in
-    subst (λ (c : Change). Shows span (changes ++ c ∷ []) (with_put m key value)) e
-    (Shows-put span changes m shows key same value (ap (map.get (replay changes)) makes.0 ∙ legal.0) (makes.1 ∙ legal.1 ∙ ap (λ s. puts_of s changes + 1) (sym makes.0)))
-Shows-change span gens changes m (Call.Set value) key (Change.Set slot generation set_value) shows same legal makes =
-    let e : Change.Set key.slot key.generation value ≡ Change.Set slot generation set_value = cc in
-    let holds : IsSomeAnd (map.get (replay changes) slot) (λ held. held.generation ≡ generation) = held_at (map.get (replay changes) slot) generation set_value legal in
-    subst (λ (c : Change). Shows span (changes ++ c ∷ []) (with_value m key value)) e
-    (Shows-set span changes m shows key same value (rw (makes.0, makes.1) holds))
-Shows-change span gens changes m Call.Freed key (Change.Free slot generation) shows same legal makes =
-    let e : Change.Free key.slot key.generation ≡ Change.Free slot generation = cc in
-    subst (λ (c : Change). Shows span (changes ++ c ∷ []) (without m key)) e
-    (Shows-free span changes m shows key same (rw (makes.0, makes.1) legal))
+Shows-change span gens changes m (Call.Put value) key (Change.Put slot generation put_value) shows same legal makes = search (rules, Shows-put)
+Shows-change span gens changes m (Call.Set value) key (Change.Set slot generation set_value) shows same legal makes = search (rules, held_at, Shows-set)
+Shows-change span gens changes m Call.Freed key (Change.Free slot generation) shows same legal makes = search (rules, Shows-free)
 Shows-change span gens changes m call key change shows same legal makes = absurd makes
 
 -- a call that makes no change is a step that leaves the map
 pub IsStep-quiet : (m : PlainMap) (call : Call) (key : Key) → IsAnswered call (m.value_of key) → is_change call ≡ false → IsStep m call key m
 IsStep-quiet m (Call.Put value) key is quiet = absurd cc
-IsStep-quiet m (Call.Found value) key is quiet = (is, refl)
-IsStep-quiet m Call.NotFound key is quiet = (is, refl)
 IsStep-quiet m (Call.Set value) key is quiet = absurd cc
-IsStep-quiet m (Call.NotSet value) key is quiet = (is, refl)
 IsStep-quiet m Call.Freed key is quiet = absurd cc
-IsStep-quiet m Call.NotFreed key is quiet = (is, refl)
+IsStep-quiet m call key is quiet = (is, refl)
 
 -- a call that makes a legal change is a step to the map after it
 pub IsStep-change : (span : SpanId) (gens : ℕ) (changes : List Change) (m : PlainMap) (call : Call) (key : Key) (change : Change) → Shows span changes m → key.span ≡ span
     → IsLegalAfter gens changes change → CallMakes call key change → IsAnswered call (m.value_of key) → is_change call ≡ true → IsStep m call key (after_call call key m)
-IsStep-change span gens changes m (Call.Put value) key (Change.Put slot generation put_value) shows same legal makes is done = (
-  never (m.is_issued key) (λ issued.
-      let most = shows.issued key same issued in
-      let slots : puts_of key.slot changes ≡ puts_of slot changes = ap (λ s. puts_of s changes) makes.0 in
-      omega (arith, makes.1, legal.1)),
-  refl,
-)
-  where
-    never : (b : Bool) → (b ≡ true → ⊥) → b ≡ false
-    never true h = absurd (h refl)
-    never false h = refl
+IsStep-change span gens changes m (Call.Put value) key (Change.Put slot generation put_value) shows same legal makes is done = search (rules)
 IsStep-change span gens changes m (Call.Put value) key change shows same legal makes is done = absurd makes
 IsStep-change span gens changes m (Call.Set value) key change shows same legal makes is done = (is, refl)
 IsStep-change span gens changes m Call.Freed key change shows same legal makes is done = (is, refl)
