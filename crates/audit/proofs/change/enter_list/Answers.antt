@@ -1,4 +1,4 @@
-use Rattle.std.proofs.Common.{◌∙◌, List, map, sym, subst}
+use Rattle.std.proofs.Common.{◌∙◌, List, map, sym, subst, rules}
 use Rattle.span.specs.ReceiptLists.{kept_receipts}
 use Rattle.span.specs.ReceiptViews.{receipt_viewed}
 use Rattle.span.specs.declared.receipt.Receipt.{Receipt}
@@ -7,9 +7,7 @@ use Rattle.audit.proofs.Entered.{front_more, front_unknown}
 use Rattle.audit.proofs.change.enter_list.Goals as goal
 
 pub returns-then-not-enter-clause-entered : goal.returns-then-not-enter-clause-entered
-returns-then-not-enter-clause-entered c before are =
-    front_unknown c.args.logs.now before (kept_receipts c.args.list.now) c.loop-i.i (receipt_viewed c.view_near.result) c.view_near.ensures
-    ((c.if-not-enter.ensures {u = tt}).entered _ (c.loop-i.invariant.entered before are))
+returns-then-not-enter-clause-entered c before are = search (rules, front_unknown)
 
 pub loop-i-preserved : goal.loop-i-preserved
 loop-i-preserved c = record {

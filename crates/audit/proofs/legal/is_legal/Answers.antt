@@ -1,4 +1,4 @@
-use Rattle.std.proofs.Common.{◌≡◌, ◌∙◌, true, false, List, take, sym, subst}
+use Rattle.std.proofs.Common.{List, take, sym, subst, rules}
 use Rattle.span.specs.KeptLogs.{kept_changes}
 use Rattle.span.specs.declared.change.Change.{Change}
 use Rattle.span.specs.Log.{IsLegal, IsOfClass}
@@ -15,21 +15,10 @@ pub loop-i-init : goal.loop-i-init
 loop-i-init c = record { legal = IsLegal-empty c.args.gens; of_class = tt; held = c.no_contents-held.ensures; issued = c.none_issued-issued.ensures }
 
 pub returns-then-not-is_of_class : goal.returns-then-not-is_of_class
-returns-then-not-is_of_class c =
-    let changes = kept_changes c.args.log.now in (
-      λ so. absurd cc,
-      λ legal. absurd (let e : false ≡ true = sym c.if-not-is_of_class.true
-          ∙ c.is_of_class.ensures.1 (IsOfClass-at c.args.class changes c.loop-i.i (viewed c.view-change.result) legal.1 c.view-change.ensures) in cc),
-    )
+returns-then-not-is_of_class c = search (rules, IsOfClass-at)
 
 pub returns-then-not-may_follow : goal.returns-then-not-may_follow
-returns-then-not-may_follow c =
-    let changes = kept_changes c.args.log.now in
-    let of_class = c.is_of_class.ensures.0 c.if-not-is_of_class.false in
-    let follows = c.may_follow.ensures c.args.class (take c.loop-i.i changes) c.loop-i.invariant.of_class of_class c.loop-i.invariant.held c.loop-i.invariant.issued in (
-      λ so. absurd cc,
-      λ legal. absurd (let e : false ≡ true = sym c.if-not-may_follow.true ∙ follows.1 (legal_at c.args.gens changes c.loop-i.i (viewed c.view-change.result) legal.0 c.view-change.ensures) in cc),
-    )
+returns-then-not-may_follow c = search (rules, legal_at)
 
 pub loop-i-preserved : goal.loop-i-preserved
 loop-i-preserved c =

@@ -1,4 +1,4 @@
-use Rattle.std.proofs.Common.{◌≡◌, ◌∙◌, List, None, take, vec_items, length, get_or, ap, sym, subst, arith}
+use Rattle.std.proofs.Common.{◌≡◌, ◌∙◌, List, take, vec_items, length, get_or, ap, sym, subst, arith, rules}
 use Rattle.span.specs.KeptLogs.{kept_changes}
 use Rattle.span.specs.declared.change.Change.{Change}
 use Rattle.span.specs.ReceiptViews.{receipt_viewed}
@@ -11,22 +11,10 @@ use Rattle.audit.proofs.LogTable.{log_items}
 use Rattle.audit.proofs.reply.is_right_reply.Goals as goal
 
 pub returns-then-receipt-eq0 : goal.returns-then-receipt-eq0
-returns-then-receipt-eq0 c =
-    let r = receipt_viewed c.args.receipt.now in
-    let changes = log_of c.args.logs.now r.key.span in
-    let none : None ≡ value_after (take r.at changes) r.key = sym (value_after-none changes r.at r.key c.if-receipt-eq0.true) in (
-      λ so. (omega (arith, c.if-receipt-eq0.true), subst (IsAnswered r.call) none (c.is_answered.ensures.0 so)),
-      λ right. c.is_answered.ensures.1 (subst (IsAnswered r.call) (sym none) right.1),
-    )
+returns-then-receipt-eq0 c = search (rules, value_after-none)
 
 pub returns-then-len-receipt : goal.returns-then-len-receipt
-returns-then-len-receipt c =
-    let there = (c.in-Some.ensures {u = tt}).found in
-    let items : length (kept_changes (get_or c.args.logs.now c.in-Some.j c.index-logs-j.result).log) ≡ length (log_of c.args.logs.now c.args.receipt.now.key.span) =
-    ap length (log_items c.args.logs.now c.in-Some.j c.index-logs-j.result there.0 there.1 ∙ sym there.3) in (
-      λ so. absurd cc,
-      λ right. absurd (let fits = right.0 in omega (arith, c.if-len-receipt.true, c.len.ensures)),
-    )
+returns-then-len-receipt c = search (rules, log_items)
 
 pub is_answered_after-requires-clause-order : goal.is_answered_after-requires-clause-order
 is_answered_after-requires-clause-order c =

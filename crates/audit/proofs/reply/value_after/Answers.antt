@@ -1,4 +1,4 @@
-use Rattle.std.proofs.Common.{◌∙◌, ℕ, List, Bor, ap, option_map, sym}
+use Rattle.std.proofs.Common.{◌∙◌, ap, option_map, sym, rules}
 use Rattle.span.specs.KeptLogs.{kept_changes}
 use Rattle.span.specs.Log.{value_if}
 use Rattle.span.specs.Views.{viewed}
@@ -6,11 +6,7 @@ use Rattle.audit.proofs.BySlot.{holds_none, holds_last}
 use Rattle.audit.proofs.reply.value_after.Goals as goal
 
 pub returns-in_err-last : goal.returns-in_err-last
-returns-in_err-last c =
-    let changes = kept_changes c.args.log.now in
-    let quiet = c.in_err-last.ensures {u = tt} changes c.requires.order c.requires.inside in
-    ap (option_map (λ (words : Bor (List ℕ)). words.now)) c.from_residual.ensures
-    ∙ sym (ap (value_if c.args.key.now.generation) (holds_none changes c.args.key.now.slot c.args.at quiet c.requires.inside))
+returns-in_err-last c = search (rules, option_map, holds_none)
 
 pub returns : goal.returns
 returns c =

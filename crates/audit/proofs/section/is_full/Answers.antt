@@ -1,4 +1,4 @@
-use Rattle.std.proofs.Common.{◌≡◌, ◌∙◌, ◌<◌, ◌≤◌, List, Bool, Some, None, false, get_or, inl, inr, length, sym, ap, subst, refl, arith}
+use Rattle.std.proofs.Common.{◌≡◌, ◌∙◌, ◌<◌, ◌≤◌, List, Bool, Some, None, false, get_or, length, sym, ap, subst, refl, arith, rules}
 use Rattle.std.proofs.lemmas.Bool.{cases_lt}
 use Rattle.audit.proofs.Rows.{length-told_sections, told_at, untold_at}
 use Rattle.audit.proofs.section.is_full.Goals as goal
@@ -16,12 +16,7 @@ returns-then-not-told c =
     )
 
 pub loop-told-preserved : goal.loop-told-preserved
-loop-told-preserved c k fits = elim (cases_lt k c.loop-told.told-index) [
-  | inl less ↦ c.loop-told.invariant k less
-  | inr high ↦
-      let last : k ≡ c.loop-told.told-index = omega arith in
-      ap (λ k. get_or c.args.row.now.told.items k false) last ∙ ap (λ l. get_or l c.loop-told.told-index false) (sym c.deref-told-items.ensures.value) ∙ c.if-not-told.false
-]
+loop-told-preserved c k fits = search (rules, cases_lt)
 
 pub returns : goal.returns
 returns c =

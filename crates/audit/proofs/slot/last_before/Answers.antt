@@ -1,12 +1,11 @@
-use Rattle.std.proofs.Common.{◌-◌, get_or, arith}
+use Rattle.std.proofs.Common.{◌-◌, get_or, arith, rules}
 use Rattle.std.proofs.lemmas.Option.{slice_get-get_or}
 use Rattle.audit.specs.declared.slot.SlotChange.{SlotChange}
 use Rattle.audit.proofs.BySlot.{last_split, quiet_split, quiet_split_other}
 use Rattle.audit.proofs.slot.last_before.Goals as goal
 
 pub returns-then-n-eq0 : goal.returns-then-n-eq0
-returns-then-n-eq0 c changes by inside = quiet_split changes c.args.found.now by c.args.slot c.args.at c.count_before-n.result c.slot_rank-rank.result
-    (omega (arith, c.ranges.at)) c.slot_rank-rank.ensures c.count_before-n.ensures c.if-n-eq0.true
+returns-then-n-eq0 c changes by inside = search (rules, quiet_split)
 
 pub returns-then-last-slot : goal.returns-then-last-slot
 returns-then-last-slot c changes by inside =

@@ -1,11 +1,10 @@
-use Rattle.std.proofs.Common.{◌≡◌, ◌∙◌, true, false, sym}
-use Rattle.span.specs.ReceiptLists.{kept_receipts}
+use Rattle.std.proofs.lemmas.Grind.{common_steps}
+use Rattle.std.proofs.Common.{◌≡◌, ◌∙◌, true, false, sym, arith}
 use Rattle.audit.proofs.Orderly.{LeaveNothing-from}
 use Rattle.audit.proofs.verdict.verdict_of.Goals as goal
 
 pub list_is_in_order-requires-clause-nothing : goal.list_is_in_order-requires-clause-nothing
-list_is_in_order-requires-clause-nothing c =
-    LeaveNothing-from c.args.records.now.logs.now (kept_receipts c.args.list.now) (c.list_is_right.ensures.0 c.if-not-list_is_right.false) c.requires.known
+list_is_in_order-requires-clause-nothing c = grind (arith, common_steps, LeaveNothing-from)
 
 pub returns-then-not-stand_between : goal.returns-then-not-stand_between
 returns-then-not-stand_between c = (
