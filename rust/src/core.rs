@@ -9,7 +9,7 @@ pub use meshing::{Marked, Stepped};
 
 use crate::bytes::{slots_for, words_for, Bytes, BytesKey, Words, MOST_BYTES, MOST_WORDS};
 use crate::key_bits::KeyBits;
-use crate::names::Key;
+use crate::names::{Key, Span};
 use crate::occupancy::Occupancy;
 use crate::raw;
 use crate::refused::Refused;
@@ -499,6 +499,15 @@ impl Core {
         // SAFETY: as in `get`.
         let status = unsafe { raw::teurlaks_get(&self.handle, low, high).status };
         status != raw::NONE && status != raw::NO_CORE
+    }
+
+    /// The key of this slot of the span, if one is live: no other key stands between it and the last
+    /// one that the slot before could have.
+    pub(crate) fn key_at(&self, span: Span, slot: u8) -> Option<Key> {
+        let next = self
+            .next_after(span.before(slot).map_or(NO_KEY, Key::raw))
+            .and_then(Key::of);
+        next.filter(|key| key.span() == span && key.slot() == u32::from(slot))
     }
 
     /// Sets the key to an object of this word in place, and says whether it did: where the key is live and has an object of one word. The

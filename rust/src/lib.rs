@@ -16,6 +16,7 @@ mod refused;
 pub mod shared;
 pub mod shared_slab;
 pub mod slab;
+mod slots;
 mod spans;
 pub mod store;
 mod typed;

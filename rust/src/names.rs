@@ -276,6 +276,20 @@ impl Span {
         self.0
     }
 
+    /// A key of the slot before this one, in the order of walks, which need not be one of this span;
+    /// `None` for the first slot of all.
+    pub fn before(self, slot: u8) -> Option<Key> {
+        if slot > 0 {
+            return Key::of_span(self, slot - 1, 1);
+        }
+        let mut before = self.0.checked_sub(1)?;
+        // No span has the greatest serial number.
+        if before as u32 == u32::MAX {
+            before -= 1;
+        }
+        Key::of_span(Span(before), u8::MAX, 1)
+    }
+
     /// The serial number in it.
     #[inline]
     // It is cut out of the name.

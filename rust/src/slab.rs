@@ -1,6 +1,7 @@
 //! A slab that owns its values, its iterators, and an entry of it that waits for its value.
 
 mod iterators;
+mod operators;
 mod vacant;
 
 pub use iterators::{Drain, IntoIter, Iter, IterMut, Keys, Values, ValuesMut};
@@ -10,20 +11,22 @@ use crate::compact::{Compact, Compacted};
 use crate::core::{ends_turn, Core, Limits, Stepped, SHARDS};
 use crate::names::{Group, Key};
 use crate::refused::{InsertError, Refused};
-use crate::values::{self, Walk, WalkMut};
-use std::fmt;
-use std::ops::{Index, IndexMut};
+use crate::values::{self, Spot, Walk, WalkMut};
+use std::ptr::NonNull;
 
 /// Values of one type under keys that never lie.
 ///
 /// The values stand in pages of their own, one beside each page of the core, and move with its folds: so any type will do, what is found is a
 /// reference, each value is dropped once, and a fold gives the memory of a page of values back to the system. [`Slab::compact`] folds as much
-/// as can be. Beside a value there are 8 bytes of its key, and the core's object of one word of 16 bytes or, from 80 bytes on, of more. For then a
+/// as can be. Beside a value there are 4 bytes of its key, and the core's object of one word of zeros or, from 80 bytes on, of more. For then a
 /// page has fewer slots, and more pages fit each other: 256, or 64 of 240 bytes, or 16 of 4,096. A value of more bytes stands in a block of the
 /// global allocator.
 ///
-/// A look-up compares the key with what stands of one beside the value, and does not ask the core, which is proved never to give a key out
-/// twice. Values that are copied and have up to 256 bytes stand in the core's pages themselves in a [`Store`](crate::Store).
+/// A look-up compares the key's generation with the one beside the value, and does not ask the core,
+/// which is proved never to give a key out twice; with debug assertions it asks, and panics if the
+/// answers differ. With the feature `lean` no generation stands there: the core alone is asked whether
+/// a key is live, which takes three times the instructions, and for each key of a walk. Values that are
+/// copied and have up to 256 bytes stand in the core's pages in a [`Store`](crate::Store).
 ///
 /// It is `Send` and `Sync` where its values are: many threads may look values up at once, as by an [`RwLock`](std::sync::RwLock), and one at a
 /// time changes it.
@@ -392,13 +395,28 @@ impl<T> Slab<T> {
     #[inline]
     #[must_use]
     pub fn get(&self, key: Key) -> Option<&T> {
-        self.values.get(key)
+        let value = self.find(key)?;
+        // SAFETY: the value is there, and it is lent as long as the slab is.
+        Some(unsafe { value.as_ref() })
+    }
+
+    /// Where the value of the key is, if it is live.
+    #[inline]
+    fn find(&self, key: Key) -> Option<NonNull<T>> {
+        let found = self
+            .values
+            .find(key)
+            .filter(|_| !values::LEAN || self.core.contains(key));
+        debug_assert_eq!(found.is_some(), self.core.contains(key) && self.vacant != Some(key));
+        found
     }
 
     /// The value of the key, to be changed, where it is live.
     #[inline]
     pub fn get_mut(&mut self, key: Key) -> Option<&mut T> {
-        self.values.get_mut(key)
+        let mut value = self.find(key)?;
+        // SAFETY: as in `get`, and nothing else is lent meanwhile.
+        Some(unsafe { value.as_mut() })
     }
 
     /// The value of a live key, of which nothing is asked but that.
@@ -438,14 +456,23 @@ impl<T> Slab<T> {
     /// ```
     #[doc(alias = "get2_mut")]
     pub fn get_disjoint_mut<const N: usize>(&mut self, keys: [Key; N]) -> Option<[&mut T; N]> {
-        self.values.get_disjoint_mut(keys)
+        let mut found = [NonNull::dangling(); N];
+        for (place, key) in keys.iter().enumerate() {
+            if keys[..place].contains(key) {
+                return None;
+            }
+            found[place] = self.find(*key)?;
+        }
+        // SAFETY: as in `get_mut`, of each: no two live keys have one slot, so these are as many
+        // values.
+        Some(found.map(|mut value| unsafe { value.as_mut() }))
     }
 
     /// Whether the key is live.
     #[inline]
     #[must_use]
     pub fn contains(&self, key: Key) -> bool {
-        self.values.contains(key)
+        self.find(key).is_some()
     }
 
     /// As [`Slab::contains`], under the name that maps have for it.
@@ -478,19 +505,30 @@ impl<T> Slab<T> {
     /// compared, and nothing is read there.
     #[must_use]
     pub fn key_at(&self, at: *const T) -> Option<Key> {
-        self.values.key_at(at)
+        self.values.spot_at(at).map(|spot| spot.key(&self.core))
     }
 
     /// Takes the value of the key out, where it is live. The key finds nothing from then on.
     #[doc(alias = "try_remove")]
     #[inline]
     pub fn remove(&mut self, key: Key) -> Option<T> {
+        if values::LEAN && (self.values.find(key).is_none() || !self.core.free(key)) {
+            return None;
+        }
         let (value, page) = self.values.take(key)?;
-        self.core.free_live(key);
+        if !values::LEAN {
+            self.core.free_live(key);
+        }
         if self.first > 0 {
             self.first = self.first.min(self.values.shard_of(page) as u8);
         }
         Some(value)
+    }
+
+    /// Takes the value of a spot of a walk out.
+    fn remove_at(&mut self, spot: Spot) -> Option<(Key, T)> {
+        let key = spot.key(&self.core);
+        Some((key, self.remove(key)?))
     }
 
     /// Takes out each value that the test does not keep. Where the test or the drop of a value panics, all that it has not come to stays.
@@ -504,8 +542,9 @@ impl<T> Slab<T> {
     /// ```
     pub fn retain(&mut self, mut keeps: impl FnMut(Key, &mut T) -> bool) {
         let mut walk = self.walk();
-        while let Some((key, value)) = self.values.next_mut(&mut walk) {
-            if !keeps(key, value) {
+        while let Some(spot) = walk.next_in(&self.values) {
+            let key = spot.key(&self.core);
+            if !keeps(key, self.values.at_mut(spot)) {
                 self.remove(key);
             }
         }
@@ -552,7 +591,7 @@ impl<T> Slab<T> {
 
     /// Each key with its value, in no particular order.
     pub fn iter(&self) -> Iter<'_, T> {
-        Iter::new(&self.values, self.walk())
+        Iter::new(&self.core, &self.values, self.walk())
     }
 
     /// Each key with its value, to be changed, in no particular order.
@@ -572,7 +611,7 @@ impl<T> Slab<T> {
     /// ```
     pub fn iter_mut(&mut self) -> IterMut<'_, T> {
         let left = self.len();
-        IterMut::new(WalkMut::new(&mut self.values, left))
+        IterMut::new(&self.core, WalkMut::new(&mut self.values, left))
     }
 
     /// Each key, in no particular order.
@@ -582,12 +621,13 @@ impl<T> Slab<T> {
 
     /// Each value, in no particular order.
     pub fn values(&self) -> Values<'_, T> {
-        Values::new(self.iter())
+        Values::new(&self.values, self.walk())
     }
 
     /// Each value, to be changed, in no particular order.
     pub fn values_mut(&mut self) -> ValuesMut<'_, T> {
-        ValuesMut::new(self.iter_mut())
+        let left = self.len();
+        ValuesMut::new(WalkMut::new(&mut self.values, left))
     }
 
     crate::core::letting_go!();
@@ -731,40 +771,5 @@ impl<T> Compact for Slab<T> {
 
     fn follow(&mut self, abandoned: Group, owned: Group) {
         self.values.follow(abandoned, owned);
-    }
-}
-
-impl<T> Default for Slab<T> {
-    /// A slab as of [`Slab::new`].
-    fn default() -> Slab<T> {
-        Slab::new().expect("the limits are in range")
-    }
-}
-
-impl<T> Index<Key> for Slab<T> {
-    type Output = T;
-
-    /// # Panics
-    ///
-    /// Where the key is not live.
-    #[inline]
-    fn index(&self, key: Key) -> &T {
-        self.get(key).expect("the key is not live")
-    }
-}
-
-impl<T> IndexMut<Key> for Slab<T> {
-    /// # Panics
-    ///
-    /// Where the key is not live.
-    #[inline]
-    fn index_mut(&mut self, key: Key) -> &mut T {
-        self.get_mut(key).expect("the key is not live")
-    }
-}
-
-impl<T: fmt::Debug> fmt::Debug for Slab<T> {
-    fn fmt(&self, f: &mut fmt::Formatter<'_>) -> fmt::Result {
-        f.debug_map().entries(self.iter()).finish()
     }
 }

@@ -63,6 +63,11 @@ impl Spans {
         self.room == 0
     }
 
+    /// How many spans there is room for in all: their numbers are below that.
+    pub fn most(&self) -> usize {
+        self.places.len() / 2
+    }
+
     /// Makes room for so many further spans. A refusal changes nothing that is seen.
     // There is room for no more spans than there are numbers.
     #[allow(clippy::cast_possible_truncation)]

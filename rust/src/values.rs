@@ -2,8 +2,12 @@
 
 // What is cut to fewer bits has a bound: 64 shards, the blocks of their pages, and at most 256 slots in each.
 #![allow(clippy::cast_possible_truncation)]
-// A block lies as its marks and values must, which `BLOCK_BYTES` sees to.
+// A block lies as its generations and values must, which `BLOCK_BYTES` sees to.
 #![allow(clippy::cast_ptr_alignment)]
+
+mod walks;
+
+pub(crate) use walks::{Walk, WalkMut};
 
 use crate::blocks::Blocks;
 use crate::boxed::Late;
@@ -11,17 +15,26 @@ use crate::bytes::{slots_for, MOST_WORDS};
 use crate::core::{Core, Stepped};
 use crate::names::{Group, Key, Span};
 use crate::refused::Refused;
+use crate::slots::Slots;
 use crate::spans::{number_of, Home, Spans};
 use std::alloc::{alloc, dealloc, Layout};
 use std::iter;
 use std::marker::PhantomData;
-use std::mem::{self, align_of, needs_drop, size_of};
-use std::ops::Range;
+use std::mem::{align_of, needs_drop, size_of};
 use std::ptr::{self, NonNull};
 
 /// How many bytes a value has at most, and to how many it is aligned, if it is to stand in a page.
 const MOST_BYTES: usize = 4096;
 const MOST_ALIGN: usize = 64;
+
+/// Whether no generation stands beside a value: then the core is asked which keys are live.
+pub(crate) const LEAN: bool = cfg!(feature = "lean");
+
+/// What stands for the generation of a slot that has no value: no generation is 0.
+const VACANT: u32 = 0;
+
+/// In the lower half of a home's mark: other spans may have values on the page of the span.
+const SHARES: u64 = 1;
 
 const NO_WORDS: [u128; MOST_WORDS] = [0; MOST_WORDS];
 
@@ -44,35 +57,42 @@ const fn round_up(bytes: usize, step: usize) -> usize {
     (bytes + step - 1) / step * step
 }
 
-/// What stands for the mark of a slot that has no value: no generation is 0.
-const VACANT: u64 = 0;
-
-/// The values of live keys, each at the slot of its key in a page of values. There is such a page for each page of the core with a live key,
-/// and a fold moves the values as the core moves its objects: to the same slots of the other page.
+/// The values of live keys, each at the slot of its key in a page of values. There is such a page for
+/// each page of the core with a live key, and a fold moves the values as the core moves its objects:
+/// to the same slots of the other page.
 ///
 /// ```text
-///   homes, by span:  0.0 ──► page 3 ◄── 1.7      1.7 is the head of the page's group, 0.0 was folded there
+///   homes, by span:  0.0 ──► page 3 ◄── 1.7       1.7 is the head of the page's group, 0.0 was folded there
 ///                              │
-///   block:           | mark | mark | .. | value | value | ..       a mark of zeros says that the slot has no value
+///   block:           | generation | .. | value | value | ..
+///   rows, by span:   0.0 has values at 2, 17, ..    1.7 at 0, 1, ..
 /// ```
 ///
-/// A mark is the number that its span has here, and the generation: with the slot that is all of a key, in 8 bytes. A span has a home as long as
-/// it has a value, or is the head of a page that has one. So what all this takes goes by the values that there are, and not by the spans that there
-/// were.
+/// With its span and slot a generation is all of a key, in 4 bytes. With the feature `lean` none
+/// stands there, and the core is asked whether a key is live. A span has a home as long as it has a
+/// value, or is the head of a page that has one. So what all this takes goes by the values that there
+/// are, and not by the spans that there were.
 ///
 /// Values that are large stand in blocks of the global allocator, and their addresses in the page.
 ///
-/// What is `unsafe` here rests on this module and its marks alone: were the core wrong, a look-up would fail or panic, and no memory be misused.
+/// What is `unsafe` here rests on this module and its rows alone: were the core wrong, a look-up
+/// would fail, find another value of the same slot, or panic, and no memory be misused.
 pub(crate) struct Values<T> {
     spans: Spans,
-    // By the number of their block.
-    pages: Vec<Page>,
-    blocks: Late<Blocks>,
+    // By the numbers of spans.
+    rows: Vec<Row>,
+    paged: Late<Paged>,
     // Memory for one value that does not stand in a page.
     room: Option<NonNull<T>>,
     // Whether there is room for one value, as `reserve` makes it: nothing took of it since.
     ready: bool,
     owned: PhantomData<T>,
+}
+
+/// The pages, by the numbers of their blocks.
+struct Paged {
+    blocks: Blocks,
+    pages: Vec<Page>,
 }
 
 /// Where a page of values is.
@@ -83,37 +103,47 @@ pub(crate) struct Block(NonNull<u8>);
 #[derive(Clone, Copy)]
 struct Page {
     block: Block,
-    // How many spans have values here: none where the block is not taken.
+    // How many spans have values here: none if the block is not taken.
     spans: u32,
-    // The head of its group, into which the next values come.
-    head: Span,
+    // The number of the head of its group, into which the next values come.
+    head: u32,
     // The shard that has its page of the core, or had it when that was last known.
     shard: u8,
 }
 
-/// Where a walk over values is, from both ends: of the values with which it began.
-#[derive(Clone)]
-pub(crate) struct Walk {
-    // The slots that come next, and those that come next from the end.
-    front: Piece,
-    back: Piece,
-    // The pages between the two, by their numbers.
-    pages: Range<usize>,
-    // How many values are still to come.
-    left: usize,
+/// What is known of a span with a home, beside that.
+#[derive(Clone, Copy)]
+struct Row {
+    // The slots at which it has values: none if no span has the number.
+    live: Slots,
+    // The number of the next span on its page. The head is the first.
+    next: Option<u32>,
 }
 
-/// Slots of a page that are still to come.
-#[derive(Clone)]
-struct Piece {
+/// A slot that has a value.
+#[derive(Clone, Copy)]
+pub(crate) struct Spot {
+    span: Span,
+    slot: u8,
     block: Block,
-    slots: Range<usize>,
 }
 
-impl Walk {
-    /// How many values are still to come.
-    pub fn left(&self) -> usize {
-        self.left
+impl Spot {
+    /// The key of the value.
+    #[inline]
+    pub fn key(&self, core: &Core) -> Key {
+        if LEAN {
+            return core.key_at(self.span, self.slot).expect("the key of a value is live");
+        }
+        let key = Key::of_span(self.span, self.slot, self.block.generation(self.slot));
+        debug_assert_eq!(key, core.key_at(self.span, self.slot));
+        key.expect("no generation is 0")
+    }
+
+    /// Where its value is.
+    #[inline]
+    fn value<T>(&self) -> NonNull<T> {
+        self.block.value::<T>(self.slot)
     }
 }
 
@@ -134,16 +164,24 @@ impl<T> Values<T> {
     /// How many slots a page has.
     pub const SLOTS: usize = slots_for(Self::WORDS);
 
-    const ALIGN: usize = if Self::STORED.align() > 8 {
+    const ALIGN: usize = if Self::STORED.align() > 4 {
         Self::STORED.align()
     } else {
-        8
+        4
     };
 
-    /// Where the values begin: the marks are before them.
-    const VALUES_AT: usize = round_up(Self::SLOTS * size_of::<u64>(), Self::ALIGN);
+    /// Where the values begin: the generations are before them.
+    const VALUES_AT: usize = if LEAN {
+        0
+    } else {
+        round_up(Self::SLOTS * size_of::<u32>(), Self::ALIGN)
+    };
 
-    const BLOCK_BYTES: usize = round_up(Self::VALUES_AT + Self::SLOTS * Self::STORED.size(), Self::ALIGN);
+    const BLOCK_BYTES: usize = match round_up(Self::VALUES_AT + Self::SLOTS * Self::STORED.size(), Self::ALIGN) {
+        // A block has some bytes, also for values of none.
+        0 => 64,
+        bytes => bytes,
+    };
 
     /// A key of the core's shard, beside whose object a value is to stand. The object's words tell
     /// nothing: where the value is follows from its key.
@@ -160,8 +198,8 @@ impl<T> Values<T> {
     pub fn new() -> Values<T> {
         Values {
             spans: Spans::new(),
-            pages: Vec::new(),
-            blocks: Late::new(),
+            rows: Vec::new(),
+            paged: Late::new(),
             room: None,
             ready: false,
             owned: PhantomData,
@@ -180,7 +218,7 @@ impl<T> Values<T> {
     #[cold]
     fn make_ready(&mut self) -> Result<(), Refused> {
         self.make_blocks()?.reserve()?;
-        if self.pages.len() < self.blocks.len() || self.spans.is_full() {
+        if self.paged.pages.len() < self.paged.blocks.len() || self.spans.is_full() {
             self.grow(1)?;
         }
         if Self::APART && self.room.is_none() {
@@ -205,16 +243,30 @@ impl<T> Values<T> {
 
     /// The blocks, which come with the first one.
     fn make_blocks(&mut self) -> Result<&mut Blocks, Refused> {
-        self.blocks.make(|| Blocks::new(Self::BLOCK_BYTES))
+        let none = || Paged {
+            blocks: Blocks::new(Self::BLOCK_BYTES),
+            pages: Vec::new(),
+        };
+        Ok(&mut self.paged.make(none)?.blocks)
     }
 
     /// Makes room for each block to be a page, and for so many further spans.
     #[cold]
     fn grow(&mut self, spans: usize) -> Result<(), Refused> {
-        let more = self.blocks.len() - self.pages.len();
-        self.pages.try_reserve(more).map_err(|_| Refused::OutOfMemory)?;
-        self.pages.resize(self.blocks.len(), Page::NONE);
-        self.spans.reserve(spans)
+        let Paged { blocks, pages } = &mut *self.paged;
+        let more = blocks.len() - pages.len();
+        pages.try_reserve(more).map_err(|_| Refused::OutOfMemory)?;
+        pages.resize(blocks.len(), Page::NONE);
+        self.grow_spans(spans)
+    }
+
+    /// Makes room for so many further spans.
+    fn grow_spans(&mut self, spans: usize) -> Result<(), Refused> {
+        self.spans.reserve(spans)?;
+        let more = self.spans.most() - self.rows.len();
+        self.rows.try_reserve_exact(more).map_err(|_| Refused::OutOfMemory)?;
+        self.rows.resize(self.spans.most(), Row::NONE);
+        Ok(())
     }
 
     /// Keeps the value of a key that the shard has just put, for which there is room.
@@ -224,12 +276,23 @@ impl<T> Values<T> {
             Some(home) => home,
             None => self.open(shard, key.span()),
         };
-        let (block, slot) = (home.block, slot_of(key));
-        assert!(slot < Self::SLOTS && block.mark(slot) == VACANT, "the slot is free");
-        let (mark, number) = (mark_of(home, key), home.page);
         home.live += 1;
-        if home.live == 1 {
-            self.pages[number as usize].spans += 1;
+        let Home {
+            block,
+            page,
+            mark,
+            live,
+            ..
+        } = *home;
+        if live == 1 {
+            self.paged.pages[page as usize].spans += 1;
+        }
+        let (slot, row) = (slot_of(key), &mut self.rows[number_of(mark) as usize]);
+        assert!(usize::from(slot) < Self::SLOTS, "the slot is one of the page's");
+        debug_assert!(!row.live.contains(slot), "the slot is free");
+        row.live.insert(slot);
+        if !LEAN {
+            block.set_generation(slot, key.generation());
         }
         if Self::APART {
             let room = self.room.take().expect("room was reserved");
@@ -239,46 +302,24 @@ impl<T> Values<T> {
         }
         // SAFETY: the slot is one of the page's and has no value, so one may be written where it stands, or to the room that is there.
         unsafe { block.value::<T>(slot).as_ptr().write(value) };
-        block.set_mark(slot, mark);
     }
 
     /// A page for the values of the span, which has none.
     #[cold]
     fn open(&mut self, shard: u32, head: Span) -> &mut Home {
         self.ready = false;
-        let (number, block) = self.blocks.take();
+        let (number, block) = self.paged.blocks.take();
         let block = Block(block);
-        self.pages[number as usize] = Page {
+        let home = self.spans.insert(head, number, block);
+        let row = number_of(home.mark);
+        self.rows[row as usize] = Row::NONE;
+        self.paged.pages[number as usize] = Page {
             block,
             spans: 0,
-            head,
+            head: row,
             shard: shard as u8,
         };
-        self.spans.insert(head, number, block)
-    }
-
-    /// The home of the value of the key, and its slot, where there is such a value.
-    #[inline]
-    fn find(&self, key: Key) -> Option<(&Home, usize)> {
-        let home = self.spans.find(key.span())?;
-        let slot = slot_of(key);
-        (slot < Self::SLOTS && home.block.mark(slot) == mark_of(home, key)).then_some((home, slot))
-    }
-
-    /// The value of the key, where there is one.
-    #[inline]
-    pub fn get(&self, key: Key) -> Option<&T> {
-        let (home, slot) = self.find(key)?;
-        // SAFETY: the slot has its mark, so its value is there, and it is lent as long as the values are.
-        Some(unsafe { home.block.value::<T>(slot).as_ref() })
-    }
-
-    /// The value of the key, to be changed, where there is one.
-    #[inline]
-    pub fn get_mut(&mut self, key: Key) -> Option<&mut T> {
-        let (home, slot) = self.find(key)?;
-        // SAFETY: as in `get`, and nothing else is lent meanwhile.
-        Some(unsafe { home.block.value::<T>(slot).as_mut() })
+        home
     }
 
     /// Where the value of the key is.
@@ -293,72 +334,85 @@ impl<T> Values<T> {
         home.block.value::<T>(slot_of(key))
     }
 
-    /// The values of the keys, to be changed, where each has one and no two are the same.
-    pub fn get_disjoint_mut<const N: usize>(&mut self, keys: [Key; N]) -> Option<[&mut T; N]> {
-        let mut found = [NonNull::dangling(); N];
-        for (place, key) in keys.iter().enumerate() {
-            if keys[..place].contains(key) {
-                return None;
-            }
-            let (home, slot) = self.find(*key)?;
-            found[place] = home.block.value::<T>(slot);
-        }
-        // SAFETY: as in `get_mut`, of each: a slot has one key, so these are values at as many slots.
-        Some(found.map(|mut value| unsafe { value.as_mut() }))
-    }
-
-    /// Whether the key has a value.
+    /// Where the value of the key is, if it has one. A lean slab asks the core beside this whether
+    /// the key is live.
     #[inline]
-    pub fn contains(&self, key: Key) -> bool {
-        self.find(key).is_some()
+    pub fn find(&self, key: Key) -> Option<NonNull<T>> {
+        let (home, slot) = (self.spans.find(key.span())?, slot_of(key));
+        let is_slot = usize::from(slot) < Self::SLOTS;
+        if is_slot && self.rows_tell(home, slot) && home.block.is_of(slot, key) {
+            Some(home.block.value::<T>(slot))
+        } else {
+            None
+        }
     }
 
-    /// Takes the value of the key out, where there is one, and says which page it was on. It needs no memory.
+    /// Whether the span of the home has the value of the slot, if one stands there with a generation.
+    #[inline]
+    fn rows_tell(&self, home: &Home, slot: u8) -> bool {
+        !LEAN && home.mark & SHARES == 0 || self.row_of(home).live.contains(slot)
+    }
+
+    /// Takes the value of the key out, if it has one, and says which page it was on. It needs no
+    /// memory. A lean slab has asked the core whether the key is live.
     #[inline]
     pub fn take(&mut self, key: Key) -> Option<(T, u32)> {
         let home = self.spans.find_mut(key.span())?;
-        let (block, slot) = (home.block, slot_of(key));
-        if slot >= Self::SLOTS || block.mark(slot) != mark_of(home, key) {
+        let (block, row, slot) = (home.block, number_of(home.mark), slot_of(key));
+        let live = &mut self.rows[row as usize].live;
+        if !live.contains(slot) || !block.is_of(slot, key) {
             return None;
         }
-        block.set_mark(slot, VACANT);
+        live.remove(slot);
+        block.vacate(slot);
         home.live -= 1;
-        let (left, number) = (home.live, home.page);
-        let at = block.value::<T>(slot);
-        // SAFETY: the slot had its mark, so its value was there, and from now on nobody finds it. A value that stood apart is in a block of
-        // `reserve`, which nothing names any more.
-        let value = unsafe {
-            let value = at.as_ptr().read();
-            if Self::APART {
-                dealloc(at.as_ptr().cast(), Layout::new::<T>());
-            }
-            value
-        };
+        let (left, page) = (home.live, home.page);
+        // SAFETY: the slot had a value, which nobody finds from now on.
+        let value = unsafe { block.take::<T>(slot) };
         if left == 0 {
-            self.forget(key.span(), number);
+            self.forget(row, page);
         }
-        Some((value, number))
+        Some((value, page))
     }
 
     /// The shard that has the page of this number, or had it when it was last a page.
     #[inline]
     pub fn shard_of(&self, number: u32) -> u32 {
-        u32::from(self.pages[number as usize].shard)
+        u32::from(self.paged.pages[number as usize].shard)
     }
 
-    /// Forgets a span that has no value any more, unless it is the head of a page that has one; and gives the page back where that has none.
+    #[inline]
+    fn row_of(&self, home: &Home) -> &Row {
+        &self.rows[number_of(home.mark) as usize]
+    }
+
+    /// The spans from this one on that have homes on one page, by their numbers.
+    fn row_from(&self, first: u32) -> impl Iterator<Item = u32> + '_ {
+        iter::successors(Some(first), |number| self.rows[*number as usize].next)
+    }
+
+    /// Forgets a span that has no value any more, unless it is the head of a page that has one; and
+    /// gives the page back if that has none.
     #[cold]
-    fn forget(&mut self, span: Span, number: u32) {
-        let page = &mut self.pages[number as usize];
-        page.spans -= 1;
-        let (is_empty, head) = (page.spans == 0, page.head);
-        if is_empty || span != head {
-            self.spans.remove(span);
+    fn forget(&mut self, span: u32, page: u32) {
+        let on = &mut self.paged.pages[page as usize];
+        on.spans -= 1;
+        let (is_empty, head) = (on.spans == 0, on.head);
+        if span != head {
+            self.unlink(span, head);
         }
         if is_empty {
-            self.spans.remove(head);
-            self.blocks.give(number);
+            self.spans.remove(self.spans.name(head));
+            self.paged.blocks.give(page);
         }
+    }
+
+    /// Forgets a span that has no value, of a page whose head is another.
+    fn unlink(&mut self, span: u32, head: u32) {
+        let is_before = |number: &u32| self.rows[*number as usize].next == Some(span);
+        let before = self.row_from(head).find(is_before);
+        self.rows[before.expect("the span is on the page") as usize].next = self.rows[span as usize].next;
+        self.spans.remove(self.spans.name(span));
     }
 
     /// Has the core carry out the next fold, and follows it.
@@ -373,211 +427,120 @@ impl<T> Values<T> {
 
     /// Makes room to follow a fold, which may bring one more span here.
     pub fn make_room(&mut self) -> Result<(), Refused> {
-        self.spans.reserve(1)
+        self.grow_spans(1)
     }
 
     /// Follows a fold: the values of the first group move to the page of the second, each to the slot where it is.
     pub fn follow(&mut self, abandoned: Group, owned: Group) {
-        let (head, host) = (abandoned.head(), owned.head());
-        let Some(&from) = self.spans.find(head) else {
+        let Some(&from) = self.spans.find(abandoned.head()) else {
             return;
         };
-        match self.spans.find(host).copied() {
-            Some(to) if to.page == from.page => return,
+        match self.spans.find(owned.head()).copied() {
             Some(to) => self.move_values(&from, &to),
-            None => {
-                // The second group has no value, so its head comes to the page of the first.
-                self.ready = false;
-                self.spans.insert(host, from.page, from.block);
-                let page = &mut self.pages[from.page as usize];
-                page.head = host;
-                page.shard = owned.shard() as u8;
-            }
-        }
-        // It is a head no more.
-        if from.live == 0 {
-            self.spans.remove(head);
+            None => self.take_over(&from, owned),
         }
     }
 
-    /// Moves each value of a page to the same slot of another one, with the homes of their spans, and gives its block back.
-    fn move_values(&mut self, from: &Home, to: &Home) {
-        let mut last = None;
-        for slot in 0..Self::SLOTS {
-            let mark = from.block.mark(slot);
-            if mark == VACANT {
-                continue;
-            }
-            assert!(to.block.mark(slot) == VACANT, "the library folds what fits");
-            // SAFETY: two pages are two blocks. The slot has a value on the one, where nobody finds it from now on, and none on the other.
-            unsafe {
-                let bytes = Self::STORED.size();
-                to.block
-                    .stored::<T>(slot)
-                    .copy_from_nonoverlapping(from.block.stored::<T>(slot), bytes);
-            }
-            from.block.set_mark(slot, VACANT);
-            to.block.set_mark(slot, mark);
-            let number = number_of(mark);
-            if last.replace(number) != Some(number) && self.spans.move_home(number, to) {
-                self.pages[from.page as usize].spans -= 1;
-                self.pages[to.page as usize].spans += 1;
-            }
+    /// The page of this home becomes that of the group, whose head has no value.
+    fn take_over(&mut self, from: &Home, owned: Group) {
+        self.ready = false;
+        let (head, host) = (
+            number_of(from.mark),
+            self.spans.insert(owned.head(), from.page, from.block),
+        );
+        let host = number_of(host.mark);
+        self.rows[host as usize] = Row {
+            live: Slots::NONE,
+            next: Some(head),
+        };
+        let page = &mut self.paged.pages[from.page as usize];
+        page.head = host;
+        page.shard = owned.shard() as u8;
+        self.note_shared(head);
+        self.note_shared(host);
+        self.forget_head(from, host);
+    }
+
+    /// Notes that the span of this number shares its page with others.
+    fn note_shared(&mut self, number: u32) {
+        if let Some(home) = self.spans.find_mut(self.spans.name(number)) {
+            home.mark |= SHARES;
         }
-        self.blocks.give(from.page);
+    }
+
+    /// Moves each value of the page of the first home to the same slot of the page of the second,
+    /// with the homes of their spans, and gives the block back.
+    fn move_values(&mut self, from: &Home, to: &Home) {
+        assert!(from.page != to.page, "the library folds two pages");
+        let host = number_of(to.mark);
+        self.note_shared(host);
+        let mut taken = Slots::NONE;
+        for number in self.row_from(host) {
+            taken.unite(&self.rows[number as usize].live);
+        }
+        let mut next = Some(number_of(from.mark));
+        while let Some(number) = next {
+            let row = self.rows[number as usize];
+            assert!(taken.unite(&row.live), "the library folds what fits");
+            for slot in row.live.iter() {
+                // SAFETY: two pages are two blocks. The slot has a value on the one, where nobody
+                // finds it from now on, and none on the other.
+                unsafe { from.block.move_to::<T>(to.block, slot) };
+            }
+            next = row.next;
+            self.spans.move_home(number, to);
+            self.note_shared(number);
+            self.rows[number as usize].next = self.rows[host as usize].next.replace(number);
+        }
+        self.paged.pages[to.page as usize].spans += self.paged.pages[from.page as usize].spans;
+        self.paged.pages[from.page as usize].spans = 0;
+        self.paged.blocks.give(from.page);
+        self.forget_head(from, host);
+    }
+
+    /// Forgets a span that was the head of a page until now, if it has no value.
+    fn forget_head(&mut self, head: &Home, host: u32) {
+        if head.live == 0 {
+            self.unlink(number_of(head.mark), host);
+        }
     }
 
     /// Notes that the shard has the group, with its page.
     pub fn note_adopted(&mut self, group: Group, shard: u32) {
         if let Some(home) = self.spans.find(group.head()) {
-            self.pages[home.page as usize].shard = shard as u8;
+            self.paged.pages[home.page as usize].shard = shard as u8;
         }
     }
 
     /// Hands the memory of all pages without a value to the system.
     pub fn cool(&mut self) {
-        if let Some(blocks) = self.blocks.get_mut() {
-            blocks.cool();
+        if let Some(paged) = self.paged.get_mut() {
+            paged.blocks.cool();
         }
     }
 
-    /// How many values there are. It asks each span.
-    fn count(&self) -> usize {
-        self.spans.iter().map(|home| home.live as usize).sum()
-    }
-
-    /// The beginning of a walk over the values, of which there are so many, by pages and slots.
-    pub fn walk(&self, left: usize) -> Walk {
-        let none = Piece {
-            block: Block::NOWHERE,
-            slots: 0..0,
-        };
-        Walk {
-            front: none.clone(),
-            back: none,
-            pages: 0..self.pages.len(),
-            left,
-        }
-    }
-
-    /// The key that comes next in a walk, and where its value is. Values may be taken out on the way: a page that goes with the last one
-    /// has no mark left, and its block stays.
-    #[inline]
-    fn next(&self, walk: &mut Walk) -> Option<(Key, NonNull<T>)> {
-        loop {
-            let block = walk.front.block;
-            for slot in walk.front.slots.by_ref() {
-                if let Some(key) = self.key_of_mark(block.mark(slot), slot) {
-                    walk.left = walk.left.saturating_sub(1);
-                    return Some((key, block.value(slot)));
-                }
-            }
-            match walk.pages.next() {
-                Some(number) => walk.front = self.piece(number),
-                // What is left from the end.
-                None if walk.back.slots.is_empty() => return None,
-                None => mem::swap(&mut walk.front, &mut walk.back),
-            }
-        }
-    }
-
-    /// The key that comes next from the end of a walk, and where its value is, as `next`. No slot
-    /// comes from both ends.
-    #[inline]
-    fn next_back(&self, walk: &mut Walk) -> Option<(Key, NonNull<T>)> {
-        loop {
-            let block = walk.back.block;
-            while let Some(slot) = walk.back.slots.next_back() {
-                if let Some(key) = self.key_of_mark(block.mark(slot), slot) {
-                    walk.left = walk.left.saturating_sub(1);
-                    return Some((key, block.value(slot)));
-                }
-            }
-            match walk.pages.next_back() {
-                Some(number) => walk.back = self.piece(number),
-                None if walk.front.slots.is_empty() => return None,
-                None => mem::swap(&mut walk.front, &mut walk.back),
-            }
-        }
-    }
-
-    /// The slots of the page of this number, or none if it has no value.
-    fn piece(&self, number: usize) -> Piece {
-        let page = &self.pages[number];
-        let count = if page.spans > 0 { Self::SLOTS } else { 0 };
-        Piece {
-            block: page.block,
-            slots: 0..count,
-        }
-    }
-
-    /// The key of the value that stands there, if it is one of these. It looks at each segment of
-    /// blocks; at each value, if they stand in blocks of their own; and values of no bytes all
+    /// Where the value stands that has this address, if it is one of these. It looks at each segment
+    /// of blocks; at each value, if they stand in blocks of their own; and values of no bytes all
     /// stand at one place, where it finds none.
-    pub fn key_at(&self, at: *const T) -> Option<Key> {
+    pub fn spot_at(&self, at: *const T) -> Option<Spot> {
         if size_of::<T>() == 0 {
             return None;
         }
         if Self::APART {
             let mut walk = self.walk(0);
-            return iter::from_fn(|| self.next(&mut walk))
-                .find(|(_, value)| ptr::eq(value.as_ptr(), at))
-                .map(|(key, _)| key);
+            return iter::from_fn(|| walk.next_in(self)).find(|spot| ptr::eq(spot.value::<T>().as_ptr(), at));
         }
-        let (number, offset) = self.blocks.get()?.find(at.cast())?;
-        let page = self.pages.get(number).filter(|page| page.spans > 0)?;
-        let slot = offset.checked_sub(Self::VALUES_AT)? / size_of::<T>();
-        let is_there = slot < Self::SLOTS && ptr::eq(page.block.value::<T>(slot).as_ptr(), at);
-        is_there.then(|| self.key_of_mark(page.block.mark(slot), slot))?
-    }
-
-    /// The key of the value with this mark, at this slot, or `None` where there is none.
-    #[inline]
-    fn key_of_mark(&self, mark: u64, slot: usize) -> Option<Key> {
-        if mark == VACANT {
-            return None;
-        }
-        Key::of_span(self.spans.name(number_of(mark)), slot as u8, mark as u32)
-    }
-
-    /// The key that comes next in a walk, with its value.
-    #[inline]
-    pub fn next_ref(&self, walk: &mut Walk) -> Option<(Key, &T)> {
-        let (key, value) = self.next(walk)?;
-        // SAFETY: as in `get`.
-        Some((key, unsafe { value.as_ref() }))
-    }
-
-    /// The key that comes next in a walk, with its value to be changed.
-    #[inline]
-    pub fn next_mut(&mut self, walk: &mut Walk) -> Option<(Key, &mut T)> {
-        let (key, mut value) = self.next(walk)?;
-        // SAFETY: as in `get_mut`.
-        Some((key, unsafe { value.as_mut() }))
-    }
-
-    /// The key that comes next from the end of a walk, with its value.
-    #[inline]
-    pub fn next_back_ref(&self, walk: &mut Walk) -> Option<(Key, &T)> {
-        let (key, value) = self.next_back(walk)?;
-        // SAFETY: as in `get`.
-        Some((key, unsafe { value.as_ref() }))
-    }
-
-    /// The key that comes next from the end of a walk, with its value, which is taken out.
-    #[inline]
-    pub fn next_back_taken(&mut self, walk: &mut Walk) -> Option<(Key, T)> {
-        let (key, _) = self.next_back(walk)?;
-        let (value, _) = self.take(key)?;
-        Some((key, value))
-    }
-
-    /// The key that comes next in a walk, with its value, which is taken out.
-    #[inline]
-    pub fn next_taken(&mut self, walk: &mut Walk) -> Option<(Key, T)> {
-        let (key, _) = self.next(walk)?;
-        let (value, _) = self.take(key)?;
-        Some((key, value))
+        let paged = self.paged.get()?;
+        let (number, offset) = paged.blocks.find(at.cast())?;
+        let page = paged.pages.get(number).filter(|page| page.spans > 0)?;
+        let slot = u8::try_from(offset.checked_sub(Self::VALUES_AT)? / size_of::<T>()).ok()?;
+        let has_slot = |number: &u32| self.rows[*number as usize].live.contains(slot);
+        let span = self.row_from(page.head).find(has_slot)?;
+        ptr::eq(page.block.value::<T>(slot).as_ptr(), at).then_some(Spot {
+            span: self.spans.name(span),
+            slot,
+            block: page.block,
+        })
     }
 
     /// Drops each value. Where one panics, those after it are left.
@@ -585,50 +548,13 @@ impl<T> Values<T> {
         if !needs_drop::<T>() && !Self::APART {
             return;
         }
-        let mut walk = self.walk(self.count());
-        while let Some((key, _)) = self.next(&mut walk) {
-            drop(self.take(key));
+        for home in self.spans.iter() {
+            let row = &mut self.rows[number_of(home.mark) as usize];
+            while let Some(slot) = row.live.pop_first() {
+                // SAFETY: the slot had a value, which nobody finds from now on.
+                drop(unsafe { home.block.take::<T>(slot) });
+            }
         }
-    }
-}
-
-/// A walk over values that are lent to be changed.
-pub(crate) struct WalkMut<'v, T> {
-    values: &'v mut Values<T>,
-    walk: Walk,
-}
-
-impl<'v, T> WalkMut<'v, T> {
-    /// The walk over these values, of which there are so many.
-    pub fn new(values: &'v mut Values<T>, left: usize) -> WalkMut<'v, T> {
-        let walk = values.walk(left);
-        WalkMut { values, walk }
-    }
-
-    /// The key that comes next, with its value.
-    #[inline]
-    pub fn next(&mut self) -> Option<(Key, &'v mut T)> {
-        let (key, mut value) = self.values.next(&mut self.walk)?;
-        // SAFETY: as in `get_mut`. Nobody else has the values as long as they are lent, and a walk comes to each slot once.
-        Some((key, unsafe { value.as_mut() }))
-    }
-
-    /// The key that comes next from the end, with its value.
-    #[inline]
-    pub fn next_back(&mut self) -> Option<(Key, &'v mut T)> {
-        let (key, mut value) = self.values.next_back(&mut self.walk)?;
-        // SAFETY: as in `next`: no slot comes from both ends.
-        Some((key, unsafe { value.as_mut() }))
-    }
-
-    /// What is still to come: of these values, from here on.
-    pub fn rest(&self) -> (&Values<T>, Walk) {
-        (self.values, self.walk.clone())
-    }
-
-    /// How many values are still to come.
-    pub fn left(&self) -> usize {
-        self.walk.left
     }
 }
 
@@ -663,8 +589,16 @@ impl Page {
     const NONE: Page = Page {
         block: Block::NOWHERE,
         spans: 0,
-        head: Span::LEAST,
+        head: 0,
         shard: 0,
+    };
+}
+
+impl Row {
+    /// The row of a span without a value.
+    const NONE: Row = Row {
+        live: Slots::NONE,
+        next: None,
     };
 }
 
@@ -683,32 +617,43 @@ impl Block {
         self.0
     }
 
-    // SAFETY, of all below: the block of a home, and of a page on which spans have values, has `BLOCK_BYTES` bytes, of zeros at first, and a slot is one
-    // below `SLOTS`.
+    // SAFETY, of all below: the block of a home, and of a page on which spans have values, has `BLOCK_BYTES` bytes, and a slot is one below `SLOTS`.
 
+    /// Whether a value stands at the slot with the generation of the key; or a lean slab, which keeps
+    /// none, has a value there.
     #[inline]
-    fn mark(self, slot: usize) -> u64 {
-        unsafe { self.0.as_ptr().cast::<u64>().add(slot).read() }
+    fn is_of(self, slot: u8, key: Key) -> bool {
+        LEAN || self.generation(slot) == key.generation()
     }
 
     #[inline]
-    fn set_mark(self, slot: usize, mark: u64) {
-        unsafe { self.0.as_ptr().cast::<u64>().add(slot).write(mark) }
+    fn generation(self, slot: u8) -> u32 {
+        unsafe { self.0.as_ptr().cast::<u32>().add(slot.into()).read() }
+    }
+
+    /// Notes that the slot has no value.
+    #[inline]
+    fn vacate(self, slot: u8) {
+        if !LEAN {
+            self.set_generation(slot, VACANT);
+        }
+    }
+
+    #[inline]
+    fn set_generation(self, slot: u8, generation: u32) {
+        unsafe { self.0.as_ptr().cast::<u32>().add(slot.into()).write(generation) }
     }
 
     /// Where the value of the slot stands, or its address.
     #[inline]
-    fn stored<T>(self, slot: usize) -> *mut u8 {
-        unsafe {
-            self.0
-                .as_ptr()
-                .add(Values::<T>::VALUES_AT + slot * Values::<T>::STORED.size())
-        }
+    fn stored<T>(self, slot: u8) -> *mut u8 {
+        let offset = Values::<T>::VALUES_AT + usize::from(slot) * Values::<T>::STORED.size();
+        unsafe { self.0.as_ptr().add(offset) }
     }
 
     /// Where the value of the slot is, or, where it stands apart, what was written of that.
     #[inline]
-    fn value<T>(self, slot: usize) -> NonNull<T> {
+    fn value<T>(self, slot: u8) -> NonNull<T> {
         let stored = self.stored::<T>(slot);
         if size_of::<T>() == 0 {
             NonNull::dangling()
@@ -718,15 +663,40 @@ impl Block {
             unsafe { NonNull::new_unchecked(stored.cast()) }
         }
     }
+
+    /// Takes the value of the slot out.
+    ///
+    /// # Safety
+    ///
+    /// There is one, and nobody finds it any more.
+    #[inline]
+    unsafe fn take<T>(self, slot: u8) -> T {
+        let at = self.value::<T>(slot);
+        let value = at.as_ptr().read();
+        if Values::<T>::APART {
+            // It is a block of `reserve`, which nothing names any more.
+            dealloc(at.as_ptr().cast(), Layout::new::<T>());
+        }
+        value
+    }
+
+    /// Moves the value of the slot, or its address, to the same slot of another block.
+    ///
+    /// # Safety
+    ///
+    /// There is one here, which nobody finds any more, and none there. The blocks are two.
+    unsafe fn move_to<T>(self, to: Block, slot: u8) {
+        let bytes = Values::<T>::STORED.size();
+        to.stored::<T>(slot)
+            .copy_from_nonoverlapping(self.stored::<T>(slot), bytes);
+        if !LEAN {
+            to.set_generation(slot, self.generation(slot));
+            self.vacate(slot);
+        }
+    }
 }
 
-/// The mark of a key that has a value, whose span has this home.
 #[inline]
-fn mark_of(home: &Home, key: Key) -> u64 {
-    home.mark | u64::from(key.generation())
-}
-
-#[inline]
-fn slot_of(key: Key) -> usize {
-    key.slot() as usize
+fn slot_of(key: Key) -> u8 {
+    key.slot() as u8
 }

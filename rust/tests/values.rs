@@ -448,3 +448,46 @@ fn a_slab_may_go_to_another_thread() {
     let taken = std::thread::spawn(move || slab.remove(key)).join();
     assert_eq!(taken.expect("no thread panicked"), Some(vec![1, 2, 3]));
 }
+
+/// On a page that spans share, a key that was removed does not find the value of another span at its
+/// slot, whose key has the same generation.
+#[test]
+fn a_stale_key_of_a_folded_page() -> Result<(), Refused> {
+    let mut slab = Slab::with_limits(Limits {
+        shards: 2,
+        ..Limits::default()
+    })?;
+    let folded: Vec<_> = (0..20).map(|n| slab.insert_in(0, n)).collect::<Result<_, _>>()?;
+    let own: Vec<_> = (100..110).map(|n| slab.insert_in(1, n)).collect::<Result<_, _>>()?;
+    assert!(folded[..10].iter().all(|key| slab.remove(*key).is_some()));
+    slab.end(0)?;
+    assert_eq!((slab.mesh()?, slab.pages()), (1, 1));
+    assert_eq!(slab.remove(folded[10]), Some(10));
+    let key = slab.insert_in(1, 200)?;
+    assert_eq!(
+        (key.slot(), key.generation()),
+        (folded[10].slot(), folded[10].generation())
+    );
+    assert_eq!(slab.get(folded[10]), None);
+    assert_eq!(slab.remove(folded[10]), None);
+    assert_eq!((slab[key], slab[folded[11]], slab[own[9]]), (200, 11, 109));
+    assert_eq!(slab.iter().filter(|(other, _)| *other == key).count(), 1);
+    assert_eq!((slab.iter().count(), slab.key_of(&slab[key])), (20, Some(key)));
+    Ok(())
+}
+
+/// Slots that a page of few does not have find nothing, whatever bytes stand behind its slots.
+#[test]
+fn slots_that_no_page_has() -> Result<(), Refused> {
+    let mut slab = Slab::new()?;
+    let first = slab.insert([0x0000_0001_0000_0001_u64; 30])?;
+    let others: Vec<_> = (1..64).map(|_| slab.insert(slab[first])).collect::<Result<_, _>>()?;
+    assert_eq!((slab.pages(), others[62].slot()), (1, 63));
+    for slot in 64..256 {
+        let forged: Key = format!("0.0/{slot}/1").parse().expect("its numbers fit");
+        assert!(!slab.contains(forged) && slab.get_mut(forged).is_none());
+        assert_eq!(slab.remove(forged), None);
+    }
+    assert_eq!(slab.len(), 64);
+    Ok(())
+}

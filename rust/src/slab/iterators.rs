@@ -1,27 +1,35 @@
 //! The iterators of a slab. They come to the values page by page, in no particular order.
 
 use super::Slab;
+use crate::core::Core;
 use crate::names::Key;
-use crate::values::{self, Walk, WalkMut};
+use crate::values::{self, Spot, Walk, WalkMut};
 use std::fmt;
 use std::iter::FusedIterator;
 
 /// Each key with its value: of [`Slab::iter`].
 #[must_use = "iterators are lazy and do nothing unless consumed"]
 pub struct Iter<'s, T> {
+    core: &'s Core,
     values: &'s values::Values<T>,
     walk: Walk,
 }
 
 impl<'s, T> Iter<'s, T> {
-    pub(super) fn new(values: &'s values::Values<T>, walk: Walk) -> Iter<'s, T> {
-        Iter { values, walk }
+    pub(super) fn new(core: &'s Core, values: &'s values::Values<T>, walk: Walk) -> Iter<'s, T> {
+        Iter { core, values, walk }
+    }
+
+    /// The key and the value of a spot of its walk.
+    #[inline]
+    fn at(&self, spot: Spot) -> (Key, &'s T) {
+        (spot.key(self.core), self.values.at(spot))
     }
 }
 
 impl<T> Clone for Iter<'_, T> {
     fn clone(&self) -> Self {
-        Iter::new(self.values, self.walk.clone())
+        Iter::new(self.core, self.values, self.walk.clone())
     }
 }
 
@@ -30,7 +38,8 @@ impl<'s, T> Iterator for Iter<'s, T> {
 
     #[inline]
     fn next(&mut self) -> Option<(Key, &'s T)> {
-        self.values.next_ref(&mut self.walk)
+        let spot = self.walk.next_in(self.values)?;
+        Some(self.at(spot))
     }
 
     fn size_hint(&self) -> (usize, Option<usize>) {
@@ -47,18 +56,19 @@ impl<T: fmt::Debug> fmt::Debug for Iter<'_, T> {
 /// Each key with its value, to be changed: of [`Slab::iter_mut`].
 #[must_use = "iterators are lazy and do nothing unless consumed"]
 pub struct IterMut<'s, T> {
+    core: &'s Core,
     walk: WalkMut<'s, T>,
 }
 
 impl<'s, T> IterMut<'s, T> {
-    pub(super) fn new(walk: WalkMut<'s, T>) -> IterMut<'s, T> {
-        IterMut { walk }
+    pub(super) fn new(core: &'s Core, walk: WalkMut<'s, T>) -> IterMut<'s, T> {
+        IterMut { core, walk }
     }
 
     /// What is still to come.
     fn rest(&self) -> Iter<'_, T> {
         let (values, walk) = self.walk.rest();
-        Iter::new(values, walk)
+        Iter::new(self.core, values, walk)
     }
 }
 
@@ -67,7 +77,8 @@ impl<'s, T> Iterator for IterMut<'s, T> {
 
     #[inline]
     fn next(&mut self) -> Option<(Key, &'s mut T)> {
-        self.walk.next()
+        let (spot, value) = self.walk.next()?;
+        Some((spot.key(self.core), value))
     }
 
     fn size_hint(&self) -> (usize, Option<usize>) {
@@ -121,18 +132,19 @@ impl<T> fmt::Debug for Keys<'_, T> {
 /// Each value: of [`Slab::values`].
 #[must_use = "iterators are lazy and do nothing unless consumed"]
 pub struct Values<'s, T> {
-    iter: Iter<'s, T>,
+    values: &'s values::Values<T>,
+    walk: Walk,
 }
 
 impl<'s, T> Values<'s, T> {
-    pub(super) fn new(iter: Iter<'s, T>) -> Values<'s, T> {
-        Values { iter }
+    pub(super) fn new(values: &'s values::Values<T>, walk: Walk) -> Values<'s, T> {
+        Values { values, walk }
     }
 }
 
 impl<T> Clone for Values<'_, T> {
     fn clone(&self) -> Self {
-        Values::new(self.iter.clone())
+        Values::new(self.values, self.walk.clone())
     }
 }
 
@@ -141,11 +153,12 @@ impl<'s, T> Iterator for Values<'s, T> {
 
     #[inline]
     fn next(&mut self) -> Option<&'s T> {
-        self.iter.next().map(|(_, value)| value)
+        let spot = self.walk.next_in(self.values)?;
+        Some(self.values.at(spot))
     }
 
     fn size_hint(&self) -> (usize, Option<usize>) {
-        self.iter.size_hint()
+        exactly(self.walk.left())
     }
 }
 
@@ -158,12 +171,12 @@ impl<T: fmt::Debug> fmt::Debug for Values<'_, T> {
 /// Each value, to be changed: of [`Slab::values_mut`].
 #[must_use = "iterators are lazy and do nothing unless consumed"]
 pub struct ValuesMut<'s, T> {
-    iter: IterMut<'s, T>,
+    walk: WalkMut<'s, T>,
 }
 
 impl<'s, T> ValuesMut<'s, T> {
-    pub(super) fn new(iter: IterMut<'s, T>) -> ValuesMut<'s, T> {
-        ValuesMut { iter }
+    pub(super) fn new(walk: WalkMut<'s, T>) -> ValuesMut<'s, T> {
+        ValuesMut { walk }
     }
 }
 
@@ -172,30 +185,40 @@ impl<'s, T> Iterator for ValuesMut<'s, T> {
 
     #[inline]
     fn next(&mut self) -> Option<&'s mut T> {
-        self.iter.next().map(|(_, value)| value)
+        self.walk.next().map(|(_, value)| value)
     }
 
     fn size_hint(&self) -> (usize, Option<usize>) {
-        self.iter.size_hint()
+        exactly(self.walk.left())
     }
 }
 
 impl<T: fmt::Debug> fmt::Debug for ValuesMut<'_, T> {
     fn fmt(&self, f: &mut fmt::Formatter<'_>) -> fmt::Result {
-        fmt::Debug::fmt(&Values::new(self.iter.rest()), f)
+        let (values, walk) = self.walk.rest();
+        fmt::Debug::fmt(&Values::new(values, walk), f)
     }
 }
 
 /// Each key with its value, of a slab that is no more: of [`IntoIterator`] for `Slab<T>`. Values that are not asked for are dropped with it.
 #[must_use = "the values are dropped where they are not asked for"]
 pub struct IntoIter<T> {
-    values: values::Values<T>,
+    // Whose values are taken out, and whose keys are left as they are.
+    slab: Slab<T>,
     walk: Walk,
 }
 
 impl<T> IntoIter<T> {
-    pub(super) fn new(values: values::Values<T>, walk: Walk) -> IntoIter<T> {
-        IntoIter { values, walk }
+    pub(super) fn new(slab: Slab<T>, walk: Walk) -> IntoIter<T> {
+        IntoIter { slab, walk }
+    }
+
+    /// The key of a spot of its walk, with the value, which is taken out.
+    #[inline]
+    fn take(&mut self, spot: Spot) -> Option<(Key, T)> {
+        let key = spot.key(&self.slab.core);
+        let (value, _) = self.slab.values.take(key)?;
+        Some((key, value))
     }
 }
 
@@ -204,7 +227,8 @@ impl<T> Iterator for IntoIter<T> {
 
     #[inline]
     fn next(&mut self) -> Option<(Key, T)> {
-        self.values.next_taken(&mut self.walk)
+        let spot = self.walk.next_in(&self.slab.values)?;
+        self.take(spot)
     }
 
     fn size_hint(&self) -> (usize, Option<usize>) {
@@ -214,7 +238,8 @@ impl<T> Iterator for IntoIter<T> {
 
 impl<T: fmt::Debug> fmt::Debug for IntoIter<T> {
     fn fmt(&self, f: &mut fmt::Formatter<'_>) -> fmt::Result {
-        fmt::Debug::fmt(&Iter::new(&self.values, self.walk.clone()), f)
+        let Slab { core, values, .. } = &self.slab;
+        fmt::Debug::fmt(&Iter::new(core, values, self.walk.clone()), f)
     }
 }
 
@@ -235,8 +260,8 @@ impl<T> Iterator for Drain<'_, T> {
     type Item = (Key, T);
 
     fn next(&mut self) -> Option<(Key, T)> {
-        let (key, _) = self.slab.values.next_ref(&mut self.walk)?;
-        Some((key, self.slab.remove(key)?))
+        let spot = self.walk.next_in(&self.slab.values)?;
+        self.slab.remove_at(spot)
     }
 
     fn size_hint(&self) -> (usize, Option<usize>) {
@@ -252,7 +277,8 @@ impl<T> Drop for Drain<'_, T> {
 
 impl<T: fmt::Debug> fmt::Debug for Drain<'_, T> {
     fn fmt(&self, f: &mut fmt::Formatter<'_>) -> fmt::Result {
-        fmt::Debug::fmt(&Iter::new(&self.slab.values, self.walk.clone()), f)
+        let Slab { core, values, .. } = &*self.slab;
+        fmt::Debug::fmt(&Iter::new(core, values, self.walk.clone()), f)
     }
 }
 
@@ -264,14 +290,16 @@ fn exactly(left: usize) -> (usize, Option<usize>) {
 impl<'s, T> DoubleEndedIterator for Iter<'s, T> {
     #[inline]
     fn next_back(&mut self) -> Option<(Key, &'s T)> {
-        self.values.next_back_ref(&mut self.walk)
+        let spot = self.walk.next_back_in(self.values)?;
+        Some(self.at(spot))
     }
 }
 
 impl<'s, T> DoubleEndedIterator for IterMut<'s, T> {
     #[inline]
     fn next_back(&mut self) -> Option<(Key, &'s mut T)> {
-        self.walk.next_back()
+        let (spot, value) = self.walk.next_back()?;
+        Some((spot.key(self.core), value))
     }
 }
 
@@ -285,28 +313,30 @@ impl<T> DoubleEndedIterator for Keys<'_, T> {
 impl<'s, T> DoubleEndedIterator for Values<'s, T> {
     #[inline]
     fn next_back(&mut self) -> Option<&'s T> {
-        self.iter.next_back().map(|(_, value)| value)
+        let spot = self.walk.next_back_in(self.values)?;
+        Some(self.values.at(spot))
     }
 }
 
 impl<'s, T> DoubleEndedIterator for ValuesMut<'s, T> {
     #[inline]
     fn next_back(&mut self) -> Option<&'s mut T> {
-        self.iter.next_back().map(|(_, value)| value)
+        self.walk.next_back().map(|(_, value)| value)
     }
 }
 
 impl<T> DoubleEndedIterator for IntoIter<T> {
     #[inline]
     fn next_back(&mut self) -> Option<(Key, T)> {
-        self.values.next_back_taken(&mut self.walk)
+        let spot = self.walk.next_back_in(&self.slab.values)?;
+        self.take(spot)
     }
 }
 
 impl<T> DoubleEndedIterator for Drain<'_, T> {
     fn next_back(&mut self) -> Option<(Key, T)> {
-        let (key, _) = self.slab.values.next_back_ref(&mut self.walk)?;
-        Some((key, self.slab.remove(key)?))
+        let spot = self.walk.next_back_in(&self.slab.values)?;
+        self.slab.remove_at(spot)
     }
 }
 
@@ -350,7 +380,7 @@ impl<T> IntoIterator for Slab<T> {
 
     fn into_iter(self) -> IntoIter<T> {
         let walk = self.walk();
-        IntoIter::new(self.values, walk)
+        IntoIter::new(self, walk)
     }
 }
 

@@ -1,0 +1,190 @@
+//! Sets of slots of a page.
+
+use std::iter;
+use std::mem;
+
+/// How many slots a page has at most.
+const MOST_SLOTS: usize = 256;
+
+/// A set of slots, a bit for each.
+#[derive(Clone, Copy, PartialEq, Eq)]
+pub(crate) struct Slots([u64; MOST_SLOTS / 64]);
+
+impl Slots {
+    /// No slots.
+    pub const NONE: Slots = Slots([0; MOST_SLOTS / 64]);
+
+    /// Whether the slot is one of them.
+    #[inline]
+    pub fn contains(&self, slot: u8) -> bool {
+        self.0[word_of(slot)] & bit_of(slot) != 0
+    }
+
+    /// Adds a slot.
+    #[inline]
+    pub fn insert(&mut self, slot: u8) {
+        self.0[word_of(slot)] |= bit_of(slot);
+    }
+
+    /// Takes a slot out.
+    #[inline]
+    pub fn remove(&mut self, slot: u8) {
+        self.0[word_of(slot)] &= !bit_of(slot);
+    }
+
+    /// Whether there are none.
+    #[inline]
+    pub fn is_empty(&self) -> bool {
+        self.0 == [0; MOST_SLOTS / 64]
+    }
+
+    /// Adds those of another set, and says whether none of them was here.
+    pub fn unite(&mut self, other: &Slots) -> bool {
+        let mut are_new = true;
+        for (word, more) in self.0.iter_mut().zip(other.0) {
+            are_new &= *word & more == 0;
+            *word |= more;
+        }
+        are_new
+    }
+
+    /// Takes the lowest slot out.
+    #[inline]
+    pub fn pop_first(&mut self) -> Option<u8> {
+        for (number, word) in self.0.iter_mut().enumerate() {
+            if *word != 0 {
+                let slot = slot_at(number, word.trailing_zeros());
+                *word &= *word - 1;
+                return Some(slot);
+            }
+        }
+        None
+    }
+
+    /// Each slot, from the lowest on.
+    pub fn iter(mut self) -> impl Iterator<Item = u8> {
+        iter::from_fn(move || self.pop_first())
+    }
+
+    /// Takes the lowest slots out that share a word.
+    pub fn take_first(&mut self) -> Word {
+        let number = self.0.iter().position(|word| *word != 0);
+        number.map_or(Word::NONE, |number| self.take_word(number))
+    }
+
+    /// Takes the highest slots out that share a word.
+    pub fn take_last(&mut self) -> Word {
+        let number = self.0.iter().rposition(|word| *word != 0);
+        number.map_or(Word::NONE, |number| self.take_word(number))
+    }
+
+    fn take_word(&mut self, number: usize) -> Word {
+        let bits = mem::take(&mut self.0[number]);
+        Word { number, bits }
+    }
+
+    /// Adds slots that were taken out.
+    pub fn give_back(&mut self, word: Word) {
+        self.0[word.number] |= word.bits;
+    }
+}
+
+/// Slots that share a word of a set.
+#[derive(Clone, Copy)]
+pub(crate) struct Word {
+    number: usize,
+    bits: u64,
+}
+
+impl Word {
+    /// No slots.
+    pub const NONE: Word = Word { number: 0, bits: 0 };
+
+    /// Whether there are none.
+    #[inline]
+    pub fn is_empty(&self) -> bool {
+        self.bits == 0
+    }
+
+    /// Takes the lowest slot out, of which there is one.
+    #[inline]
+    pub fn pop_first(&mut self) -> u8 {
+        let slot = slot_at(self.number, self.bits.trailing_zeros());
+        self.bits &= self.bits.wrapping_sub(1);
+        slot
+    }
+
+    /// Takes the highest slot out, of which there is one.
+    #[inline]
+    pub fn pop_last(&mut self) -> u8 {
+        let bit = 63_u32.wrapping_sub(self.bits.leading_zeros());
+        self.bits &= !(1_u64.wrapping_shl(bit));
+        slot_at(self.number, bit)
+    }
+}
+
+#[inline]
+fn word_of(slot: u8) -> usize {
+    usize::from(slot) / 64
+}
+
+#[inline]
+fn bit_of(slot: u8) -> u64 {
+    1 << (slot % 64)
+}
+
+// A set has four words of 64 bits.
+#[allow(clippy::cast_possible_truncation)]
+#[inline]
+fn slot_at(word: usize, bit: u32) -> u8 {
+    (word as u32 * 64 + bit) as u8
+}
+
+#[cfg(test)]
+mod tests {
+    use super::Slots;
+    use std::collections::BTreeSet;
+
+    #[test]
+    fn slots_as_a_set() {
+        let (mut slots, mut set) = (Slots::NONE, BTreeSet::new());
+        let mut random = 88_172_645_463_325_252_u64;
+        for _ in 0..20_000 {
+            random ^= random << 13;
+            random ^= random >> 7;
+            random ^= random << 17;
+            let slot = (random >> 20) as u8;
+            match random >> 60 {
+                0 => assert_eq!(slots.pop_first(), set.pop_first()),
+                1 => {
+                    let mut word = slots.take_last();
+                    let last = set.pop_last();
+                    assert_eq!((!word.is_empty()).then(|| word.pop_last()), last);
+                    slots.give_back(word);
+                }
+                2..=5 => {
+                    slots.remove(slot);
+                    set.remove(&slot);
+                }
+                _ => {
+                    slots.insert(slot);
+                    set.insert(slot);
+                }
+            }
+            assert_eq!(
+                (slots.contains(slot), slots.is_empty()),
+                (set.contains(&slot), set.is_empty())
+            );
+        }
+        assert!(slots.iter().eq(set));
+    }
+
+    #[test]
+    fn united() {
+        let (mut first, mut second) = (Slots::NONE, Slots::NONE);
+        first.insert(3);
+        second.insert(200);
+        assert!(first.unite(&second) && first.contains(3) && first.contains(200));
+        assert!(!first.unite(&second) && first.iter().count() == 2);
+    }
+}
