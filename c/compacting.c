@@ -1,4 +1,5 @@
-/* Compactions of a core by parts of several budgets, and with each allocation failing in turn. Link it with -Wl,--wrap=malloc,--wrap=realloc. */
+/* Compactions of a core by parts of several budgets, and with each allocation failing in turn. Link
+ * it with -Wl,--wrap=malloc,--wrap=realloc. */
 #include "failing.h"
 #include "teurlaks.h"
 #include "wanted.h"
@@ -12,7 +13,8 @@ enum { SHARDS = 3, PAGES = 90, SLOTS = 16, OBJECTS = PAGES * SLOTS };
 static struct teurlaks_key keys[OBJECTS];
 static int is_live[OBJECTS];
 
-/* Whether the object of this number stays: of each page so many do, at other slots than on the page before. */
+/* Whether the object of this number stays: of each page so many do, at other slots than on the page
+ * before. */
 static int stays(unsigned number, unsigned of_a_page) {
     return (number / SLOTS * 7 + number * 5) % SLOTS < of_a_page;
 }
@@ -22,7 +24,8 @@ static void fill(struct teurlaks_handle *core, unsigned of_a_page) {
     WANT(teurlaks_new(core, SHARDS, PAGES, 1, 9) == TEURLAKS_OK);
     for (unsigned number = 0; number < OBJECTS; number++) {
         struct teurlaks_word words[16] = {{number, 1}};
-        struct teurlaks_put_reply put = teurlaks_put_words(core, number / SLOTS % SHARDS, words, 16);
+        struct teurlaks_put_reply put =
+            teurlaks_put_words(core, number / SLOTS % SHARDS, words, 16);
         WANT(put.status == TEURLAKS_OK);
         keys[number] = put.key;
         is_live[number] = 1;
@@ -44,14 +47,16 @@ static void look(struct teurlaks_handle *core) {
     }
 }
 
-/* Compacts by parts, and answers how many there were. A part that is refused memory is asked for once more. The counts are those of the totals. */
+/* Compacts by parts, and answers how many there were. A part that is refused memory is asked for
+ * once more. The counts are those of the totals. */
 static unsigned long compact(struct teurlaks_handle *core, size_t budget) {
     unsigned long parts = 0;
     struct teurlaks_compact_reply compacted;
     do {
         size_t was = teurlaks_totals(core).pages;
         compacted = teurlaks_compact_within(core, budget);
-        WANT(compacted.status == TEURLAKS_OK || (compacted.status == TEURLAKS_OUT_OF_MEMORY && compacted.more && has_failed));
+        WANT(compacted.status == TEURLAKS_OK ||
+             (compacted.status == TEURLAKS_OUT_OF_MEMORY && compacted.more && has_failed));
         WANT(was == teurlaks_totals(core).pages + compacted.pages);
         if (parts % 16 == 0) look(core);
         WANT(++parts < 1000000);
@@ -108,7 +113,8 @@ static void plans_of_a_caller(void) {
     /* A shard that has ended is none for what is left, the others are. */
     WANT(teurlaks_end(&core, 1) == TEURLAKS_OK);
     compact(&core, 1000);
-    WANT(teurlaks_totals(&core).pages <= pages && teurlaks_adopt(&core, 0).status == TEURLAKS_NOTHING_TO_ADOPT);
+    WANT(teurlaks_totals(&core).pages <= pages &&
+         teurlaks_adopt(&core, 0).status == TEURLAKS_NOTHING_TO_ADOPT);
     teurlaks_drop(&core);
 }
 
@@ -129,7 +135,8 @@ int main(void) {
     const size_t budgets[] = {1, 7, 64, 1000, (size_t)-1};
     for (size_t i = 0; i < sizeof budgets / sizeof *budgets; i++) {
         for (unsigned of_a_page = 0; of_a_page <= SLOTS; of_a_page++) {
-            size_t pages = pages_left(of_a_page, budgets[i]), least = (PAGES * of_a_page + SLOTS - 1) / SLOTS;
+            size_t pages = pages_left(of_a_page, budgets[i]),
+                   least = (PAGES * of_a_page + SLOTS - 1) / SLOTS;
             WANT(least <= pages && pages <= PAGES && (of_a_page > 3 || pages <= 2 * least));
         }
     }

@@ -1,4 +1,5 @@
-/* One allocation that fails, for tests that are linked with -Wl,--wrap=malloc,--wrap=realloc. Nothing of it is installed. */
+/* One allocation that fails, for tests that are linked with -Wl,--wrap=malloc,--wrap=realloc.
+ * Nothing of it is installed. */
 #ifndef FAILING_H
 #define FAILING_H
 #include <stddef.h>
@@ -17,6 +18,8 @@ static int fails(void) {
 }
 
 void *__wrap_malloc(size_t size) { return fails() ? NULL : __real_malloc(size); }
-void *__wrap_realloc(void *block, size_t size) { return fails() ? NULL : __real_realloc(block, size); }
+void *__wrap_realloc(void *block, size_t size) {
+    return fails() ? NULL : __real_realloc(block, size);
+}
 
 #endif

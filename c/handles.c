@@ -1,6 +1,7 @@
-/* The table of README.md of what is answered: handles that are NULL, that never had a core, a seat or a steward, that have it no more, or
- * that have another of these; pointers to words, bytes, texts and walks that are NULL; and numbers that name nothing. With
- * TEURLAKS_UNTESTED it is the archive that answers, and no pointer but to bytes is NULL. */
+/* The table of README.md of what is answered: handles that are NULL, that never had a core, a seat
+ * or a steward, that have it no more, or that have another of these; pointers to words, bytes,
+ * texts and walks that are NULL; and numbers that name nothing. With TEURLAKS_UNTESTED it is the
+ * archive that answers, and no pointer but to bytes is NULL. */
 #include "teurlaks.h"
 #include "wanted.h"
 #include <stdlib.h>
@@ -10,23 +11,27 @@ typedef uint32_t opens(struct teurlaks_share_handle *out, uint32_t shards, uint3
 
 static const struct teurlaks_word one = {1, 2};
 
-_Static_assert(sizeof(struct teurlaks_key) == 12 && _Alignof(struct teurlaks_key) == 4, "a key has no padding");
+_Static_assert(sizeof(struct teurlaks_key) == 12 && _Alignof(struct teurlaks_key) == 4,
+               "a key has no padding");
 
 /* The key of the first object of a core. */
 static const struct teurlaks_key least = {.generation = 1};
 
-/* What each call says of a handle without a core. The key has numbers that some key has, or none that any has. */
+/* What each call says of a handle without a core. The key has numbers that some key has, or none
+ * that any has. */
 static void each_call(struct teurlaks_handle *none, struct teurlaks_key key) {
     struct teurlaks_word words[16] = {{7, 7}};
     uint8_t text[16] = {7}, bytes[16] = {7};
     WANT(teurlaks_put(none, 0, one).status == TEURLAKS_NO_CORE);
-    for (size_t len = 0; len <= 16; len++) WANT(teurlaks_put_words(none, 0, words, len).status == TEURLAKS_NO_CORE);
+    for (size_t len = 0; len <= 16; len++)
+        WANT(teurlaks_put_words(none, 0, words, len).status == TEURLAKS_NO_CORE);
     struct teurlaks_get_reply got = teurlaks_get(none, key);
     WANT(got.status == TEURLAKS_NO_CORE && got.value.low == 0 && got.value.high == 0);
     struct teurlaks_words_reply found = teurlaks_get_words(none, key, words, 16);
     WANT(found.status == TEURLAKS_NO_CORE && found.len == 0 && words[0].low == 7);
     WANT(teurlaks_set(none, key, one) == TEURLAKS_NO_CORE);
-    for (size_t len = 0; len <= 16; len++) WANT(teurlaks_set_words(none, key, words, len) == TEURLAKS_NO_CORE);
+    for (size_t len = 0; len <= 16; len++)
+        WANT(teurlaks_set_words(none, key, words, len) == TEURLAKS_NO_CORE);
     WANT(teurlaks_free(none, key) == TEURLAKS_NO_CORE);
     struct teurlaks_key keys[1] = {key};
     struct teurlaks_many_reply many = teurlaks_put_many(none, 0, words, 16, keys, 1);
@@ -39,7 +44,8 @@ static void each_call(struct teurlaks_handle *none, struct teurlaks_key key) {
     WANT(teurlaks_totals(none).pages == 0 && teurlaks_totals(none).live == 0);
     WANT(teurlaks_end(none, 0) == TEURLAKS_NO_CORE);
     WANT(teurlaks_begin(none, 0) == TEURLAKS_NO_CORE);
-    WANT(teurlaks_retire(none, 0, 9).status == TEURLAKS_NO_CORE && teurlaks_retire(none, 0, 9).count == 0);
+    WANT(teurlaks_retire(none, 0, 9).status == TEURLAKS_NO_CORE &&
+         teurlaks_retire(none, 0, 9).count == 0);
     WANT(teurlaks_trim(none, 0).status == TEURLAKS_NO_CORE && teurlaks_trim(none, 0).count == 0);
     WANT(teurlaks_forget(none).status == TEURLAKS_NO_CORE && teurlaks_forget(none).count == 0);
     struct teurlaks_compact_reply compacted = teurlaks_compact_within(none, 9);
@@ -77,7 +83,8 @@ static void each_key(struct teurlaks_handle *none) {
 /* What each call of a seat says of a handle without one. */
 static void each_call_of_a_seat(struct teurlaks_share_handle *none, struct teurlaks_key key) {
     struct teurlaks_word words[16] = {{7, 7}};
-    WANT(teurlaks_seat_session(none) == TEURLAKS_NO_CORE && teurlaks_seat_pause(none) == TEURLAKS_NO_CORE);
+    WANT(teurlaks_seat_session(none) == TEURLAKS_NO_CORE &&
+         teurlaks_seat_pause(none) == TEURLAKS_NO_CORE);
     for (size_t len = 0; len <= 16; len++) {
         WANT(teurlaks_seat_put_words(none, words, len).status == TEURLAKS_NO_CORE);
         WANT(teurlaks_seat_set_words(none, key, words, len) == TEURLAKS_NO_CORE);
@@ -87,14 +94,18 @@ static void each_call_of_a_seat(struct teurlaks_share_handle *none, struct teurl
     WANT(teurlaks_seat_free(none, key) == TEURLAKS_NO_CORE);
     WANT(teurlaks_seat_free_later(none, key) == TEURLAKS_NO_CORE);
     WANT(teurlaks_seat_hand_over(none) == TEURLAKS_NO_CORE);
-    WANT(teurlaks_seat_tend(none).status == TEURLAKS_NO_CORE && teurlaks_seat_tend(none).count == 0);
+    WANT(teurlaks_seat_tend(none).status == TEURLAKS_NO_CORE &&
+         teurlaks_seat_tend(none).count == 0);
     WANT(teurlaks_seat_end(none) == TEURLAKS_NO_CORE);
     WANT(teurlaks_seat_begin(none) == TEURLAKS_NO_CORE);
-    WANT(teurlaks_seat_retire(none, 9).status == TEURLAKS_NO_CORE && teurlaks_seat_retire(none, 9).count == 0);
-    WANT(teurlaks_seat_trim(none).status == TEURLAKS_NO_CORE && teurlaks_seat_trim(none).count == 0);
+    WANT(teurlaks_seat_retire(none, 9).status == TEURLAKS_NO_CORE &&
+         teurlaks_seat_retire(none, 9).count == 0);
+    WANT(teurlaks_seat_trim(none).status == TEURLAKS_NO_CORE &&
+         teurlaks_seat_trim(none).count == 0);
     WANT(teurlaks_seat_adopt(none).status == TEURLAKS_NO_CORE);
     struct teurlaks_walk walk = {1, 2, 3};
-    WANT(teurlaks_seat_next(none, &walk).status == TEURLAKS_NO_CORE && walk.shard == 1 && walk.serial == 2 && walk.slot == 3);
+    WANT(teurlaks_seat_next(none, &walk).status == TEURLAKS_NO_CORE && walk.shard == 1 &&
+         walk.serial == 2 && walk.slot == 3);
     struct teurlaks_place place = {(const uint8_t *)&walk};
     WANT(teurlaks_seat_arena(none, &place) == TEURLAKS_NO_CORE);
     WANT(place.at == (const uint8_t *)&walk);
@@ -108,12 +119,14 @@ static void each_call_of_a_steward(struct teurlaks_share_handle *none) {
     WANT(teurlaks_steward_mark_some(none).status == TEURLAKS_NO_CORE);
     WANT(teurlaks_steward_step(none).status == TEURLAKS_NO_CORE);
     WANT(teurlaks_steward_close(none) == TEURLAKS_NO_CORE);
-    WANT(teurlaks_steward_forget(none).status == TEURLAKS_NO_CORE && teurlaks_steward_forget(none).count == 0);
+    WANT(teurlaks_steward_forget(none).status == TEURLAKS_NO_CORE &&
+         teurlaks_steward_forget(none).count == 0);
     uint8_t text = 7;
     struct teurlaks_certificate_reply certificate = teurlaks_steward_certificate(none, &text, 1);
     WANT(certificate.status == TEURLAKS_NO_CORE && certificate.len == 0 && text == 7);
     struct teurlaks_walk walk = {1, 2, 3};
-    WANT(teurlaks_steward_next(none, &walk).status == TEURLAKS_NO_CORE && walk.shard == 1 && walk.serial == 2 && walk.slot == 3);
+    WANT(teurlaks_steward_next(none, &walk).status == TEURLAKS_NO_CORE && walk.shard == 1 &&
+         walk.serial == 2 && walk.slot == 3);
     struct teurlaks_arena_totals_reply totals = teurlaks_steward_totals(none);
     WANT(totals.status == TEURLAKS_NO_CORE && totals.pages == 0 && totals.live == 0);
     struct teurlaks_share_handle seat = {0};
@@ -200,7 +213,8 @@ static void numbers_at_shares(struct teurlaks_share_handle *steward,
     WANT(teurlaks_steward_next(steward, &walk).status == TEURLAKS_NONE);
 }
 
-/* A seat in the place of the steward and the steward in that of a seat are answered as handles of nothing, and so is what is dropped. */
+/* A seat in the place of the steward and the steward in that of a seat are answered as handles of
+ * nothing, and so is what is dropped. */
 static void shares(void) {
     struct teurlaks_share_handle steward = {0}, seat = {0};
     each_call_of_a_share(&seat, least);
@@ -240,9 +254,11 @@ static const uint8_t *place_of_seat(struct teurlaks_share_handle *seat) {
     return place.at;
 }
 
-/* All seats of an arena and its steward tell one place, in a session too, and those of another arena another. */
+/* All seats of an arena and its steward tell one place, in a session too, and those of another
+ * arena another. */
 static void places(opens *open) {
-    struct teurlaks_share_handle steward = {0}, other = {0}, one_seat = {0}, two = {0}, strange = {0};
+    struct teurlaks_share_handle steward = {0}, other = {0}, one_seat = {0}, two = {0},
+                                 strange = {0};
     WANT(open(&steward, 2, 4, 1, 9) == TEURLAKS_OK && open(&other, 2, 4, 1, 9) == TEURLAKS_OK);
     WANT(teurlaks_steward_seat(&steward, &one_seat) == TEURLAKS_OK);
     WANT(teurlaks_steward_seat(&steward, &two) == TEURLAKS_OK);
@@ -278,7 +294,8 @@ static void left_seats(void) {
     teurlaks_share_drop(&steward);
 }
 
-/* A handle with an audited run has neither a steward nor a seat: it is audited again, and dropped. */
+/* A handle with an audited run has neither a steward nor a seat: it is audited again, and
+ * dropped. */
 static void audited_runs(void) {
     struct teurlaks_share_handle steward = {0}, run = {0}, seat = {0};
     WANT(teurlaks_arena_open_recorded(&run, 1, 4, 1, 9) == TEURLAKS_OK);
@@ -300,7 +317,8 @@ static void audited_runs(void) {
     teurlaks_share_drop(&steward);
 }
 
-/* A recorded seat that is dropped never comes back, so its arena is never audited, and goes on else. */
+/* A recorded seat that is dropped never comes back, so its arena is never audited, and goes on
+ * else. */
 static void lost_seats(void) {
     struct teurlaks_share_handle steward = {0}, kept = {0}, lost = {0};
     WANT(teurlaks_arena_open_recorded(&steward, 2, 4, 1, 9) == TEURLAKS_OK);
@@ -321,7 +339,8 @@ static void lost_seats(void) {
     teurlaks_share_drop(&steward);
 }
 
-/* Numbers that name no shard of the core, no object of it, or no number of words that an object has. */
+/* Numbers that name no shard of the core, no object of it, or no number of words that an object
+ * has. */
 static void numbers(struct teurlaks_handle *core, struct teurlaks_key key) {
     struct teurlaks_word words[34] = {{7, 7}};
     WANT(teurlaks_put(core, 2, one).status == TEURLAKS_CONFIG);
@@ -387,7 +406,8 @@ static void nowhere(struct teurlaks_handle *core, struct teurlaks_key key) {
     WANT(teurlaks_certificate(core, NULL, 16).status == TEURLAKS_NONE);
     WANT(teurlaks_mark(core).status == TEURLAKS_OK);
     struct teurlaks_certificate_reply told = teurlaks_certificate(core, NULL, 0);
-    WANT(told.status == TEURLAKS_TOO_SMALL && told.len > 0 && teurlaks_certificate(core, NULL, 99999).len == told.len);
+    WANT(told.status == TEURLAKS_TOO_SMALL && told.len > 0 &&
+         teurlaks_certificate(core, NULL, 99999).len == told.len);
     uint8_t *text = malloc(told.len);
     WANT(text && teurlaks_certificate(core, text, told.len).status == TEURLAKS_OK);
     free(text);
@@ -412,7 +432,8 @@ static void texts(void) {
     const char *unknown = teurlaks_strerror(TEURLAKS_BARRIER_FAULT + 1);
     for (uint32_t status = 0; status <= TEURLAKS_BARRIER_FAULT; status++) {
         WANT(teurlaks_strerror(status) != unknown);
-        for (uint32_t other = 0; other < status; other++) WANT(teurlaks_strerror(other) != teurlaks_strerror(status));
+        for (uint32_t other = 0; other < status; other++)
+            WANT(teurlaks_strerror(other) != teurlaks_strerror(status));
     }
 }
 
@@ -426,7 +447,8 @@ int main(void) {
     WANT(put.status == TEURLAKS_OK);
 
     /* A second core is refused, whatever its numbers, and the first stays. */
-    WANT(teurlaks_new(&core, 2, 4, 1, 9) == TEURLAKS_HAS_CORE && teurlaks_new(&core, 0, 0, 0, 0) == TEURLAKS_HAS_CORE);
+    WANT(teurlaks_new(&core, 2, 4, 1, 9) == TEURLAKS_HAS_CORE &&
+         teurlaks_new(&core, 0, 0, 0, 0) == TEURLAKS_HAS_CORE);
     WANT(teurlaks_get(&core, put.key).value.low == one.low);
     numbers(&core, put.key);
     bytes_of(&core, put.key);

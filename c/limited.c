@@ -1,5 +1,5 @@
-/* Keeps objects under a limit of address space, as `ulimit -v 1000000` sets it: what the library has
- * no use for is there for others, and pages that go leave the process there too. */
+/* Keeps objects under a limit of address space, as `ulimit -v 1000000` sets it: what the library
+ * has no use for is there for others, and pages that go leave the process there too. */
 #include "teurlaks.h"
 #include "wanted.h"
 

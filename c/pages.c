@@ -1,31 +1,37 @@
-/* The three functions through which the library asks for memory, so that pages that it gives back leave the process, as Mesh releases
- * the physical pages that its meshing regains. Link it in place of the kit's liblibc_c.a, which asks malloc for everything.
+/* The three functions through which the library asks for memory, so that pages that it gives back
+ * leave the process, as Mesh releases the physical pages that its meshing regains. Link it in place
+ * of the kit's liblibc_c.a, which asks malloc for everything.
  *
- * A request of exactly 4,096 bytes (a page of objects) or of 1,024 bytes (the generations of 256 slots of which one has passed 255) is a
- * block of a range of its own; all else goes to malloc. A range is address space that is reserved and opened bit by bit:
+ * A request of exactly 4,096 bytes (a page of objects) or of 1,024 bytes (the generations of 256
+ * slots of which one has passed 255) is a block of a range of its own; all else goes to malloc. A
+ * range is address space that is reserved and opened bit by bit:
  *
  *   0                                opened             reserved
  *   | used | free | used | free, kept |  no memory yet  |
  *            no memory     memory, for the next request
  *
- * - All address space of a range is reserved at once, as one stretch, since it costs nothing. It costs
- *   something if the process has a limit of it (RLIMIT_AS, `ulimit -v`). Then each stretch is as long
- *   as all before it, so that no more is reserved than twice what has been used, and OPEN pages.
- * - If the system refuses a stretch, one of half its length is asked for, and so on down to OPEN pages.
+ * - All address space of a range is reserved at once, as one stretch, since it costs nothing. It
+ *   costs something if the process has a limit of it (RLIMIT_AS, `ulimit -v`). Then each stretch is
+ *   as long as all before it, so that no more is reserved than twice what has been used, and OPEN
+ *   pages.
+ * - If the system refuses a stretch, one of half its length is asked for, and so on down to OPEN
+ *   pages.
  * - The lowest free block is taken first, so that the upper end of the range empties.
- * - A system page all of whose blocks are free is kept at first. When KEEP of them are kept they are all handed to the system, in
- *   runs where neighbours are free. So at most KEEP - 1 system pages of a range are neither used nor given back.
- * - If a range is spent, or the system reserves or opens no more of it, malloc is asked, and if that refuses the request is refused.
- * - When the last block of all comes back, as with the last core that is dropped, what is kept goes to the system too. If more than
- *   LET_GO bytes were asked of malloc since the last such time, glibc's malloc_trim(0) has malloc do likewise, which else keeps
- *   some MB of free blocks; it looks at all of the process's free blocks.
- * - When the library is unloaded (dlclose), a range with no block in use is unmapped. If a program has
- *   not given all blocks of it back, only what was never opened is. The same is done when the process
- *   ends, since a call may still come then.
+ * - A system page all of whose blocks are free is kept at first. When KEEP of them are kept they
+ *   are all handed to the system, in runs where neighbours are free. So at most KEEP - 1 system
+ *   pages of a range are neither used nor given back.
+ * - If a range is spent, or the system reserves or opens no more of it, malloc is asked, and if
+ *   that refuses the request is refused.
+ * - When the last block of all comes back, as with the last core that is dropped, what is kept goes
+ *   to the system too. If more than LET_GO bytes were asked of malloc since the last such time,
+ *   glibc's malloc_trim(0) has malloc do likewise, which else keeps some MB of free blocks; it
+ *   looks at all of the process's free blocks.
+ * - When the library is unloaded (dlclose), a range with no block in use is unmapped. If a program
+ *   has not given all blocks of it back, only what was never opened is. The same is done when the
+ *   process ends, since a call may still come then.
  *
- * Any number of threads may call: each range has a lock, which is not held while the system takes pages back. The forked child of a
- * process with threads makes no call, as teurlaks.h says.
- */
+ * Any number of threads may call: each range has a lock, which is not held while the system takes
+ * pages back. The forked child of a process with threads makes no call, as teurlaks.h says. */
 #define _DEFAULT_SOURCE
 #include <pthread.h>
 #include <stdatomic.h>
@@ -55,7 +61,8 @@
 #ifndef KEEP
 #define KEEP 64
 #endif
-/* From how many bytes on that were asked of malloc it is to let go of what is free, once no block is in use. */
+/* From how many bytes on that were asked of malloc it is to let go of what is free, once no block
+ * is in use. */
 #ifndef LET_GO
 #define LET_GO (1 << 20)
 #endif
@@ -66,8 +73,9 @@ struct got {
     void *at;
 };
 
-/* The blocks that are free and in nobody's hand, and the system pages among them that still have memory. Of the free ones the least is
- * found by a look at each level: a bit of a level says whether the word below has any. */
+/* The blocks that are free and in nobody's hand, and the system pages among them that still have
+ * memory. Of the free ones the least is found by a look at each level: a bit of a level says
+ * whether the word below has any. */
 struct blocks {
     uint64_t low[4 * (size_t)RANGE_PAGES / 64];
     uint64_t mid[4 * (size_t)RANGE_PAGES / 4096];
@@ -104,8 +112,10 @@ struct run {
 };
 
 static struct blocks of_pages, of_quarters;
-static struct range pages = {.lock = PTHREAD_MUTEX_INITIALIZER, .blocks = &of_pages, .size = 4096, .per = 1};
-static struct range quarters = {.lock = PTHREAD_MUTEX_INITIALIZER, .blocks = &of_quarters, .size = 1024, .per = 4};
+static struct range pages = {
+    .lock = PTHREAD_MUTEX_INITIALIZER, .blocks = &of_pages, .size = 4096, .per = 1};
+static struct range quarters = {
+    .lock = PTHREAD_MUTEX_INITIALIZER, .blocks = &of_quarters, .size = 1024, .per = 4};
 static uint8_t nothing[1];
 static atomic_size_t in_use; /* blocks that the library has */
 static atomic_size_t asked;  /* bytes asked of malloc since there was none in use */
@@ -141,7 +151,9 @@ static uint8_t *page_at(struct range *r, size_t page) {
 }
 
 /* Where a block of the range stands. */
-static uint8_t *block_at(struct range *r, size_t n) { return page_at(r, n / r->per) + n % r->per * r->size; }
+static uint8_t *block_at(struct range *r, size_t n) {
+    return page_at(r, n / r->per) + n % r->per * r->size;
+}
 
 /* Whether address space is dear: it may also be wanted for something else. */
 static int is_limited(void) {
@@ -156,11 +168,13 @@ static int reserve(struct range *r) {
     if (pages > left) pages = left;
     if (pages == 0 || r->count == STRETCHES || sysconf(_SC_PAGESIZE) != SYSTEM_PAGE) return 0;
     void *at;
-    while ((at = mmap(NULL, pages * SYSTEM_PAGE, PROT_NONE, MAP_PRIVATE | MAP_ANONYMOUS | MAP_NORESERVE, -1, 0)) == MAP_FAILED) {
+    while ((at = mmap(NULL, pages * SYSTEM_PAGE, PROT_NONE,
+                      MAP_PRIVATE | MAP_ANONYMOUS | MAP_NORESERVE, -1, 0)) == MAP_FAILED) {
         if (pages <= OPEN) return 0;
         pages = pages / 2 < OPEN ? OPEN : pages / 2;
     }
-    /* A huge page would be memory for 512 pages, used or not. That the system has none is no matter. */
+    /* A huge page would be memory for 512 pages, used or not. That the system has none is no
+     * matter. */
     madvise(at, pages * SYSTEM_PAGE, MADV_NOHUGEPAGE);
     struct stretch *s = &r->stretches[r->count++];
     s->base = at;
@@ -215,7 +229,8 @@ static int goes_on(struct range *r, const struct run *run, uint32_t page) {
     return run->to == page && page_at(r, page - 1) + SYSTEM_PAGE == page_at(r, page);
 }
 
-/* The warm pages, as runs, which are neither warm nor free from then on. Answers how many runs there are. */
+/* The warm pages, as runs, which are neither warm nor free from then on. Answers how many runs
+ * there are. */
 static size_t cool_down(struct range *r, struct run runs[KEEP]) {
     size_t many = 0;
     for (size_t w = 0; r->kept; w++)
@@ -224,20 +239,24 @@ static size_t cool_down(struct range *r, struct run runs[KEEP]) {
             r->blocks->warm[w] &= r->blocks->warm[w] - 1;
             r->kept--;
             for (size_t i = 0; i < r->per; i++) erase(r->blocks, page * r->per + i);
-            if (many && goes_on(r, &runs[many - 1], page)) runs[many - 1].to++;
-            else runs[many++] = (struct run){page, page + 1};
+            if (many && goes_on(r, &runs[many - 1], page))
+                runs[many - 1].to++;
+            else
+                runs[many++] = (struct run){page, page + 1};
         }
     return many;
 }
 
-/* Hands the warm pages to the system. Meanwhile they are in nobody's hand, and not free. Called with the lock. */
+/* Hands the warm pages to the system. Meanwhile they are in nobody's hand, and not free. Called
+ * with the lock. */
 static void give_back(struct range *r) {
     struct run runs[KEEP];
     size_t many = cool_down(r, runs);
     r->returning++;
     pthread_mutex_unlock(&r->lock);
     for (size_t i = 0; i < many; i++)
-        madvise(page_at(r, runs[i].from), (size_t)(runs[i].to - runs[i].from) * SYSTEM_PAGE, MADV_DONTNEED);
+        madvise(page_at(r, runs[i].from), (size_t)(runs[i].to - runs[i].from) * SYSTEM_PAGE,
+                MADV_DONTNEED);
     pthread_mutex_lock(&r->lock);
     r->returning--;
     for (size_t i = 0; i < many; i++)
@@ -250,7 +269,8 @@ static void put_back(struct range *r, size_t n) {
     pthread_mutex_lock(&r->lock);
     r->used--;
     insert(r->blocks, n);
-    /* Where the page has blocks that were never used, these are not in the set, so it is not given back. */
+    /* Where the page has blocks that were never used, these are not in the set, so it is not given
+     * back. */
     if ((r->blocks->low[page * r->per / 64] >> page * r->per % 64 & all) == all) {
         r->blocks->warm[page / 64] |= 1ull << page % 64;
         if (++r->kept >= KEEP) give_back(r);
@@ -275,13 +295,15 @@ static struct found find(const void *at) {
             size_t pages = atomic_load_explicit(&s->pages, memory_order_acquire);
             if (pages == 0) break;
             size_t from = (uintptr_t)at - (uintptr_t)s->base;
-            if (from < pages * SYSTEM_PAGE) return (struct found){r, s->first * r->per + from / r->size};
+            if (from < pages * SYSTEM_PAGE)
+                return (struct found){r, s->first * r->per + from / r->size};
         }
     }
     return (struct found){NULL, 0};
 }
 
-/* Hands all that is kept to the system, once nothing is in use. That another thread takes a block meanwhile is no matter. */
+/* Hands all that is kept to the system, once nothing is in use. That another thread takes a block
+ * meanwhile is no matter. */
 static void let_go(void) {
     for (int i = 0; i < RANGES; i++) {
         pthread_mutex_lock(&ranges[i]->lock);
@@ -300,8 +322,10 @@ static void *of_malloc(size_t size) {
 
 struct got rattle_alloc(size_t size, size_t least) {
     void *at = NULL;
-    if (size == pages.size) at = take(&pages);
-    else if (size == quarters.size) at = take(&quarters);
+    if (size == pages.size)
+        at = take(&pages);
+    else if (size == quarters.size)
+        at = take(&quarters);
     if (!at) at = of_malloc(size ? size : least);
     if (at) atomic_fetch_add_explicit(&in_use, 1, memory_order_relaxed);
     return (struct got){at != NULL, at ? at : nothing};
@@ -309,8 +333,10 @@ struct got rattle_alloc(size_t size, size_t least) {
 
 void rattle_dealloc(void *at) {
     struct found block = find(at);
-    if (block.range) put_back(block.range, block.n);
-    else free(at);
+    if (block.range)
+        put_back(block.range, block.n);
+    else
+        free(at);
     if (atomic_fetch_sub_explicit(&in_use, 1, memory_order_relaxed) == 1) let_go();
 }
 
@@ -328,16 +354,16 @@ struct got rattle_realloc(void *at, size_t old, size_t size, size_t least) {
     return got;
 }
 
-/* Unmaps the end of a stretch, from this page of it on. What the system lays there next is not of the
- * range. */
+/* Unmaps the end of a stretch, from this page of it on. What the system lays there next is not of
+ * the range. */
 static void unmap(struct stretch *s, size_t from) {
     size_t pages = s->pages;
     atomic_store_explicit(&s->pages, from, memory_order_release);
     if (from < pages) munmap(s->base + from * SYSTEM_PAGE, (pages - from) * SYSTEM_PAGE);
 }
 
-/* Gives the address space of the range back, but for what is opened if a block there is in use. Called
- * with the lock. */
+/* Gives the address space of the range back, but for what is opened if a block there is in use.
+ * Called with the lock. */
 static void close_range_of(struct range *r) {
     int is_used = r->used || r->returning;
     size_t opened = is_used ? r->opened / r->per : 0;
@@ -350,8 +376,8 @@ static void close_range_of(struct range *r) {
     }
 }
 
-/* When the library is unloaded, or the process ends. It waits for no lock: in a forked child the thread
- * that had it may be gone. */
+/* When the library is unloaded, or the process ends. It waits for no lock: in a forked child the
+ * thread that had it may be gone. */
 __attribute__((destructor)) static void unload(void) {
     for (int i = 0; i < RANGES; i++)
         if (pthread_mutex_trylock(&ranges[i]->lock) == 0) {

@@ -1,7 +1,9 @@
-/* Tests of pages.c: that pages leave the process, that no byte has two holders, whatever threads ask, and what comes of refusals.
- * Link it with -Wl,--wrap=malloc,--wrap=mmap,--wrap=mprotect. With -DFEW it is built for a range of 4,096 pages, which is spent. The word
- * `mmap` or `mprotect` has that refused. With `large` only address space of more than 16 MB is refused, and with `limit` the process has 1 GB
- * of it: blocks stand in several stretches then. With -DWATCHED=1, under a sanitizer or valgrind, resident size is not looked at. */
+/* Tests of pages.c: that pages leave the process, that no byte has two holders, whatever threads
+ * ask, and what comes of refusals. Link it with -Wl,--wrap=malloc,--wrap=mmap,--wrap=mprotect. With
+ * -DFEW it is built for a range of 4,096 pages, which is spent. The word `mmap` or `mprotect` has
+ * that refused. With `large` only address space of more than 16 MB is refused, and with `limit` the
+ * process has 1 GB of it: blocks stand in several stretches then. With -DWATCHED=1, under a
+ * sanitizer or valgrind, resident size is not looked at. */
 #include "wanted.h"
 #include <pthread.h>
 #include <stdint.h>
@@ -23,7 +25,8 @@ struct got {
     void *at;
 };
 
-struct got rattle_alloc(size_t size, size_t least), rattle_realloc(void *at, size_t old, size_t size, size_t least);
+struct got rattle_alloc(size_t size, size_t least),
+    rattle_realloc(void *at, size_t old, size_t size, size_t least);
 void rattle_dealloc(void *at);
 
 static int refuse_mprotect, refuse_malloc, are_apart;
@@ -35,7 +38,9 @@ void *__wrap_mmap(void *at, size_t size, int protection, int flags, int file, lo
     return size > most ? (void *)-1 : __real_mmap(at, size, protection, flags, file, from);
 }
 
-int __wrap_mprotect(void *at, size_t size, int protection) { return refuse_mprotect ? -1 : __real_mprotect(at, size, protection); }
+int __wrap_mprotect(void *at, size_t size, int protection) {
+    return refuse_mprotect ? -1 : __real_mprotect(at, size, protection);
+}
 
 void *__wrap_malloc(size_t size) { return refuse_malloc ? NULL : __real_malloc(size); }
 
@@ -69,7 +74,9 @@ static int is_whole(const struct kept *kept, size_t size) {
 
 static const size_t sizes[] = {4096, 1024, 4096, 1024, 448, 9216, 0};
 
-static size_t a_size(uint64_t *state) { return sizes[next(state) % (sizeof sizes / sizeof sizes[0])]; }
+static size_t a_size(uint64_t *state) {
+    return sizes[next(state) % (sizeof sizes / sizeof sizes[0])];
+}
 
 /* Asks for another size of the block, which keeps what it has of both. */
 static void change_size(struct kept *kept, uint64_t *state) {
@@ -82,7 +89,8 @@ static void change_size(struct kept *kept, uint64_t *state) {
     memset(kept->at, kept->mark, size);
 }
 
-/* Blocks are filled whole when they come, and looked at whole when they go: two holders of one byte would show. */
+/* Blocks are filled whole when they come, and looked at whole when they go: two holders of one byte
+ * would show. */
 static void *worker(void *number) {
     enum { BLOCKS = 600 };
     uint64_t state = 88172645463325252ull + (uintptr_t)number * 7919;
@@ -98,7 +106,8 @@ static void *worker(void *number) {
             continue;
         }
         WANT(is_whole(kept, kept->size));
-        if (next(&state) % 16 == 0) change_size(kept, &state);
+        if (next(&state) % 16 == 0)
+            change_size(kept, &state);
         else {
             rattle_dealloc(kept->at);
             kept->at = NULL;
@@ -111,11 +120,13 @@ static void *worker(void *number) {
 
 static void threads(void) {
     pthread_t threads[8];
-    for (uintptr_t i = 0; i < 8; i++) WANT(pthread_create(&threads[i], NULL, worker, (void *)i) == 0);
+    for (uintptr_t i = 0; i < 8; i++)
+        WANT(pthread_create(&threads[i], NULL, worker, (void *)i) == 0);
     for (int i = 0; i < 8; i++) WANT(pthread_join(threads[i], NULL) == 0);
 }
 
-/* Where the system refuses a range, malloc is asked, and a refusal of malloc is one, whose place is not NULL. */
+/* Where the system refuses a range, malloc is asked, and a refusal of malloc is one, whose place is
+ * not NULL. */
 static void refused(void) {
     void *page = alloc(4096, 1), *quarter = alloc(1024, 2);
     rattle_dealloc(page);
@@ -141,12 +152,13 @@ static long resident(void) {
     return resident * 4;
 }
 
-/* Blocks come in order, side by side in a stretch. Freed ones leave the process and come again, the lowest first, and the others keep their
- * bytes. */
+/* Blocks come in order, side by side in a stretch. Freed ones leave the process and come again, the
+ * lowest first, and the others keep their bytes. */
 static void leave_and_come(void) {
     for (int i = 0; i < COUNT; i++) {
         WANT((uintptr_t)page[i] % 4096 == 0 && (uintptr_t)quarter[i] % 1024 == 0);
-        WANT(i == 0 || are_apart || (page[i] == page[i - 1] + 4096 && quarter[i] == quarter[i - 1] + 1024));
+        WANT(i == 0 || are_apart ||
+             (page[i] == page[i - 1] + 4096 && quarter[i] == quarter[i - 1] + 1024));
     }
     long full = resident();
     for (int i = 1; i < COUNT; i += 2) rattle_dealloc(page[i]);
@@ -155,7 +167,8 @@ static void leave_and_come(void) {
     for (int i = 0; i < COUNT; i++)
         if (i % 8) rattle_dealloc(quarter[i]);
     WANT(WATCHED || half - resident() >= COUNT / 8 * 4 - 64 * 4 - 64);
-    printf("%d KB were freed, and %ld left the process\n", COUNT / 2 * 4 + COUNT / 8 * 4, full - resident());
+    printf("%d KB were freed, and %ld left the process\n", COUNT / 2 * 4 + COUNT / 8 * 4,
+           full - resident());
     for (int i = 1; i < COUNT; i += 2) WANT(alloc(4096, 1) == page[i]);
     for (int i = 0; i < COUNT; i++)
         if (i % 8) WANT(alloc(1024, 2) == quarter[i]);
@@ -165,8 +178,9 @@ static void leave_and_come(void) {
     }
 }
 
-/* Where nothing is in use any more, hardly anything stays, also where malloc has learnt to keep much: a block that it had mapped and that
- * was freed has glibc keep up to twice as much from then on. */
+/* Where nothing is in use any more, hardly anything stays, also where malloc has learnt to keep
+ * much: a block that it had mapped and that was freed has glibc keep up to twice as much from then
+ * on. */
 static void all_goes(void) {
     long before = resident();
     rattle_dealloc(alloc(8 << 20, 1));
@@ -215,7 +229,8 @@ int main(int argc, char **argv) {
     if (!strcmp(what, "large")) most = 16 << 20;
     if (is_limited) limit_to_a_gigabyte();
     are_apart = is_limited || most < SIZE_MAX;
-    if (is_refused || refuse_mprotect) refused();
+    if (is_refused || refuse_mprotect)
+        refused();
     else {
         for (int i = 0; i < COUNT; i++) {
             page[i] = alloc(4096, 1);

@@ -1,6 +1,7 @@
-/* Four threads at a recorded arena, with a steward who folds beside them. They share keys, so that what a call is answered rests on when the
- * others made theirs: no thread can tell whether it was right. At the end all seats are left for the steward, who audits the run. -DROUNDS says
- * how many calls each thread makes. */
+/* Four threads at a recorded arena, with a steward who folds beside them. They share keys, so that
+ * what a call is answered rests on when the others made theirs: no thread can tell whether it was
+ * right. At the end all seats are left for the steward, who audits the run. -DROUNDS says how many
+ * calls each thread makes. */
 #define _POSIX_C_SOURCE 200809L
 #include "teurlaks.h"
 #include "wanted.h"
@@ -75,10 +76,19 @@ static void *work(void *at) {
     uint32_t status;
     for (long round = 0; round < ROUNDS; round++) {
         switch (below(&me->random, 4)) {
-        case 0: put(me); break;
-        case 1: PATIENTLY(got, got.status, teurlaks_seat_get_words(&me->seat, any_key(me), words, 16)); break;
-        case 2: PATIENTLY(status, status, teurlaks_seat_set_words(&me->seat, any_key(me), words, 1 + below(&me->random, 16))); break;
-        default: PATIENTLY(status, status, teurlaks_seat_free(&me->seat, any_key(me)));
+        case 0:
+            put(me);
+            break;
+        case 1:
+            PATIENTLY(got, got.status, teurlaks_seat_get_words(&me->seat, any_key(me), words, 16));
+            break;
+        case 2:
+            PATIENTLY(
+                status, status,
+                teurlaks_seat_set_words(&me->seat, any_key(me), words, 1 + below(&me->random, 16)));
+            break;
+        default:
+            PATIENTLY(status, status, teurlaks_seat_free(&me->seat, any_key(me)));
         }
         if (round % 256 == 0) tend(me);
     }
@@ -106,12 +116,16 @@ static size_t mesh(struct teurlaks_share_handle *steward) {
 }
 
 /* A recorded seat has no session. A seat that is left in one gives its shard back. */
-static void sessions(struct teurlaks_share_handle *recorded, struct teurlaks_share_handle *counted) {
+static void sessions(struct teurlaks_share_handle *recorded,
+                     struct teurlaks_share_handle *counted) {
     struct teurlaks_share_handle seat = {0};
-    WANT(teurlaks_seat_session(recorded) == TEURLAKS_CONFIG && teurlaks_seat_pause(recorded) == TEURLAKS_OK);
-    WANT(teurlaks_steward_seat(counted, &seat) == TEURLAKS_OK && teurlaks_seat_session(&seat) == TEURLAKS_OK);
+    WANT(teurlaks_seat_session(recorded) == TEURLAKS_CONFIG &&
+         teurlaks_seat_pause(recorded) == TEURLAKS_OK);
+    WANT(teurlaks_steward_seat(counted, &seat) == TEURLAKS_OK &&
+         teurlaks_seat_session(&seat) == TEURLAKS_OK);
     WANT(teurlaks_steward_totals(counted).status == TEURLAKS_BUSY);
-    WANT(teurlaks_seat_leave(counted, &seat) == TEURLAKS_OK && teurlaks_seat_pause(&seat) == TEURLAKS_NO_CORE);
+    WANT(teurlaks_seat_leave(counted, &seat) == TEURLAKS_OK &&
+         teurlaks_seat_pause(&seat) == TEURLAKS_NO_CORE);
     WANT(teurlaks_steward_totals(counted).status == TEURLAKS_OK);
 }
 
@@ -123,7 +137,8 @@ static void walks(struct teurlaks_share_handle *steward, struct teurlaks_share_h
         WANT(teurlaks_seat_next(seat, &other).status == TEURLAKS_OK);
         live++;
     }
-    WANT(teurlaks_seat_next(seat, &other).status == TEURLAKS_NONE && live == teurlaks_steward_totals(steward).live);
+    WANT(teurlaks_seat_next(seat, &other).status == TEURLAKS_NONE &&
+         live == teurlaks_steward_totals(steward).live);
 }
 
 int main(void) {
@@ -135,7 +150,8 @@ int main(void) {
         WANT(teurlaks_steward_seat(&steward, &workers[i].seat) == TEURLAKS_OK);
         workers[i].random = 88172645463325252u + i;
     }
-    for (int i = 0; i < THREADS; i++) WANT(!pthread_create(&workers[i].thread, NULL, work, &workers[i]));
+    for (int i = 0; i < THREADS; i++)
+        WANT(!pthread_create(&workers[i].thread, NULL, work, &workers[i]));
     size_t folds = 0;
     while (atomic_load(&ended) < THREADS) {
         folds += mesh(&steward);
@@ -146,7 +162,8 @@ int main(void) {
     sessions(&workers[0].seat, &counted);
     walks(&steward, &workers[0].seat);
     WANT(teurlaks_steward_forget(&steward).status == TEURLAKS_RECORDED);
-    WANT(teurlaks_arena_audit(&counted) == TEURLAKS_NO_CORE && teurlaks_arena_audit(&none) == TEURLAKS_NO_CORE);
+    WANT(teurlaks_arena_audit(&counted) == TEURLAKS_NO_CORE &&
+         teurlaks_arena_audit(&none) == TEURLAKS_NO_CORE);
     for (int i = 0; i < THREADS; i++) {
         WANT(teurlaks_arena_audit(&steward) == TEURLAKS_UNFINISHED);
         WANT(teurlaks_seat_leave(&other, &workers[i].seat) == TEURLAKS_CONFIG);
@@ -156,7 +173,8 @@ int main(void) {
         WANT(teurlaks_seat_leave(&steward, &workers[i].seat) == TEURLAKS_NO_CORE);
     }
     uint32_t status = teurlaks_arena_audit(&steward);
-    printf("%d threads, %d calls each, %zu folds: %s\n", THREADS, ROUNDS, folds, teurlaks_strerror(status));
+    printf("%d threads, %d calls each, %zu folds: %s\n", THREADS, ROUNDS, folds,
+           teurlaks_strerror(status));
     WANT(status == TEURLAKS_OK && teurlaks_arena_audit(&steward) == TEURLAKS_OK);
     WANT(teurlaks_steward_mark(&steward).status == TEURLAKS_NO_CORE);
     teurlaks_share_drop(&steward);

@@ -1,10 +1,11 @@
-/* The calls of teurlaks.h with their pointers tested, and the texts of what they answer. teurlaks.h includes this file.
+/* The calls of teurlaks.h with their pointers tested, and the texts of what they answer. teurlaks.h
+ * includes this file.
  *
- * The archive's functions are proved for a pointer to a handle, with a core or without, and for pointers to words, bytes and walks that are
- * there, each apart from the others. What else C can pass is tested for here: NULL, and one handle in two places. README.md's table says
- * what each call answers then. A compiler that sees that a pointer is not NULL leaves the test out. Define TEURLAKS_UNTESTED before
- * teurlaks.h is included to call the archive's functions by themselves.
- */
+ * The archive's functions are proved for a pointer to a handle, with a core or without, and for
+ * pointers to words, bytes and walks that are there, each apart from the others. What else C can
+ * pass is tested for here: NULL, and one handle in two places. README.md's table says what each
+ * call answers then. A compiler that sees that a pointer is not NULL leaves the test out. Define
+ * TEURLAKS_UNTESTED before teurlaks.h is included to call the archive's functions by themselves. */
 #ifndef TEURLAKS_CALLS_H
 #define TEURLAKS_CALLS_H
 
@@ -13,46 +14,76 @@
 /* What a status says, in words: a text that is there as long as the program is. */
 TEURLAKS_INLINE const char *teurlaks_strerror(uint32_t status) {
     switch (status) {
-    case TEURLAKS_OK: return "done";
-    case TEURLAKS_NONE: return "the key is not live, or there is no certificate yet";
-    case TEURLAKS_OUT_OF_MEMORY: return "out of memory: free some and try again";
-    case TEURLAKS_PAGES_SPENT: return "the shard may have no further page: free keys, or ask another shard";
-    case TEURLAKS_ENDED: return "the shard has ended: ask another shard";
-    case TEURLAKS_PLAN_OPEN: return "a plan is open: close it first";
-    case TEURLAKS_TOO_MANY: return "a side has more than 4096 groups, too many for a plan";
-    case TEURLAKS_NOTHING_TO_ADOPT: return "no group of the pool has a page: there is nothing to adopt";
-    case TEURLAKS_CONFIG: return "a number is out of its range, a pointer is NULL, or the seat is of another arena";
-    case TEURLAKS_EMPTIED: return "the pair's abandoned group had no live key left";
-    case TEURLAKS_NO_PAIR_LEFT: return "the open plan is done with: close it";
-    case TEURLAKS_NO_PLAN: return "no plan is open: mark first";
-    case TEURLAKS_TOO_SMALL: return "the text or the object takes more than there is room for";
-    case TEURLAKS_RING_FULL: return "a ring holds as many keys as it may";
-    case TEURLAKS_NO_CORE: return "the handle has not what the call is for: none was made, or it was dropped";
-    case TEURLAKS_HAS_CORE: return "the handle has something already: drop it first";
-    case TEURLAKS_BUSY: return "another thread has a lock that the call needs: try again";
-    case TEURLAKS_RUNNING: return "the shard has not ended: end it before it begins again";
-    case TEURLAKS_RECORDED: return "the run is recorded: nothing is forgotten";
-    case TEURLAKS_UNFINISHED: return "a seat is not back: have it leave for the steward first, and drop none";
-    case TEURLAKS_LOG_FAULT: return "audit: a log is not legal, or a span has two";
-    case TEURLAKS_CHANGE_FAULT: return "audit: changes and receipts are not one to one";
-    case TEURLAKS_REPLY_FAULT: return "audit: a call was not answered as the changes before it say";
-    case TEURLAKS_ORDER_FAULT: return "audit: the calls of a seat are not in the order of their changes";
-    case TEURLAKS_BARRIER_FAULT: return "audit: a call stands before one of an earlier section";
-    default: return "no status of this library";
+    case TEURLAKS_OK:
+        return "done";
+    case TEURLAKS_NONE:
+        return "the key is not live, or there is no certificate yet";
+    case TEURLAKS_OUT_OF_MEMORY:
+        return "out of memory: free some and try again";
+    case TEURLAKS_PAGES_SPENT:
+        return "the shard may have no further page: free keys, or ask another shard";
+    case TEURLAKS_ENDED:
+        return "the shard has ended: ask another shard";
+    case TEURLAKS_PLAN_OPEN:
+        return "a plan is open: close it first";
+    case TEURLAKS_TOO_MANY:
+        return "a side has more than 4096 groups, too many for a plan";
+    case TEURLAKS_NOTHING_TO_ADOPT:
+        return "no group of the pool has a page: there is nothing to adopt";
+    case TEURLAKS_CONFIG:
+        return "a number is out of its range, a pointer is NULL, or the seat is of another arena";
+    case TEURLAKS_EMPTIED:
+        return "the pair's abandoned group had no live key left";
+    case TEURLAKS_NO_PAIR_LEFT:
+        return "the open plan is done with: close it";
+    case TEURLAKS_NO_PLAN:
+        return "no plan is open: mark first";
+    case TEURLAKS_TOO_SMALL:
+        return "the text or the object takes more than there is room for";
+    case TEURLAKS_RING_FULL:
+        return "a ring holds as many keys as it may";
+    case TEURLAKS_NO_CORE:
+        return "the handle has not what the call is for: none was made, or it was dropped";
+    case TEURLAKS_HAS_CORE:
+        return "the handle has something already: drop it first";
+    case TEURLAKS_BUSY:
+        return "another thread has a lock that the call needs: try again";
+    case TEURLAKS_RUNNING:
+        return "the shard has not ended: end it before it begins again";
+    case TEURLAKS_RECORDED:
+        return "the run is recorded: nothing is forgotten";
+    case TEURLAKS_UNFINISHED:
+        return "a seat is not back: have it leave for the steward first, and drop none";
+    case TEURLAKS_LOG_FAULT:
+        return "audit: a log is not legal, or a span has two";
+    case TEURLAKS_CHANGE_FAULT:
+        return "audit: changes and receipts are not one to one";
+    case TEURLAKS_REPLY_FAULT:
+        return "audit: a call was not answered as the changes before it say";
+    case TEURLAKS_ORDER_FAULT:
+        return "audit: the calls of a seat are not in the order of their changes";
+    case TEURLAKS_BARRIER_FAULT:
+        return "audit: a call stands before one of an earlier section";
+    default:
+        return "no status of this library";
     }
 }
 
 #ifndef TEURLAKS_UNTESTED
 
-TEURLAKS_INLINE uint32_t teurlaks_tested_new(struct teurlaks_handle *out, uint32_t shards, uint32_t page_limit, uint32_t ring_capacity, uint32_t gens) {
-    return out ? teurlaks_new(out, shards, page_limit, ring_capacity, gens) : (uint32_t)TEURLAKS_NO_CORE;
+TEURLAKS_INLINE uint32_t teurlaks_tested_new(struct teurlaks_handle *out, uint32_t shards,
+                                             uint32_t page_limit, uint32_t ring_capacity,
+                                             uint32_t gens) {
+    return out ? teurlaks_new(out, shards, page_limit, ring_capacity, gens)
+               : (uint32_t)TEURLAKS_NO_CORE;
 }
 
 TEURLAKS_INLINE void teurlaks_tested_drop(struct teurlaks_handle *handle) {
     if (handle) teurlaks_drop(handle);
 }
 
-TEURLAKS_INLINE struct teurlaks_put_reply teurlaks_tested_put(struct teurlaks_handle *handle, uint32_t shard, struct teurlaks_word value) {
+TEURLAKS_INLINE struct teurlaks_put_reply
+teurlaks_tested_put(struct teurlaks_handle *handle, uint32_t shard, struct teurlaks_word value) {
     struct teurlaks_put_reply none = {TEURLAKS_NO_CORE, {0, 0, 0, 0, 0}};
     return handle ? teurlaks_put(handle, shard, value) : none;
 }
@@ -63,10 +94,14 @@ TEURLAKS_INLINE struct teurlaks_get_reply teurlaks_tested_get(const struct teurl
     return handle ? teurlaks_get(handle, key) : none;
 }
 
-TEURLAKS_INLINE struct teurlaks_put_reply teurlaks_tested_put_words(struct teurlaks_handle *handle, uint32_t shard, const struct teurlaks_word *words, size_t words_len) {
+TEURLAKS_INLINE struct teurlaks_put_reply
+teurlaks_tested_put_words(struct teurlaks_handle *handle, uint32_t shard,
+                          const struct teurlaks_word *words, size_t words_len) {
     struct teurlaks_put_reply none = {TEURLAKS_NO_CORE, {0, 0, 0, 0, 0}};
     struct teurlaks_word no_word = {0, 0};
-    return handle ? teurlaks_put_words(handle, shard, words ? words : &no_word, words ? words_len : 0) : none;
+    return handle
+               ? teurlaks_put_words(handle, shard, words ? words : &no_word, words ? words_len : 0)
+               : none;
 }
 
 TEURLAKS_INLINE struct teurlaks_words_reply
@@ -74,19 +109,26 @@ teurlaks_tested_get_words(const struct teurlaks_handle *handle, struct teurlaks_
                           struct teurlaks_word *words, size_t words_len) {
     struct teurlaks_words_reply none = {TEURLAKS_NO_CORE, 0};
     struct teurlaks_word no_word = {0, 0};
-    return handle ? teurlaks_get_words(handle, key, words ? words : &no_word, words ? words_len : 0) : none;
+    return handle ? teurlaks_get_words(handle, key, words ? words : &no_word, words ? words_len : 0)
+                  : none;
 }
 
-TEURLAKS_INLINE uint32_t teurlaks_tested_set(struct teurlaks_handle *handle, struct teurlaks_key key, struct teurlaks_word value) {
+TEURLAKS_INLINE uint32_t teurlaks_tested_set(struct teurlaks_handle *handle,
+                                             struct teurlaks_key key, struct teurlaks_word value) {
     return handle ? teurlaks_set(handle, key, value) : (uint32_t)TEURLAKS_NO_CORE;
 }
 
-TEURLAKS_INLINE uint32_t teurlaks_tested_set_words(struct teurlaks_handle *handle, struct teurlaks_key key, const struct teurlaks_word *words, size_t words_len) {
+TEURLAKS_INLINE uint32_t teurlaks_tested_set_words(struct teurlaks_handle *handle,
+                                                   struct teurlaks_key key,
+                                                   const struct teurlaks_word *words,
+                                                   size_t words_len) {
     struct teurlaks_word no_word = {0, 0};
-    return handle ? teurlaks_set_words(handle, key, words ? words : &no_word, words ? words_len : 0) : (uint32_t)TEURLAKS_NO_CORE;
+    return handle ? teurlaks_set_words(handle, key, words ? words : &no_word, words ? words_len : 0)
+                  : (uint32_t)TEURLAKS_NO_CORE;
 }
 
-TEURLAKS_INLINE uint32_t teurlaks_tested_free(struct teurlaks_handle *handle, struct teurlaks_key key) {
+TEURLAKS_INLINE uint32_t teurlaks_tested_free(struct teurlaks_handle *handle,
+                                              struct teurlaks_key key) {
     return handle ? teurlaks_free(handle, key) : (uint32_t)TEURLAKS_NO_CORE;
 }
 
@@ -97,10 +139,10 @@ teurlaks_tested_put_many(struct teurlaks_handle *handle, uint32_t shard,
     struct teurlaks_many_reply none = {TEURLAKS_NO_CORE, 0};
     struct teurlaks_word no_word = {0, 0};
     struct teurlaks_key no_key = {0, 0, 0, 0, 0};
-    return handle ? teurlaks_put_many(handle, shard, words ? words : &no_word,
-                                      words ? words_len : 0, keys ? keys : &no_key,
-                                      keys ? keys_len : 0)
-                  : none;
+    return handle
+               ? teurlaks_put_many(handle, shard, words ? words : &no_word, words ? words_len : 0,
+                                   keys ? keys : &no_key, keys ? keys_len : 0)
+               : none;
 }
 
 TEURLAKS_INLINE struct teurlaks_many_reply
@@ -142,22 +184,26 @@ TEURLAKS_INLINE uint32_t teurlaks_tested_begin(struct teurlaks_handle *handle, u
     return handle ? teurlaks_begin(handle, shard) : (uint32_t)TEURLAKS_NO_CORE;
 }
 
-TEURLAKS_INLINE struct teurlaks_retire_reply teurlaks_tested_retire(struct teurlaks_handle *handle, uint32_t shard, size_t most) {
+TEURLAKS_INLINE struct teurlaks_retire_reply teurlaks_tested_retire(struct teurlaks_handle *handle,
+                                                                    uint32_t shard, size_t most) {
     struct teurlaks_retire_reply none = {TEURLAKS_NO_CORE, 0};
     return handle ? teurlaks_retire(handle, shard, most) : none;
 }
 
-TEURLAKS_INLINE struct teurlaks_forget_reply teurlaks_tested_forget(struct teurlaks_handle *handle) {
+TEURLAKS_INLINE struct teurlaks_forget_reply
+teurlaks_tested_forget(struct teurlaks_handle *handle) {
     struct teurlaks_forget_reply none = {TEURLAKS_NO_CORE, 0};
     return handle ? teurlaks_forget(handle) : none;
 }
 
-TEURLAKS_INLINE struct teurlaks_trim_reply teurlaks_tested_trim(struct teurlaks_handle *handle, uint32_t shard) {
+TEURLAKS_INLINE struct teurlaks_trim_reply teurlaks_tested_trim(struct teurlaks_handle *handle,
+                                                                uint32_t shard) {
     struct teurlaks_trim_reply none = {TEURLAKS_NO_CORE, 0};
     return handle ? teurlaks_trim(handle, shard) : none;
 }
 
-TEURLAKS_INLINE struct teurlaks_compact_reply teurlaks_tested_compact_within(struct teurlaks_handle *handle, size_t budget) {
+TEURLAKS_INLINE struct teurlaks_compact_reply
+teurlaks_tested_compact_within(struct teurlaks_handle *handle, size_t budget) {
     struct teurlaks_compact_reply none = {TEURLAKS_NO_CORE, 0, 0};
     return handle ? teurlaks_compact_within(handle, budget) : none;
 }
@@ -172,7 +218,8 @@ TEURLAKS_INLINE uint32_t teurlaks_tested_compaction_give_up(struct teurlaks_hand
     return handle ? teurlaks_compaction_give_up(handle) : TEURLAKS_NO_CORE;
 }
 
-TEURLAKS_INLINE struct teurlaks_adopt_reply teurlaks_tested_adopt(struct teurlaks_handle *handle, uint32_t shard) {
+TEURLAKS_INLINE struct teurlaks_adopt_reply teurlaks_tested_adopt(struct teurlaks_handle *handle,
+                                                                  uint32_t shard) {
     struct teurlaks_adopt_reply none = {TEURLAKS_NO_CORE, {0, 0}};
     return handle ? teurlaks_adopt(handle, shard) : none;
 }
@@ -182,7 +229,8 @@ TEURLAKS_INLINE struct teurlaks_mark_reply teurlaks_tested_mark(struct teurlaks_
     return handle ? teurlaks_mark(handle) : none;
 }
 
-TEURLAKS_INLINE struct teurlaks_mark_reply teurlaks_tested_mark_some(struct teurlaks_handle *handle) {
+TEURLAKS_INLINE struct teurlaks_mark_reply
+teurlaks_tested_mark_some(struct teurlaks_handle *handle) {
     struct teurlaks_mark_reply none = {TEURLAKS_NO_CORE, 0, 0, 0, 0};
     return handle ? teurlaks_mark_some(handle) : none;
 }
@@ -200,15 +248,23 @@ TEURLAKS_INLINE struct teurlaks_certificate_reply
 teurlaks_tested_certificate(const struct teurlaks_handle *handle, uint8_t *text, size_t text_len) {
     struct teurlaks_certificate_reply none = {TEURLAKS_NO_CORE, 0};
     uint8_t no_text = 0;
-    return handle ? teurlaks_certificate(handle, text ? text : &no_text, text ? text_len : 0) : none;
+    return handle ? teurlaks_certificate(handle, text ? text : &no_text, text ? text_len : 0)
+                  : none;
 }
 
-TEURLAKS_INLINE uint32_t teurlaks_tested_arena_open(struct teurlaks_share_handle *out, uint32_t shards, uint32_t page_limit, uint32_t ring_capacity, uint32_t gens) {
-    return out ? teurlaks_arena_open(out, shards, page_limit, ring_capacity, gens) : (uint32_t)TEURLAKS_NO_CORE;
+TEURLAKS_INLINE uint32_t teurlaks_tested_arena_open(struct teurlaks_share_handle *out,
+                                                    uint32_t shards, uint32_t page_limit,
+                                                    uint32_t ring_capacity, uint32_t gens) {
+    return out ? teurlaks_arena_open(out, shards, page_limit, ring_capacity, gens)
+               : (uint32_t)TEURLAKS_NO_CORE;
 }
 
-TEURLAKS_INLINE uint32_t teurlaks_tested_arena_open_recorded(struct teurlaks_share_handle *out, uint32_t shards, uint32_t page_limit, uint32_t ring_capacity, uint32_t gens) {
-    return out ? teurlaks_arena_open_recorded(out, shards, page_limit, ring_capacity, gens) : (uint32_t)TEURLAKS_NO_CORE;
+TEURLAKS_INLINE uint32_t teurlaks_tested_arena_open_recorded(struct teurlaks_share_handle *out,
+                                                             uint32_t shards, uint32_t page_limit,
+                                                             uint32_t ring_capacity,
+                                                             uint32_t gens) {
+    return out ? teurlaks_arena_open_recorded(out, shards, page_limit, ring_capacity, gens)
+               : (uint32_t)TEURLAKS_NO_CORE;
 }
 
 TEURLAKS_INLINE uint32_t teurlaks_tested_arena_audit(struct teurlaks_share_handle *handle) {
@@ -227,9 +283,10 @@ TEURLAKS_INLINE uint32_t teurlaks_tested_steward_arena(struct teurlaks_share_han
     return out ? teurlaks_steward_arena(handle, out) : (uint32_t)TEURLAKS_CONFIG;
 }
 
-/* The archive tells arenas apart by counting shares, which two threads at two stewards can deceive. So
- * the places of the arenas are compared first: neither arena can go while its handle is here. */
-TEURLAKS_INLINE uint32_t teurlaks_tested_seat_leave(struct teurlaks_share_handle *handle, struct teurlaks_share_handle *seat) {
+/* The archive tells arenas apart by counting shares, which two threads at two stewards can deceive.
+ * So the places of the arenas are compared first: neither arena can go while its handle is here. */
+TEURLAKS_INLINE uint32_t teurlaks_tested_seat_leave(struct teurlaks_share_handle *handle,
+                                                    struct teurlaks_share_handle *seat) {
     struct teurlaks_place ours = {0}, theirs = {0};
     uint32_t status = teurlaks_tested_steward_arena(handle, &ours);
     if (status == TEURLAKS_OK) status = teurlaks_tested_seat_arena(seat, &theirs);
@@ -237,7 +294,8 @@ TEURLAKS_INLINE uint32_t teurlaks_tested_seat_leave(struct teurlaks_share_handle
     return ours.at == theirs.at ? teurlaks_seat_leave(handle, seat) : (uint32_t)TEURLAKS_CONFIG;
 }
 
-TEURLAKS_INLINE uint32_t teurlaks_tested_steward_seat(struct teurlaks_share_handle *handle, struct teurlaks_share_handle *out) {
+TEURLAKS_INLINE uint32_t teurlaks_tested_steward_seat(struct teurlaks_share_handle *handle,
+                                                      struct teurlaks_share_handle *out) {
     if (handle && handle == out) return handle->at ? TEURLAKS_HAS_CORE : TEURLAKS_NO_CORE;
     return handle && out ? teurlaks_steward_seat(handle, out) : (uint32_t)TEURLAKS_NO_CORE;
 }
@@ -254,28 +312,42 @@ TEURLAKS_INLINE uint32_t teurlaks_tested_seat_pause(struct teurlaks_share_handle
     return handle ? teurlaks_seat_pause(handle) : (uint32_t)TEURLAKS_NO_CORE;
 }
 
-TEURLAKS_INLINE struct teurlaks_put_reply teurlaks_tested_seat_put_words(struct teurlaks_share_handle *handle, const struct teurlaks_word *words, size_t words_len) {
+TEURLAKS_INLINE struct teurlaks_put_reply
+teurlaks_tested_seat_put_words(struct teurlaks_share_handle *handle,
+                               const struct teurlaks_word *words, size_t words_len) {
     struct teurlaks_put_reply none = {TEURLAKS_NO_CORE, {0, 0, 0, 0, 0}};
     struct teurlaks_word no_word = {0, 0};
-    return handle ? teurlaks_seat_put_words(handle, words ? words : &no_word, words ? words_len : 0) : none;
+    return handle ? teurlaks_seat_put_words(handle, words ? words : &no_word, words ? words_len : 0)
+                  : none;
 }
 
-TEURLAKS_INLINE struct teurlaks_words_reply teurlaks_tested_seat_get_words(struct teurlaks_share_handle *handle, struct teurlaks_key key, struct teurlaks_word *words, size_t words_len) {
+TEURLAKS_INLINE struct teurlaks_words_reply
+teurlaks_tested_seat_get_words(struct teurlaks_share_handle *handle, struct teurlaks_key key,
+                               struct teurlaks_word *words, size_t words_len) {
     struct teurlaks_words_reply none = {TEURLAKS_NO_CORE, 0};
     struct teurlaks_word no_word = {0, 0};
-    return handle ? teurlaks_seat_get_words(handle, key, words ? words : &no_word, words ? words_len : 0) : none;
+    return handle ? teurlaks_seat_get_words(handle, key, words ? words : &no_word,
+                                            words ? words_len : 0)
+                  : none;
 }
 
-TEURLAKS_INLINE uint32_t teurlaks_tested_seat_set_words(struct teurlaks_share_handle *handle, struct teurlaks_key key, const struct teurlaks_word *words, size_t words_len) {
+TEURLAKS_INLINE uint32_t teurlaks_tested_seat_set_words(struct teurlaks_share_handle *handle,
+                                                        struct teurlaks_key key,
+                                                        const struct teurlaks_word *words,
+                                                        size_t words_len) {
     struct teurlaks_word no_word = {0, 0};
-    return handle ? teurlaks_seat_set_words(handle, key, words ? words : &no_word, words ? words_len : 0) : (uint32_t)TEURLAKS_NO_CORE;
+    return handle ? teurlaks_seat_set_words(handle, key, words ? words : &no_word,
+                                            words ? words_len : 0)
+                  : (uint32_t)TEURLAKS_NO_CORE;
 }
 
-TEURLAKS_INLINE uint32_t teurlaks_tested_seat_free(struct teurlaks_share_handle *handle, struct teurlaks_key key) {
+TEURLAKS_INLINE uint32_t teurlaks_tested_seat_free(struct teurlaks_share_handle *handle,
+                                                   struct teurlaks_key key) {
     return handle ? teurlaks_seat_free(handle, key) : (uint32_t)TEURLAKS_NO_CORE;
 }
 
-TEURLAKS_INLINE uint32_t teurlaks_tested_seat_free_later(struct teurlaks_share_handle *handle, struct teurlaks_key key) {
+TEURLAKS_INLINE uint32_t teurlaks_tested_seat_free_later(struct teurlaks_share_handle *handle,
+                                                         struct teurlaks_key key) {
     return handle ? teurlaks_seat_free_later(handle, key) : (uint32_t)TEURLAKS_NO_CORE;
 }
 
@@ -283,7 +355,8 @@ TEURLAKS_INLINE uint32_t teurlaks_tested_seat_hand_over(struct teurlaks_share_ha
     return handle ? teurlaks_seat_hand_over(handle) : (uint32_t)TEURLAKS_NO_CORE;
 }
 
-TEURLAKS_INLINE struct teurlaks_tend_reply teurlaks_tested_seat_tend(struct teurlaks_share_handle *handle) {
+TEURLAKS_INLINE struct teurlaks_tend_reply
+teurlaks_tested_seat_tend(struct teurlaks_share_handle *handle) {
     struct teurlaks_tend_reply none = {TEURLAKS_NO_CORE, 0};
     return handle ? teurlaks_seat_tend(handle) : none;
 }
@@ -296,44 +369,52 @@ TEURLAKS_INLINE uint32_t teurlaks_tested_seat_begin(struct teurlaks_share_handle
     return handle ? teurlaks_seat_begin(handle) : (uint32_t)TEURLAKS_NO_CORE;
 }
 
-TEURLAKS_INLINE struct teurlaks_retire_reply teurlaks_tested_seat_retire(struct teurlaks_share_handle *handle, size_t most) {
+TEURLAKS_INLINE struct teurlaks_retire_reply
+teurlaks_tested_seat_retire(struct teurlaks_share_handle *handle, size_t most) {
     struct teurlaks_retire_reply none = {TEURLAKS_NO_CORE, 0};
     return handle ? teurlaks_seat_retire(handle, most) : none;
 }
 
-TEURLAKS_INLINE struct teurlaks_next_reply teurlaks_tested_seat_next(struct teurlaks_share_handle *handle, struct teurlaks_walk *walk) {
+TEURLAKS_INLINE struct teurlaks_next_reply
+teurlaks_tested_seat_next(struct teurlaks_share_handle *handle, struct teurlaks_walk *walk) {
     struct teurlaks_next_reply none = {TEURLAKS_NO_CORE, {0, 0, 0, 0, 0}};
     if (handle && !walk) none.status = TEURLAKS_CONFIG;
     return handle && walk ? teurlaks_seat_next(handle, walk) : none;
 }
 
-TEURLAKS_INLINE struct teurlaks_next_reply teurlaks_tested_steward_next(struct teurlaks_share_handle *handle, struct teurlaks_walk *walk) {
+TEURLAKS_INLINE struct teurlaks_next_reply
+teurlaks_tested_steward_next(struct teurlaks_share_handle *handle, struct teurlaks_walk *walk) {
     struct teurlaks_next_reply none = {TEURLAKS_NO_CORE, {0, 0, 0, 0, 0}};
     if (handle && !walk) none.status = TEURLAKS_CONFIG;
     return handle && walk ? teurlaks_steward_next(handle, walk) : none;
 }
 
-TEURLAKS_INLINE struct teurlaks_trim_reply teurlaks_tested_seat_trim(struct teurlaks_share_handle *handle) {
+TEURLAKS_INLINE struct teurlaks_trim_reply
+teurlaks_tested_seat_trim(struct teurlaks_share_handle *handle) {
     struct teurlaks_trim_reply none = {TEURLAKS_NO_CORE, 0};
     return handle ? teurlaks_seat_trim(handle) : none;
 }
 
-TEURLAKS_INLINE struct teurlaks_adopt_reply teurlaks_tested_seat_adopt(struct teurlaks_share_handle *handle) {
+TEURLAKS_INLINE struct teurlaks_adopt_reply
+teurlaks_tested_seat_adopt(struct teurlaks_share_handle *handle) {
     struct teurlaks_adopt_reply none = {TEURLAKS_NO_CORE, {0, 0}};
     return handle ? teurlaks_seat_adopt(handle) : none;
 }
 
-TEURLAKS_INLINE struct teurlaks_mark_reply teurlaks_tested_steward_mark(struct teurlaks_share_handle *handle) {
+TEURLAKS_INLINE struct teurlaks_mark_reply
+teurlaks_tested_steward_mark(struct teurlaks_share_handle *handle) {
     struct teurlaks_mark_reply none = {TEURLAKS_NO_CORE, 0, 0, 0, 0};
     return handle ? teurlaks_steward_mark(handle) : none;
 }
 
-TEURLAKS_INLINE struct teurlaks_mark_reply teurlaks_tested_steward_mark_some(struct teurlaks_share_handle *handle) {
+TEURLAKS_INLINE struct teurlaks_mark_reply
+teurlaks_tested_steward_mark_some(struct teurlaks_share_handle *handle) {
     struct teurlaks_mark_reply none = {TEURLAKS_NO_CORE, 0, 0, 0, 0};
     return handle ? teurlaks_steward_mark_some(handle) : none;
 }
 
-TEURLAKS_INLINE struct teurlaks_step_reply teurlaks_tested_steward_step(struct teurlaks_share_handle *handle) {
+TEURLAKS_INLINE struct teurlaks_step_reply
+teurlaks_tested_steward_step(struct teurlaks_share_handle *handle) {
     struct teurlaks_step_reply none = {TEURLAKS_NO_CORE, {0, 0}, {0, 0}};
     return handle ? teurlaks_steward_step(handle) : none;
 }
@@ -342,18 +423,24 @@ TEURLAKS_INLINE uint32_t teurlaks_tested_steward_close(struct teurlaks_share_han
     return handle ? teurlaks_steward_close(handle) : (uint32_t)TEURLAKS_NO_CORE;
 }
 
-TEURLAKS_INLINE struct teurlaks_forget_reply teurlaks_tested_steward_forget(struct teurlaks_share_handle *handle) {
+TEURLAKS_INLINE struct teurlaks_forget_reply
+teurlaks_tested_steward_forget(struct teurlaks_share_handle *handle) {
     struct teurlaks_forget_reply none = {TEURLAKS_NO_CORE, 0};
     return handle ? teurlaks_steward_forget(handle) : none;
 }
 
-TEURLAKS_INLINE struct teurlaks_certificate_reply teurlaks_tested_steward_certificate(struct teurlaks_share_handle *handle, uint8_t *text, size_t text_len) {
+TEURLAKS_INLINE struct teurlaks_certificate_reply
+teurlaks_tested_steward_certificate(struct teurlaks_share_handle *handle, uint8_t *text,
+                                    size_t text_len) {
     struct teurlaks_certificate_reply none = {TEURLAKS_NO_CORE, 0};
     uint8_t no_text = 0;
-    return handle ? teurlaks_steward_certificate(handle, text ? text : &no_text, text ? text_len : 0) : none;
+    return handle
+               ? teurlaks_steward_certificate(handle, text ? text : &no_text, text ? text_len : 0)
+               : none;
 }
 
-TEURLAKS_INLINE struct teurlaks_arena_totals_reply teurlaks_tested_steward_totals(struct teurlaks_share_handle *handle) {
+TEURLAKS_INLINE struct teurlaks_arena_totals_reply
+teurlaks_tested_steward_totals(struct teurlaks_share_handle *handle) {
     struct teurlaks_arena_totals_reply none = {TEURLAKS_NO_CORE, 0, 0};
     return handle ? teurlaks_steward_totals(handle) : none;
 }
@@ -424,9 +511,8 @@ TEURLAKS_INLINE struct teurlaks_arena_totals_reply teurlaks_tested_steward_total
  * span is freed again, and the answer is TEURLAKS_PAGES_SPENT. So each key that stands has a number
  * in the layout of teurlaks_key_bits(shards, spans, gens), if the core has so many shards and
  * generations: `put = teurlaks_within(&core, spans, teurlaks_put(&core, 0, word));` */
-TEURLAKS_INLINE struct teurlaks_put_reply teurlaks_within(struct teurlaks_handle *handle,
-                                                          uint32_t spans,
-                                                          struct teurlaks_put_reply put) {
+TEURLAKS_INLINE struct teurlaks_put_reply
+teurlaks_within(struct teurlaks_handle *handle, uint32_t spans, struct teurlaks_put_reply put) {
     struct teurlaks_put_reply spent = {TEURLAKS_PAGES_SPENT, {0, 0, 0, 0, 0}};
     if (put.status != TEURLAKS_OK || put.key.serial < spans) return put;
     teurlaks_free(handle, put.key);

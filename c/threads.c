@@ -1,7 +1,9 @@
-/* Four threads with a seat each, and a steward beside them: each thread finds what it expects under keys of its own and under those that
- * others gave it, frees some later, and leaves sparse pages to the pool, which are folded meanwhile. Half of them keep their shards over some
- * calls. At the end nothing is live, and no page is left. -DROUNDS says how many rounds of calls each thread makes, and -DMOST how many
- * keys it may have: with few of them it has all that it may most of the time. */
+/* Four threads with a seat each, and a steward beside them: each thread finds what it expects under
+ * keys of its own and under those that others gave it, frees some later, and leaves sparse pages to
+ * the pool, which are folded meanwhile. Half of them keep their shards over some calls. At the end
+ * nothing is live, and no page is left. -DROUNDS says how many rounds of calls each thread makes,
+ * and -DMOST how many keys it may have: with few of them it has all that it may most of the
+ * time. */
 #define _POSIX_C_SOURCE 200809L
 #include "teurlaks.h"
 #include "wanted.h"
@@ -21,8 +23,8 @@
 #endif
 
 /* The same in a session, which lets go of its shard meanwhile. */
-#define IN_SESSION(me, reply, status, call)                                                                                                      \
-    do reply = call;                                                                                                                             \
+#define IN_SESSION(me, reply, status, call)                                                        \
+    do reply = call;                                                                               \
     while ((status) == TEURLAKS_BUSY && paused(me) && !sched_yield())
 
 enum { THREADS = 4, WORDS = 4 };
@@ -66,7 +68,9 @@ static uint64_t below(uint64_t *state, uint64_t count) {
     return (*state >> 11) % count;
 }
 
-static struct teurlaks_word word(uint64_t number, uint64_t place) { return (struct teurlaks_word){number + place, ~number}; }
+static struct teurlaks_word word(uint64_t number, uint64_t place) {
+    return (struct teurlaks_word){number + place, ~number};
+}
 
 static void words_of(uint64_t number, struct teurlaks_word words[WORDS]) {
     for (uint64_t i = 0; i < WORDS; i++) words[i] = word(number, i);
@@ -95,7 +99,9 @@ static void finds(struct worker *me, struct kept kept) {
     struct teurlaks_words_reply reply;
     IN_SESSION(me, reply, reply.status, teurlaks_seat_get_words(&me->seat, kept.key, words, 16));
     WANT(reply.status == TEURLAKS_OK && reply.len == WORDS);
-    for (uint64_t i = 0; i < WORDS; i++) WANT(words[i].low == word(kept.number, i).low && words[i].high == word(kept.number, i).high);
+    for (uint64_t i = 0; i < WORDS; i++)
+        WANT(words[i].low == word(kept.number, i).low &&
+             words[i].high == word(kept.number, i).high);
 }
 
 /* Frees it, which it finds live once. */
@@ -112,8 +118,10 @@ static void free_now(struct worker *me, struct teurlaks_key key) {
 
 static void free_later(struct worker *me, struct teurlaks_key key) {
     uint32_t status = teurlaks_seat_free_later(&me->seat, key);
-    if (status == TEURLAKS_RING_FULL) free_now(me, key);
-    else WANT(status == TEURLAKS_OK);
+    if (status == TEURLAKS_RING_FULL)
+        free_now(me, key);
+    else
+        WANT(status == TEURLAKS_OK);
 }
 
 /* The thread has the key from now on, for which it has room. */
@@ -144,7 +152,8 @@ static void give_back(struct worker *me) {
     WANT(adopted.status == TEURLAKS_NOTHING_TO_ADOPT || adopted.status == TEURLAKS_PLAN_OPEN);
 }
 
-/* Grows to as many as it aims at, and shrinks to a twentieth of that. What others give it may fill its room before. */
+/* Grows to as many as it aims at, and shrinks to a twentieth of that. What others give it may fill
+ * its room before. */
 static void put_or_free(struct worker *me) {
     if ((me->grows && me->count < MOST) || !me->count) {
         struct kept kept = {put(me), me->number};
@@ -155,8 +164,10 @@ static void put_or_free(struct worker *me) {
     }
     struct kept kept = take_any(me);
     finds(me, kept);
-    if (kept.number % 2) free_now(me, kept.key);
-    else free_later(me, kept.key);
+    if (kept.number % 2)
+        free_now(me, kept.key);
+    else
+        free_later(me, kept.key);
     me->grows = me->count * 20 < me->aim;
     if (me->grows) {
         me->aim = 500 + below(&me->random, 2500);
@@ -220,13 +231,15 @@ static void certificate(struct teurlaks_share_handle *steward) {
     free(text);
 }
 
-/* A mark, of all groups or of the sparsest, its steps and a close; it answers how many folds there were. */
+/* A mark, of all groups or of the sparsest, its steps and a close; it answers how many folds there
+ * were. */
 static size_t mesh(struct teurlaks_share_handle *steward, int sees_all) {
     struct teurlaks_mark_reply mark;
     struct teurlaks_step_reply step;
     uint32_t status;
     size_t folds = 0;
-    PATIENTLY(mark, mark.status, sees_all ? teurlaks_steward_mark(steward) : teurlaks_steward_mark_some(steward));
+    PATIENTLY(mark, mark.status,
+              sees_all ? teurlaks_steward_mark(steward) : teurlaks_steward_mark_some(steward));
     WANT(mark.status == TEURLAKS_OK);
     certificate(steward);
     do {
@@ -253,10 +266,12 @@ static struct teurlaks_arena_totals_reply totals(struct teurlaks_share_handle *s
     return reply;
 }
 
-/* What is left when the threads are gone: what they have, and nothing that was left to a seat. The first of them frees all of it. */
+/* What is left when the threads are gone: what they have, and nothing that was left to a seat. The
+ * first of them frees all of it. */
 static void end(struct teurlaks_share_handle *steward) {
     size_t live = 0;
-    for (int i = 0; i < THREADS; i++) WANT(teurlaks_seat_hand_over(&workers[i].seat) == TEURLAKS_OK);
+    for (int i = 0; i < THREADS; i++)
+        WANT(teurlaks_seat_hand_over(&workers[i].seat) == TEURLAKS_OK);
     for (int i = 0; i < THREADS; i++) {
         tend(&workers[i]);
         live += workers[i].count + workers[i].inbox.count;
@@ -267,9 +282,11 @@ static void end(struct teurlaks_share_handle *steward) {
             finds(&workers[0], workers[i].live[at]);
             free_now(&workers[0], workers[i].live[at].key);
         }
-        for (size_t at = 0; at < workers[i].inbox.count; at++) free_now(&workers[0], workers[i].inbox.kept[at].key);
+        for (size_t at = 0; at < workers[i].inbox.count; at++)
+            free_now(&workers[0], workers[i].inbox.kept[at].key);
     }
-    for (int i = 0; i < THREADS; i++) WANT(teurlaks_seat_trim(&workers[i].seat).status == TEURLAKS_OK);
+    for (int i = 0; i < THREADS; i++)
+        WANT(teurlaks_seat_trim(&workers[i].seat).status == TEURLAKS_OK);
     WANT(totals(steward).live == 0 && totals(steward).pages == 0);
 }
 
@@ -278,12 +295,14 @@ int main(void) {
     WANT(teurlaks_arena_open(&steward, THREADS, 1024, 256, UINT32_MAX) == TEURLAKS_OK);
     for (int i = 0; i < THREADS; i++) {
         struct worker *worker = &workers[i];
-        WANT(teurlaks_steward_seat(&steward, &worker->seat) == TEURLAKS_OK && !pthread_mutex_init(&worker->inbox.lock, NULL));
+        WANT(teurlaks_steward_seat(&steward, &worker->seat) == TEURLAKS_OK &&
+             !pthread_mutex_init(&worker->inbox.lock, NULL));
         worker->grows = 1, worker->aim = 2000;
         worker->number = (uint64_t)i << 40, worker->random = 88172645463325252u + i;
     }
     WANT(teurlaks_steward_seat(&steward, &none) == TEURLAKS_NONE);
-    for (int i = 0; i < THREADS; i++) WANT(!pthread_create(&workers[i].thread, NULL, work, &workers[i]));
+    for (int i = 0; i < THREADS; i++)
+        WANT(!pthread_create(&workers[i].thread, NULL, work, &workers[i]));
 
     WANT(teurlaks_steward_certificate(&steward, NULL, 0).status == TEURLAKS_NONE);
     size_t folds = 0;
@@ -303,8 +322,10 @@ int main(void) {
     teurlaks_share_drop(&steward);
     for (int i = 1; i < THREADS; i++) {
         WANT(teurlaks_seat_begin(&workers[i].seat) == TEURLAKS_RUNNING);
-        WANT(teurlaks_seat_end(&workers[i].seat) == TEURLAKS_OK && teurlaks_seat_end(&workers[i].seat) == TEURLAKS_ENDED);
-        WANT(teurlaks_seat_begin(&workers[i].seat) == TEURLAKS_OK && teurlaks_seat_begin(&workers[i].seat) == TEURLAKS_RUNNING);
+        WANT(teurlaks_seat_end(&workers[i].seat) == TEURLAKS_OK &&
+             teurlaks_seat_end(&workers[i].seat) == TEURLAKS_ENDED);
+        WANT(teurlaks_seat_begin(&workers[i].seat) == TEURLAKS_OK &&
+             teurlaks_seat_begin(&workers[i].seat) == TEURLAKS_RUNNING);
         teurlaks_share_drop(&workers[i].seat);
     }
     return 0;

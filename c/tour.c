@@ -1,4 +1,5 @@
-/* The tour of a core from C, and of a recorded arena, with each allocation failing in turn. Link it with -Wl,--wrap=malloc,--wrap=realloc. */
+/* The tour of a core from C, and of a recorded arena, with each allocation failing in turn. Link it
+ * with -Wl,--wrap=malloc,--wrap=realloc. */
 #include "failing.h"
 #include "teurlaks.h"
 #include "wanted.h"
@@ -6,24 +7,27 @@
 #include <stdlib.h>
 #include <string.h>
 
-/* The call, and once more where memory was refused: the totals are as they were, since a refusal changes nothing. */
-#define AGAIN(reply, status, call)                                                                                                               \
-    do {                                                                                                                                         \
-        struct teurlaks_totals_reply was = teurlaks_totals(&core);                                                                               \
-        reply = call;                                                                                                                            \
-        if ((status) == TEURLAKS_OUT_OF_MEMORY) {                                                                                                \
-            struct teurlaks_totals_reply is = teurlaks_totals(&core);                                                                            \
-            WANT(has_failed && is.pages == was.pages && is.live == was.live);                                                                    \
-            reply = call;                                                                                                                        \
-        }                                                                                                                                        \
+/* The call, and once more where memory was refused: the totals are as they were, since a refusal
+ * changes nothing. */
+#define AGAIN(reply, status, call)                                                                 \
+    do {                                                                                           \
+        struct teurlaks_totals_reply was = teurlaks_totals(&core);                                 \
+        reply = call;                                                                              \
+        if ((status) == TEURLAKS_OUT_OF_MEMORY) {                                                  \
+            struct teurlaks_totals_reply is = teurlaks_totals(&core);                              \
+            WANT(has_failed &&is.pages == was.pages && is.live == was.live);                       \
+            reply = call;                                                                          \
+        }                                                                                          \
     } while (0)
 
 static struct teurlaks_word word(uint64_t low) { return (struct teurlaks_word){low, ~low}; }
 
 static void forged_keys(struct teurlaks_handle *core) {
     for (uint64_t i = 0; i < 100000; i++) {
-        struct teurlaks_key key = {
-            .serial = (uint32_t)(i * 2246822519u), .generation = (uint32_t)(i * 2654435761u), .shard = (uint8_t)(i * 37), .slot = (uint8_t)i};
+        struct teurlaks_key key = {.serial = (uint32_t)(i * 2246822519u),
+                                   .generation = (uint32_t)(i * 2654435761u),
+                                   .shard = (uint8_t)(i * 37),
+                                   .slot = (uint8_t)i};
         WANT(teurlaks_get(core, key).status <= TEURLAKS_NONE);
     }
 }
@@ -36,7 +40,8 @@ static void each_bit(struct teurlaks_handle *core, struct teurlaks_key key) {
         memcpy(bytes, &key, sizeof key);
         bytes[bit / 8] ^= (uint8_t)(1 << bit % 8);
         memcpy(&other, bytes, sizeof key);
-        WANT(teurlaks_get(core, other).status == TEURLAKS_NONE && teurlaks_free(core, other) == TEURLAKS_NONE);
+        WANT(teurlaks_get(core, other).status == TEURLAKS_NONE &&
+             teurlaks_free(core, other) == TEURLAKS_NONE);
         WANT(teurlaks_set(core, other, word(1)) == TEURLAKS_NONE);
     }
 }
@@ -58,19 +63,25 @@ static void bytes_of_each_number(void) {
         struct teurlaks_word words[16];
         size_t words_len = (len + 15) / 16;
         memset(found, 'x', sizeof found);
-        WANT(teurlaks_get_bytes(&core, put[len].key, found, len) == TEURLAKS_OK && !memcmp(found, bytes, len));
+        WANT(teurlaks_get_bytes(&core, put[len].key, found, len) == TEURLAKS_OK &&
+             !memcmp(found, bytes, len));
         WANT(len == sizeof found || found[len] == 'x');
-        WANT(teurlaks_get_bytes(&core, put[len].key, found, 16 * words_len + 1) == TEURLAKS_TOO_SMALL);
+        WANT(teurlaks_get_bytes(&core, put[len].key, found, 16 * words_len + 1) ==
+             TEURLAKS_TOO_SMALL);
         WANT((teurlaks_get(&core, put[len].key).status == TEURLAKS_OK) == (words_len == 1));
         WANT(teurlaks_get_words(&core, put[len].key, words, 16).len == words_len);
-        WANT(teurlaks_get_words(&core, put[len].key, words, words_len - 1).status == TEURLAKS_TOO_SMALL);
+        WANT(teurlaks_get_words(&core, put[len].key, words, words_len - 1).status ==
+             TEURLAKS_TOO_SMALL);
         for (size_t i = 0; i < words_len; i++) words[i] = word(len + i);
         WANT(teurlaks_set_words(&core, put[len].key, words, words_len) == TEURLAKS_OK);
-        WANT(teurlaks_get_words(&core, put[len].key, words, 16).len == words_len && words[words_len - 1].low == len + words_len - 1);
-        WANT(teurlaks_set(&core, put[len].key, word(7)) == (words_len == 1 ? TEURLAKS_OK : TEURLAKS_NONE));
+        WANT(teurlaks_get_words(&core, put[len].key, words, 16).len == words_len &&
+             words[words_len - 1].low == len + words_len - 1);
+        WANT(teurlaks_set(&core, put[len].key, word(7)) ==
+             (words_len == 1 ? TEURLAKS_OK : TEURLAKS_NONE));
         WANT(teurlaks_set_words(&core, put[len].key, words, words_len % 16 + 1) == TEURLAKS_NONE);
         WANT(teurlaks_set_bytes(&core, put[len].key, bytes, len) == TEURLAKS_OK);
-        WANT(teurlaks_get_bytes(&core, put[len].key, found, len) == TEURLAKS_OK && !memcmp(found, bytes, len));
+        WANT(teurlaks_get_bytes(&core, put[len].key, found, len) == TEURLAKS_OK &&
+             !memcmp(found, bytes, len));
         WANT(teurlaks_free(&core, put[len].key) == TEURLAKS_OK);
         WANT(teurlaks_get_bytes(&core, put[len].key, found, len) == TEURLAKS_NONE);
         WANT(teurlaks_set_words(&core, put[len].key, words, words_len) == TEURLAKS_NONE);
@@ -134,18 +145,23 @@ static void tour(void) {
     struct teurlaks_put_reply first, put, other;
     AGAIN(first, first.status, teurlaks_put(&core, 0, word(10)));
     AGAIN(put, put.status, teurlaks_put(&core, 0, word(11)));
-    WANT(first.status == TEURLAKS_OK && put.status == TEURLAKS_OK && put.key.slot == 1 && put.key.generation == 1);
-    WANT(teurlaks_free(&core, first.key) == TEURLAKS_OK && teurlaks_free(&core, first.key) == TEURLAKS_NONE);
+    WANT(first.status == TEURLAKS_OK && put.status == TEURLAKS_OK && put.key.slot == 1 &&
+         put.key.generation == 1);
+    WANT(teurlaks_free(&core, first.key) == TEURLAKS_OK &&
+         teurlaks_free(&core, first.key) == TEURLAKS_NONE);
     WANT(teurlaks_certificate(&core, text, sizeof text).status == TEURLAKS_NONE);
     AGAIN(status, status, teurlaks_end(&core, 0));
-    WANT(status == TEURLAKS_OK && teurlaks_end(&core, 0) == TEURLAKS_ENDED && teurlaks_end(&core, 2) == TEURLAKS_CONFIG);
+    WANT(status == TEURLAKS_OK && teurlaks_end(&core, 0) == TEURLAKS_ENDED &&
+         teurlaks_end(&core, 2) == TEURLAKS_CONFIG);
     AGAIN(other, other.status, teurlaks_put(&core, 1, word(7)));
     WANT(other.status == TEURLAKS_OK);
 
     struct teurlaks_mark_reply marked;
     AGAIN(marked, marked.status, teurlaks_mark(&core));
-    WANT(marked.status == TEURLAKS_OK && marked.abandoned == 1 && marked.owned == 1 && marked.folds == 1 && marked.short_set == 0);
-    WANT(teurlaks_mark(&core).status == TEURLAKS_PLAN_OPEN && teurlaks_mark_some(&core).status == TEURLAKS_PLAN_OPEN);
+    WANT(marked.status == TEURLAKS_OK && marked.abandoned == 1 && marked.owned == 1 &&
+         marked.folds == 1 && marked.short_set == 0);
+    WANT(teurlaks_mark(&core).status == TEURLAKS_PLAN_OPEN &&
+         teurlaks_mark_some(&core).status == TEURLAKS_PLAN_OPEN);
     WANT(teurlaks_adopt(&core, 1).status == TEURLAKS_PLAN_OPEN);
 
     struct teurlaks_certificate_reply told;
@@ -156,21 +172,25 @@ static void tour(void) {
     AGAIN(told, told.status, teurlaks_certificate(&core, text, len - 1));
     WANT(told.status == TEURLAKS_TOO_SMALL && text[0] == 'x');
     AGAIN(told, told.status, teurlaks_certificate(&core, text, sizeof text));
-    WANT(told.status == TEURLAKS_OK && told.len == len && text[len] == 'x' && !memcmp(text, "meshcert 2\n", 11));
+    WANT(told.status == TEURLAKS_OK && told.len == len && text[len] == 'x' &&
+         !memcmp(text, "meshcert 2\n", 11));
     WANT(!memcmp(text + len - strlen(plan), plan, strlen(plan)));
 
     struct teurlaks_step_reply step;
     AGAIN(step, step.status, teurlaks_step(&core));
     WANT(step.status == TEURLAKS_OK && step.abandoned.shard == 0 && step.owned.shard == 1);
-    WANT(teurlaks_step(&core).status == TEURLAKS_NO_PAIR_LEFT && teurlaks_close(&core) == TEURLAKS_OK);
-    WANT(teurlaks_close(&core) == TEURLAKS_NO_PLAN && teurlaks_step(&core).status == TEURLAKS_NO_PLAN);
+    WANT(teurlaks_step(&core).status == TEURLAKS_NO_PAIR_LEFT &&
+         teurlaks_close(&core) == TEURLAKS_OK);
+    WANT(teurlaks_close(&core) == TEURLAKS_NO_PLAN &&
+         teurlaks_step(&core).status == TEURLAKS_NO_PLAN);
     WANT(teurlaks_adopt(&core, 1).status == TEURLAKS_NOTHING_TO_ADOPT);
 
     /* The one group that is left retires, and comes back. */
     struct teurlaks_retire_reply retired;
     AGAIN(retired, retired.status, teurlaks_retire(&core, 1, 9));
     WANT(retired.status == TEURLAKS_OK && retired.count == 1 && teurlaks_totals(&core).pages == 1);
-    WANT(teurlaks_retire(&core, 0, 9).status == TEURLAKS_ENDED && teurlaks_retire(&core, 2, 9).status == TEURLAKS_CONFIG);
+    WANT(teurlaks_retire(&core, 0, 9).status == TEURLAKS_ENDED &&
+         teurlaks_retire(&core, 2, 9).status == TEURLAKS_CONFIG);
     struct teurlaks_adopt_reply adopted;
     AGAIN(adopted, adopted.status, teurlaks_adopt(&core, 1));
     WANT(adopted.status == TEURLAKS_OK && adopted.head.shard == 1 && adopted.head.serial == 0);
@@ -194,24 +214,27 @@ static void tour(void) {
     WANT(put.status == TEURLAKS_OK && put.key.serial == 0 && teurlaks_totals(&core).pages == 1);
     WANT(teurlaks_get(&core, put.key).value.low == 3);
     /* Shard 0, which ended, begins again: what it gives out was never given out. */
-    WANT(teurlaks_begin(&core, 2) == TEURLAKS_CONFIG && teurlaks_begin(&core, 1) == TEURLAKS_RUNNING);
+    WANT(teurlaks_begin(&core, 2) == TEURLAKS_CONFIG &&
+         teurlaks_begin(&core, 1) == TEURLAKS_RUNNING);
     WANT(teurlaks_begin(&core, 0) == TEURLAKS_OK && teurlaks_begin(&core, 0) == TEURLAKS_RUNNING);
     AGAIN(other, other.status, teurlaks_put(&core, 0, word(4)));
-    WANT(other.status == TEURLAKS_OK && other.key.shard == 0 && other.key.serial == 1 && other.key.generation == 1);
-    WANT(teurlaks_get(&core, first.key).status == TEURLAKS_NONE && teurlaks_get(&core, other.key).value.low == 4);
+    WANT(other.status == TEURLAKS_OK && other.key.shard == 0 && other.key.serial == 1 &&
+         other.key.generation == 1);
+    WANT(teurlaks_get(&core, first.key).status == TEURLAKS_NONE &&
+         teurlaks_get(&core, other.key).value.low == 4);
     teurlaks_drop(&core);
     WANT(!core.at);
 }
 
-/* The call, and once more where memory was refused. A refused call was not made: the audit at the end would find one of which there is no
- * receipt. */
-#define ONCE_MORE(reply, status, call)                                                                                                           \
-    do {                                                                                                                                         \
-        reply = call;                                                                                                                            \
-        if ((status) == TEURLAKS_OUT_OF_MEMORY) {                                                                                                \
-            WANT(has_failed);                                                                                                                    \
-            reply = call;                                                                                                                        \
-        }                                                                                                                                        \
+/* The call, and once more where memory was refused. A refused call was not made: the audit at the
+ * end would find one of which there is no receipt. */
+#define ONCE_MORE(reply, status, call)                                                             \
+    do {                                                                                           \
+        reply = call;                                                                              \
+        if ((status) == TEURLAKS_OUT_OF_MEMORY) {                                                  \
+            WANT(has_failed);                                                                      \
+            reply = call;                                                                          \
+        }                                                                                          \
     } while (0)
 
 /* Two seats of a recorded arena, of which one goes through two hands. */
@@ -226,7 +249,8 @@ static void recorded_tour(void) {
     uint32_t status;
     for (size_t i = 0; i < 16; i++) words[i] = word(i);
     ONCE_MORE(status, status, teurlaks_arena_open_recorded(&steward, 2, 4, 8, 9));
-    WANT(status == TEURLAKS_OK && teurlaks_arena_open_recorded(&steward, 2, 4, 8, 9) == TEURLAKS_HAS_CORE);
+    WANT(status == TEURLAKS_OK &&
+         teurlaks_arena_open_recorded(&steward, 2, 4, 8, 9) == TEURLAKS_HAS_CORE);
     for (int i = 0; i < 2; i++) {
         ONCE_MORE(status, status, teurlaks_steward_seat(&steward, &seats[i]));
         WANT(status == TEURLAKS_OK);
@@ -245,7 +269,8 @@ static void recorded_tour(void) {
     ONCE_MORE(put, put.status, teurlaks_seat_put_words(&seats[1], words + 1, 1));
     WANT(put.status == TEURLAKS_OK);
     ONCE_MORE(marked, marked.status, teurlaks_steward_mark(&steward));
-    WANT(marked.status == TEURLAKS_OK && teurlaks_steward_forget(&steward).status == TEURLAKS_RECORDED);
+    WANT(marked.status == TEURLAKS_OK &&
+         teurlaks_steward_forget(&steward).status == TEURLAKS_RECORDED);
     do ONCE_MORE(step, step.status, teurlaks_steward_step(&steward));
     while (step.status == TEURLAKS_OK);
     WANT(step.status == TEURLAKS_NO_PAIR_LEFT && teurlaks_steward_close(&steward) == TEURLAKS_OK);
@@ -284,6 +309,7 @@ int main(void) {
     bytes_of_each_number();
     pages_of_each_width();
     long core = each_failing(tour), recorded = each_failing(recorded_tour);
-    printf("the tours were taken with each of %ld and %ld allocations failing in turn\n", core, recorded);
+    printf("the tours were taken with each of %ld and %ld allocations failing in turn\n", core,
+           recorded);
     return 0;
 }

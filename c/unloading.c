@@ -1,6 +1,7 @@
 /* Loads the shared library, keeps an object, drops the core and unloads the library, again and
- * again: the process has as much address space as before. With the word `kept` it drops no core, and
- * then only what is lost with these stays. The first word names the library. Link it with -ldl. */
+ * again: the process has as much address space as before. With the word `kept` it drops no core,
+ * and then only what is lost with these stays. The first word names the library. Link it with
+ * -ldl. */
 #define TEURLAKS_UNTESTED
 #include "teurlaks.h"
 #include "wanted.h"
@@ -32,7 +33,7 @@ static struct calls calls_of(void *library) {
     *(void **)&calls.put = dlsym(library, "teurlaks_put");
     *(void **)&calls.free = dlsym(library, "teurlaks_free");
     *(void **)&calls.drop = dlsym(library, "teurlaks_drop");
-    WANT(calls.new && calls.put && calls.free && calls.drop);
+    WANT(calls.new &&calls.put &&calls.free &&calls.drop);
     return calls;
 }
 

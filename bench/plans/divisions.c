@@ -6,9 +6,10 @@
  *   divisions left SLOTS SEED                    reads such pages, and prints what is left of them
  *
  * A page is a line of four numbers in hexadecimal, its occupied slots. A page with no object is not
- * printed. `left` prints: pages; after three rounds: Mesh's search; the sparser half onto the other;
- * halves at random; alternate ranks of occupancy; and, for up to 300 pages, what a largest matching
- * among all pages leaves after one and three rounds, by Edmonds' algorithm, or 0 0 for more pages. */
+ * printed. `left` prints: pages; after three rounds: Mesh's search; the sparser half onto the
+ * other; halves at random; alternate ranks of occupancy; and, for up to 300 pages, what a largest
+ * matching among all pages leaves after one and three rounds, by Edmonds' algorithm, or 0 0 for
+ * more pages. */
 #include "../real/split_mesher.h"
 #include "../real/split_store.h"
 #include "../real/steps.h"
@@ -36,7 +37,8 @@ static void fail(const char *why) {
 
 static void print_page(const struct occupied *page) {
     if (!occupied_count(page)) return;
-    for (int word = 0; word < 4; word++) printf("%" PRIx64 "%c", page->words[word], word < 3 ? ' ' : '\n');
+    for (int word = 0; word < 4; word++)
+        printf("%" PRIx64 "%c", page->words[word], word < 3 ? ' ' : '\n');
 }
 
 static void print_drawn(unsigned slots, unsigned percent, size_t pages) {
@@ -71,7 +73,8 @@ static void print_recorded(const char *recording, unsigned class, size_t records
 static void read_all(void) {
     struct occupied page;
     uint64_t *words = page.words;
-    while (scanf("%" SCNx64 " %" SCNx64 " %" SCNx64 " %" SCNx64, &words[0], &words[1], &words[2], &words[3]) == 4) {
+    while (scanf("%" SCNx64 " %" SCNx64 " %" SCNx64 " %" SCNx64, &words[0], &words[1], &words[2],
+                 &words[3]) == 4) {
         if (pages_len == MOST_PAGES) fail("these are too many pages");
         read_pages[pages_len++] = page;
     }
@@ -89,11 +92,13 @@ static int by_objects(const void *a, const void *b) {
     return one->page < other->page ? -1 : one->page > other->page;
 }
 
-/* The pages with an object, in the order in which the division takes them: by occupancy, or at random. */
+/* The pages with an object, in the order in which the division takes them: by occupancy, or at
+ * random. */
 static size_t ranks(const struct occupied *pages, enum division division, struct ranked *ranked) {
     size_t count = 0;
     for (size_t page = 0; page < pages_len; page++)
-        if (occupied_count(&pages[page])) ranked[count++] = (struct ranked){page, occupied_count(&pages[page])};
+        if (occupied_count(&pages[page]))
+            ranked[count++] = (struct ranked){page, occupied_count(&pages[page])};
     if (division != RANDOM_HALF) {
         qsort(ranked, count, sizeof *ranked, by_objects);
         return count;
@@ -146,7 +151,8 @@ static size_t left_by_edmonds(int rounds) {
     static struct mesh_pair pairs[MOST_PAGES];
     if (pages_len > MOST_OF_EDMONDS) return 0;
     memcpy(pages, read_pages, sizeof pages);
-    for (int round = 0; round < rounds; round++) fold_pairs(pages, pairs, largest_matching(pages, pages_len, pairs));
+    for (int round = 0; round < rounds; round++)
+        fold_pairs(pages, pairs, largest_matching(pages, pages_len, pairs));
     return with_an_object(pages);
 }
 
@@ -163,7 +169,8 @@ static void print_left(unsigned slots) {
 int main(int argc, char **argv) {
     if (argc == 6 && !strcmp(argv[1], "drawn")) {
         randomness.drawn = strtoull(argv[5], NULL, 10);
-        print_drawn(strtoul(argv[2], NULL, 10), strtoul(argv[3], NULL, 10), strtoul(argv[4], NULL, 10));
+        print_drawn(strtoul(argv[2], NULL, 10), strtoul(argv[3], NULL, 10),
+                    strtoul(argv[4], NULL, 10));
     } else if (argc == 5 && !strcmp(argv[1], "recorded")) {
         print_recorded(argv[2], strtoul(argv[3], NULL, 10), strtoul(argv[4], NULL, 10));
     } else if (argc == 4 && !strcmp(argv[1], "left")) {
@@ -171,7 +178,8 @@ int main(int argc, char **argv) {
         read_all();
         print_left(strtoul(argv[2], NULL, 10));
     } else {
-        fprintf(stderr, "divisions drawn SLOTS PERCENT PAGES SEED | recorded RECORDING CLASS RECORDS | left SLOTS SEED\n");
+        fprintf(stderr, "divisions drawn SLOTS PERCENT PAGES SEED | recorded RECORDING CLASS "
+                        "RECORDS | left SLOTS SEED\n");
         return 2;
     }
     return 0;

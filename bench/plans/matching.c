@@ -16,8 +16,8 @@ static void *room(size_t count, size_t size) {
 
 /* ---- Two sides ---- */
 
-/* Who fits whom, a bit for each pair; the partner of each place on a side; and for a search how far each place is from a free one of the first side,
- * and which of the second are not seen yet. */
+/* Who fits whom, a bit for each pair; the partner of each place on a side; and for a search how far
+ * each place is from a free one of the first side, and which of the second are not seen yet. */
 struct sides {
     size_t from_len, onto_len, words;
     uint64_t *fits;
@@ -27,7 +27,8 @@ struct sides {
 
 static void see_nothing(struct sides *sides) {
     memset(sides->unseen, 0xff, sides->words * sizeof *sides->unseen);
-    if (sides->onto_len % 64) sides->unseen[sides->words - 1] = ((uint64_t)1 << sides->onto_len % 64) - 1;
+    if (sides->onto_len % 64)
+        sides->unseen[sides->words - 1] = ((uint64_t)1 << sides->onto_len % 64) - 1;
 }
 
 /* Notes the distances, and answers whether a free place of the second side can be reached. */
@@ -66,9 +67,12 @@ static int turn_a_way(struct sides *sides, uint32_t from) {
         for (; found & sides->unseen[word]; found &= found - 1) {
             uint32_t onto = word * 64 + __builtin_ctzll(found), next = sides->from_of[onto];
             uint64_t bit = found & -found;
-            if (!(sides->unseen[word] & bit) || sides->onto_distance[onto] != sides->distance[from]) continue;
+            if (!(sides->unseen[word] & bit) || sides->onto_distance[onto] != sides->distance[from])
+                continue;
             sides->unseen[word] &= ~bit;
-            if (next != NOBODY && (sides->distance[next] != sides->distance[from] + 1 || !turn_a_way(sides, next))) continue;
+            if (next != NOBODY &&
+                (sides->distance[next] != sides->distance[from] + 1 || !turn_a_way(sides, next)))
+                continue;
             sides->onto_of[from] = onto;
             sides->from_of[onto] = from;
             return 1;
@@ -77,8 +81,10 @@ static int turn_a_way(struct sides *sides, uint32_t from) {
     return 0;
 }
 
-static struct sides sides_of(const struct occupied *pages, const uint32_t *from, size_t from_len, const uint32_t *onto, size_t onto_len) {
-    struct sides sides = {.from_len = from_len, .onto_len = onto_len, .words = (onto_len + 63) / 64};
+static struct sides sides_of(const struct occupied *pages, const uint32_t *from, size_t from_len,
+                             const uint32_t *onto, size_t onto_len) {
+    struct sides sides = {
+        .from_len = from_len, .onto_len = onto_len, .words = (onto_len + 63) / 64};
     sides.fits = room(from_len * sides.words, sizeof *sides.fits);
     sides.onto_of = room(from_len, sizeof *sides.onto_of);
     sides.from_of = room(onto_len, sizeof *sides.from_of);
@@ -90,12 +96,13 @@ static struct sides sides_of(const struct occupied *pages, const uint32_t *from,
     memset(sides.from_of, 0xff, onto_len * sizeof *sides.from_of);
     for (size_t i = 0; i < from_len; i++)
         for (size_t j = 0; j < onto_len; j++)
-            if (occupied_fit(&pages[from[i]], &pages[onto[j]])) sides.fits[i * sides.words + j / 64] |= (uint64_t)1 << j % 64;
+            if (occupied_fit(&pages[from[i]], &pages[onto[j]]))
+                sides.fits[i * sides.words + j / 64] |= (uint64_t)1 << j % 64;
     return sides;
 }
 
-size_t largest_plan(const struct occupied *pages, const uint32_t *from, size_t from_len, const uint32_t *onto, size_t onto_len,
-                    struct mesh_pair *pairs) {
+size_t largest_plan(const struct occupied *pages, const uint32_t *from, size_t from_len,
+                    const uint32_t *onto, size_t onto_len, struct mesh_pair *pairs) {
     struct sides sides = sides_of(pages, from, from_len, onto, onto_len);
     size_t found = 0;
     while (measure(&sides)) {
@@ -104,7 +111,8 @@ size_t largest_plan(const struct occupied *pages, const uint32_t *from, size_t f
             if (sides.onto_of[i] == NOBODY) turn_a_way(&sides, i);
     }
     for (size_t i = 0; i < from_len; i++)
-        if (sides.onto_of[i] != NOBODY) pairs[found++] = (struct mesh_pair){from[i], onto[sides.onto_of[i]]};
+        if (sides.onto_of[i] != NOBODY)
+            pairs[found++] = (struct mesh_pair){from[i], onto[sides.onto_of[i]]};
     free(sides.fits);
     free(sides.onto_of);
     free(sides.from_of);
@@ -117,7 +125,8 @@ size_t largest_plan(const struct occupied *pages, const uint32_t *from, size_t f
 
 /* ---- All pages ---- */
 
-/* A search for a way from one page: the partner of each page, from which each was reached, and the base of the blossom that each is in. */
+/* A search for a way from one page: the partner of each page, from which each was reached, and the
+ * base of the blossom that each is in. */
 struct search {
     const struct occupied *pages;
     size_t count;
@@ -142,7 +151,8 @@ static uint32_t common_base(struct search *search, uint32_t a, uint32_t b) {
 
 static void mark_blossom(struct search *search, uint32_t page, uint32_t base, uint32_t child) {
     while (search->base[page] != base) {
-        search->is_in_blossom[search->base[page]] = search->is_in_blossom[search->base[search->partner[page]]] = 1;
+        search->is_in_blossom[search->base[page]] =
+            search->is_in_blossom[search->base[search->partner[page]]] = 1;
         search->parent[page] = child;
         child = search->partner[page];
         page = search->parent[search->partner[page]];
@@ -167,15 +177,19 @@ static void contract(struct search *search, uint32_t a, uint32_t b, size_t *queu
 static uint32_t find_way(struct search *search, uint32_t root) {
     size_t queued = 0;
     memset(search->is_queued, 0, search->count);
-    for (uint32_t page = 0; page < search->count; page++) search->parent[page] = NOBODY, search->base[page] = page;
+    for (uint32_t page = 0; page < search->count; page++)
+        search->parent[page] = NOBODY, search->base[page] = page;
     search->is_queued[root] = 1;
     search->queue[queued++] = root;
     for (size_t at = 0; at < queued; at++) {
         uint32_t page = search->queue[at];
         for (uint32_t to = 0; to < search->count; to++) {
-            if (to == page || !occupied_count(&search->pages[to]) || !occupied_fit(&search->pages[page], &search->pages[to])) continue;
+            if (to == page || !occupied_count(&search->pages[to]) ||
+                !occupied_fit(&search->pages[page], &search->pages[to]))
+                continue;
             if (search->base[page] == search->base[to] || search->partner[page] == to) continue;
-            if (to == root || (search->partner[to] != NOBODY && search->parent[search->partner[to]] != NOBODY)) {
+            if (to == root ||
+                (search->partner[to] != NOBODY && search->parent[search->partner[to]] != NOBODY)) {
                 contract(search, page, to, &queued);
             } else if (search->parent[to] == NOBODY) {
                 search->parent[to] = page;
@@ -207,7 +221,8 @@ size_t largest_matching(const struct occupied *pages, size_t count, struct mesh_
         }
     }
     for (uint32_t page = 0; page < count; page++)
-        if (search.partner[page] != NOBODY && page < search.partner[page]) pairs[found++] = (struct mesh_pair){page, search.partner[page]};
+        if (search.partner[page] != NOBODY && page < search.partner[page])
+            pairs[found++] = (struct mesh_pair){page, search.partner[page]};
     for (size_t i = 0; i < 4; i++) free(*numbers[i]);
     for (size_t i = 0; i < 3; i++) free(*marks[i]);
     return found;

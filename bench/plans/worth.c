@@ -1,15 +1,20 @@
-/* `worth DRAWS SEED`: what a largest plan is worth beside the search that Mesh makes (SplitMesher), in pages. For pages of 16, 64 and 256
- * slots and for 5 to 50 percent occupied, 4,096 pages are drawn, each slot by itself, and what is left of them after one, two and three rounds
- * is printed, the mean of so many draws:
+/* `worth DRAWS SEED`: what a largest plan is worth beside the search that Mesh makes (SplitMesher),
+ * in pages. For pages of 16, 64 and 256 slots and for 5 to 50 percent occupied, 4,096 pages are
+ * drawn, each slot by itself, and what is left of them after one, two and three rounds is printed,
+ * the mean of so many draws:
  *
- *   slots, percent; pages with an object; SplitMesher: three numbers; halves: three numbers; sparser: three numbers
+ *   slots, percent; pages with an object; SplitMesher: three numbers; halves: three numbers;
+ *   sparser: three numbers
  *
  * - SplitMesher shuffles the pages, splits them in halves of its own, and pairs pages that fit.
- * - halves: a core of 64 shards of 64 pages, all of which go to the pool in each round, and half of which the shards adopt again, so that a mark sees
- *   halves at random, as SplitMesher does; then the shards adopt what the plan leaves.
- * - sparser: the same core, whose shards retire the sparser half of their pages in each round, as `compact` of Rust does.
+ * - halves: a core of 64 shards of 64 pages, all of which go to the pool in each round, and half of
+ *   which the shards adopt again, so that a mark sees halves at random, as SplitMesher does; then
+ *   the shards adopt what the plan leaves.
+ * - sparser: the same core, whose shards retire the sparser half of their pages in each round, as
+ *   `compact` of Rust does.
  *
- * Pages with no object are trimmed before, and count in no column. At the end of each draw every key finds its object. */
+ * Pages with no object are trimmed before, and count in no column. At the end of each draw every
+ * key finds its object. */
 #include "../real/compaction.h"
 #include "../real/split_mesher.h"
 #include <stdio.h>
@@ -52,14 +57,17 @@ static struct left by_split_mesher(unsigned slots, struct random *random) {
     return left;
 }
 
-/* A core whose pages have the slots that were drawn: shard s has so many pages in a row. The object of each slot is its number in the whole. */
+/* A core whose pages have the slots that were drawn: shard s has so many pages in a row. The object
+ * of each slot is its number in the whole. */
 static void fill(struct shards *shards, struct teurlaks_key *keys, unsigned slots) {
     struct teurlaks_word words[16] = {{0, 0}};
     shards->core = (struct teurlaks_handle){0};
-    if (teurlaks_new(&shards->core, shards->count, PAGES_OF_A_SHARD, 1, 1) != TEURLAKS_OK) fail("no core");
+    if (teurlaks_new(&shards->core, shards->count, PAGES_OF_A_SHARD, 1, 1) != TEURLAKS_OK)
+        fail("no core");
     for (size_t number = 0; number < (size_t)PAGES * slots; number++) {
         words[0].low = number;
-        struct teurlaks_put_reply put = teurlaks_put_words(&shards->core, number / slots / (PAGES / shards->count), words, 256 / slots);
+        struct teurlaks_put_reply put = teurlaks_put_words(
+            &shards->core, number / slots / (PAGES / shards->count), words, 256 / slots);
         if (put.status != TEURLAKS_OK) fail("no put");
         keys[number] = put.key;
     }
@@ -100,7 +108,8 @@ static void add(struct left *sum, struct left left) {
 
 static void print_means(struct left sum, size_t draws) {
     printf(";");
-    for (unsigned round = 0; round < ROUNDS; round++) printf(" %zu", (sum.pages[round] + draws / 2) / draws);
+    for (unsigned round = 0; round < ROUNDS; round++)
+        printf(" %zu", (sum.pages[round] + draws / 2) / draws);
 }
 
 static void measure(unsigned slots, unsigned percent, size_t draws, struct random *random) {
@@ -128,6 +137,7 @@ int main(int argc, char **argv) {
     }
     struct random random = {strtoull(argv[2], NULL, 10)};
     for (unsigned slots = 16; slots <= 256; slots *= 4)
-        for (unsigned percent = 5; percent <= 50; percent += 5) measure(slots, percent, draws, &random);
+        for (unsigned percent = 5; percent <= 50; percent += 5)
+            measure(slots, percent, draws, &random);
     return 0;
 }

@@ -11,9 +11,7 @@ static void want(int holds, const char *call, uint32_t status) {
     exit(1);
 }
 
-static size_t pages_of(struct shards *shards) {
-    return teurlaks_totals(&shards->core).pages;
-}
+static size_t pages_of(struct shards *shards) { return teurlaks_totals(&shards->core).pages; }
 
 size_t trim_all(struct shards *shards) {
     size_t gone = 0;
@@ -41,16 +39,19 @@ size_t mesh(struct shards *shards) {
         want(mark.status == TEURLAKS_OK, "teurlaks_mark_some", mark.status);
         take_steps(shards);
         int saw_all = mark.abandoned < MOST_GROUPS && mark.owned < MOST_GROUPS;
-        if (saw_all || mark.folds == 0 || mark.folds * 16 < mark.abandoned) return before - pages_of(shards);
+        if (saw_all || mark.folds == 0 || mark.folds * 16 < mark.abandoned)
+            return before - pages_of(shards);
     }
 }
 
 void adopt(struct shards *shards, size_t most) {
     uint32_t full = 0;
-    for (uint32_t shard = 0; most > 0 && full < shards->count; shard = (shard + 1) % shards->count) {
+    for (uint32_t shard = 0; most > 0 && full < shards->count;
+         shard = (shard + 1) % shards->count) {
         uint32_t status = teurlaks_adopt(&shards->core, shard).status;
         if (status == TEURLAKS_NOTHING_TO_ADOPT) return;
-        want(status == TEURLAKS_OK || status == TEURLAKS_PAGES_SPENT || status == TEURLAKS_ENDED, "teurlaks_adopt", status);
+        want(status == TEURLAKS_OK || status == TEURLAKS_PAGES_SPENT || status == TEURLAKS_ENDED,
+             "teurlaks_adopt", status);
         full = status == TEURLAKS_OK ? 0 : full + 1;
         most -= status == TEURLAKS_OK;
     }
@@ -63,7 +64,8 @@ static void retire(struct shards *shards, uint32_t shard, size_t most) {
 
 static void retire_sparser_half(struct shards *shards) {
     size_t half = pages_of(shards) / 2;
-    for (uint32_t shard = 0; shard < shards->count; shard++) retire(shards, shard, half / shards->count + (shard < half % shards->count));
+    for (uint32_t shard = 0; shard < shards->count; shard++)
+        retire(shards, shard, half / shards->count + (shard < half % shards->count));
 }
 
 static void retire_higher_heads(struct shards *shards) {

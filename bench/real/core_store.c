@@ -15,8 +15,8 @@ static void fail(const char *call, uint32_t status) {
     exit(1);
 }
 
-/* Shards for three times the pages that the objects of the class need at most: a page that is folded is never opened again, and where
- * objects are freed unevenly there are more. */
+/* Shards for three times the pages that the objects of the class need at most: a page that is
+ * folded is never opened again, and where objects are freed unevenly there are more. */
 static uint32_t shards_for(const struct steps *steps, unsigned class) {
     size_t slots = 4096 / bytes_of_class(class);
     size_t shards = 3 * steps->most_live[class] / slots / PAGES_OF_A_SHARD + 1;
@@ -25,19 +25,22 @@ static uint32_t shards_for(const struct steps *steps, unsigned class) {
 
 static void open_cores(const struct steps *steps, void *room) {
     keys = room;
-    for (unsigned class = 0; class < CLASSES; class++) {
+    for (unsigned class = 0; class < CLASSES; class ++) {
         cores[class].count = shards_for(steps, class);
-        uint32_t status = teurlaks_new(&cores[class].core, cores[class].count, PAGES_OF_A_SHARD, 1, GENERATIONS);
+        uint32_t status =
+            teurlaks_new(&cores[class].core, cores[class].count, PAGES_OF_A_SHARD, 1, GENERATIONS);
         if (status != TEURLAKS_OK) fail("teurlaks_new", status);
     }
 }
 
-/* The shards take objects in turn, so that their pages are alike; one that is full is passed over. */
+/* The shards take objects in turn, so that their pages are alike; one that is full is passed
+ * over. */
 static void put(uint32_t object, const void *bytes, uint32_t len) {
     unsigned class = class_of(len);
     struct shards *shards = &cores[class];
     struct teurlaks_put_reply reply = {.status = TEURLAKS_PAGES_SPENT};
-    for (uint32_t asked = 0; asked < shards->count && reply.status == TEURLAKS_PAGES_SPENT; asked++) {
+    for (uint32_t asked = 0; asked < shards->count && reply.status == TEURLAKS_PAGES_SPENT;
+         asked++) {
         next_shard[class] = (next_shard[class] + 1) % shards->count;
         reply = teurlaks_put_bytes(&shards->core, next_shard[class], bytes, len);
     }
@@ -55,7 +58,7 @@ static int get(uint32_t object, void *bytes, uint32_t len) {
 }
 
 static void compact_cores(void) {
-    for (unsigned class = 0; class < CLASSES; class++) {
+    for (unsigned class = 0; class < CLASSES; class ++) {
         struct teurlaks_totals_reply totals = teurlaks_totals(&cores[class].core);
         if (is_sparse(totals.live, totals.pages, class)) compact(&cores[class], core_store_halving);
     }
@@ -63,21 +66,25 @@ static void compact_cores(void) {
 
 static struct pages pages(void) {
     struct pages pages;
-    for (unsigned class = 0; class < CLASSES; class++) pages.of_class[class] = teurlaks_totals(&cores[class].core).pages;
+    for (unsigned class = 0; class < CLASSES; class ++)
+        pages.of_class[class] = teurlaks_totals(&cores[class].core).pages;
     return pages;
 }
 
-const struct store core_store = {"core", sizeof *keys, open_cores, put, free_object, get, compact_cores, pages};
+const struct store core_store = {"core",      sizeof *keys, open_cores,    put,
+                                 free_object, get,          compact_cores, pages};
 
 void core_store_trim(void) {
-    for (unsigned class = 0; class < CLASSES; class++) trim_all(&cores[class]);
+    for (unsigned class = 0; class < CLASSES; class ++) trim_all(&cores[class]);
 }
 
 void core_store_fold(void) {
-    for (unsigned class = 0; class < CLASSES; class++) fold_half(&cores[class], core_store_halving);
+    for (unsigned class = 0; class < CLASSES; class ++)
+        fold_half(&cores[class], core_store_halving);
 }
 
-struct occupied *core_store_pages_of(unsigned class, const uint32_t *bytes_of_object, size_t objects, size_t *count) {
+struct occupied *core_store_pages_of(unsigned class, const uint32_t *bytes_of_object,
+                                     size_t objects, size_t *count) {
     *count = (size_t)cores[class].count * PAGES_OF_A_SHARD;
     struct occupied *occupied = calloc(*count, sizeof *occupied);
     if (!occupied) fail("calloc", 0);

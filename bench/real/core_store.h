@@ -13,7 +13,9 @@ extern enum halving core_store_halving;
 void core_store_trim(void);
 void core_store_fold(void);
 
-/* The pages of a class as they stand while nothing was ever folded: what is occupied on each, in memory to be freed. Writes how many there are. */
-struct occupied *core_store_pages_of(unsigned class, const uint32_t *bytes_of_object, size_t objects, size_t *count);
+/* The pages of a class as they stand while nothing was ever folded: what is occupied on each, in
+ * memory to be freed. Writes how many there are. */
+struct occupied *core_store_pages_of(unsigned class, const uint32_t *bytes_of_object,
+                                     size_t objects, size_t *count);
 
 #endif

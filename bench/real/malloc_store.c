@@ -30,8 +30,7 @@ static int get(uint32_t object, void *bytes, uint32_t len) {
     return 1;
 }
 
-static struct pages pages(void) {
-    return (struct pages){{0}};
-}
+static struct pages pages(void) { return (struct pages){{0}}; }
 
-const struct store malloc_store = {"malloc", sizeof *blocks, open_blocks, put, free_object, get, allocator_give_back, pages};
+const struct store malloc_store = {"malloc", sizeof *blocks,      open_blocks, put, free_object,
+                                   get,      allocator_give_back, pages};

@@ -1,5 +1,6 @@
-/* Calls that are known, for the test of recorder.c: `recorded`, or `recorded started` for the program that it starts. The sizes of a thread, a child
- * and a program are their own, so that the test can tell whose they are. It prints the numbers of its process and of both others. */
+/* Calls that are known, for the test of recorder.c: `recorded`, or `recorded started` for the
+ * program that it starts. The sizes of a thread, a child and a program are their own, so that the
+ * test can tell whose they are. It prints the numbers of its process and of both others. */
 #define _GNU_SOURCE
 #include <malloc.h>
 #include <pthread.h>
@@ -10,7 +11,14 @@
 #include <sys/wait.h>
 #include <unistd.h>
 
-enum { THREADS = 4, BLOCKS = 10000, SMALL = 60, OF_A_THREAD = 5000, OF_A_CHILD = 7001, OF_A_STARTED = 8001 };
+enum {
+    THREADS = 4,
+    BLOCKS = 10000,
+    SMALL = 60,
+    OF_A_THREAD = 5000,
+    OF_A_CHILD = 7001,
+    OF_A_STARTED = 8001
+};
 
 /* So that no call is left out for having no use. */
 static void *volatile kept;
@@ -56,7 +64,8 @@ static void each_call(void) {
     kept = at;
     free(at);
     free(NULL);
-    /* Small ones: one that cannot grow, one that goes above what is replayed and comes back, and one of no bytes. */
+    /* Small ones: one that cannot grow, one that goes above what is replayed and comes back, and
+     * one of no bytes. */
     at = malloc(101);
     kept = at;
     if (realloc(at, PTRDIFF_MAX)) die("a block that cannot be");

@@ -1,9 +1,11 @@
-/* Writes down what a program asks its allocator, to be preloaded: RECORDING names the file (recording.h), which is made where there is none.
- * Forked processes and programs that they start write into the same file, each under its number.
+/* Writes down what a program asks its allocator, to be preloaded: RECORDING names the file
+ * (recording.h), which is made where there is none. Forked processes and programs that they start
+ * write into the same file, each under its number.
  *
- * The order of the records is one in which the calls may have come: an address is written as given out after the allocator gave it, and as
- * taken back before the allocator takes it, and each record takes its place by one atomic addition. There is no lock, and no buffer, so
- * nothing is held or lost at a fork, an _exit or a kill. A full disk stops the program with SIGBUS. */
+ * The order of the records is one in which the calls may have come: an address is written as given
+ * out after the allocator gave it, and as taken back before the allocator takes it, and each record
+ * takes its place by one atomic addition. There is no lock, and no buffer, so nothing is held or
+ * lost at a fork, an _exit or a kill. A full disk stops the program with SIGBUS. */
 #define _GNU_SOURCE
 #include "recording.h"
 #include <dlfcn.h>
@@ -30,7 +32,8 @@ static struct recording *recording;
 
 static enum { NOT_YET, LOOKING, READY } state;
 
-/* The depth of calls of the allocator in this thread: what it asks of itself is not written down. It lies where no call is needed to find it. */
+/* The depth of calls of the allocator in this thread: what it asks of itself is not written down.
+ * It lies where no call is needed to find it. */
 static __thread int depth __attribute__((tls_model("initial-exec")));
 
 /* What is asked while the allocator is looked for. It is not written down, and stays. */
@@ -78,12 +81,14 @@ static void open_recording(void) {
 
 #define FIND(name) *(void **)&next.name = dlsym(RTLD_NEXT, #name)
 
-/* Whether the allocator is known. It is looked for with the first call, before there is a second thread. */
+/* Whether the allocator is known. It is looked for with the first call, before there is a second
+ * thread. */
 static int is_ready(void) {
     if (state == READY) return 1;
     if (state == LOOKING) return 0;
     state = LOOKING;
-    FIND(malloc), FIND(calloc), FIND(realloc), FIND(free), FIND(memalign), FIND(aligned_alloc), FIND(posix_memalign);
+    FIND(malloc), FIND(calloc), FIND(realloc), FIND(free), FIND(memalign), FIND(aligned_alloc),
+        FIND(posix_memalign);
     int error = errno;
     open_recording();
     errno = error;

@@ -1,20 +1,25 @@
-/* `replay STORE WHEN RECORDING CHECKPOINT..`: replays what a process asked its allocator, of up to 256 bytes, over a store: `core`, `split` or
- * `malloc` (stores.h). Each checkpoint is a number of records, in ascending order. WHEN is
+/* `replay STORE WHEN RECORDING CHECKPOINT..`: replays what a process asked its allocator, of up to
+ * 256 bytes, over a store: `core`, `split` or `malloc` (stores.h). Each checkpoint is a number of
+ * records, in ascending order. WHEN is
  *
- *   never     nothing is given back
- *   compact   at each checkpoint the store gives back what it can
- *   compact-sparse   the same, but only of those pages, by the size of their objects, of whose slots less than two thirds hold one
+ *   never     nothing is given back compact   at each checkpoint the store gives back what it can
+ *   compact-sparse   the same, but only of those pages, by the size of their objects, of whose
+ *   slots less than two thirds hold one
  *
  * and of `core` alone
  *
- *   compact-halves, compact-halves-sparse   as these, by halves at random, in place of the sparser half of each shard
- *   rounds    at each checkpoint it is told what folds would give back, in a process that is forked there, and beside it what the search of Mesh
+ *   compact-halves, compact-halves-sparse   as these, by halves at random, in place of the sparser
+ *   half of each shard rounds    at each checkpoint it is told what folds would give back, in a
+ *   process that is forked there, and beside it what the search of Mesh
  *             would, on the same pages; the replay itself goes on with nothing folded
- *   rounds-64, rounds-256   as rounds, of objects of 65 to 256 bytes alone, each cut off at 64 or 16 bytes, so that a page has so many slots
- *             for them, as it has in a `Slab` of Rust for values of more and of fewer than 128 bytes
+ *   rounds-64, rounds-256   as rounds, of objects of 65 to 256 bytes alone, each cut off at 64 or
+ *   16 bytes, so that a page has so many slots
+ *             for them, as it has in a `Slab` of Rust for values of more and of fewer than 128
+ * bytes
  *
- * A line of JSON tells what was read, one tells each checkpoint, and one the processor time of all steps and of all compactions. At each checkpoint
- * each live object is compared with what was put, which no time counts. Kilobytes are those of VmRSS beyond what the program took before the store,
+ * A line of JSON tells what was read, one tells each checkpoint, and one the processor time of all
+ * steps and of all compactions. At each checkpoint each live object is compared with what was put,
+ * which no time counts. Kilobytes are those of VmRSS beyond what the program took before the store,
  * after the allocator was asked to hand back what it keeps free. */
 #define _DEFAULT_SOURCE
 #include "allocator.h"
@@ -90,17 +95,19 @@ static void compare_all(void) {
         uint32_t len = bytes_of_object[object];
         if (!len) continue;
         content(put_of_object[object], len, wanted);
-        if (!store->get(object, found, len) || memcmp(found, wanted, len)) fail("an object is not what was put");
+        if (!store->get(object, found, len) || memcmp(found, wanted, len))
+            fail("an object is not what was put");
     }
 }
 
 static void print_pages(const char *name, struct pages pages) {
     printf(", \"%s\": [%zu", name, pages.of_class[0]);
-    for (unsigned class = 1; class < CLASSES; class++) printf(", %zu", pages.of_class[class]);
+    for (unsigned class = 1; class < CLASSES; class ++) printf(", %zu", pages.of_class[class]);
     printf("]");
 }
 
-/* In a process of its own: the pages after a trim, after each of some rounds, and after all that pay, and how much less is resident then. */
+/* In a process of its own: the pages after a trim, after each of some rounds, and after all that
+ * pay, and how much less is resident then. */
 static void fold_in_a_fork(const char *prefix, enum halving halving) {
     fflush(stdout);
     pid_t child = fork();
@@ -138,7 +145,7 @@ static size_t with_an_object(const struct occupied *pages, size_t count) {
 static void search_beside(void) {
     static struct random random = {20261127};
     struct pages occupied, left[ROUNDS];
-    for (unsigned class = 0; class < CLASSES; class++) {
+    for (unsigned class = 0; class < CLASSES; class ++) {
         size_t count, of_rounds[ROUNDS];
         struct occupied *pages = core_store_pages_of(class, bytes_of_object, steps.objects, &count);
         occupied.of_class[class] = with_an_object(pages, count);
@@ -219,7 +226,8 @@ static const struct way ways[] = {
 
 static const struct way *way_of(const char *name) {
     for (size_t i = 0; i < sizeof ways / sizeof ways[0]; i++)
-        if (!strcmp(ways[i].name, name) && (!ways[i].of_core || store == &core_store)) return &ways[i];
+        if (!strcmp(ways[i].name, name) && (!ways[i].of_core || store == &core_store))
+            return &ways[i];
     fail("there is no such way to compact this store");
     return NULL;
 }
@@ -235,12 +243,15 @@ int main(int argc, char **argv) {
     core_store_halving = way->halving;
     compacted_below_percent = way->below_percent;
     size_t checkpoints[64], checkpoints_len = 0;
-    for (int word = 4; word < argc && checkpoints_len < 64; word++) checkpoints[checkpoints_len++] = strtoull(argv[word], NULL, 10);
+    for (int word = 4; word < argc && checkpoints_len < 64; word++)
+        checkpoints[checkpoints_len++] = strtoull(argv[word], NULL, 10);
     steps = load_steps(argv[3], way->selection, checkpoints, checkpoints_len);
     bytes_of_object = touched_memory(steps.objects, sizeof *bytes_of_object);
     put_of_object = touched_memory(steps.objects, sizeof *put_of_object);
-    printf("{\"store\": \"%s\", \"when\": \"%s\", \"records\": %zu, \"of_others\": %zu, \"too_large\": %zu, \"unknown\": %zu, \"steps\": %zu}\n",
-           argv[1], argv[2], steps.records, steps.of_others, steps.too_large, steps.unknown, steps.count);
+    printf("{\"store\": \"%s\", \"when\": \"%s\", \"records\": %zu, \"of_others\": %zu, "
+           "\"too_large\": %zu, \"unknown\": %zu, \"steps\": %zu}\n",
+           argv[1], argv[2], steps.records, steps.of_others, steps.too_large, steps.unknown,
+           steps.count);
     void *keys = touched_memory(steps.objects, store->key_bytes);
     base = resident();
     store->open(&steps, keys);

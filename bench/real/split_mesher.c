@@ -12,7 +12,8 @@ static void *room(size_t count, size_t size) {
 }
 
 /* The numbers of the pages that are asked, and how many they are. */
-static size_t candidates(const struct occupied *pages, size_t count, unsigned slots, uint32_t *numbers) {
+static size_t candidates(const struct occupied *pages, size_t count, unsigned slots,
+                         uint32_t *numbers) {
     size_t found = 0;
     for (size_t page = 0; page < count; page++) {
         unsigned objects = occupied_count(&pages[page]);
@@ -38,7 +39,8 @@ static size_t keep_free(uint32_t *numbers, size_t count, const unsigned char *is
     return kept;
 }
 
-size_t split_mesher(const struct occupied *pages, size_t count, unsigned slots, struct random *random, struct mesh_pair *pairs) {
+size_t split_mesher(const struct occupied *pages, size_t count, unsigned slots,
+                    struct random *random, struct mesh_pair *pairs) {
     uint32_t *numbers = room(count, sizeof *numbers);
     unsigned char *is_taken = room(count, 1);
     size_t asked = candidates(pages, count, slots, numbers), found = 0;
@@ -61,7 +63,8 @@ size_t split_mesher(const struct occupied *pages, size_t count, unsigned slots, 
     return found;
 }
 
-void split_mesher_rounds(struct occupied *pages, size_t count, unsigned slots, struct random *random, unsigned rounds, size_t *left) {
+void split_mesher_rounds(struct occupied *pages, size_t count, unsigned slots,
+                         struct random *random, unsigned rounds, size_t *left) {
     struct mesh_pair *pairs = room(count / 2 + 1, sizeof *pairs);
     for (unsigned round = 0; round < rounds; round++) {
         size_t found = split_mesher(pages, count, slots, random, pairs);
@@ -70,7 +73,8 @@ void split_mesher_rounds(struct occupied *pages, size_t count, unsigned slots, s
             pages[pairs[pair].from] = (struct occupied){{0}};
         }
         left[round] = 0;
-        for (size_t page = 0; page < count; page++) left[round] += occupied_count(&pages[page]) != 0;
+        for (size_t page = 0; page < count; page++)
+            left[round] += occupied_count(&pages[page]) != 0;
     }
     free(pairs);
 }

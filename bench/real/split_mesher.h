@@ -1,5 +1,6 @@
-/* The search by which Mesh finds pages that fit each other: SplitMesher of Powers, Tench, Berger and McGregor (Mesh: compacting memory
- * management for C/C++ applications, PLDI 2019). It is written from its description, to stand beside largest plans. */
+/* The search by which Mesh finds pages that fit each other: SplitMesher of Powers, Tench, Berger
+ * and McGregor (Mesh: compacting memory management for C/C++ applications, PLDI 2019). It is
+ * written from its description, to stand beside largest plans. */
 #ifndef BENCH_SPLIT_MESHER_H
 #define BENCH_SPLIT_MESHER_H
 
@@ -30,7 +31,8 @@ static inline unsigned occupied_count(const struct occupied *set) {
 }
 
 static inline int occupied_fit(const struct occupied *a, const struct occupied *b) {
-    return !((a->words[0] & b->words[0]) | (a->words[1] & b->words[1]) | (a->words[2] & b->words[2]) | (a->words[3] & b->words[3]));
+    return !((a->words[0] & b->words[0]) | (a->words[1] & b->words[1]) |
+             (a->words[2] & b->words[2]) | (a->words[3] & b->words[3]));
 }
 
 static inline void occupied_unite(struct occupied *set, const struct occupied *with) {
@@ -42,14 +44,17 @@ struct mesh_pair {
     uint32_t from, onto;
 };
 
-/* One search over all pages that have an object and are less than four fifths full of `slots`: they are shuffled and split in two halves,
- * and then page i of the one is compared with page i + j, counted round, of the other, for j from 0 to SPLIT_MESHER_TRIES - 1. Pages that fit are
- * a pair and leave both halves. Writes the pairs, in which no page stands twice, into `pairs`, which has room for count / 2, and answers
- * how many they are. Ends the program where there is no memory. */
-size_t split_mesher(const struct occupied *pages, size_t count, unsigned slots, struct random *random, struct mesh_pair *pairs);
+/* One search over all pages that have an object and are less than four fifths full of `slots`: they
+ * are shuffled and split in two halves, and then page i of the one is compared with page i + j,
+ * counted round, of the other, for j from 0 to SPLIT_MESHER_TRIES - 1. Pages that fit are a pair
+ * and leave both halves. Writes the pairs, in which no page stands twice, into `pairs`, which has
+ * room for count / 2, and answers how many they are. Ends the program where there is no memory. */
+size_t split_mesher(const struct occupied *pages, size_t count, unsigned slots,
+                    struct random *random, struct mesh_pair *pairs);
 
-/* So many searches in a row, after each of which the pages of a pair are one page. Writes to left[r] how many pages with an object there
- * are after search r. The pages are changed. */
-void split_mesher_rounds(struct occupied *pages, size_t count, unsigned slots, struct random *random, unsigned rounds, size_t *left);
+/* So many searches in a row, after each of which the pages of a pair are one page. Writes to
+ * left[r] how many pages with an object there are after search r. The pages are changed. */
+void split_mesher_rounds(struct occupied *pages, size_t count, unsigned slots,
+                         struct random *random, unsigned rounds, size_t *left);
 
 #endif

@@ -1,6 +1,7 @@
-/* Pages of 4,096 bytes that are meshed as Mesh does it, by split_mesher.h, beside a core: a put takes the lowest free slot of the lowest page with
- * one, and an object is found by the page that it was put on, which may have gone to another page since, and by its slot. It has no
- * generations and no proof, and it takes the memory of its lists for as many pages as there can be at once. */
+/* Pages of 4,096 bytes that are meshed as Mesh does it, by split_mesher.h, beside a core: a put
+ * takes the lowest free slot of the lowest page with one, and an object is found by the page that
+ * it was put on, which may have gone to another page since, and by its slot. It has no generations
+ * and no proof, and it takes the memory of its lists for as many pages as there can be at once. */
 #define _DEFAULT_SOURCE
 #include "split_store.h"
 #include <stdio.h>
@@ -11,7 +12,8 @@
 enum { PAGE = 4096, MOST_PAGES = 1 << 18 };
 static const uint32_t NO_PAGE = UINT32_MAX;
 
-/* Of a class. Pages are numbered in the order in which they are opened, and so are the spans that were opened on them. */
+/* Of a class. Pages are numbered in the order in which they are opened, and so are the spans that
+ * were opened on them. */
 struct side {
     unsigned char *memory;
     struct occupied *occupied;
@@ -35,7 +37,8 @@ static struct key *keys;
 static struct random randomness = {20261127};
 
 static void *reserved(size_t bytes) {
-    void *at = mmap(NULL, bytes, PROT_READ | PROT_WRITE, MAP_PRIVATE | MAP_ANONYMOUS | MAP_NORESERVE, -1, 0);
+    void *at = mmap(NULL, bytes, PROT_READ | PROT_WRITE,
+                    MAP_PRIVATE | MAP_ANONYMOUS | MAP_NORESERVE, -1, 0);
     if (at == MAP_FAILED) {
         perror("mmap");
         exit(1);
@@ -44,14 +47,12 @@ static void *reserved(size_t bytes) {
     return at;
 }
 
-static unsigned slots_of(unsigned class) {
-    return PAGE / bytes_of_class(class);
-}
+static unsigned slots_of(unsigned class) { return PAGE / bytes_of_class(class); }
 
 static void open_sides(const struct steps *steps, void *room) {
     (void)steps;
     keys = room;
-    for (unsigned class = 0; class < CLASSES; class++) {
+    for (unsigned class = 0; class < CLASSES; class ++) {
         struct side *side = &sides[class];
         side->memory = reserved((size_t)MOST_PAGES * PAGE);
         side->occupied = reserved(MOST_PAGES * sizeof *side->occupied);
@@ -64,14 +65,17 @@ static void open_sides(const struct steps *steps, void *room) {
 
 static void set_room(struct side *side, size_t page, int has_room) {
     uint64_t bit = (uint64_t)1 << page % 64;
-    side->rooms[page / 64] = has_room ? side->rooms[page / 64] | bit : side->rooms[page / 64] & ~bit;
+    side->rooms[page / 64] =
+        has_room ? side->rooms[page / 64] | bit : side->rooms[page / 64] & ~bit;
     if (has_room && page / 64 < side->lowest_word) side->lowest_word = page / 64;
 }
 
 /* The lowest page with a free slot, which is opened where there is none. */
 static size_t page_with_room(struct side *side) {
-    while (side->lowest_word * 64 < side->opened && !side->rooms[side->lowest_word]) side->lowest_word++;
-    if (side->rooms[side->lowest_word]) return side->lowest_word * 64 + __builtin_ctzll(side->rooms[side->lowest_word]);
+    while (side->lowest_word * 64 < side->opened && !side->rooms[side->lowest_word])
+        side->lowest_word++;
+    if (side->rooms[side->lowest_word])
+        return side->lowest_word * 64 + __builtin_ctzll(side->rooms[side->lowest_word]);
     if (side->opened == MOST_PAGES - 1) {
         fprintf(stderr, "replay: no page is left\n");
         exit(1);
@@ -117,7 +121,8 @@ static void free_object(uint32_t object, uint32_t len) {
 
 static int get(uint32_t object, void *bytes, uint32_t len) {
     unsigned class = class_of(len);
-    memcpy(bytes, object_at(class, sides[class].page_of[keys[object].span], keys[object].slot), len);
+    memcpy(bytes, object_at(class, sides[class].page_of[keys[object].span], keys[object].slot),
+           len);
     return 1;
 }
 
@@ -129,16 +134,19 @@ static void let_go(unsigned class, size_t page) {
     side->pages--;
 }
 
-/* Copies what is on the one page to the other, and lets the first go. All of its spans are guests of the other from now on. */
+/* Copies what is on the one page to the other, and lets the first go. All of its spans are guests
+ * of the other from now on. */
 static void mesh_pages(unsigned class, size_t from, size_t onto) {
     struct side *side = &sides[class];
     for (unsigned slot = 0; slot < slots_of(class); slot++)
         if (side->occupied[from].words[slot / 64] >> slot % 64 & 1)
-            memcpy(object_at(class, onto, slot), object_at(class, from, slot), bytes_of_class(class));
+            memcpy(object_at(class, onto, slot), object_at(class, from, slot),
+                   bytes_of_class(class));
     occupied_unite(&side->occupied[onto], &side->occupied[from]);
     side->occupied[from] = (struct occupied){{0}};
     uint32_t last = from;
-    for (uint32_t span = from; span != NO_PAGE; span = side->next_guest[span]) side->page_of[last = span] = onto;
+    for (uint32_t span = from; span != NO_PAGE; span = side->next_guest[span])
+        side->page_of[last = span] = onto;
     side->next_guest[last] = side->next_guest[onto];
     side->next_guest[onto] = from;
     set_room(side, from, 0);
@@ -146,7 +154,8 @@ static void mesh_pages(unsigned class, size_t from, size_t onto) {
     let_go(class, from);
 }
 
-/* Lets pages go with no object, and searches as long as that gives a sixteenth of the pages back. */
+/* Lets pages go with no object, and searches as long as that gives a sixteenth of the pages
+ * back. */
 static void compact_side(unsigned class) {
     struct side *side = &sides[class];
     for (size_t page = 0; page < side->opened; page++)
@@ -160,23 +169,25 @@ static void compact_side(unsigned class) {
     do {
         pages = side->pages;
         found = split_mesher(side->occupied, side->opened, slots_of(class), &randomness, pairs);
-        for (size_t pair = 0; pair < found; pair++) mesh_pages(class, pairs[pair].from, pairs[pair].onto);
+        for (size_t pair = 0; pair < found; pair++)
+            mesh_pages(class, pairs[pair].from, pairs[pair].onto);
     } while (found && found * 16 >= pages);
     free(pairs);
 }
 
 static void compact_sides(void) {
-    for (unsigned class = 0; class < CLASSES; class++)
+    for (unsigned class = 0; class < CLASSES; class ++)
         if (is_sparse(sides[class].objects, sides[class].pages, class)) compact_side(class);
 }
 
 static struct pages pages(void) {
     struct pages pages;
-    for (unsigned class = 0; class < CLASSES; class++) pages.of_class[class] = sides[class].pages;
+    for (unsigned class = 0; class < CLASSES; class ++) pages.of_class[class] = sides[class].pages;
     return pages;
 }
 
-const struct store split_store = {"split", sizeof *keys, open_sides, put, free_object, get, compact_sides, pages};
+const struct store split_store = {"split",     sizeof *keys, open_sides,    put,
+                                  free_object, get,          compact_sides, pages};
 
 const struct occupied *split_store_pages(unsigned class, size_t *count) {
     *count = sides[class].opened;

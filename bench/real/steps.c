@@ -9,7 +9,8 @@
 
 enum { NO_OBJECT = UINT32_MAX };
 
-/* What is known of an address: the object there, if one of up to 256 bytes is, and the bytes that were last asked for there. */
+/* What is known of an address: the object there, if one of up to 256 bytes is, and the bytes that
+ * were last asked for there. */
 struct place {
     uint64_t address;
     uint64_t bytes;
@@ -41,14 +42,13 @@ static void fail(const char *file, const char *why) {
 
 /* From the system, so that the allocator that is measured keeps nothing of it. */
 static void *mapped(size_t count, size_t size, int flags) {
-    void *at = mmap(NULL, count * size + 1, PROT_READ | PROT_WRITE, MAP_PRIVATE | MAP_ANONYMOUS | flags, -1, 0);
+    void *at = mmap(NULL, count * size + 1, PROT_READ | PROT_WRITE,
+                    MAP_PRIVATE | MAP_ANONYMOUS | flags, -1, 0);
     if (at == MAP_FAILED) fail("memory", "there is none");
     return at;
 }
 
-void *touched_memory(size_t count, size_t size) {
-    return mapped(count, size, MAP_POPULATE);
-}
+void *touched_memory(size_t count, size_t size) { return mapped(count, size, MAP_POPULATE); }
 
 static struct place *place_of(uint64_t address) {
     size_t at = (address >> 4) * 0x9e3779b97f4a7c15u >> 20 & (places_len - 1);
@@ -105,7 +105,8 @@ static void take(struct steps *steps, uint64_t address) {
 static void follow(struct steps *steps, const struct record *record, const char *file) {
     switch ((enum call)record->call) {
     case CALL_NONE:
-    case CALL_START: break;
+    case CALL_START:
+        break;
     case CALL_MALLOC:
     case CALL_CALLOC:
     case CALL_ALIGNED:
@@ -116,7 +117,9 @@ static void follow(struct steps *steps, const struct record *record, const char 
         break;
     }
     case CALL_FREE:
-    case CALL_REALLOC_TAKES: take(steps, record->address); break;
+    case CALL_REALLOC_TAKES:
+        take(steps, record->address);
+        break;
     case CALL_REALLOC_FAILS: {
         struct place *place = place_of(record->address);
         give(steps, place, place->bytes);
@@ -128,16 +131,19 @@ static void follow(struct steps *steps, const struct record *record, const char 
 static const struct recording *open_file(const char *file, size_t *count) {
     int descriptor = open(file, O_RDONLY);
     if (descriptor < 0) fail(file, "it cannot be opened");
-    const struct recording *recording = mmap(NULL, sizeof *recording, PROT_READ, MAP_SHARED, descriptor, 0);
+    const struct recording *recording =
+        mmap(NULL, sizeof *recording, PROT_READ, MAP_SHARED, descriptor, 0);
     close(descriptor);
-    if (recording == MAP_FAILED || recording->magic != RECORDING_MAGIC) fail(file, "it is no recording");
+    if (recording == MAP_FAILED || recording->magic != RECORDING_MAGIC)
+        fail(file, "it is no recording");
     *count = recording->count;
     if (*count > MOST_RECORDS) fail(file, "calls are missing, since it is full");
     if (*count == 0) fail(file, "it is empty");
     return recording;
 }
 
-struct steps load_steps(const char *file, struct selection selection, const size_t *checkpoints, size_t checkpoints_len) {
+struct steps load_steps(const char *file, struct selection selection, const size_t *checkpoints,
+                        size_t checkpoints_len) {
     struct steps steps = {0};
     selected = selection;
     const struct recording *recording = open_file(file, &steps.records);
@@ -154,7 +160,8 @@ struct steps load_steps(const char *file, struct selection selection, const size
             steps.of_others++;
         }
     }
-    while (steps.checkpoints_len < checkpoints_len) steps.checkpoints[steps.checkpoints_len++] = steps.count;
+    while (steps.checkpoints_len < checkpoints_len)
+        steps.checkpoints[steps.checkpoints_len++] = steps.count;
     munmap((void *)recording, sizeof *recording);
     munmap(spare, steps.records * sizeof *spare + 1);
     munmap(places, places_len * sizeof *places + 1);

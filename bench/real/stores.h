@@ -1,4 +1,5 @@
-/* The stores that a recording is replayed over. An object's number is below what the store was opened with, and says who it is in each call. */
+/* The stores that a recording is replayed over. An object's number is below what the store was
+ * opened with, and says who it is in each call. */
 #ifndef BENCH_STORES_H
 #define BENCH_STORES_H
 
@@ -11,7 +12,8 @@ struct pages {
     size_t of_class[CLASSES];
 };
 
-/* A store compacts the pages of a class where fewer than so many percent of their slots hold an object. Above 100 it always does. */
+/* A store compacts the pages of a class where fewer than so many percent of their slots hold an
+ * object. Above 100 it always does. */
 extern unsigned compacted_below_percent;
 
 static inline int is_sparse(size_t objects, size_t pages, unsigned class) {
@@ -20,7 +22,8 @@ static inline int is_sparse(size_t objects, size_t pages, unsigned class) {
 
 struct store {
     const char *name;
-    /* What the program keeps of each object to find it again, which is no part of what is measured. */
+    /* What the program keeps of each object to find it again, which is no part of what is
+     * measured. */
     size_t key_bytes;
     /* The keys have room for all objects. */
     void (*open)(const struct steps *steps, void *keys);

@@ -1,5 +1,6 @@
-/* What a page costs that is given back to `c/pages.c` and taken again, in nanoseconds of processor time: one that is kept, and one that
- * left the process. Beside it what the system's own fault takes for a page that is touched first. The least of so many rounds. */
+/* What a page costs that is given back to `c/pages.c` and taken again, in nanoseconds of processor
+ * time: one that is kept, and one that left the process. Beside it what the system's own fault
+ * takes for a page that is touched first. The least of so many rounds. */
 #include <stdint.h>
 #include <stdio.h>
 #include <stdlib.h>
@@ -58,7 +59,8 @@ static double to_and_fro(int count) {
 static double fault(void) {
     double least = 1e18;
     for (int round = 0; round < ROUNDS; round++) {
-        char *at = mmap(NULL, (size_t)MANY * PAGE, PROT_READ | PROT_WRITE, MAP_PRIVATE | MAP_ANONYMOUS, -1, 0);
+        char *at = mmap(NULL, (size_t)MANY * PAGE, PROT_READ | PROT_WRITE,
+                        MAP_PRIVATE | MAP_ANONYMOUS, -1, 0);
         if (at == MAP_FAILED) exit(1);
         madvise(at, (size_t)MANY * PAGE, MADV_NOHUGEPAGE);
         double before = now();

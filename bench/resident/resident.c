@@ -1,7 +1,8 @@
-/* `resident SHARDS KEPT BYTES PAGES`: what a core keeps resident, in kilobytes as the system tells. SHARDS shards are filled, to PAGES
- * pages each, with objects of so many bytes; KEPT percent of them stay, at random; then half of the running shards end, a mark plans, its
- * steps are taken, and so on until one shard runs. The keys of this program are touched before the first look, so none of its own
- * memory is counted. Each key is looked up at the end. */
+/* `resident SHARDS KEPT BYTES PAGES`: what a core keeps resident, in kilobytes as the system tells.
+ * SHARDS shards are filled, to PAGES pages each, with objects of so many bytes; KEPT percent of
+ * them stay, at random; then half of the running shards end, a mark plans, its steps are taken, and
+ * so on until one shard runs. The keys of this program are touched before the first look, so none
+ * of its own memory is counted. Each key is looked up at the end. */
 #include "teurlaks.h"
 #include <stdio.h>
 #include <stdlib.h>
@@ -59,13 +60,15 @@ static void look_up(void) {
     for (size_t i = 0; i < count; i++) {
         size_t found;
         if (!keys[i].generation) continue;
-        if (teurlaks_get_bytes(&core, keys[i], &found, sizeof found) != TEURLAKS_OK || found != i) exit(3);
+        if (teurlaks_get_bytes(&core, keys[i], &found, sizeof found) != TEURLAKS_OK || found != i)
+            exit(3);
     }
 }
 
 int main(int argc, char **argv) {
     if (argc != 5) return 2;
-    unsigned shards = atoi(argv[1]), kept = atoi(argv[2]), pages = atoi(argv[4]), ended = 0, running = shards;
+    unsigned shards = atoi(argv[1]), kept = atoi(argv[2]), pages = atoi(argv[4]), ended = 0,
+             running = shards;
     bytes = atoi(argv[3]);
     count = (size_t)shards * pages * (bytes <= 16 ? 256 : bytes <= 64 ? 64 : 16);
     keys = malloc(count * sizeof *keys);
@@ -73,14 +76,17 @@ int main(int argc, char **argv) {
     long before = resident();
     if (teurlaks_new(&core, shards, pages, 1, 1000) != TEURLAKS_OK) return 1;
     fill(shards);
-    printf("%zu objects of %zu bytes: pages %zu resident %ld\n", count, bytes, teurlaks_totals(&core).pages, resident() - before);
+    printf("%zu objects of %zu bytes: pages %zu resident %ld\n", count, bytes,
+           teurlaks_totals(&core).pages, resident() - before);
     thin_out(kept);
-    printf("%u %% kept: pages %zu resident %ld\n", kept, teurlaks_totals(&core).pages, resident() - before);
+    printf("%u %% kept: pages %zu resident %ld\n", kept, teurlaks_totals(&core).pages,
+           resident() - before);
     while (running > 1) {
         for (unsigned i = 0; i < running / 2; i++) teurlaks_end(&core, ended++);
         running -= running / 2;
         size_t folds = fold();
-        printf("%zu folds: pages %zu resident %ld\n", folds, teurlaks_totals(&core).pages, resident() - before);
+        printf("%zu folds: pages %zu resident %ld\n", folds, teurlaks_totals(&core).pages,
+               resident() - before);
     }
     look_up();
     teurlaks_drop(&core);

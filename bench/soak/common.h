@@ -1,4 +1,5 @@
-/* What the programs of this folder share: what they draw, what is resident, and how they end where something is not as it was put. */
+/* What the programs of this folder share: what they draw, what is resident, and how they end where
+ * something is not as it was put. */
 #ifndef TEURLAKS_SOAK_COMMON_H
 #define TEURLAKS_SOAK_COMMON_H
 
@@ -13,13 +14,13 @@ static uint64_t drawn;
 /* Prints which program it is, and how far it is. */
 static void say_where(void);
 
-#define WANT(holds)                                                                                                                          \
-    do {                                                                                                                                     \
-        if (!(holds)) {                                                                                                                      \
-            say_where();                                                                                                                     \
-            printf(", line %d: %s\n", __LINE__, #holds);                                                                                     \
-            exit(1);                                                                                                                         \
-        }                                                                                                                                    \
+#define WANT(holds)                                                                                \
+    do {                                                                                           \
+        if (!(holds)) {                                                                            \
+            say_where();                                                                           \
+            printf(", line %d: %s\n", __LINE__, #holds);                                           \
+            exit(1);                                                                               \
+        }                                                                                          \
     } while (0)
 
 /* SplitMix64, of a seed that its caller keeps. */

@@ -1,6 +1,7 @@
-/* One shard of many pages: `many_pages PAGES`. It fills that many pages of 256 values of 16 bytes, puts and frees and looks up at random, leaves
- * one value in 25, retires the sparser half of the pages, and folds it onto the others by marks of some, until a mark folds nothing. It prints
- * a line for each, with nanoseconds a call or milliseconds, and beside them resident kilobytes. */
+/* One shard of many pages: `many_pages PAGES`. It fills that many pages of 256 values of 16 bytes,
+ * puts and frees and looks up at random, leaves one value in 25, retires the sparser half of the
+ * pages, and folds it onto the others by marks of some, until a mark folds nothing. It prints a
+ * line for each, with nanoseconds a call or milliseconds, and beside them resident kilobytes. */
 #include "common.h"
 #include "teurlaks.h"
 
@@ -22,25 +23,30 @@ static double now(void) {
 }
 
 static void tell(const char *what, double spent, const char *unit) {
-    printf("%-28s %12.1f %-10s %9ld KB, %zu pages\n", what, spent, unit, resident(), teurlaks_totals(&core).pages);
+    printf("%-28s %12.1f %-10s %9ld KB, %zu pages\n", what, spent, unit, resident(),
+           teurlaks_totals(&core).pages);
     fflush(stdout);
     at = what;
 }
 
 /* The key of a value: the serials and slots go up as the shard is filled. */
 static struct teurlaks_key key_of(uint64_t value) {
-    return (struct teurlaks_key){.serial = (uint32_t)(value / SLOTS), .slot = (uint8_t)(value % SLOTS), .generation = generations[value]};
+    return (struct teurlaks_key){.serial = (uint32_t)(value / SLOTS),
+                                 .slot = (uint8_t)(value % SLOTS),
+                                 .generation = generations[value]};
 }
 
 static void put_one(void) {
     struct teurlaks_put_reply reply = teurlaks_put(&core, 0, (struct teurlaks_word){1, 2});
     WANT(reply.status == TEURLAKS_OK);
-    generations[(uint64_t)reply.key.serial * SLOTS + reply.key.slot] = (uint8_t)reply.key.generation;
+    generations[(uint64_t)reply.key.serial * SLOTS + reply.key.slot] =
+        (uint8_t)reply.key.generation;
 }
 
 static void look_up(void) {
     double began = now();
-    for (int call = 0; call < CALLS; call++) WANT(teurlaks_get(&core, key_of(draw(values))).status == TEURLAKS_OK);
+    for (int call = 0; call < CALLS; call++)
+        WANT(teurlaks_get(&core, key_of(draw(values))).status == TEURLAKS_OK);
     tell("look-up at random", (now() - began) / CALLS, "ns");
 }
 
@@ -57,7 +63,8 @@ static void churn(void) {
 /* A hundredth of the values go, and then as many come. */
 static void burst(void) {
     uint64_t gone = 0, wanted = values / 100;
-    for (uint64_t value = draw(100); value < values; value += 100) gone += teurlaks_free(&core, key_of(value)) == TEURLAKS_OK;
+    for (uint64_t value = draw(100); value < values; value += 100)
+        gone += teurlaks_free(&core, key_of(value)) == TEURLAKS_OK;
     double began = now();
     for (uint64_t put = 0; put < gone; put++) put_one();
     WANT(gone + 1 >= wanted);

@@ -1,8 +1,10 @@
-/* Threads that come and go at one arena: `relay THREADS [VALUES]`. Eight seats pass from thread to thread. Each thread begins its shard, puts
- * so many values and frees nine of ten, hands the others to those that come after it, frees as many that came from those before it, looks
- * all of these and some freed keys up, and ends its shard. A steward marks, folds and forgets beside them. After the first tenth of the
- * threads, and then each tenth, it prints a line: threads so far, spans that all shards have opened, pages, live values, resident kilobytes;
- * at its end how much more is resident than after the first tenth. */
+/* Threads that come and go at one arena: `relay THREADS [VALUES]`. Eight seats pass from thread to
+ * thread. Each thread begins its shard, puts so many values and frees nine of ten, hands the others
+ * to those that come after it, frees as many that came from those before it, looks all of these and
+ * some freed keys up, and ends its shard. A steward marks, folds and forgets beside them. After the
+ * first tenth of the threads, and then each tenth, it prints a line: threads so far, spans that all
+ * shards have opened, pages, live values, resident kilobytes; at its end how much more is resident
+ * than after the first tenth. */
 #include "common.h"
 #include "teurlaks.h"
 
@@ -13,7 +15,15 @@
 #include <threads.h>
 #include <time.h>
 
-enum { SEATS = 8, MOST_VALUES = 65536, KEPT_OF = 10, MOST_WAITING = 1 << 17, SETTLED = 20000, STALE = 1024, TENTHS = 10 };
+enum {
+    SEATS = 8,
+    MOST_VALUES = 65536,
+    KEPT_OF = 10,
+    MOST_WAITING = 1 << 17,
+    SETTLED = 20000,
+    STALE = 1024,
+    TENTHS = 10
+};
 
 struct held {
     struct teurlaks_key key;
@@ -41,8 +51,8 @@ static atomic_int is_over;
 static void say_where(void) { printf("relay"); }
 
 /* The call, again and again while another thread has a lock that it needs. */
-#define PATIENTLY(reply, status, call)                                                                                                       \
-    do reply = call;                                                                                                                         \
+#define PATIENTLY(reply, status, call)                                                             \
+    do reply = call;                                                                               \
     while ((status) == TEURLAKS_BUSY && !sched_yield())
 
 static struct held put(struct place *me) {
@@ -60,7 +70,8 @@ static void finds(struct place *me, struct held held) {
     struct teurlaks_word words[16];
     struct teurlaks_words_reply reply;
     PATIENTLY(reply, reply.status, teurlaks_seat_get_words(&me->seat, held.key, words, 16));
-    WANT(reply.status == TEURLAKS_OK && reply.len == 1 && words[0].low == held.value && words[0].high == ~held.value);
+    WANT(reply.status == TEURLAKS_OK && reply.len == 1 && words[0].low == held.value &&
+         words[0].high == ~held.value);
 }
 
 static uint32_t free_key(struct place *me, struct teurlaks_key key) {
@@ -69,7 +80,8 @@ static uint32_t free_key(struct place *me, struct teurlaks_key key) {
     return status;
 }
 
-/* Leaves a value to those that come after, and takes another one in its place once there are enough. */
+/* Leaves a value to those that come after, and takes another one in its place once there are
+ * enough. */
 static int hand_on(struct place *me, struct held held, struct held *other) {
     int swaps;
     pthread_mutex_lock(&turn);
@@ -162,8 +174,9 @@ static void tell(uint64_t threads) {
     /* The steward's handle is of its thread: a line is printed between its runs. */
     PATIENTLY(totals, totals.status, teurlaks_steward_totals(&steward));
     WANT(totals.status == TEURLAKS_OK && totals.live == waiting_count);
-    printf("relay: %" PRIu64 " threads, %" PRIu64 " spans, %zu pages, %zu live, %" PRIu64 " folds, %" PRIu64 " forgotten, %ld KB resident\n", threads, spans,
-           totals.pages, totals.live, folds, forgotten, resident());
+    printf("relay: %" PRIu64 " threads, %" PRIu64 " spans, %zu pages, %zu live, %" PRIu64
+           " folds, %" PRIu64 " forgotten, %ld KB resident\n",
+           threads, spans, totals.pages, totals.live, folds, forgotten, resident());
     fflush(stdout);
 }
 
@@ -198,7 +211,8 @@ int main(int count, char **words) {
         tell((tenth + 1) * (wanted / TENTHS));
         if (first == 0) first = resident();
     }
-    printf("relay: %.3f of what was resident after the first tenth\n", (double)resident() / (double)first);
+    printf("relay: %.3f of what was resident after the first tenth\n",
+           (double)resident() / (double)first);
     for (size_t at = 0; at < SEATS; at++) teurlaks_share_drop(&places[at].seat);
     teurlaks_share_drop(&steward);
     return 0;

@@ -1,8 +1,11 @@
-/* A core that is used without an end: `service EVENTS VALUES`. Puts and frees at random over up to VALUES live values of one shard; of each
- * million events the last thin the values out to a twentieth, and then the sparse half of the pages goes through the pool and is folded, as
- * often as that gives pages back, and what can never be live again is forgotten. Each round every live value is looked up, and keys that were
- * freed find nothing. After the first ten rounds, and then each tenth, it prints a line: events, spans opened so far, pages, live values,
- * resident kilobytes; at its end how much more is resident than after the first ten rounds, and what is once all is freed, ended and forgotten. */
+/* A core that is used without an end: `service EVENTS VALUES`. Puts and frees at random over up to
+ * VALUES live values of one shard; of each million events the last thin the values out to a
+ * twentieth, and then the sparse half of the pages goes through the pool and is folded, as often as
+ * that gives pages back, and what can never be live again is forgotten. Each round every live value
+ * is looked up, and keys that were freed find nothing. After the first ten rounds, and then each
+ * tenth, it prints a line: events, spans opened so far, pages, live values, resident kilobytes; at
+ * its end how much more is resident than after the first ten rounds, and what is once all is freed,
+ * ended and forgotten. */
 #include "common.h"
 #include "teurlaks.h"
 
@@ -25,7 +28,8 @@ static void say_where(void) { printf("service: event %" PRIu64, events); }
 
 static void put_one(void) {
     struct held held = {.value = draw(UINT64_MAX)};
-    struct teurlaks_put_reply reply = teurlaks_put(&core, 0, (struct teurlaks_word){held.value, ~held.value});
+    struct teurlaks_put_reply reply =
+        teurlaks_put(&core, 0, (struct teurlaks_word){held.value, ~held.value});
     WANT(reply.status == TEURLAKS_OK);
     if (reply.key.serial >= spans) spans = (uint64_t)reply.key.serial + 1;
     held.key = reply.key;
@@ -44,7 +48,8 @@ static void free_one(void) {
 static void look_at_all(void) {
     for (size_t at = 0; at < live_count; at++) {
         struct teurlaks_get_reply reply = teurlaks_get(&core, live[at].key);
-        WANT(reply.status == TEURLAKS_OK && reply.value.low == live[at].value && reply.value.high == ~live[at].value);
+        WANT(reply.status == TEURLAKS_OK && reply.value.low == live[at].value &&
+             reply.value.high == ~live[at].value);
     }
     for (size_t at = 0; at < STALE && at < stale_count; at++) {
         WANT(teurlaks_get(&core, stale[at]).status == TEURLAKS_NONE);
@@ -62,13 +67,15 @@ static size_t fold_half(void) {
         step = teurlaks_step(&core);
     } while (step.status == TEURLAKS_OK || step.status == TEURLAKS_EMPTIED);
     WANT(step.status == TEURLAKS_NO_PAIR_LEFT && teurlaks_close(&core) == TEURLAKS_OK);
-    while (teurlaks_adopt(&core, 0).status == TEURLAKS_OK) {}
+    while (teurlaks_adopt(&core, 0).status == TEURLAKS_OK) {
+    }
     return pages - teurlaks_totals(&core).pages;
 }
 
 static void compact(void) {
     WANT(teurlaks_trim(&core, 0).status == TEURLAKS_OK);
-    while (fold_half() * 16 > teurlaks_totals(&core).pages) {}
+    while (fold_half() * 16 > teurlaks_totals(&core).pages) {
+    }
     WANT(teurlaks_forget(&core).status == TEURLAKS_OK);
 }
 
@@ -98,11 +105,14 @@ int main(int count, char **words) {
         round_of(values);
         if (rounds % ROUNDS_OF_A_LINE != 0) continue;
         if (first == 0) first = resident();
-        printf("service: %" PRIu64 " events, %" PRIu64 " spans, %zu pages, %zu live, %ld KB resident\n", events, spans, teurlaks_totals(&core).pages,
-               live_count, resident());
+        printf("service: %" PRIu64 " events, %" PRIu64
+               " spans, %zu pages, %zu live, %ld KB resident\n",
+               events, spans, teurlaks_totals(&core).pages, live_count, resident());
         fflush(stdout);
     }
-    if (first > 0) printf("service: %.3f of what was resident after the first ten rounds\n", (double)resident() / (double)first);
+    if (first > 0)
+        printf("service: %.3f of what was resident after the first ten rounds\n",
+               (double)resident() / (double)first);
     while (live_count > 0) free_one();
     WANT(teurlaks_end(&core, 0) == TEURLAKS_OK && teurlaks_forget(&core).status == TEURLAKS_OK);
     WANT(teurlaks_forget(&core).count == 0);

@@ -1,7 +1,9 @@
-/* Random calls of the C library for as long as told, beside a plain map of keys: `soak SECONDS SEED`. One core lives after another, each
- * of other numbers, under budgets of memory that change; each call answers as the map does, a refused call has changed nothing and
- * succeeds with memory, and at its end a core has just the live keys of the map. The seed is printed at once, and what it draws does not
- * depend on the time, but for where it ends. Link it with c/pages.c and with --wrap for rattle_alloc and rattle_realloc. */
+/* Random calls of the C library for as long as told, beside a plain map of keys: `soak SECONDS
+ * SEED`. One core lives after another, each of other numbers, under budgets of memory that change;
+ * each call answers as the map does, a refused call has changed nothing and succeeds with memory,
+ * and at its end a core has just the live keys of the map. The seed is printed at once, and what it
+ * draws does not depend on the time, but for where it ends. Link it with c/pages.c and with --wrap
+ * for rattle_alloc and rattle_realloc. */
 #include "common.h"
 #include "teurlaks.h"
 
@@ -33,7 +35,8 @@ static bool has_budget;
 static size_t budget;
 
 static struct {
-    uint64_t calls, refused, wanted, puts, sets, frees, cores, ends, retired, trimmed, adopted, marks, folds, emptied;
+    uint64_t calls, refused, wanted, puts, sets, frees, cores, ends, retired, trimmed, adopted,
+        marks, folds, emptied;
 } counts;
 
 static void say_where(void) { printf("soak: seed %" PRIu64 ", call %" PRIu64, seed, counts.calls); }
@@ -55,30 +58,33 @@ struct got __wrap_rattle_alloc(size_t size, size_t least) {
 }
 
 struct got __wrap_rattle_realloc(void *at, size_t old, size_t size, size_t least) {
-    return is_refused(size) ? (struct got){0, nothing} : __real_rattle_realloc(at, old, size, least);
+    return is_refused(size) ? (struct got){0, nothing}
+                            : __real_rattle_realloc(at, old, size, least);
 }
 
-/* Makes the call within the budget, and once more without where memory was refused it: then nothing has changed. */
-#define CALL(reply, status, call)                                                                                                            \
-    do {                                                                                                                                     \
-        struct teurlaks_totals_reply before = teurlaks_totals(&core);                                                                        \
-        uint64_t refused = counts.refused;                                                                                                   \
-        has_budget = true;                                                                                                                   \
-        reply = call;                                                                                                                        \
-        has_budget = false;                                                                                                                  \
-        counts.calls++;                                                                                                                      \
-        if ((status) == TEURLAKS_OUT_OF_MEMORY) {                                                                                            \
-            struct teurlaks_totals_reply after = teurlaks_totals(&core);                                                                     \
-            WANT(counts.refused > refused);                                                                                                  \
-            WANT(after.pages == before.pages && after.live == before.live);                                                                  \
-            look_anywhere();                                                                                                                 \
-            counts.wanted++;                                                                                                                 \
-            reply = call;                                                                                                                    \
-            WANT((status) != TEURLAKS_OUT_OF_MEMORY);                                                                                        \
-        }                                                                                                                                    \
+/* Makes the call within the budget, and once more without where memory was refused it: then nothing
+ * has changed. */
+#define CALL(reply, status, call)                                                                  \
+    do {                                                                                           \
+        struct teurlaks_totals_reply before = teurlaks_totals(&core);                              \
+        uint64_t refused = counts.refused;                                                         \
+        has_budget = true;                                                                         \
+        reply = call;                                                                              \
+        has_budget = false;                                                                        \
+        counts.calls++;                                                                            \
+        if ((status) == TEURLAKS_OUT_OF_MEMORY) {                                                  \
+            struct teurlaks_totals_reply after = teurlaks_totals(&core);                           \
+            WANT(counts.refused > refused);                                                        \
+            WANT(after.pages == before.pages && after.live == before.live);                        \
+            look_anywhere();                                                                       \
+            counts.wanted++;                                                                       \
+            reply = call;                                                                          \
+            WANT((status) != TEURLAKS_OUT_OF_MEMORY);                                              \
+        }                                                                                          \
     } while (0)
 
-/* The plain map: the live keys, each with how many words its object has and what tells them; and keys that were freed. */
+/* The plain map: the live keys, each with how many words its object has and what tells them; and
+ * keys that were freed. */
 struct held {
     struct teurlaks_key key;
     size_t len;
@@ -90,9 +96,7 @@ static size_t live_count;
 static struct teurlaks_key stale[MOST_STALE];
 static uint64_t stale_count;
 
-static size_t len_of_a_class(void) {
-    return draw(2) ? 1 : 1 + draw(MOST_WORDS);
-}
+static size_t len_of_a_class(void) { return draw(2) ? 1 : 1 + draw(MOST_WORDS); }
 
 static void write_words(struct teurlaks_word *words, size_t len, uint64_t value) {
     for (size_t at = 0; at < len; at++) words[at] = (struct teurlaks_word){value ^ at, ~value};
@@ -125,7 +129,8 @@ static void put(void) {
         live[live_count++] = held;
         counts.puts++;
     } else {
-        WANT(reply.status == TEURLAKS_PAGES_SPENT || reply.status == TEURLAKS_ENDED || reply.status == TEURLAKS_CONFIG);
+        WANT(reply.status == TEURLAKS_PAGES_SPENT || reply.status == TEURLAKS_ENDED ||
+             reply.status == TEURLAKS_CONFIG);
     }
 }
 
@@ -165,12 +170,17 @@ static void use_stale(void) {
 
 /* A key of any numbers is found where the map has it, and nowhere else. */
 static void use_forged(void) {
-    struct teurlaks_key key = {.serial = (uint32_t)draw(4), .generation = (uint32_t)draw(4), .shard = (uint8_t)draw(256), .slot = (uint8_t)draw(256)};
+    struct teurlaks_key key = {.serial = (uint32_t)draw(4),
+                               .generation = (uint32_t)draw(4),
+                               .shard = (uint8_t)draw(256),
+                               .slot = (uint8_t)draw(256)};
     struct teurlaks_word words[MOST_WORDS];
     bool is_live = false;
-    for (size_t at = 0; at < live_count && !is_live; at++) is_live = memcmp(&live[at].key, &key, sizeof key) == 0;
+    for (size_t at = 0; at < live_count && !is_live; at++)
+        is_live = memcmp(&live[at].key, &key, sizeof key) == 0;
     counts.calls++;
-    WANT(teurlaks_get_words(&core, key, words, MOST_WORDS).status == (is_live ? TEURLAKS_OK : TEURLAKS_NONE));
+    WANT(teurlaks_get_words(&core, key, words, MOST_WORDS).status ==
+         (is_live ? TEURLAKS_OK : TEURLAKS_NONE));
 }
 
 static void end(void) {
@@ -185,7 +195,8 @@ static void retire(void) {
     uint32_t shard = (uint32_t)draw(shards);
     size_t most = draw(4);
     CALL(reply, reply.status, teurlaks_retire(&core, shard, most));
-    WANT(reply.status == TEURLAKS_OK || reply.status == TEURLAKS_ENDED || reply.status == TEURLAKS_PLAN_OPEN);
+    WANT(reply.status == TEURLAKS_OK || reply.status == TEURLAKS_ENDED ||
+         reply.status == TEURLAKS_PLAN_OPEN);
     WANT(reply.count <= most);
     counts.retired += reply.count;
 }
@@ -201,8 +212,9 @@ static void trim(void) {
 static void adopt(void) {
     struct teurlaks_adopt_reply reply;
     CALL(reply, reply.status, teurlaks_adopt(&core, (uint32_t)draw(shards)));
-    WANT(reply.status == TEURLAKS_OK || reply.status == TEURLAKS_PAGES_SPENT || reply.status == TEURLAKS_ENDED ||
-         reply.status == TEURLAKS_PLAN_OPEN || reply.status == TEURLAKS_NOTHING_TO_ADOPT);
+    WANT(reply.status == TEURLAKS_OK || reply.status == TEURLAKS_PAGES_SPENT ||
+         reply.status == TEURLAKS_ENDED || reply.status == TEURLAKS_PLAN_OPEN ||
+         reply.status == TEURLAKS_NOTHING_TO_ADOPT);
     counts.adopted += reply.status == TEURLAKS_OK;
 }
 
@@ -218,8 +230,8 @@ static void step(void) {
     struct teurlaks_step_reply reply;
     size_t pages = teurlaks_totals(&core).pages;
     CALL(reply, reply.status, teurlaks_step(&core));
-    WANT(reply.status == TEURLAKS_OK || reply.status == TEURLAKS_EMPTIED || reply.status == TEURLAKS_NO_PAIR_LEFT ||
-         reply.status == TEURLAKS_NO_PLAN);
+    WANT(reply.status == TEURLAKS_OK || reply.status == TEURLAKS_EMPTIED ||
+         reply.status == TEURLAKS_NO_PAIR_LEFT || reply.status == TEURLAKS_NO_PLAN);
     WANT(teurlaks_totals(&core).pages == pages - (reply.status == TEURLAKS_OK));
     counts.folds += reply.status == TEURLAKS_OK;
     counts.emptied += reply.status == TEURLAKS_EMPTIED;
@@ -250,14 +262,22 @@ static void work(size_t wanted) {
 /* A call on groups, or now and then on a forged key. */
 static void move(void) {
     uint64_t kind = draw(64);
-    if (kind == 0 && draw(8) == 0) end();
-    else if (kind < 3) retire();
-    else if (kind < 5) trim();
-    else if (kind < 7) adopt();
-    else if (kind < 11) mark();
-    else if (kind < 12) close_plan();
-    else if (kind < 13) use_forged();
-    else step();
+    if (kind == 0 && draw(8) == 0)
+        end();
+    else if (kind < 3)
+        retire();
+    else if (kind < 5)
+        trim();
+    else if (kind < 7)
+        adopt();
+    else if (kind < 11)
+        mark();
+    else if (kind < 12)
+        close_plan();
+    else if (kind < 13)
+        use_forged();
+    else
+        step();
 }
 
 /* From nothing to all that may be asked for. */
@@ -267,13 +287,15 @@ static void change_budget(void) {
 }
 
 static int is_before(const void *a, const void *b) {
-    const struct teurlaks_key *k = &((const struct held *)a)->key, *l = &((const struct held *)b)->key;
+    const struct teurlaks_key *k = &((const struct held *)a)->key,
+                              *l = &((const struct held *)b)->key;
     if (k->shard != l->shard) return k->shard < l->shard ? -1 : 1;
     if (k->serial != l->serial) return k->serial < l->serial ? -1 : 1;
     return k->slot < l->slot ? -1 : k->slot > l->slot;
 }
 
-/* The walk over the live keys gives those of the map, in order; then each is freed, and nothing is left. */
+/* The walk over the live keys gives those of the map, in order; then each is freed, and nothing is
+ * left. */
 static void settle(void) {
     struct teurlaks_next_reply next = {TEURLAKS_OK, {0, 0, 0, 0, 0}};
     size_t at = 0;
@@ -290,11 +312,14 @@ static void settle(void) {
 }
 
 static void tell(time_t seconds) {
-    printf("soak: %lld s: %" PRIu64 " calls, %" PRIu64 " of which wanted memory, %" PRIu64 " growths refused; %" PRIu64 " cores, %" PRIu64
-           " puts, %" PRIu64 " sets, %" PRIu64 " frees, %" PRIu64 " ends, %" PRIu64 " groups retired, %" PRIu64 " pages trimmed, %" PRIu64
-           " groups adopted, %" PRIu64 " marks, %" PRIu64 " folds, %" PRIu64 " pairs emptied\n",
-           (long long)seconds, counts.calls, counts.wanted, counts.refused, counts.cores, counts.puts, counts.sets, counts.frees, counts.ends,
-           counts.retired, counts.trimmed, counts.adopted, counts.marks, counts.folds, counts.emptied);
+    printf("soak: %lld s: %" PRIu64 " calls, %" PRIu64 " of which wanted memory, %" PRIu64
+           " growths refused; %" PRIu64 " cores, %" PRIu64 " puts, %" PRIu64 " sets, %" PRIu64
+           " frees, %" PRIu64 " ends, %" PRIu64 " groups retired, %" PRIu64
+           " pages trimmed, %" PRIu64 " groups adopted, %" PRIu64 " marks, %" PRIu64
+           " folds, %" PRIu64 " pairs emptied\n",
+           (long long)seconds, counts.calls, counts.wanted, counts.refused, counts.cores,
+           counts.puts, counts.sets, counts.frees, counts.ends, counts.retired, counts.trimmed,
+           counts.adopted, counts.marks, counts.folds, counts.emptied);
     fflush(stdout);
 }
 

@@ -1,12 +1,15 @@
-/* `cache STORE WHEN [SECONDS]`: a cache of values of 100 to 250 bytes whose working set grows, shrinks and shifts, by four threads, and what the
- * system counts as resident (VmRSS) each second.
+/* `cache STORE WHEN [SECONDS]`: a cache of values of 100 to 250 bytes whose working set grows,
+ * shrinks and shifts, by four threads, and what the system counts as resident (VmRSS) each second.
  *
- * STORE is `core`, a core for each thread, or `malloc`, a block for each value. WHEN is `compact`, for a core that is compacted in small parts between
- * requests whenever that can be expected to pay, or `never`. The keys are drawn by Zipf's law, the least recently used value goes when there is
- * no room, and every value that is found is compared with what was put. The requests are the same in each run, and those of rust/examples/cache.rs.
+ * STORE is `core`, a core for each thread, or `malloc`, a block for each value. WHEN is `compact`,
+ * for a core that is compacted in small parts between requests whenever that can be expected to
+ * pay, or `never`. The keys are drawn by Zipf's law, the least recently used value goes when there
+ * is no room, and every value that is found is compared with what was put. The requests are the
+ * same in each run, and those of rust/examples/cache.rs.
  *
- * A core is used by one thread at a time, so each thread has one, with the keys that a hash gives it. A seat of an arena that all threads share would
- * stand in its place in struct values, and nothing else would change.
+ * A core is used by one thread at a time, so each thread has one, with the keys that a hash gives
+ * it. A seat of an arena that all threads share would stand in its place in struct values, and
+ * nothing else would change.
  *
  * Build it with c/pages.c and the archive, with -pthread -lm. */
 #define _GNU_SOURCE
@@ -21,7 +24,13 @@
 #include <time.h>
 #include <unistd.h>
 
-enum { THREADS = 4, MOST_VALUES = 40000, BUCKETS = 1 << 16, KEYS = 1000000, REQUESTS_A_SECOND = 100000 };
+enum {
+    THREADS = 4,
+    MOST_VALUES = 40000,
+    BUCKETS = 1 << 16,
+    KEYS = 1000000,
+    REQUESTS_A_SECOND = 100000
+};
 enum { LEAST_BYTES = 100, MOST_BYTES = 250, SHARDS = 32, PAGES_OF_A_SHARD = 1024, SLOTS = 16 };
 /* So many steps of a compaction come after each so many requests. */
 enum { BUDGET = 64, REQUESTS_A_PART = 256 };
@@ -44,7 +53,8 @@ struct compaction {
     bool is_under_way;
     /* How many pages it has given back, and of how many. */
     size_t gone, pages;
-    /* After how many looks the next compaction may begin, and how many the last one that hardly paid had to wait. */
+    /* After how many looks the next compaction may begin, and how many the last one that hardly
+     * paid had to wait. */
     unsigned looks, pause;
 };
 
@@ -81,7 +91,8 @@ static union name values_put(struct values *values, const void *bytes, size_t le
 static bool values_has(struct values *values, union name name, const void *bytes, size_t len) {
     unsigned char found[MOST_BYTES];
     if (!values->in_core) return !memcmp(name.block, bytes, len);
-    return teurlaks_get_bytes(&values->core, name.key, found, len) == TEURLAKS_OK && !memcmp(found, bytes, len);
+    return teurlaks_get_bytes(&values->core, name.key, found, len) == TEURLAKS_OK &&
+           !memcmp(found, bytes, len);
 }
 
 static void values_remove(struct values *values, union name name) {
@@ -113,8 +124,9 @@ static bool begins(struct values *values) {
     return true;
 }
 
-/* Takes so many steps of a compaction, or none if it would not pay. Every key stays valid in between. After one that gave less than an eighth of
- * the pages back the next waits for twice as many looks as before. */
+/* Takes so many steps of a compaction, or none if it would not pay. Every key stays valid in
+ * between. After one that gave less than an eighth of the pages back the next waits for twice as
+ * many looks as before. */
 static void values_compact_within(struct values *values, unsigned budget) {
     struct compaction *at = &values->compaction;
     if (!at->is_under_way && !begins(values)) return;
@@ -135,23 +147,26 @@ static uint64_t mix(uint64_t number) {
     return b ^ b >> 31;
 }
 
-/* A rank from 0 on, from a state that is drawn from: rank r comes in proportion to 1 / (r + 1), by Zipf's law. */
+/* A rank from 0 on, from a state that is drawn from: rank r comes in proportion to 1 / (r + 1), by
+ * Zipf's law. */
 static uint64_t draw_rank(uint64_t *state) {
     *state += 0x9e3779b97f4a7c15u;
     double uniform = (double)(mix(*state) >> 11) / (double)((uint64_t)1 << 53);
     return (uint64_t)pow(KEYS, uniform) - 1;
 }
 
-/* How many values a thread may keep in a second, and the key of rank 0. It takes twenty seconds until all comes again, under other keys. */
+/* How many values a thread may keep in a second, and the key of rank 0. It takes twenty seconds
+ * until all comes again, under other keys. */
 static size_t room_of(unsigned second) {
     unsigned at = second % 20;
-    unsigned percent = at <= 7 ? 30 + 10 * at : at <= 11 ? 100 : at <= 16 ? 100 - 16 * (at - 11) : 20;
+    unsigned percent = at <= 7    ? 30 + 10 * at
+                       : at <= 11 ? 100
+                       : at <= 16 ? 100 - 16 * (at - 11)
+                                  : 20;
     return MOST_VALUES * percent / 100;
 }
 
-static uint64_t first_key_of(unsigned second) {
-    return second / 20 * 80000 + second % 20 * 4000;
-}
+static uint64_t first_key_of(unsigned second) { return second / 20 * 80000 + second % 20 * 4000; }
 
 /* The value of a key, which is the same whenever it is fetched. Answers how many bytes it has. */
 static size_t fetch(uint64_t key, unsigned char *bytes) {
@@ -162,7 +177,8 @@ static size_t fetch(uint64_t key, unsigned char *bytes) {
 
 /* ---- The cache of one thread ---- */
 
-/* A place in the order of use, and in the chain of its bucket. The one that was used last is next to the place ENDS, which also ends each chain. */
+/* A place in the order of use, and in the chain of its bucket. The one that was used last is next
+ * to the place ENDS, which also ends each chain. */
 struct place {
     uint64_t key;
     union name name;
@@ -181,7 +197,8 @@ struct cache {
 
 /* All of it is touched, so that what is measured later is that of the values. */
 static struct cache *cache_new(void) {
-    struct cache *cache = mmap(NULL, sizeof *cache, PROT_READ | PROT_WRITE, MAP_PRIVATE | MAP_ANONYMOUS | MAP_POPULATE, -1, 0);
+    struct cache *cache = mmap(NULL, sizeof *cache, PROT_READ | PROT_WRITE,
+                               MAP_PRIVATE | MAP_ANONYMOUS | MAP_POPULATE, -1, 0);
     if (cache == MAP_FAILED) die("mmap", 0);
     for (uint32_t place = MOST_VALUES; place > 0; place--) cache->spare[cache->spare_len++] = place;
     return cache;
@@ -252,7 +269,8 @@ static void request(struct cache *cache, uint64_t key, size_t room) {
 static bool in_core, compacts;
 static unsigned seconds;
 
-/* The threads and the one that measures wait here for each other: when there is work to do, and when what is resident has been read. */
+/* The threads and the one that measures wait here for each other: when there is work to do, and
+ * when what is resident has been read. */
 static pthread_barrier_t meeting;
 
 /* What a thread tells of a second. */
@@ -289,9 +307,7 @@ static void serve(struct cache *cache, unsigned second, unsigned thread, uint64_
     }
 }
 
-static void meet(void) {
-    pthread_barrier_wait(&meeting);
-}
+static void meet(void) { pthread_barrier_wait(&meeting); }
 
 static void *work(void *at) {
     struct told *mine = at;
@@ -304,7 +320,10 @@ static void *work(void *at) {
         double start = thread_ms();
         cache->compacting_ms = 0;
         serve(cache, second, thread, &state);
-        *mine = (struct told){.values = cache->len, .bytes = cache->bytes, .wrong = cache->wrong, .serving_ms = thread_ms() - start};
+        *mine = (struct told){.values = cache->len,
+                              .bytes = cache->bytes,
+                              .wrong = cache->wrong,
+                              .serving_ms = thread_ms() - start};
         meet(), meet();
         /* There are no requests in the rest of the second: what is under way is ended. */
         while (in_core && compacts && cache->values.compaction.is_under_way) tend(cache);
@@ -330,9 +349,10 @@ static long resident(void) {
     return kilobytes;
 }
 
-/* A line for each second: the values and their bytes, in kilobytes what is resident beyond what the program took at first, before and after
- * compaction, the pages then, and the milliseconds of a processor that requests and compactions took, of all threads together. Answers how many
- * values were wrong. */
+/* A line for each second: the values and their bytes, in kilobytes what is resident beyond what the
+ * program took at first, before and after compaction, the pages then, and the milliseconds of a
+ * processor that requests and compactions took, of all threads together. Answers how many values
+ * were wrong. */
 static size_t measure(void) {
     struct told sum = {0};
     meet();
@@ -348,11 +368,12 @@ static size_t measure(void) {
         for (unsigned thread = 0; thread < THREADS; thread++) {
             sum.values += told[thread].values, sum.bytes += told[thread].bytes;
             sum.wrong += told[thread].wrong, sum.pages += told[thread].pages;
-            sum.serving_ms += told[thread].serving_ms, sum.compacting_ms += told[thread].compacting_ms;
+            sum.serving_ms += told[thread].serving_ms,
+                sum.compacting_ms += told[thread].compacting_ms;
         }
         meet();
-        printf("%u %zu %zu %ld %ld %zu %.0f %.0f\n", second, sum.values, sum.bytes / 1024, before, after, sum.pages, sum.serving_ms,
-               sum.compacting_ms);
+        printf("%u %zu %zu %ld %ld %zu %.0f %.0f\n", second, sum.values, sum.bytes / 1024, before,
+               after, sum.pages, sum.serving_ms, sum.compacting_ms);
         fflush(stdout);
         if (second + 1 < seconds) sleep(1);
     }
@@ -363,7 +384,8 @@ int main(int argc, char **argv) {
     seconds = argc == 4 ? strtoul(argv[3], NULL, 10) : 20;
     in_core = argc >= 3 && !strcmp(argv[1], "core");
     compacts = argc >= 3 && !strcmp(argv[2], "compact");
-    if (argc < 3 || argc > 4 || !seconds || (!in_core && strcmp(argv[1], "malloc")) || (!compacts && strcmp(argv[2], "never"))) {
+    if (argc < 3 || argc > 4 || !seconds || (!in_core && strcmp(argv[1], "malloc")) ||
+        (!compacts && strcmp(argv[2], "never"))) {
         fprintf(stderr, "cache core|malloc compact|never [SECONDS]\n");
         return 2;
     }
