@@ -16,7 +16,7 @@ use Rattle.groups.specs.Spans.{IsSpanOf, SpansState, all_spans, with_set_at, wit
 use Rattle.groups.proofs.Lists.{there_at}
 use Rattle.groups.proofs.ReplacedGroups.{AreAlike-with_span, head-alike}
 use Rattle.groups.proofs.StoredObjects.{paged_if_held}
-use Rattle.shard.proofs.ZeroPages.{page_written}
+use Rattle.shard.proofs.ZeroPages.{page_written, zeros_alone}
 use Rattle.pool.specs.State.{PooledState, group_of}
 use Rattle.pool.proofs.Cases.{where_true}
 
@@ -77,11 +77,11 @@ set_in_place spans new words now blank sound place span here slot generation val
 
 -- where they were not
 pub set_on_new_page : (spans new : SpansState) (words : Option Words) (page : Words) (blank : Bool) (place : ℕ) (span : SpanState) (slot generation : ℕ) (value : Value)
-    → words ≡ None → page ≡ set_object blank_page span.class slot value → new ≡ with_span_at spans place (with_set_at span slot generation value)
+    → is_some words ≡ false → page ≡ set_object blank_page span.class slot value → new ≡ with_span_at spans place (with_set_at span slot generation value)
     → group_of new (Some page) ≡ set_group (group_of spans (page_of words blank)) place span slot generation value
 set_on_new_page spans new words page blank place span slot generation value none page_is new_is =
     set_in_group spans new (page_of words blank) (Some page) place span slot generation value new_is
-    (ap Some (page_is ∙ ap (λ (w : Words). set_object w span.class slot value) (sym (words_of-page_of words blank ∙ ap (λ o. unwrap_or o blank_page) none))))
+    (ap Some (page_is ∙ ap (λ (w : Words). set_object w span.class slot value) (sym (words_of-page_of words blank ∙ zeros_alone words none))))
 
 module _ (group : PooledState) (place : ℕ) (span : SpanState) (here : slice_get (spans_of group) place ≡ Some span) (slot generation : ℕ) (value : Value) where
   head-set_group : (set_group group place span slot generation value).head.id ≡ group.head.id

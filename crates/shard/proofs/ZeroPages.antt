@@ -81,13 +81,18 @@ set_in_place spans new words now blank closed sound place span here slot generat
     set_in_group spans new (page_of words blank) (page_of now blank) closed place span slot generation value new_is
     (page_written words now blank class slot value set (page_of-stays words now blank same there) ∙ ap (λ (c : Class). with_object (page_of words blank) c slot value) of_span)
 
+-- words that are not in memory are zeros
+pub zeros_alone : (words : Option Words) → is_some words ≡ false → unwrap_or words blank_page ≡ blank_page
+zeros_alone None none = refl
+zeros_alone (Some words) some = absurd (false≢true (sym some))
+
 -- where they were not
 pub set_on_new_page : (spans new : SpansState) (words : Option Words) (page : Words) (blank closed : Bool) (place : ℕ) (span : SpanState) (slot generation : ℕ) (value : Value)
-    → words ≡ None → page ≡ set_object blank_page span.class slot value → new ≡ with_span_at spans place (with_set_at span slot generation value)
+    → is_some words ≡ false → page ≡ set_object blank_page span.class slot value → new ≡ with_span_at spans place (with_set_at span slot generation value)
     → group_of new (Some page) closed ≡ set_group (group_of spans (page_of words blank) closed) place span slot generation value
 set_on_new_page spans new words page blank closed place span slot generation value none page_is new_is =
     set_in_group spans new (page_of words blank) (Some page) closed place span slot generation value new_is
-    (ap Some (page_is ∙ ap (λ (w : Words). set_object w span.class slot value) (sym (words_of-page_of words blank ∙ ap (λ o. unwrap_or o blank_page) none))))
+    (ap Some (page_is ∙ ap (λ (w : Words). set_object w span.class slot value) (sym (words_of-page_of words blank ∙ zeros_alone words none))))
 
 pub where_true : {X : Type 0} (b : Bool) → b ≡ true → OnTrue b X → X
 where_true true on x = x
