@@ -23,9 +23,9 @@ use std::alloc::{AllocError, Global};
 /// A mark of the pool and the shards that are lent: it takes a snapshot of every group of the pool
 /// and of the shards that has a page, makes a plan of as many folds as can be, tells the pool that
 /// a plan is open, and closes the groups onto which the plan folds, so that they take no put. It
-/// gives the snapshot, the plan and the short set that shows the plan best. The runner fills the
-/// rows of its graph, in as many pieces as there are shards where it goes by pieces; what the mark
-/// gives does not depend on it.
+/// gives the snapshot, the plan and the short set that shows the plan best. A runner that goes by
+/// pieces fills the rows of its graph in as many as there are shards, and in one if there is none;
+/// what the mark gives does not depend on it.
 ///
 /// # Errors
 ///
@@ -40,7 +40,6 @@ pub fn mark_in<R: Runner, H: LendsShard>(
     pool: &mut Pool<H::Log>,
     shards: &mut [H],
 ) -> Result<Certificate, MarkError>
-    requires some { 1 ≤ length shards.old }
     requires ready { R.ready runner.now }
     // What it gives, and what has changed then.
     ensures largest { IfOk result (IsLargest pool.old (map H.lent shards.old)) }
@@ -82,7 +81,6 @@ pub fn mark_some_in<R: Runner, H: LendsShard>(
     pool: &mut Pool<H::Log>,
     shards: &mut [H],
 ) -> Result<Certificate, MarkError>
-    requires some { 1 ≤ length shards.old }
     requires ready { R.ready runner.now }
     // What it gives, and what has changed then.
     ensures largest { IfOk result (IsLargestInPart pool.old (map H.lent shards.old)) }
@@ -108,7 +106,8 @@ pub fn mark_some_in<R: Runner, H: LendsShard>(
     let Ok(snapshot) = snapshot_of(alloc, pool, shards)? else {
         return Err(MarkError::Doubled);
     };
-    let found = largest_plan(runner, alloc, snapshot.sparsest(MOST_GROUPS), shards.len())?;
+    let pieces = shards.len().max(1);
+    let found = largest_plan(runner, alloc, snapshot.sparsest(MOST_GROUPS), pieces)?;
     close_planned(shards, found.plan.pairs());
     pool.plan_opened();
     Ok(found)
