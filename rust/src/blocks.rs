@@ -1,6 +1,7 @@
 //! Blocks of one size, whose memory goes back to the system.
 
 use crate::refused::Refused;
+use std::ops::Range;
 use std::ptr::NonNull;
 
 /// What the system has memory in.
@@ -100,9 +101,7 @@ impl Blocks {
             None => self.take_new(),
         };
         self.taken[number as usize] = true;
-        let (segment, offset) = self.place(number);
-        // SAFETY: the block lies within its segment.
-        (number, unsafe { NonNull::new_unchecked(segment.as_ptr().add(offset)) })
+        (number, self.address(number))
     }
 
     /// The number of the first block that was never taken.
@@ -130,6 +129,52 @@ impl Blocks {
             self.release(number);
             self.cold.push(number);
         }
+    }
+
+    /// The numbers of all blocks that were ever taken, as `swap_ends` wants them at first.
+    pub fn numbers(&self) -> Range<usize> {
+        0..self.taken.len()
+    }
+
+    /// Whether a free block may share a system page with another one.
+    pub fn share_pages(&self) -> bool {
+        self.size % SYSTEM_PAGE != 0
+    }
+
+    /// Takes the lowest free block of the range for the highest taken one, which is free from now on,
+    /// if that is the higher one: both numbers. The range is then what lies between.
+    // A number has 32 bits.
+    #[allow(clippy::cast_possible_truncation)]
+    pub fn swap_ends(&mut self, within: &mut Range<usize>) -> Option<(u32, u32)> {
+        let low = within.find(|&number| !self.taken[number])?;
+        let high = within.rfind(|&number| self.taken[number])?;
+        self.taken.swap(low, high);
+        Some((high as u32, low as u32))
+    }
+
+    /// Hands all memory behind the last taken block to the system, once no free block lies before it.
+    // A number has 32 bits.
+    #[allow(clippy::cast_possible_truncation)]
+    pub fn release_rest(&mut self) {
+        let count = self.taken.partition_point(|taken| *taken);
+        self.warm.clear();
+        self.cold.clear();
+        // The lowest is taken first.
+        self.cold
+            .extend((count..self.taken.len()).rev().map(|number| number as u32));
+        for (number, segment) in self.segments.iter().enumerate() {
+            let used = count.saturating_sub(number * self.per).min(self.per) * self.size;
+            let first = (used + SYSTEM_PAGE - 1) / SYSTEM_PAGE * SYSTEM_PAGE;
+            // SAFETY: no block that is taken lies behind the first `used` bytes of the segment.
+            unsafe { system::release(segment.as_ptr().add(first), self.segment_bytes() - first) }
+        }
+    }
+
+    /// Where the block is.
+    pub fn address(&self, number: u32) -> NonNull<u8> {
+        let (segment, offset) = self.place(number);
+        // SAFETY: the block lies within its segment.
+        unsafe { NonNull::new_unchecked(segment.as_ptr().add(offset)) }
     }
 
     /// Hands those system pages of a free block to the system on which no taken block lies.
@@ -314,6 +359,24 @@ mod tests {
         (0..100).for_each(|number| blocks.give(number));
         blocks.cool();
         assert_eq!((blocks.cold.len(), blocks.cold.capacity()), (100, room));
+        Ok(())
+    }
+
+    /// What is taken at the highest numbers goes to the lowest, and the next blocks are those behind.
+    #[test]
+    fn ends_are_swapped() -> Result<(), Refused> {
+        let mut blocks = Blocks::new(2560);
+        blocks.reserve_all(100)?;
+        assert!(blocks.share_pages() && (0..100).map(|_| blocks.take().0).eq(0..100));
+        (0..100)
+            .filter(|number| number % 10 != 3)
+            .for_each(|number| blocks.give(number));
+        let mut within = blocks.numbers();
+        let from: Vec<_> = std::iter::from_fn(|| blocks.swap_ends(&mut within)).collect();
+        let low = [0, 1, 2, 4, 5, 6, 7, 8, 9];
+        assert!(from.into_iter().eq((1..10).rev().map(|n| 10 * n + 3).zip(low)));
+        blocks.release_rest();
+        assert_eq!((blocks.take().0, blocks.take().0), (10, 11));
         Ok(())
     }
 }

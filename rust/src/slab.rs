@@ -701,7 +701,8 @@ impl<T> Slab<T> {
     /// each side, those with the fewest values. A page that is folded takes no value of its own any
     /// more, so each fold uses up one of the 4,294,967,295 pages that a shard may open in its life;
     /// what can never have a value again is forgotten. [`Slab::compact_within`] does the same in
-    /// parts.
+    /// parts. At the end here pages of values move together, each once at most, so that the memory
+    /// between them goes to the system too.
     ///
     /// # Errors
     ///
@@ -721,7 +722,7 @@ impl<T> Slab<T> {
         self.give_up_vacant();
         let went = self.compact_all();
         self.first = 0;
-        self.values.cool();
+        self.values.pack();
         went
     }
 

@@ -144,15 +144,13 @@ impl Spans {
         })
     }
 
-    /// Moves the home of the span of this number, where it has one, to the page of the other, and says whether it was elsewhere.
-    pub fn move_home(&mut self, number: u32, to: &Home) -> bool {
-        let Some(home) = self.find_mut(self.name(number)) else {
-            return false;
-        };
-        let moves = home.page != to.page;
-        home.page = to.page;
-        home.block = to.block;
-        moves
+    /// Moves the home of the span of this number, if it has one, to the page of that number and
+    /// block.
+    pub fn move_home(&mut self, number: u32, page: u32, block: Block) {
+        if let Some(home) = self.find_mut(self.name(number)) {
+            home.page = page;
+            home.block = block;
+        }
     }
 
     /// Forgets the home of the span, if it has one. It takes no memory.

@@ -231,8 +231,8 @@ fn exported() -> Declarations {
             &mut declarations,
         );
     }
-    assert_eq!(declarations.functions.len(), 60);
-    assert_eq!(declarations.structs.len(), 27);
+    assert_eq!(declarations.functions.len(), 62);
+    assert_eq!(declarations.structs.len(), 28);
     for name in READING {
         let (params, _) = declarations.functions.get_mut(name).expect("an export");
         params[0].1 = "*const Handle".into();

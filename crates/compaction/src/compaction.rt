@@ -26,7 +26,7 @@ const WORTH: usize = 16;
 pub struct Compaction {
     progress: Progress,
     stage: Stage,
-    // How many slots a page has, of the class with the most that the last mark saw.
+    // How many slots a page has, of the class with the most that a mark saw.
     slots: usize,
     turn: Turn,
     rounds: Rounds,
@@ -238,7 +238,7 @@ impl Compaction {
         let is_worth = is_worth(certificate);
         self.progress.is_spent = !is_worth;
         self.round = self.round.with_mark(is_worth, leaves_some(certificate));
-        self.slots = slots_of(&certificate.snapshot);
+        self.slots = self.slots.max(slots_of(&certificate.snapshot));
         self.turn = Turn::first();
         self.stage = Stage::Fold;
     }
