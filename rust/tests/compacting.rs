@@ -210,6 +210,10 @@ fn maps_between_parts() -> Result<(), Refused> {
 #[test]
 fn a_plan_stays_open() -> Result<(), Refused> {
     let (mut core, stay) = sparse::<Core>(30_000, 20)?;
+    // The first plan folds what is in the pool, onto all that is in shards.
+    for shard in 0..3 {
+        core.retire(shard, 120)?;
+    }
     while core.mark_some() != Err(Refused::PlanOpen) {
         if core.close().is_ok() {
             let done = core.compact_within(1)?;
