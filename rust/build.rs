@@ -1,13 +1,16 @@
-//! Links the proved archive `libteurlaks_c.a`, and the three functions through which it asks for memory: those of `c/pages.c`, by which
-//! pages that are given back leave the process. Where the archive's folder has a `liblibc_c.a`, its three are taken.
+//! Links the proved archive `libteurlaks_c.a`, and the three functions through which it asks for
+//! memory: those of `c/pages.c`, by which pages that are given back leave the process. Where the
+//! archive's folder has a `liblibc_c.a`, its three are taken.
 //!
 //! With the feature `bitcode` that is `libteurlaks_c_bitcode.a`, which stands beside it. A linker
 //! that reads LLVM's bitcode, as `-C linker-plugin-lto` asks of rustc, inlines its calls on one
 //! object.
 //!
-//! `TEURLAKS_ARCHIVE` names the folder where the archive lies. Where it is not set, it is `lib/` of a release, beside the crate's folder; and where
-//! there is none, the Rattle kit's `rt lib` proves and makes it in `crates/teurlaks_c` of the repository. A release's `libteurlaks.a` has the
-//! three functions in it, so that no C compiler is needed. The kit is `KIT`, or the folder above the `bin` where `rt` is found on the `PATH`, or `/opt/rattle`.
+//! `TEURLAKS_ARCHIVE` names the folder where the archive lies. Where it is not set, it is `lib/` of
+//! a release, beside the crate's folder; and where there is none, the Rattle kit's `rt lib` proves
+//! and makes it in `crates/teurlaks_c` of the repository. A release's `libteurlaks.a` has the three
+//! functions in it, so that no C compiler is needed. The kit is `KIT`, or the folder above the
+//! `bin` where `rt` is found on the `PATH`, or `/opt/rattle`.
 
 use std::env;
 use std::path::{Path, PathBuf};
@@ -22,10 +25,24 @@ fn main() {
     };
     let is_bitcode = env::var_os("CARGO_FEATURE_BITCODE").is_some();
     if is_release(&archive) {
-        link(&archive, if is_bitcode { "teurlaks_bitcode" } else { "teurlaks" });
+        link(
+            &archive,
+            if is_bitcode {
+                "teurlaks_bitcode"
+            } else {
+                "teurlaks"
+            },
+        );
         return;
     }
-    link(&archive, if is_bitcode { "teurlaks_c_bitcode" } else { "teurlaks_c" });
+    link(
+        &archive,
+        if is_bitcode {
+            "teurlaks_c_bitcode"
+        } else {
+            "teurlaks_c"
+        },
+    );
     if archive.join("liblibc_c.a").exists() {
         link(&archive, "libc_c");
     } else {
@@ -51,7 +68,11 @@ fn source_of_pages() -> PathBuf {
     println!("cargo:rerun-if-env-changed=CC");
     let object = folder.join("pages.o");
     let words = ["-std=c11", "-O2", "-fPIC", "-pthread", "-c"];
-    run(tool("CC", "cc").args(words).arg(&source).arg("-o").arg(&object));
+    run(tool("CC", "cc")
+        .args(words)
+        .arg(&source)
+        .arg("-o")
+        .arg(&object));
     run(tool("AR", "ar")
         .arg("rcs")
         .arg(folder.join("libteurlaks_pages.a"))
@@ -65,7 +86,10 @@ fn tool(variable: &str, default: &str) -> Command {
 
 fn run(command: &mut Command) {
     let done = command.status();
-    assert!(done.is_ok_and(|status| status.success()), "{command:?} failed");
+    assert!(
+        done.is_ok_and(|status| status.success()),
+        "{command:?} failed"
+    );
 }
 
 fn link(folder: &Path, name: &str) {
@@ -76,7 +100,8 @@ fn link(folder: &Path, name: &str) {
     println!("cargo:rustc-link-lib=static={name}");
 }
 
-/// Proves the library and makes the archive, which takes seconds where nothing has changed and minutes at first.
+/// Proves the library and makes the archive, which takes seconds where nothing has changed and
+/// minutes at first.
 fn prove() -> PathBuf {
     let crates = Path::new(env!("CARGO_MANIFEST_DIR")).join("../crates");
     let folder = crates.join("teurlaks_c");
@@ -96,7 +121,8 @@ fn prove() -> PathBuf {
 fn kit() -> PathBuf {
     // `rt` may be a link into the kit.
     let of_rt = |rt: PathBuf| Some(rt.canonicalize().ok()?.parent()?.parent()?.to_path_buf());
-    let on_path = || env::split_paths(&env::var_os("PATH")?).find_map(|folder| of_rt(folder.join("rt")));
+    let on_path =
+        || env::split_paths(&env::var_os("PATH")?).find_map(|folder| of_rt(folder.join("rt")));
     env::var_os("KIT")
         .map(PathBuf::from)
         .or_else(on_path)

@@ -8,7 +8,8 @@ use std::time::Duration;
 /// What a program used from its start to its end.
 #[derive(Clone, Copy, Debug)]
 pub struct Used {
-    /// Processor time of the program and of the system for it: waiting for a processor that others use doesn't count.
+    /// Processor time of the program and of the system for it: waiting for a processor that others
+    /// use doesn't count.
     pub time: Duration,
     /// The most memory that was resident.
     pub kilobytes: u64,
@@ -37,7 +38,8 @@ extern "C" {
 
 fn wait(child: Child) -> io::Result<Used> {
     let (mut status, mut usage) = (0, Usage::default());
-    // SAFETY: both pointers are to live places of the types that Linux fills, and nobody else waits for this child.
+    // SAFETY: both pointers are to live places of the types that Linux fills, and nobody else waits
+    // for this child.
     let pid = unsafe { wait4(child.id() as i32, &mut status, 0, &mut usage) };
     if pid < 0 {
         return Err(io::Error::last_os_error());
@@ -45,7 +47,8 @@ fn wait(child: Child) -> io::Result<Used> {
     if status != 0 {
         return Err(io::Error::other(format!("ended with status {status:#x}")));
     }
-    let time = |t: TimeVal| Duration::from_secs(t.seconds as u64) + Duration::from_micros(t.micros as u64);
+    let time =
+        |t: TimeVal| Duration::from_secs(t.seconds as u64) + Duration::from_micros(t.micros as u64);
     Ok(Used {
         time: time(usage.user) + time(usage.system),
         kilobytes: usage.most_resident as u64,

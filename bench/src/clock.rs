@@ -17,8 +17,12 @@ extern "C" {
 
 /// What this process has used so far.
 pub fn used() -> Duration {
-    let mut time = TimeSpec { seconds: 0, nanos: 0 };
-    // SAFETY: the pointer is to a live place of the type that Linux fills. This clock is always there.
+    let mut time = TimeSpec {
+        seconds: 0,
+        nanos: 0,
+    };
+    // SAFETY: the pointer is to a live place of the type that Linux fills. This clock is always
+    // there.
     unsafe { clock_gettime(PROCESS, &mut time) };
     Duration::new(time.seconds as u64, time.nanos as u32)
 }

@@ -16,9 +16,20 @@ type Page = [u128; 256];
 /// A change of a span. Nothing here reads the log again: it is kept since `meshrun` keeps it.
 #[allow(dead_code)]
 enum Change {
-    Put { slot: u8, generation: u32, first: usize },
-    Set { slot: u8, generation: u32, first: usize },
-    Free { slot: u8, generation: u32 },
+    Put {
+        slot: u8,
+        generation: u32,
+        first: usize,
+    },
+    Set {
+        slot: u8,
+        generation: u32,
+        first: usize,
+    },
+    Free {
+        slot: u8,
+        generation: u32,
+    },
 }
 
 struct Span {
@@ -36,7 +47,8 @@ impl Span {
     /// Keeps the words of a change; the place of the first.
     fn keep_words(&mut self, class: Class, base: u128) -> usize {
         let first = self.words.len();
-        self.words.extend((0..class.words() as u128).map(|k| base + k));
+        self.words
+            .extend((0..class.words() as u128).map(|k| base + k));
         first
     }
 }
@@ -136,7 +148,8 @@ pub enum Stepped {
     Emptied,
 }
 
-/// A side of a snapshot: heads ascending, with their class and what they occupy, and where they are.
+/// A side of a snapshot: heads ascending, with their class and what they occupy, and where they
+/// are.
 type Side = Vec<(SpanId, (Class, Slots), usize)>;
 
 pub struct Core<const LOG: bool = false> {
@@ -224,7 +237,8 @@ impl<const LOG: bool> Core<LOG> {
         })
     }
 
-    /// The open group of the class of lowest head that has a usable slot, and its lowest such slot. Bits of groups without one go off.
+    /// The open group of the class of lowest head that has a usable slot, and its lowest such slot.
+    /// Bits of groups without one go off.
     fn room(&mut self, shard: usize, class: Class) -> Option<(usize, u8)> {
         let Shard { groups, rooms, .. } = &mut self.shards[shard];
         for (w, word) in rooms[class.number()].iter_mut().enumerate() {
@@ -233,7 +247,11 @@ impl<const LOG: bool> Core<LOG> {
                 let group = &self.groups[place];
                 let head = group.spans[0];
                 let worn = &self.spans[usize::from(head.shard)][usize::from(head.serial)].worn;
-                if let Some(slot) = group.occupied.union(worn).lowest_outside_below(class.slots()) {
+                if let Some(slot) = group
+                    .occupied
+                    .union(worn)
+                    .lowest_outside_below(class.slots())
+                {
                     return Some((place, slot));
                 }
                 *word &= *word - 1;
@@ -242,7 +260,8 @@ impl<const LOG: bool> Core<LOG> {
         None
     }
 
-    /// Opens a span on a new page. No other group of the class in the shard takes a put then, so all other bits of the class are off.
+    /// Opens a span on a new page. No other group of the class in the shard takes a put then, so
+    /// all other bits of the class are off.
     fn open(&mut self, shard: usize, class: Class) -> Result<usize, PagesSpent> {
         let opened = self.spans[shard].len();
         if self.shards[shard].groups.len() >= self.limits.pages || opened >= MOST_SPANS {
@@ -290,7 +309,8 @@ impl<const LOG: bool> Core<LOG> {
         }
     }
 
-    /// After groups came or were opened in the middle: where each stands, and a bit for each that takes puts.
+    /// After groups came or were opened in the middle: where each stands, and a bit for each that
+    /// takes puts.
     fn renumber(&mut self, shard: usize) {
         let home = &mut self.shards[shard];
         home.rooms.iter_mut().for_each(|rooms| rooms.fill(0));
@@ -305,14 +325,18 @@ impl<const LOG: bool> Core<LOG> {
 
     fn find(&self, key: Key) -> Option<&Span> {
         let span = self.span(key.span);
-        let known = span.live.contains(key.slot) && span.generations[usize::from(key.slot)] == key.generation;
+        let known = span.live.contains(key.slot)
+            && span.generations[usize::from(key.slot)] == key.generation;
         known.then_some(span)
     }
 
     /// The words of the key's object.
     pub fn get(&self, key: Key) -> Option<&[u128]> {
         let group = &self.groups[self.find(key)?.group];
-        group.page.as_ref().map(|page| &page[words_of(group.class, key.slot)])
+        group
+            .page
+            .as_ref()
+            .map(|page| &page[words_of(group.class, key.slot)])
     }
 
     /// Sets the key to the object of its class whose words count up from a base, where it is live.
@@ -387,7 +411,8 @@ impl<const LOG: bool> Core<LOG> {
         self.shards[shard] = Shard::default();
     }
 
-    /// Up to `most` groups of the shard with something live go to the pool, those with the least first; how many.
+    /// Up to `most` groups of the shard with something live go to the pool, those with the least
+    /// first; how many.
     pub fn retire(&mut self, shard: usize, most: usize) -> Result<usize, PlanOpen> {
         let mut live = Vec::new();
         for place in &self.shards[shard].groups {
@@ -452,11 +477,14 @@ impl<const LOG: bool> Core<LOG> {
         let running = self.shards.iter().filter(|shard| !shard.ended);
         let groups = running.flat_map(|shard| shard.groups.iter().copied());
         let owned = self.side(groups.filter(|place| self.groups[*place].page.is_some()))?;
-        let sets = |side: &Side| -> Vec<(Class, Slots)> { side.iter().map(|(_, set, _)| *set).collect() };
+        let sets =
+            |side: &Side| -> Vec<(Class, Slots)> { side.iter().map(|(_, set, _)| *set).collect() };
         let graph = Graph::new(&sets(&abandoned), &sets(&owned));
         let matching = match given {
             None => plan::largest(&graph),
-            Some(folds) => checked(&graph, &abandoned, &owned, folds).ok_or(MarkError::NotLargest)?,
+            Some(folds) => {
+                checked(&graph, &abandoned, &owned, folds).ok_or(MarkError::NotLargest)?
+            }
         };
         let (short, partners) = plan::short(&graph, &matching).ok_or(MarkError::NotLargest)?;
         let mut folds = Vec::new();
@@ -468,7 +496,8 @@ impl<const LOG: bool> Core<LOG> {
         }
         self.pairs.reverse();
         self.close_planned();
-        let ids = |side: &Side, places: Vec<usize>| places.into_iter().map(|at| side[at].0).collect();
+        let ids =
+            |side: &Side, places: Vec<usize>| places.into_iter().map(|at| side[at].0).collect();
         Ok(Marked {
             folds,
             short: ids(&abandoned, short),
@@ -534,7 +563,12 @@ impl<const LOG: bool> Core<LOG> {
 }
 
 /// The pairs as places, where they are a plan of this snapshot.
-fn checked(graph: &Graph, abandoned: &Side, owned: &Side, folds: &[(SpanId, SpanId)]) -> Option<Matching> {
+fn checked(
+    graph: &Graph,
+    abandoned: &Side,
+    owned: &Side,
+    folds: &[(SpanId, SpanId)],
+) -> Option<Matching> {
     let place = |side: &Side, id: &SpanId| side.binary_search_by_key(id, |(head, ..)| *head).ok();
     let pairs: Option<Vec<_>> = folds
         .iter()

@@ -1,4 +1,5 @@
-//! Random texts for the check: traces that come to the edges of the rules soon, and texts that are no traces.
+//! Random texts for the check: traces that come to the edges of the rules soon, and texts that are
+//! no traces.
 
 use crate::random::Random;
 use crate::written::header_with;
@@ -73,7 +74,9 @@ pub fn text(seed: u64) -> Vec<u8> {
             _ => draw.line(),
         }
     }
-    let Draw { text, mut random, .. } = draw;
+    let Draw {
+        text, mut random, ..
+    } = draw;
     let mut text = text.into_bytes();
     if seed % 3 == 0 {
         for _ in 0..1 + random.below(2) {
@@ -128,7 +131,9 @@ impl Draw {
     }
 
     fn running(&mut self) -> Option<usize> {
-        let running: Vec<usize> = (0..self.shards).filter(|t| self.ended[*t].is_none()).collect();
+        let running: Vec<usize> = (0..self.shards)
+            .filter(|t| self.ended[*t].is_none())
+            .collect();
         (!running.is_empty()).then(|| running[self.random.below(running.len())])
     }
 
@@ -182,8 +187,11 @@ impl Draw {
     /// A thread begins again whose shard was abandoned; or, where threads are careless, any thread.
     fn begin(&mut self) {
         let careless = self.careless && self.random.one_in(8);
-        let may_begin = |ended: Option<usize>| careless || ended.is_some_and(|section| section < self.section);
-        let resting: Vec<usize> = (0..self.shards).filter(|t| may_begin(self.ended[*t])).collect();
+        let may_begin =
+            |ended: Option<usize>| careless || ended.is_some_and(|section| section < self.section);
+        let resting: Vec<usize> = (0..self.shards)
+            .filter(|t| may_begin(self.ended[*t]))
+            .collect();
         if !resting.is_empty() {
             let thread = resting[self.random.below(resting.len())];
             self.ended[thread] = None;
@@ -258,7 +266,8 @@ impl Draw {
 
 /// The bytes of wide objects, as verbs end in them.
 const WIDE: [&str; 15] = [
-    "32", "48", "64", "80", "96", "112", "128", "144", "160", "176", "192", "208", "224", "240", "256",
+    "32", "48", "64", "80", "96", "112", "128", "144", "160", "176", "192", "208", "224", "240",
+    "256",
 ];
 
 /// Words that stand where others should.
@@ -321,7 +330,10 @@ fn spoil(random: &mut Random, text: &mut Vec<u8>) {
             lines[at].insert(place, byte);
         }
         _ => {
-            let mut words: Vec<Vec<u8>> = lines[at].split(|b| *b == b' ').map(<[u8]>::to_vec).collect();
+            let mut words: Vec<Vec<u8>> = lines[at]
+                .split(|b| *b == b' ')
+                .map(<[u8]>::to_vec)
+                .collect();
             let place = random.below(words.len());
             words[place] = WORDS[random.below(WORDS.len())].into();
             lines[at] = words.join(&b' ');

@@ -1,4 +1,5 @@
-//! Mixes of puts, gets and frees: the same calls, in the same order, for every store and for the traces.
+//! Mixes of puts, gets and frees: the same calls, in the same order, for every store and for the
+//! traces.
 
 use crate::random::Random;
 

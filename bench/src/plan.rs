@@ -4,7 +4,8 @@ use crate::class::Class;
 use crate::slots::Slots;
 use std::collections::VecDeque;
 
-/// For each abandoned group a row of bits: which owned groups of its class have no slot in common with it.
+/// For each abandoned group a row of bits: which owned groups of its class have no slot in common
+/// with it.
 pub struct Graph {
     rows: Vec<Vec<u64>>,
     owned: usize,
@@ -14,8 +15,9 @@ impl Graph {
     pub fn new(abandoned: &[(Class, Slots)], owned: &[(Class, Slots)]) -> Graph {
         let row = |(class, a): &(Class, Slots)| {
             let word = |chunk: &[(Class, Slots)]| {
-                let bit =
-                    |(j, (other, b)): (usize, &(Class, Slots))| u64::from(class == other && a.is_disjoint(b)) << j;
+                let bit = |(j, (other, b)): (usize, &(Class, Slots))| {
+                    u64::from(class == other && a.is_disjoint(b)) << j
+                };
                 chunk.iter().enumerate().map(bit).sum()
             };
             owned.chunks(64).map(word).collect()
@@ -51,7 +53,8 @@ pub struct Matching {
 
 const FAR: usize = usize::MAX;
 
-/// A largest plan. Each phase finds shortest alternating paths that share no group, until there is none.
+/// A largest plan. Each phase finds shortest alternating paths that share no group, until there is
+/// none.
 pub fn largest(graph: &Graph) -> Matching {
     let mut matching = Matching {
         of_abandoned: vec![None; graph.rows.len()],
@@ -67,7 +70,8 @@ pub fn largest(graph: &Graph) -> Matching {
     matching
 }
 
-/// How far each abandoned group is from one without a partner; none where no path leads to a free owned group.
+/// How far each abandoned group is from one without a partner; none where no path leads to a free
+/// owned group.
 fn layers(graph: &Graph, matching: &Matching) -> Option<Vec<usize>> {
     let mut depths = vec![FAR; graph.rows.len()];
     let mut seen = vec![false; graph.owned];
@@ -97,7 +101,8 @@ fn layers(graph: &Graph, matching: &Matching) -> Option<Vec<usize>> {
     found.then_some(depths)
 }
 
-/// Gives `a` a partner along a path that goes down the layers, if there is one, and turns the path's pairs round.
+/// Gives `a` a partner along a path that goes down the layers, if there is one, and turns the
+/// path's pairs round.
 fn extend(graph: &Graph, matching: &mut Matching, depths: &mut [usize], a: usize) -> bool {
     let depth = depths[a];
     // Whoever was tried in this phase is not tried again.
@@ -133,8 +138,9 @@ pub fn matching_of(graph: &Graph, pairs: &[(usize, usize)]) -> Option<Matching> 
     Some(matching)
 }
 
-/// The short set of a plan and its partners: what alternating paths reach from the abandoned groups that have no partner.
-/// None where such a path ends at a free owned group: the plan is no largest one.
+/// The short set of a plan and its partners: what alternating paths reach from the abandoned groups
+/// that have no partner. None where such a path ends at a free owned group: the plan is no largest
+/// one.
 pub fn short(graph: &Graph, matching: &Matching) -> Option<(Vec<usize>, Vec<usize>)> {
     let mut short: Vec<bool> = matching.of_abandoned.iter().map(Option::is_none).collect();
     let mut partners = vec![false; graph.owned];

@@ -15,7 +15,8 @@ pub enum Who {
 pub struct Programs {
     meshrun: PathBuf,
     plain: PathBuf,
-    /// Whether a mark of `meshrun` plans. Until it does, the plain program's marks are barriers too.
+    /// Whether a mark of `meshrun` plans. Until it does, the plain program's marks are barriers
+    /// too.
     pub plans: bool,
 }
 
@@ -30,8 +31,14 @@ impl Programs {
             plans: true,
         };
         let one_mark = scratch.join("one_mark.trace");
-        fs::write(&one_mark, "mesh 1\nshards 1\npages 1\nring 1\ngens 1\nmark\n")?;
-        let report = programs.command(Who::Meshrun, &one_mark, false).output()?.stdout;
+        fs::write(
+            &one_mark,
+            "mesh 1\nshards 1\npages 1\nring 1\ngens 1\nmark\n",
+        )?;
+        let report = programs
+            .command(Who::Meshrun, &one_mark, false)
+            .output()?
+            .stdout;
         programs.plans = report.starts_with(b"mark 1 ");
         Ok(programs)
     }
@@ -60,6 +67,9 @@ impl Programs {
     }
 
     pub fn run(&self, who: Who, trace: &Path, replies: bool, report: &Path) -> io::Result<Used> {
-        child::run(&mut self.command(who, trace, replies), File::create(report)?)
+        child::run(
+            &mut self.command(who, trace, replies),
+            File::create(report)?,
+        )
     }
 }

@@ -38,7 +38,8 @@ struct Run<'h> {
     leaving: Vec<usize>,
     /// Lines and shards of the adoptions that wait for their mark.
     adoptions: Vec<(usize, usize)>,
-    /// The keys that wait to be freed, by the shard that opened their span, then by the worker that sent them.
+    /// The keys that wait to be freed, by the shard that opened their span, then by the worker that
+    /// sent them.
     rings: Vec<Vec<VecDeque<Key>>>,
     /// How many keys a ring holds.
     ring: usize,
@@ -64,7 +65,9 @@ pub fn run(trace: &Trace, how: &How) -> Result<Vec<u8>, NotLargest> {
     }
     run.finish_section();
     let (pages, live, calls) = (run.core.pages(), run.core.live(), run.calls);
-    run.say(format_args!("end pages {pages} live {live} calls {calls}\n"));
+    run.say(format_args!(
+        "end pages {pages} live {live} calls {calls}\n"
+    ));
     Ok(run.out)
 }
 
@@ -91,7 +94,13 @@ impl Run<'_> {
                 value,
             } => {
                 for i in 0..count {
-                    self.put(number, thread, first + i as usize, class, value + u128::from(i));
+                    self.put(
+                        number,
+                        thread,
+                        first + i as usize,
+                        class,
+                        value + u128::from(i),
+                    );
                 }
             }
             Call::Get { key } => self.get(number, key),
@@ -163,7 +172,8 @@ impl Run<'_> {
     }
 
     fn get(&mut self, number: usize, place: usize) {
-        let found = self.keys[place].map(|key| self.core.get(key).map(|words| (words[0], words.len())));
+        let found =
+            self.keys[place].map(|key| self.core.get(key).map(|words| (words[0], words.len())));
         self.reply(number, |out| match found {
             None => out.extend_from_slice(b"unbound"),
             Some(None) => out.extend_from_slice(b"none"),
@@ -225,7 +235,8 @@ impl Run<'_> {
         true
     }
 
-    /// The plan is carried out and closed, the shards of ended threads are abandoned, and all rings are emptied.
+    /// The plan is carried out and closed, the shards of ended threads are abandoned, and all rings
+    /// are emptied.
     fn finish_section(&mut self) {
         while self.step() {}
         self.out.append(&mut self.steps);
@@ -275,7 +286,8 @@ impl Run<'_> {
             Err(MarkError::NotLargest) => return Err(NotLargest { mark }),
             Ok(marked) => {
                 self.open = Some(mark);
-                let (abandoned, owned, folds) = (marked.abandoned, marked.owned, marked.folds.len());
+                let (abandoned, owned, folds) =
+                    (marked.abandoned, marked.owned, marked.folds.len());
                 let pages = self.core.pages();
                 self.say(format_args!(
                     "mark {mark} abandoned {abandoned} owned {owned} folds {folds} pages {pages}\n"

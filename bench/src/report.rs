@@ -41,7 +41,8 @@ pub fn push_ids(out: &mut Vec<u8>, word: &str, ids: &[SpanId]) {
     out.extend_from_slice(if ids.is_empty() { b" none\n" } else { b"\n" });
 }
 
-/// The pairs of each mark of a report that somebody else wrote, in order; none for a mark that was refused.
+/// The pairs of each mark of a report that somebody else wrote, in order; none for a mark that was
+/// refused.
 pub fn plans_of(report: &str) -> Option<Vec<Vec<(SpanId, SpanId)>>> {
     let mut plans: Vec<Vec<(SpanId, SpanId)>> = Vec::new();
     for line in report.lines() {

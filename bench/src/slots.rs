@@ -37,7 +37,8 @@ impl Slots {
 
     /// The least number below a limit that is not a member.
     pub fn lowest_outside_below(&self, limit: usize) -> Option<u8> {
-        self.lowest_outside().filter(|slot| usize::from(*slot) < limit)
+        self.lowest_outside()
+            .filter(|slot| usize::from(*slot) < limit)
     }
 
     /// The members, ascending.

@@ -57,7 +57,8 @@ pub struct Header {
     pub gens: u32,
 }
 
-/// A call of a thread. Keys are places in one table of all keys that the trace may bind, so that no name is looked up twice.
+/// A call of a thread. Keys are places in one table of all keys that the trace may bind, so that no
+/// name is looked up twice.
 #[derive(Clone, Copy, Debug)]
 pub enum Call {
     Put {
@@ -105,7 +106,8 @@ pub enum Line {
     Mark,
 }
 
-/// A trace: its lines with their numbers, without remarks and empty lines, and how many keys it may bind.
+/// A trace: its lines with their numbers, without remarks and empty lines, and how many keys it may
+/// bind.
 pub struct Trace {
     pub header: Header,
     pub lines: Vec<(usize, Line)>,
@@ -125,8 +127,13 @@ impl Number {
         if !digits || (word[0] == b'0' && word.len() > 1) {
             return None;
         }
-        let step = |sum: u128, digit: &u8| sum.checked_mul(10)?.checked_add(u128::from(digit - b'0'));
-        Some(word.iter().try_fold(0, step).map_or(Number::Above, Number::Fits))
+        let step =
+            |sum: u128, digit: &u8| sum.checked_mul(10)?.checked_add(u128::from(digit - b'0'));
+        Some(
+            word.iter()
+                .try_fold(0, step)
+                .map_or(Number::Above, Number::Fits),
+        )
     }
 
     fn within(self, range: RangeInclusive<u128>) -> Option<u128> {
@@ -140,7 +147,9 @@ impl Number {
 fn is_name(word: &[u8]) -> bool {
     (1..=16).contains(&word.len())
         && word[0].is_ascii_lowercase()
-        && word.iter().all(|b| b.is_ascii_lowercase() || b.is_ascii_digit())
+        && word
+            .iter()
+            .all(|b| b.is_ascii_lowercase() || b.is_ascii_digit())
 }
 
 /// A name, or a name and an index.
@@ -187,14 +196,22 @@ fn name_of(word: &[u8]) -> Option<&[u8]> {
     is_name(word).then_some(word)
 }
 
-/// The verb of a put or a fill, and the class of what it puts: that of the bytes at its end, if any.
+/// The verb of a put or a fill, and the class of what it puts: that of the bytes at its end, if
+/// any.
 fn binding_verb(verb: &[u8], version: Version) -> Option<(&[u8], Class)> {
-    let digits = verb.iter().rev().take_while(|byte| byte.is_ascii_digit()).count();
+    let digits = verb
+        .iter()
+        .rev()
+        .take_while(|byte| byte.is_ascii_digit())
+        .count();
     let (verb, digits) = verb.split_at(verb.len() - digits);
     match digits {
         [] => Some((verb, Class::C16)),
         [b'0', ..] => None,
-        _ => Some((verb, wide_class(std::str::from_utf8(digits).ok()?.parse().ok()?, version)?)),
+        _ => Some((
+            verb,
+            wide_class(std::str::from_utf8(digits).ok()?.parse().ok()?, version)?,
+        )),
     }
 }
 
@@ -219,9 +236,13 @@ fn form_of(line: &[u8], version: Version) -> Option<Form<'_>> {
         [b"mark"] => return Some(Form::Mark),
         [b"adopt", shard] => return Some(Form::Adopt(Number::of(shard)?)),
         [_, b"get", key] => Spelled::Get(Reference::of(key)?),
-        [_, b"set", key, value] if version >= Version::Three => Spelled::Set(Reference::of(key)?, Number::of(value)?),
+        [_, b"set", key, value] if version >= Version::Three => {
+            Spelled::Set(Reference::of(key)?, Number::of(value)?)
+        }
         [_, b"free", key] => Spelled::Free(Reference::of(key)?),
-        [_, b"sweep", name, from, to] => Spelled::Sweep(name_of(name)?, Number::of(from)?, Number::of(to)?),
+        [_, b"sweep", name, from, to] => {
+            Spelled::Sweep(name_of(name)?, Number::of(from)?, Number::of(to)?)
+        }
         [_, b"later", key] => Spelled::Later(Reference::of(key)?),
         [_, b"tend"] => Spelled::Tend,
         [_, b"trim"] if version >= Version::Four => Spelled::Trim,
@@ -229,10 +250,15 @@ fn form_of(line: &[u8], version: Version) -> Option<Form<'_>> {
         [_, b"end"] => Spelled::End,
         [_, b"begin"] if version >= Version::Five => Spelled::Begin,
         [_, verb, rest @ ..] => match (binding_verb(verb, version)?, rest) {
-            ((b"put", class), [name, value]) => Spelled::Put(class, name_of(name)?, Number::of(value)?),
-            ((b"fill", class), [name, count, value]) => {
-                Spelled::Fill(class, name_of(name)?, Number::of(count)?, Number::of(value)?)
+            ((b"put", class), [name, value]) => {
+                Spelled::Put(class, name_of(name)?, Number::of(value)?)
             }
+            ((b"fill", class), [name, count, value]) => Spelled::Fill(
+                class,
+                name_of(name)?,
+                Number::of(count)?,
+                Number::of(value)?,
+            ),
             _ => return None,
         },
         _ => return None,
@@ -274,7 +300,13 @@ impl<'t> Reader<'t> {
         }
     }
 
-    fn bind(&mut self, name: &'t [u8], count: Option<u32>, class: Class, thread: usize) -> Result<usize, Cause> {
+    fn bind(
+        &mut self,
+        name: &'t [u8],
+        count: Option<u32>,
+        class: Class,
+        thread: usize,
+    ) -> Result<usize, Cause> {
         let first = self.keys;
         let binding = Binding {
             first,
@@ -291,8 +323,8 @@ impl<'t> Reader<'t> {
         Ok(first)
     }
 
-    /// The class of what a line puts under the reference, where the line is of its kind: a put without an index, or a fill with one.
-    /// Else that of one word.
+    /// The class of what a line puts under the reference, where the line is of its kind: a put
+    /// without an index, or a fill with one. Else that of one word.
     fn class(&self, reference: Reference) -> Class {
         match self.names.get(reference.name) {
             Some(binding) if binding.count.is_some() == reference.index.is_some() => binding.class,
@@ -316,7 +348,9 @@ impl<'t> Reader<'t> {
         let binding = self.binding(reference.name)?;
         let place = match (reference.index, binding.count) {
             (None, None) => 0,
-            (Some(index), Some(count)) => index.within(0..=u128::from(count) - 1).ok_or(Cause::Unknown)?,
+            (Some(index), Some(count)) => index
+                .within(0..=u128::from(count) - 1)
+                .ok_or(Cause::Unknown)?,
             _ => return Err(Cause::Unknown),
         };
         self.in_time(binding, thread)?;
@@ -445,7 +479,10 @@ fn fill_numbers(class: Class, count: Number, value: Number) -> Option<(u32, u128
 fn header_number(line: Option<&[u8]>, word: &str, most: u128) -> Result<u128, Cause> {
     let rest = line.and_then(|line| line.strip_prefix(word.as_bytes()));
     let number = rest.and_then(|rest| Number::of(rest.strip_prefix(b" ")?));
-    number.ok_or(Cause::Header)?.within(1..=most).ok_or(Cause::Limit)
+    number
+        .ok_or(Cause::Header)?
+        .within(1..=most)
+        .ok_or(Cause::Limit)
 }
 
 #[derive(Clone, Copy, PartialEq, Eq, PartialOrd)]
@@ -473,7 +510,9 @@ fn header<'t>(lines: &mut impl Iterator<Item = &'t [u8]>) -> Result<(Version, He
             });
         }
     };
-    let mut number = |line, word, most| header_number(lines.next(), word, most).map_err(|cause| Fault { line, cause });
+    let mut number = |line, word, most| {
+        header_number(lines.next(), word, most).map_err(|cause| Fault { line, cause })
+    };
     let shards = number(2, "shards", 64)? as usize;
     let pages = number(3, "pages", 1024)? as usize;
     let ring = number(4, "ring", 1024)? as usize;
@@ -516,7 +555,10 @@ pub fn read(text: &[u8]) -> Result<Trace, Fault> {
         if line.is_empty() || line[0] == b'#' {
             continue;
         }
-        let at = |cause| Fault { line: number, cause };
+        let at = |cause| Fault {
+            line: number,
+            cause,
+        };
         let form = form_of(line, version).ok_or(at(Cause::Form))?;
         read.push((number, reader.line(form).map_err(at)?));
     }

@@ -102,7 +102,9 @@ fn prepared(mix: &Mix) -> String {
 
 /// As many values as so many full shards take, in one line a shard.
 fn fill(shards: usize) -> String {
-    let fills: String = (0..shards).map(|t| format!("{t} fill f{t} 262144 {t}\n")).collect();
+    let fills: String = (0..shards)
+        .map(|t| format!("{t} fill f{t} 262144 {t}\n"))
+        .collect();
     header(shards, 1024, GENS) + &fills
 }
 
@@ -125,8 +127,8 @@ fn bursts(rounds: usize) -> String {
     lines.text
 }
 
-/// Sixty workers, one after another: each fills pages, frees and puts at random, reads what it finds, frees what others left,
-/// and ends; the next one adopts some of the groups.
+/// Sixty workers, one after another: each fills pages, frees and puts at random, reads what it
+/// finds, frees what others left, and ends; the next one adopts some of the groups.
 fn workers() -> String {
     let mut text = header(64, 1024, GENS);
     let mut random = Random::new(11);
@@ -189,8 +191,8 @@ pub fn side_by_side(calls: usize) -> String {
     text
 }
 
-/// Four full shards where each page keeps `kept` values at random slots; the first two of them end. Behind that stand `marks`
-/// marks, and a call after each.
+/// Four full shards where each page keeps `kept` values at random slots; the first two of them end.
+/// Behind that stand `marks` marks, and a call after each.
 fn sparse(kept: usize, marks: usize) -> String {
     let (shards, ended, pages) = (4, 2, 1024);
     let mut text = header(shards, pages, GENS);
@@ -235,7 +237,8 @@ fn sweep_between(text: &mut String, random: &mut Random, thread: usize, first: u
 /// A trace that is measured.
 pub struct Written {
     pub name: &'static str,
-    /// What it measures is its marks: what stands before them is taken off, and where a mark doesn't fold it is of no use.
+    /// What it measures is its marks: what stands before them is taken off, and where a mark
+    /// doesn't fold it is of no use.
     pub folds: bool,
     /// Whether its report has all replies.
     pub replies: bool,
@@ -278,7 +281,8 @@ pub const TRACES: [Written; 10] = [
     marks("plans", || sparse(52, 12)),
 ];
 
-/// Each trace with the name of its file: those that are measured, the mixes with what stands before them, and those for memory.
+/// Each trace with the name of its file: those that are measured, the mixes with what stands before
+/// them, and those for memory.
 pub fn all() -> Vec<(String, String)> {
     let mut all = Vec::new();
     for known in &TRACES {

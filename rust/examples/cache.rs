@@ -1,12 +1,12 @@
 //! `cache [STORE WHEN [SECONDS]]`: a cache of values of 100 to 250 bytes whose working set grows,
 //! shrinks and shifts, by four threads, and what the system counts as resident (`VmRSS`).
 //!
-//! STORE is `store`, a `teurlaks::SharedStore` that all threads share, or `boxes`, a `Box<[u8]>` for
-//! each value, of whichever allocator the program was started with. WHEN is `compact`, for a store
-//! that compacts itself in the background, or `never`. The keys are drawn by Zipf's law, the least
-//! recently used value goes when there is no room, and every value that is found is compared with
-//! what was put. With no words it is `store compact 20`. The requests are the same in each run, so
-//! many a second. On a slower machine a second lasts longer.
+//! STORE is `store`, a `teurlaks::SharedStore` that all threads share, or `boxes`, a `Box<[u8]>`
+//! for each value, of whichever allocator the program was started with. WHEN is `compact`, for a
+//! store that compacts itself in the background, or `never`. The keys are drawn by Zipf's law, the
+//! least recently used value goes when there is no room, and every value that is found is compared
+//! with what was put. With no words it is `store compact 20`. The requests are the same in each
+//! run, so many a second. On a slower machine a second lasts longer.
 
 use std::collections::HashMap;
 use std::process::ExitCode;
@@ -48,7 +48,8 @@ impl Random {
     }
 }
 
-/// What a second of the run is like. It takes twenty of them until all comes again, under other keys.
+/// What a second of the run is like. It takes twenty of them until all comes again, under other
+/// keys.
 struct Weather {
     /// How many values a thread may keep.
     room: usize,
@@ -157,7 +158,8 @@ impl Fetched {
     }
 }
 
-/// A place in the order of use. The one that was used last is next to the place `ENDS`, in which no value stands.
+/// A place in the order of use. The one that was used last is next to the place `ENDS`, in which no
+/// value stands.
 struct Place<N> {
     key: u64,
     name: Option<N>,
@@ -175,9 +177,11 @@ struct Index<N> {
 }
 
 impl<N> Index<N> {
-    /// It has its memory from the beginning, touched, so that what is measured later is that of the values.
+    /// It has its memory from the beginning, touched, so that what is measured later is that of the
+    /// values.
     fn new() -> Index<N> {
-        let mut place_of: HashMap<u64, usize> = (0..=MOST_VALUES as u64).map(|key| (key, 0)).collect();
+        let mut place_of: HashMap<u64, usize> =
+            (0..=MOST_VALUES as u64).map(|key| (key, 0)).collect();
         place_of.clear();
         let places = (0..=MOST_VALUES).map(|_| Place {
             key: 0,
@@ -290,7 +294,8 @@ struct Told {
     serving_micros: AtomicUsize,
 }
 
-/// The threads and the one that measures wait here for each other: when there is work to do, and when what is resident has been read.
+/// The threads and the one that measures wait here for each other: when there is work to do, and
+/// when what is resident has been read.
 struct Meeting {
     barrier: Barrier,
     told: Told,
@@ -304,7 +309,8 @@ fn timed<R>(micros: &AtomicUsize, work: impl FnOnce() -> R) -> R {
     done
 }
 
-/// What was answered, or the end of the program: the other threads would wait for one that has stopped.
+/// What was answered, or the end of the program: the other threads would wait for one that has
+/// stopped.
 fn or_end<T>(answered: Result<T, Refused>) -> T {
     answered.unwrap_or_else(|refused| {
         eprintln!("refused: {refused}");
@@ -325,8 +331,11 @@ fn work<V: Values>(values: V, thread: usize, run: &Run, meeting: &Meeting) {
     };
     let mut random = Random(thread as u64);
     for second in 0..run.seconds {
-        or_end(timed(&told.serving_micros, || cache.serve(second, thread, &mut random)));
-        told.values.fetch_add(cache.index.place_of.len(), Ordering::Relaxed);
+        or_end(timed(&told.serving_micros, || {
+            cache.serve(second, thread, &mut random)
+        }));
+        told.values
+            .fetch_add(cache.index.place_of.len(), Ordering::Relaxed);
         told.bytes.fetch_add(cache.live_bytes, Ordering::Relaxed);
         told.wrong
             .fetch_add(std::mem::take(&mut cache.wrong), Ordering::Relaxed);
@@ -367,9 +376,9 @@ fn take(sum: &AtomicUsize) -> usize {
     sum.swap(0, Ordering::Relaxed)
 }
 
-/// A line for each second: the values and their bytes, in kilobytes what is resident beyond what the
-/// program took at first, when the requests of the second are done and at its end, the pages then,
-/// and the milliseconds that requests took of all threads together, and the background.
+/// A line for each second: the values and their bytes, in kilobytes what is resident beyond what
+/// the program took at first, when the requests of the second are done and at its end, the pages
+/// then, and the milliseconds that requests took of all threads together, and the background.
 fn measure(store: Option<&SharedStore<Stored>>, run: &Run, meeting: &Meeting) -> usize {
     let Meeting { barrier, told } = meeting;
     let (mut wrong, mut compacting) = (0, 0);
@@ -404,7 +413,11 @@ struct Run {
 }
 
 /// How many values were wrong.
-fn run<V: Values + Clone + Sync>(run: &Run, values: &V, store: Option<&SharedStore<Stored>>) -> usize {
+fn run<V: Values + Clone + Sync>(
+    run: &Run,
+    values: &V,
+    store: Option<&SharedStore<Stored>>,
+) -> usize {
     let meeting = Meeting {
         barrier: Barrier::new(THREADS + 1),
         told: Told::default(),
@@ -436,7 +449,9 @@ fn main() -> ExitCode {
     let (store, when, seconds) = match words[..] {
         [] => ("store", "compact", Some(20)),
         [store @ ("store" | "boxes"), when @ ("compact" | "never")] => (store, when, Some(20)),
-        [store @ ("store" | "boxes"), when @ ("compact" | "never"), seconds] => (store, when, seconds.parse().ok()),
+        [store @ ("store" | "boxes"), when @ ("compact" | "never"), seconds] => {
+            (store, when, seconds.parse().ok())
+        }
         _ => ("", "", None),
     };
     let Some(seconds) = seconds else {

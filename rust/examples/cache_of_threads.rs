@@ -1,9 +1,11 @@
-//! `cache_of_threads CALLS`: a cache that four threads use, with a steward beside them who folds its sparse pages. 200,000 calls a thread where no
-//! number is given.
+//! `cache_of_threads CALLS`: a cache that four threads use, with a steward beside them who folds
+//! its sparse pages. 200,000 calls a thread where no number is given.
 //!
-//! Each thread has a seat, keeps what it has worked out in the shard of that seat, and finds what the others keep through an index of names. Who
-//! lets an entry go frees its key and leaves the index as it is: a key that is stale finds nothing, and the next one who asks works the value out
-//! and puts a new key in its place. By day each thread keeps up to 20,000 values, by night 1,000, and then its sparse pages go to the steward.
+//! Each thread has a seat, keeps what it has worked out in the shard of that seat, and finds what
+//! the others keep through an index of names. Who lets an entry go frees its key and leaves the
+//! index as it is: a key that is stale finds nothing, and the next one who asks works the value out
+//! and puts a new key in its place. By day each thread keeps up to 20,000 values, by night 1,000,
+//! and then its sparse pages go to the steward.
 
 use std::collections::HashMap;
 use std::process::ExitCode;
@@ -26,7 +28,8 @@ fn worked_out(name: u64) -> Value {
     std::array::from_fn(|place| name.wrapping_mul(place as u64 + 1))
 }
 
-/// Under which key a name's value was last kept, in parts with a lock each, so that threads hardly meet.
+/// Under which key a name's value was last kept, in parts with a lock each, so that threads hardly
+/// meet.
 struct Index(Vec<Mutex<HashMap<u64, Key>>>);
 
 impl Index {
@@ -35,11 +38,18 @@ impl Index {
     }
 
     fn key(&self, name: u64) -> Option<Key> {
-        self.part(name).lock().expect("nobody panics").get(&name).copied()
+        self.part(name)
+            .lock()
+            .expect("nobody panics")
+            .get(&name)
+            .copied()
     }
 
     fn put(&self, name: u64, key: Key) {
-        self.part(name).lock().expect("nobody panics").insert(name, key);
+        self.part(name)
+            .lock()
+            .expect("nobody panics")
+            .insert(name, key);
     }
 }
 
@@ -91,7 +101,8 @@ impl Cache<'_> {
         }
         self.keep(BY_NIGHT);
         self.seat.trim();
-        // Half of what is left goes to the pool. A plan that is open keeps the groups that it folds onto.
+        // Half of what is left goes to the pool. A plan that is open keeps the groups that it folds
+        // onto.
         while self.seat.retire(BY_NIGHT / 2) == Err(Refused::PlanOpen) {
             thread::yield_now();
         }
@@ -105,7 +116,9 @@ fn run(calls: usize) -> Result<(), Refused> {
         ..Limits::default()
     })?;
     let index = Index((0..64).map(|_| Mutex::default()).collect());
-    let seats: Vec<_> = (0..THREADS).map(|_| arena.seat()).collect::<Result<_, _>>()?;
+    let seats: Vec<_> = (0..THREADS)
+        .map(|_| arena.seat())
+        .collect::<Result<_, _>>()?;
     let working = AtomicUsize::new(THREADS);
     let (mut folds, mut most) = (0, Totals { pages: 0, live: 0 });
     let found = thread::scope(|scope| {
@@ -152,7 +165,9 @@ fn run(calls: usize) -> Result<(), Refused> {
 }
 
 fn main() -> ExitCode {
-    let calls = std::env::args().nth(1).map_or(Ok(200_000), |word| word.parse());
+    let calls = std::env::args()
+        .nth(1)
+        .map_or(Ok(200_000), |word| word.parse());
     match calls.map(run) {
         Ok(Ok(())) => ExitCode::SUCCESS,
         Ok(Err(refused)) => {

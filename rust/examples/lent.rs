@@ -1,6 +1,7 @@
-//! `lent SESSIONS`: sessions that four threads share by reference, 10,000 where no number is given. Threads write to sessions that they look
-//! up, while another ends most of them. A session that ends is dropped when the last thread is done with it. It prints how many are left, and on
-//! how many pages.
+//! `lent SESSIONS`: sessions that four threads share by reference, 10,000 where no number is given.
+//! Threads write to sessions that they look up, while another ends most of them. A session that
+//! ends is dropped when the last thread is done with it. It prints how many are left, and on how
+//! many pages.
 
 use std::process::ExitCode;
 use std::sync::atomic::{AtomicUsize, Ordering};
@@ -68,7 +69,9 @@ fn run(users: usize) -> Result<(usize, usize), Refused> {
 }
 
 fn main() -> ExitCode {
-    let users = std::env::args().nth(1).map_or(Ok(10_000), |number| number.parse());
+    let users = std::env::args()
+        .nth(1)
+        .map_or(Ok(10_000), |number| number.parse());
     let Ok(users) = users else {
         eprintln!("lent SESSIONS");
         return ExitCode::from(2);

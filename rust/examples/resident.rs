@@ -1,5 +1,6 @@
-//! `resident VALUES BYTES KEPT`: fills a slab with so many values of 8, 16, 64, 240 or 4,096 bytes, frees all but so many of 100 at random,
-//! compacts, and tells what is resident before and after, in kilobytes beyond what the program took before.
+//! `resident VALUES BYTES KEPT`: fills a slab with so many values of 8, 16, 64, 240 or 4,096 bytes,
+//! frees all but so many of 100 at random, compacts, and tells what is resident before and after,
+//! in kilobytes beyond what the program took before.
 
 use std::hint::black_box;
 use std::process::ExitCode;
@@ -55,7 +56,10 @@ fn measure<const BYTES: usize>(values: usize, kept: u64) -> Result<(), Refused> 
 }
 
 fn main() -> ExitCode {
-    let words: Vec<u64> = std::env::args().skip(1).filter_map(|word| word.parse().ok()).collect();
+    let words: Vec<u64> = std::env::args()
+        .skip(1)
+        .filter_map(|word| word.parse().ok())
+        .collect();
     let measured = match words[..] {
         [values, 8, kept] => measure::<8>(values as usize, kept),
         [values, 16, kept] => measure::<16>(values as usize, kept),

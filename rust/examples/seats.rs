@@ -1,6 +1,7 @@
-//! `seats ROUNDS`: four threads with a seat each, six rounds where no number is given. In each round they fill up, let most of it go, leave their
-//! sparse pages to the pool, and look the others' values up; a steward folds beside them. It prints how many pages and values there are after each
-//! round.
+//! `seats ROUNDS`: four threads with a seat each, six rounds where no number is given. In each
+//! round they fill up, let most of it go, leave their sparse pages to the pool, and look the
+//! others' values up; a steward folds beside them. It prints how many pages and values there are
+//! after each round.
 
 use std::process::ExitCode;
 use std::sync::{Barrier, Mutex};
@@ -135,7 +136,11 @@ fn run(rounds: usize) -> Result<(), Refused> {
 }
 
 fn main() -> ExitCode {
-    match std::env::args().nth(1).map_or(Ok(6), |word| word.parse()).map(run) {
+    match std::env::args()
+        .nth(1)
+        .map_or(Ok(6), |word| word.parse())
+        .map(run)
+    {
         Ok(Ok(())) => ExitCode::SUCCESS,
         Ok(Err(refused)) => {
             eprintln!("refused: {refused}");

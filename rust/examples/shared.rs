@@ -1,5 +1,6 @@
-//! `shared PAGES`: a little cache that four threads share, 100,000 pages where no number is given. At night one page of 15 is asked for, the others are let go
-//! of, and the store is compacted while the threads go on. It prints what is resident, in kilobytes beyond what the program took before.
+//! `shared PAGES`: a little cache that four threads share, 100,000 pages where no number is given.
+//! At night one page of 15 is asked for, the others are let go of, and the store is compacted while
+//! the threads go on. It prints what is resident, in kilobytes beyond what the program took before.
 
 use std::process::ExitCode;
 use std::sync::{Mutex, PoisonError};
@@ -17,7 +18,8 @@ struct Fetched {
 
 /// Pages by their numbers.
 struct Cache {
-    // A key stays here when its page is let go of. It finds nothing then, so nobody has to look for it.
+    // A key stays here when its page is let go of. It finds nothing then, so nobody has to look for
+    // it.
     keys: Vec<Mutex<Option<Key>>>,
     fetched: SharedStore<Fetched>,
 }
@@ -32,7 +34,9 @@ impl Cache {
 
     /// The page, which is fetched where it is not there.
     fn get(&self, page: usize, now: u64) -> Result<Fetched, Refused> {
-        let mut key = self.keys[page].lock().unwrap_or_else(PoisonError::into_inner);
+        let mut key = self.keys[page]
+            .lock()
+            .unwrap_or_else(PoisonError::into_inner);
         if let Some(key) = *key {
             let is_asked = |fetched: &mut Fetched| {
                 fetched.asked = now;
@@ -61,7 +65,10 @@ fn fetch(page: usize, asked: u64) -> Fetched {
 /// Each thread asks for its part of the pages, of which every so many-th is asked for.
 fn ask(cache: &Cache, every: usize, now: u64) -> Result<(), Refused> {
     let ask_part = |part: usize| {
-        let mut pages = (0..cache.keys.len()).step_by(every).skip(part).step_by(THREADS);
+        let mut pages = (0..cache.keys.len())
+            .step_by(every)
+            .skip(part)
+            .step_by(THREADS);
         pages.try_for_each(|page| {
             assert_eq!(cache.get(page, now)?.text, fetch(page, now).text);
             Ok(())
@@ -69,7 +76,9 @@ fn ask(cache: &Cache, every: usize, now: u64) -> Result<(), Refused> {
     };
     thread::scope(|scope| {
         let ask_part = &ask_part;
-        let threads: Vec<_> = (0..THREADS).map(|part| scope.spawn(move || ask_part(part))).collect();
+        let threads: Vec<_> = (0..THREADS)
+            .map(|part| scope.spawn(move || ask_part(part)))
+            .collect();
         threads
             .into_iter()
             .try_for_each(|thread| thread.join().expect("it does not panic"))
@@ -87,7 +96,13 @@ fn resident() -> i64 {
 fn run(pages: usize) -> Result<(), Refused> {
     let cache = Cache::new(pages)?;
     let base = resident();
-    let tell = |when: &str| println!("{when}: {} values, {} KB", cache.fetched.len(), resident() - base);
+    let tell = |when: &str| {
+        println!(
+            "{when}: {} values, {} KB",
+            cache.fetched.len(),
+            resident() - base
+        )
+    };
     ask(&cache, 1, 1)?;
     tell("full");
     ask(&cache, 15, 2)?;
@@ -103,7 +118,9 @@ fn run(pages: usize) -> Result<(), Refused> {
 }
 
 fn main() -> ExitCode {
-    let pages = std::env::args().nth(1).map_or(Ok(100_000), |word| word.parse());
+    let pages = std::env::args()
+        .nth(1)
+        .map_or(Ok(100_000), |word| word.parse());
     match pages.map(run) {
         Ok(Ok(())) => ExitCode::SUCCESS,
         Ok(Err(refused)) => {

@@ -20,7 +20,9 @@ const VALUES: u64 = 1000;
 
 /// Frees and keeps values, and looks others up, until it is told to stop.
 fn work(seat: &mut Seat<u64>, done: &AtomicBool) -> Result<(), Refused> {
-    let mut keys: Vec<Key> = (0..VALUES).map(|value| seat.insert(value)).collect::<Result<_, _>>()?;
+    let mut keys: Vec<Key> = (0..VALUES)
+        .map(|value| seat.insert(value))
+        .collect::<Result<_, _>>()?;
     while !done.load(Ordering::Relaxed) {
         for at in 0..keys.len() {
             seat.free(keys[at]);
@@ -62,7 +64,10 @@ fn measure(seats: u32) -> Result<Vec<Duration>, Refused> {
 }
 
 fn main() -> ExitCode {
-    let seats = std::env::args().nth(1).and_then(|word| word.parse().ok()).unwrap_or(16);
+    let seats = std::env::args()
+        .nth(1)
+        .and_then(|word| word.parse().ok())
+        .unwrap_or(16);
     match measure(seats) {
         Ok(mut took) => {
             took.sort_unstable();

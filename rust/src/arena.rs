@@ -1,4 +1,5 @@
-//! Plain values that threads share, each from a seat of its own, under the locks of the proved library.
+//! Plain values that threads share, each from a seat of its own, under the locks of the proved
+//! library.
 
 mod compaction;
 mod fence;
@@ -34,15 +35,18 @@ use std::mem::{self, size_of};
 /// How many keys a ring holds where nobody says so.
 const RING: u32 = 256;
 
-/// Plain values of one type, 1 to 256 bytes each, that threads share, each from a [`Seat`] of its own; and whose sparse pages are folded while they
-/// go on.
+/// Plain values of one type, 1 to 256 bytes each, that threads share, each from a [`Seat`] of its
+/// own; and whose sparse pages are folded while they go on.
 ///
-/// An arena has a shard for each seat, or several ([`Arena::with_lanes`]), and hands the seats out one by one. A thread keeps its values in the shards
-/// of its seat, and reads, sets and frees those of all. Whoever has the arena itself is its steward: it plans folds of the groups that seats have
-/// left to the pool ([`Seat::retire`], [`Seat::end`]) onto those of the shards, and carries them out beside the others. Every key stays valid.
+/// An arena has a shard for each seat, or several ([`Arena::with_lanes`]), and hands the seats out
+/// one by one. A thread keeps its values in the shards of its seat, and reads, sets and frees those
+/// of all. Whoever has the arena itself is its steward: it plans folds of the groups that seats
+/// have left to the pool ([`Seat::retire`], [`Seat::end`]) onto those of the shards, and carries
+/// them out beside the others. Every key stays valid.
 ///
-/// Arena and seats may be dropped in any order, each may go to a thread of its own, also one of [`std::thread::spawn`], and the memory goes with
-/// the last of them. For words, the values are `u128`, or arrays of up to 16 of these.
+/// Arena and seats may be dropped in any order, each may go to a thread of its own, also one of
+/// [`std::thread::spawn`], and the memory goes with the last of them. For words, the values are
+/// `u128`, or arrays of up to 16 of these.
 ///
 /// ```
 /// use std::thread;
@@ -61,7 +65,7 @@ const RING: u32 = 256;
 /// for key in &keys[..999] {
 ///     assert!(here.free(*key)); // from whichever seat
 /// }
-/// assert_eq!(arena.mesh()?, 1); // the page with the last value is folded onto the one that is here
+/// assert_eq!(arena.mesh()?, 1); // the page with the last value goes onto the one that is here
 /// assert_eq!(arena.totals(), Totals { pages: 1, live: 2 });
 /// assert_eq!((here.get(keys[999]), here.get(seven)), (Some(999), Some(7)));
 /// assert_eq!(here.get(keys[0]), None); // now and for ever
@@ -84,9 +88,11 @@ const RING: u32 = 256;
 /// back ([`Seat`]), an agreement between the two, which is argued (`src/arena/lane.rs`), gone over
 /// by a model (`models/kept_shards.py`) and tested (`tests/keeping.rs`), and not proved.
 ///
-/// A [`SharedStore`](crate::SharedStore) is called by any thread through `&self`, and has locks of the standard library. An arena has proved ones,
-/// frees that wait for nobody, and folds between shards; in return each thread needs a seat. A look-up, a free and a put of a thread's own value take
-/// two thirds of the time that they take there, and a look-up of what other threads keep takes as long (`bench/README.md`).
+/// A [`SharedStore`](crate::SharedStore) is called by any thread through `&self`, and has locks of
+/// the standard library. An arena has proved ones, frees that wait for nobody, and folds between
+/// shards; in return each thread needs a seat. A look-up, a free and a put of a thread's own value
+/// take two thirds of the time that they take there, and a look-up of what other threads keep takes
+/// as long (`bench/README.md`).
 pub struct Arena<T> {
     numbers: Numbers,
     // It comes with the first call that needs it.
@@ -114,8 +120,8 @@ impl<T: Copy> Arena<T> {
     );
 
     /// An arena of these limits with no value, which has a seat for each shard. It takes no memory
-    /// until its first [`Arena::seat`] or mark. Between each two seats there is a ring of 256 keys for
-    /// [`Seat::free_later`], of 16 bytes each, which comes with its first key.
+    /// until its first [`Arena::seat`] or mark. Between each two seats there is a ring of 256 keys
+    /// for [`Seat::free_later`], of 16 bytes each, which comes with its first key.
     ///
     /// # Errors
     ///
@@ -134,10 +140,12 @@ impl<T: Copy> Arena<T> {
         Arena::with_lanes(limits, keys, 1)
     }
 
-    /// As [`Arena::with_rings`], with so many shards for each seat, where the limits' are one for each seat: 64 at most in all.
+    /// As [`Arena::with_rings`], with so many shards for each seat, where the limits' are one for
+    /// each seat: 64 at most in all.
     ///
-    /// A seat puts its values into its shards in turn, 64 into each, so that threads which look up what it keeps meet at one lock less often. In
-    /// return its values stand on up to so many more pages that are not full, its shards have a ring from and to each other one, and what it
+    /// A seat puts its values into its shards in turn, 64 into each, so that threads which look up
+    /// what it keeps meet at one lock less often. In return its values stand on up to so many more
+    /// pages that are not full, its shards have a ring from and to each other one, and what it
     /// leaves to the pool is chosen by shards.
     ///
     /// # Errors
@@ -147,7 +155,8 @@ impl<T: Copy> Arena<T> {
     /// ```
     /// use teurlaks::{Arena, Limits};
     ///
-    /// let mut arena = Arena::with_lanes(Limits { shards: 4, ..Limits::default() }, 256, 4)?; // four seats of four shards
+    /// // Four seats of four shards.
+    /// let mut arena = Arena::with_lanes(Limits { shards: 4, ..Limits::default() }, 256, 4)?;
     /// let (mut here, there) = (arena.seat()?, arena.seat()?);
     /// let keys: Vec<_> = (0..1000).map(|n| here.insert(n)).collect::<Result<_, _>>()?;
     /// assert!(keys.iter().zip(0..).all(|(key, n)| there.get(*key) == Some(n)));
@@ -212,13 +221,15 @@ impl<T> Arena<T> {
         Ok(Seat::new(lanes, standing.turn.clone()))
     }
 
-    /// Plans folds of the pool's groups onto those of the shards, as many as can be, and opens the plan. Until it is closed, the groups that it
-    /// folds onto take no value, and no group is adopted. It holds all locks for as long as it plans.
+    /// Plans folds of the pool's groups onto those of the shards, as many as can be, and opens the
+    /// plan. Until it is closed, the groups that it folds onto take no value, and no group is
+    /// adopted. It holds all locks for as long as it plans.
     ///
     /// # Errors
     ///
     /// - [`Refused::PlanOpen`]: a plan is open;
-    /// - [`Refused::TooMany`]: a side has more than 4,096 groups that have a page, of which [`Arena::mark_some`] takes some;
+    /// - [`Refused::TooMany`]: a side has more than 4,096 groups that have a page, of which
+    ///   [`Arena::mark_some`] takes some;
     /// - [`Refused::OutOfMemory`]: none of these holds, and memory was refused;
     /// - [`Refused::Busy`]: it would wait for a session, and its thread is in one
     ///   ([`Seat::session`]).
@@ -230,8 +241,9 @@ impl<T> Arena<T> {
         )
     }
 
-    /// Plans folds of the pool's groups onto those of the shards, as many as can be of the 4,096 of each side with the fewest live keys, and opens
-    /// the plan. Until it is closed, the groups that it folds onto take no value, and no group is adopted. It holds all locks for as long as it
+    /// Plans folds of the pool's groups onto those of the shards, as many as can be of the 4,096 of
+    /// each side with the fewest live keys, and opens the plan. Until it is closed, the groups that
+    /// it folds onto take no value, and no group is adopted. It holds all locks for as long as it
     /// plans.
     ///
     /// # Errors
@@ -275,8 +287,9 @@ impl<T> Arena<T> {
         Ok(())
     }
 
-    /// The text of the last mark's certificate, which shows that no plan of what it saw has more folds, or `None` before the first mark.
-    /// `meshrun check` checks such a text without trusting who made it. It takes no lock.
+    /// The text of the last mark's certificate, which shows that no plan of what it saw has more
+    /// folds, or `None` before the first mark. `meshrun check` checks such a text without trusting
+    /// who made it. It takes no lock.
     ///
     /// # Errors
     ///
@@ -285,13 +298,17 @@ impl<T> Arena<T> {
         let Some(Standing { share, .. }) = self.standing.get() else {
             return Ok(None);
         };
-        // SAFETY: the handle has a steward, no other call runs on it, and so many bytes stand there.
-        certificate_text(|text, len| unsafe { raw::teurlaks_steward_certificate(share.handle(), text, len) })
+        // SAFETY: the handle has a steward, no other call runs on it, and so many bytes stand
+        // there.
+        certificate_text(|text, len| unsafe {
+            raw::teurlaks_steward_certificate(share.handle(), text, len)
+        })
     }
 
-    /// Marks, takes all steps and closes, and says how many folds there were, each of which gave a page back. The mark is that of
-    /// [`Arena::mark_some`]; where it may not have seen all groups, and folds at least a sixteenth of those that it saw of the pool and at
-    /// least one, there is another.
+    /// Marks, takes all steps and closes, and says how many folds there were, each of which gave a
+    /// page back. The mark is that of [`Arena::mark_some`]; where it may not have seen all groups,
+    /// and folds at least a sixteenth of those that it saw of the pool and at least one, there is
+    /// another.
     ///
     /// # Errors
     ///
@@ -328,9 +345,10 @@ impl<T> Arena<T> {
         }
     }
 
-    /// Forgets what folds have brought to shards, and what the pool keeps, that can never be live again, with its generations, and says how
-    /// many spans went: it holds all locks meanwhile. Nothing that a caller sees changes, but the memory that is kept. It asks for memory only
-    /// to move a table to a smaller one, and is made without it if there is none.
+    /// Forgets what folds have brought to shards, and what the pool keeps, that can never be live
+    /// again, with its generations, and says how many spans went: it holds all locks meanwhile.
+    /// Nothing that a caller sees changes, but the memory that is kept. It asks for memory only to
+    /// move a table to a smaller one, and is made without it if there is none.
     ///
     /// # Errors
     ///
@@ -346,7 +364,8 @@ impl<T> Arena<T> {
             };
         };
         // SAFETY: as in `mark_some`.
-        let raw::ForgetReply { status, count } = standing.call(|share| unsafe { raw::teurlaks_steward_forget(share) });
+        let raw::ForgetReply { status, count } =
+            standing.call(|share| unsafe { raw::teurlaks_steward_forget(share) });
         done(status)?;
         Ok(count)
     }
@@ -371,7 +390,8 @@ impl<T> Arena<T> {
         Keys::of_arena(self.standing.get())
     }
 
-    /// How many pages there are and how many keys are live, at one time: it holds all locks meanwhile.
+    /// How many pages there are and how many keys are live, at one time: it holds all locks
+    /// meanwhile.
     ///
     /// # Panics
     ///

@@ -88,7 +88,9 @@ impl Shared {
     /// Sleeps for so long, or until the guard is dropped, and says whether that is so.
     fn sleep(&self, interval: Duration) -> bool {
         let is_over = self.is_over.lock().unwrap_or_else(PoisonError::into_inner);
-        let slept = self.ends.wait_timeout_while(is_over, interval, |is_over| !*is_over);
+        let slept = self
+            .ends
+            .wait_timeout_while(is_over, interval, |is_over| !*is_over);
         *slept.unwrap_or_else(PoisonError::into_inner).0
     }
 
@@ -177,7 +179,11 @@ fn compact(policy: Policy, compacts: &impl Compacts, shared: &Shared) -> Result<
 
 impl Drop for Background {
     fn drop(&mut self) {
-        *self.shared.is_over.lock().unwrap_or_else(PoisonError::into_inner) = true;
+        *self
+            .shared
+            .is_over
+            .lock()
+            .unwrap_or_else(PoisonError::into_inner) = true;
         self.shared.ends.notify_all();
         // Its panic would be one of the store's, which was reported when it came.
         let _ = self.thread.take().map(JoinHandle::join);

@@ -7,18 +7,20 @@ use std::ptr::NonNull;
 /// What the system has memory in.
 const SYSTEM_PAGE: usize = 4096;
 
-/// How much is asked of the system at a time, where that are more blocks than one and no more than 64.
+/// How much is asked of the system at a time, where that are more blocks than one and no more than
+/// 64.
 const SEGMENT: usize = 4 << 20;
 
 /// How much of free blocks keeps its memory, for the next who takes one.
 const WARM: usize = 256 << 10;
 
-/// Blocks with numbers from 0 on, each free or taken. A new block is zeros, and one that comes again is as it was left or zeros.
+/// Blocks with numbers from 0 on, each free or taken. A new block is zeros, and one that comes
+/// again is as it was left or zeros.
 ///
 /// ```text
 ///   segment 0                       segment 1
-///   | taken | warm | taken | cold |   | cold | ..     a block need not begin where a system page does
-///   | system page | system page | ..                  cold: what no taken block shares has gone to the system
+///   | taken | warm | taken | cold |   | cold | ..     a block may begin within a system page
+///   | system page | system page | ..                  cold: only what taken blocks share is kept
 /// ```
 pub(crate) struct Blocks {
     size: usize,
@@ -35,7 +37,8 @@ pub(crate) struct Blocks {
 }
 
 impl Blocks {
-    /// No blocks yet, of so many bytes. Each lies at a multiple of the greatest power of two that divides them, up to 4,096.
+    /// No blocks yet, of so many bytes. Each lies at a multiple of the greatest power of two that
+    /// divides them, up to 4,096.
     pub fn new(size: usize) -> Blocks {
         Blocks {
             size,
@@ -62,7 +65,8 @@ impl Blocks {
         Ok(())
     }
 
-    /// Sees to it that so many blocks are free. Where this is refused, those that there are by then stay.
+    /// Sees to it that so many blocks are free. Where this is refused, those that there are by then
+    /// stay.
     pub fn reserve_all(&mut self, count: usize) -> Result<(), Refused> {
         let free = self.room - self.taken.len() + self.warm.len() + self.cold.len();
         if free < count {
@@ -80,11 +84,17 @@ impl Blocks {
         make_room(&mut self.warm, blocks)?;
         make_room(&mut self.cold, blocks)?;
         while self.segments.len() * self.per < blocks {
-            self.segments.try_reserve(1).map_err(|_| Refused::OutOfMemory)?;
+            self.segments
+                .try_reserve(1)
+                .map_err(|_| Refused::OutOfMemory)?;
             let segment = system::map(self.segment_bytes()).ok_or(Refused::OutOfMemory)?;
             self.segments.push(segment);
         }
-        let lists = [self.taken.capacity(), self.warm.capacity(), self.cold.capacity()];
+        let lists = [
+            self.taken.capacity(),
+            self.warm.capacity(),
+            self.cold.capacity(),
+        ];
         let mapped = self.segments.len() * self.per;
         self.room = lists.into_iter().fold(mapped, usize::min);
         Ok(())
@@ -141,8 +151,8 @@ impl Blocks {
         self.size % SYSTEM_PAGE != 0
     }
 
-    /// Takes the lowest free block of the range for the highest taken one, which is free from now on,
-    /// if that is the higher one: both numbers. The range is then what lies between.
+    /// Takes the lowest free block of the range for the highest taken one, which is free from now
+    /// on, if that is the higher one: both numbers. The range is then what lies between.
     // A number has 32 bits.
     #[allow(clippy::cast_possible_truncation)]
     pub fn swap_ends(&mut self, within: &mut Range<usize>) -> Option<(u32, u32)> {
@@ -152,7 +162,8 @@ impl Blocks {
         Some((high as u32, low as u32))
     }
 
-    /// Hands all memory behind the last taken block to the system, once no free block lies before it.
+    /// Hands all memory behind the last taken block to the system, once no free block lies before
+    /// it.
     // A number has 32 bits.
     #[allow(clippy::cast_possible_truncation)]
     pub fn release_rest(&mut self) {
@@ -184,7 +195,9 @@ impl Blocks {
         let is_free = |page: usize| {
             let last = ((page + 1) * SYSTEM_PAGE - 1) / self.size;
             let blocks = page * SYSTEM_PAGE / self.size..=last.min(self.per - 1);
-            blocks.into_iter().all(|block| !self.is_taken(first_block + block))
+            blocks
+                .into_iter()
+                .all(|block| !self.is_taken(first_block + block))
         };
         let mut pages = offset / SYSTEM_PAGE..(offset + self.size - 1) / SYSTEM_PAGE + 1;
         // Those between the first and the last are this block's alone.
@@ -195,7 +208,8 @@ impl Blocks {
             pages.end -= 1;
         }
         if !pages.is_empty() {
-            // SAFETY: the pages lie within the segment, and no block that is taken is on any of them.
+            // SAFETY: the pages lie within the segment, and no block that is taken is on any of
+            // them.
             unsafe {
                 system::release(
                     segment.as_ptr().add(pages.start * SYSTEM_PAGE),
@@ -213,16 +227,24 @@ impl Blocks {
     /// if the block was ever taken. It looks at each segment.
     pub fn find(&self, at: *const u8) -> Option<(usize, usize)> {
         let bytes = self.per * self.size;
-        let (number, offset) = self.segments.iter().enumerate().find_map(|(segment, first)| {
-            let offset = (at as usize).checked_sub(first.as_ptr() as usize)?;
-            (offset < bytes).then(|| (segment * self.per + offset / self.size, offset % self.size))
-        })?;
+        let (number, offset) = self
+            .segments
+            .iter()
+            .enumerate()
+            .find_map(|(segment, first)| {
+                let offset = (at as usize).checked_sub(first.as_ptr() as usize)?;
+                (offset < bytes)
+                    .then(|| (segment * self.per + offset / self.size, offset % self.size))
+            })?;
         (number < self.taken.len()).then_some((number, offset))
     }
 
     fn place(&self, number: u32) -> (NonNull<u8>, usize) {
         let number = number as usize;
-        (self.segments[number / self.per], number % self.per * self.size)
+        (
+            self.segments[number / self.per],
+            number % self.per * self.size,
+        )
     }
 
     fn segment_bytes(&self) -> usize {
@@ -232,13 +254,15 @@ impl Blocks {
 
 /// Sees to it that the list has room for so many in all, with some more for those that come later.
 fn make_room<E>(list: &mut Vec<E>, len: usize) -> Result<(), Refused> {
-    list.try_reserve(len - list.len()).map_err(|_| Refused::OutOfMemory)
+    list.try_reserve(len - list.len())
+        .map_err(|_| Refused::OutOfMemory)
 }
 
 impl Drop for Blocks {
     fn drop(&mut self) {
         for segment in &self.segments {
-            // SAFETY: it is what `map` gave, of so many bytes, and who has the blocks uses them no more.
+            // SAFETY: it is what `map` gave, of so many bytes, and who has the blocks uses them no
+            // more.
             unsafe { system::unmap(segment.as_ptr(), self.segment_bytes()) }
         }
     }
@@ -249,7 +273,8 @@ unsafe impl Send for Blocks {}
 // SAFETY: nothing is done through `&Blocks` but to read its own fields.
 unsafe impl Sync for Blocks {}
 
-/// What is asked of the system, by the numbers that Linux has for it on the only processor for which there is an archive.
+/// What is asked of the system, by the numbers that Linux has for it on the only processor for
+/// which there is an archive.
 mod system {
     use std::ptr::{self, NonNull};
 
@@ -265,7 +290,14 @@ mod system {
     const MADV_NOHUGEPAGE: i32 = 15;
 
     extern "C" {
-        fn mmap(at: *mut u8, len: usize, protection: i32, flags: i32, file: i32, offset: i64) -> *mut u8;
+        fn mmap(
+            at: *mut u8,
+            len: usize,
+            protection: i32,
+            flags: i32,
+            file: i32,
+            offset: i64,
+        ) -> *mut u8;
         fn munmap(at: *mut u8, len: usize) -> i32;
         fn madvise(at: *mut u8, len: usize, advice: i32) -> i32;
     }
@@ -278,16 +310,16 @@ mod system {
         if at as isize == -1 {
             return None;
         }
-        // A huge page would be memory for many blocks, used or not. That the system has none is no matter.
-        // SAFETY: the mapping was just made, and the advice changes no byte of it.
+        // A huge page would be memory for many blocks, used or not. That the system has none is no
+        // matter. SAFETY: the mapping was just made, and the advice changes no byte of it.
         unsafe { madvise(at, len, MADV_NOHUGEPAGE) };
         NonNull::new(at)
     }
 
     /// # Safety
     ///
-    /// The bytes are of one mapping of `map`, whole system pages of it, and nobody reads them before they are written again, or minds that
-    /// they are zeros.
+    /// The bytes are of one mapping of `map`, whole system pages of it, and nobody reads them
+    /// before they are written again, or minds that they are zeros.
     pub unsafe fn release(at: *mut u8, len: usize) {
         madvise(at, len, MADV_DONTNEED);
     }
@@ -307,8 +339,8 @@ mod tests {
     use std::collections::BTreeMap;
     use std::ptr::NonNull;
 
-    /// Blocks come and go at random. Each that is taken is its own, is found by its address, and has
-    /// what was written there; one that was never taken is not found.
+    /// Blocks come and go at random. Each that is taken is its own, is found by its address, and
+    /// has what was written there; one that was never taken is not found.
     fn come_and_go(size: usize) -> Result<(), Refused> {
         let (mut blocks, mut taken) = (Blocks::new(size), BTreeMap::<u32, NonNull<u8>>::new());
         let mut random = 88_172_645_463_325_252_u64;
@@ -340,7 +372,9 @@ mod tests {
 
     #[test]
     fn each_is_its_own() -> Result<(), Refused> {
-        [64, 1000, 6144, 100_000].into_iter().try_for_each(come_and_go)
+        [64, 1000, 6144, 100_000]
+            .into_iter()
+            .try_for_each(come_and_go)
     }
 
     #[test]
@@ -350,7 +384,10 @@ mod tests {
         assert!(blocks.len() <= 4 && blocks.cold.capacity() <= 4);
         let (_, first) = blocks.take();
         let beyond = first.as_ptr().wrapping_add(6144);
-        assert_eq!((blocks.find(first.as_ptr()), blocks.find(beyond)), (Some((0, 0)), None));
+        assert_eq!(
+            (blocks.find(first.as_ptr()), blocks.find(beyond)),
+            (Some((0, 0)), None)
+        );
         blocks.give(0);
         blocks.reserve_all(100)?;
         let room = blocks.cold.capacity();
@@ -362,7 +399,8 @@ mod tests {
         Ok(())
     }
 
-    /// What is taken at the highest numbers goes to the lowest, and the next blocks are those behind.
+    /// What is taken at the highest numbers goes to the lowest, and the next blocks are those
+    /// behind.
     #[test]
     fn ends_are_swapped() -> Result<(), Refused> {
         let mut blocks = Blocks::new(2560);
@@ -374,7 +412,9 @@ mod tests {
         let mut within = blocks.numbers();
         let from: Vec<_> = std::iter::from_fn(|| blocks.swap_ends(&mut within)).collect();
         let low = [0, 1, 2, 4, 5, 6, 7, 8, 9];
-        assert!(from.into_iter().eq((1..10).rev().map(|n| 10 * n + 3).zip(low)));
+        assert!(from
+            .into_iter()
+            .eq((1..10).rev().map(|n| 10 * n + 3).zip(low)));
         blocks.release_rest();
         assert_eq!((blocks.take().0, blocks.take().0), (10, 11));
         Ok(())

@@ -7,7 +7,9 @@ use std::ops::Deref;
 use std::slice;
 
 #[cfg(not(target_endian = "little"))]
-compile_error!("the bytes of a word are those of a processor of level x86-64-v2, which has the lowest first");
+compile_error!(
+    "the bytes of a word are those of a processor of level x86-64-v2, which has the lowest first"
+);
 
 /// How many words an object has at most.
 pub(crate) const MOST_WORDS: usize = 16;
@@ -28,7 +30,8 @@ pub(crate) const fn slots_for(words: usize) -> usize {
     PAGE_WORDS / words
 }
 
-/// The words of one object, 1 to 16: of [`Core::get_words`](crate::Core::get_words). They are read as a slice.
+/// The words of one object, 1 to 16: of [`Core::get_words`](crate::Core::get_words). They are read
+/// as a slice.
 #[derive(Clone, Copy)]
 pub struct Words {
     // SAFETY: the first `len` are initialised.
@@ -87,7 +90,8 @@ impl fmt::Debug for Words {
 
 /// The name of bytes that a core keeps: their key, and how many they are. It is 16 bytes.
 ///
-/// Their number stands here and nowhere else: the page has the bytes, and zeros up to the end of the object that holds them.
+/// Their number stands here and nowhere else: the page has the bytes, and zeros up to the end of
+/// the object that holds them.
 #[derive(Clone, Copy, PartialEq, Eq, PartialOrd, Ord, Hash, Debug)]
 pub struct BytesKey {
     key: Key,
@@ -99,11 +103,15 @@ impl BytesKey {
     #[allow(clippy::cast_possible_truncation)]
     pub(crate) fn new(key: Key, len: usize) -> BytesKey {
         debug_assert!((1..=MOST_BYTES).contains(&len));
-        BytesKey { key, len: len as u16 }
+        BytesKey {
+            key,
+            len: len as u16,
+        }
     }
 
-    /// The name of so many bytes under the key, as where the two were kept apart: `None` where there are no such names, of no bytes or of more
-    /// than 256. Nothing is found where the key is not live or has fewer bytes.
+    /// The name of so many bytes under the key, as where the two were kept apart: `None` where
+    /// there are no such names, of no bytes or of more than 256. Nothing is found where the key is
+    /// not live or has fewer bytes.
     ///
     /// ```
     /// # use teurlaks::{BytesKey, Core, Limits};
@@ -115,7 +123,9 @@ impl BytesKey {
     /// ```
     #[must_use]
     pub fn from_parts(key: Key, len: usize) -> Option<BytesKey> {
-        (1..=MOST_BYTES).contains(&len).then(|| BytesKey::new(key, len))
+        (1..=MOST_BYTES)
+            .contains(&len)
+            .then(|| BytesKey::new(key, len))
     }
 
     /// The key of the object that holds them.
@@ -132,7 +142,8 @@ impl BytesKey {
     }
 }
 
-/// Bytes that were looked up: of [`Core::get_bytes`](crate::Core::get_bytes). They are read as a slice.
+/// Bytes that were looked up: of [`Core::get_bytes`](crate::Core::get_bytes). They are read as a
+/// slice.
 #[derive(Clone, Copy)]
 pub struct Bytes {
     words: Words,

@@ -4,7 +4,9 @@ mod many;
 mod meshing;
 mod worn;
 
-pub(crate) use meshing::{certificate_text, done, letting_go, marked, meshing, stepped, MOST_GROUPS};
+pub(crate) use meshing::{
+    certificate_text, done, letting_go, marked, meshing, stepped, MOST_GROUPS,
+};
 pub use meshing::{Marked, Stepped};
 
 use crate::bytes::{slots_for, words_for, Bytes, BytesKey, Words, MOST_BYTES, MOST_WORDS};
@@ -27,8 +29,8 @@ pub struct Limits {
     /// are used. Each adoption by a shard costs a step for each page that it has, so many shards of
     /// few pages are compacted sooner than one of many, where much of what is retired comes back.
     pub pages: u32,
-    /// How many pages a shard may open in its life, 1 to 4,294,967,295. Each insert that finds no room
-    /// opens one, and a fold uses one up. Fewer make keys shorter ([`Limits::key_bits`]).
+    /// How many pages a shard may open in its life, 1 to 4,294,967,295. Each insert that finds no
+    /// room opens one, and a fold uses one up. Fewer make keys shorter ([`Limits::key_bits`]).
     pub spans: u32,
     /// How often a slot may be used, at least once. A slot that was used so often is never used
     /// again. A page of such slots makes way for another one once it has no value: when an insert
@@ -49,9 +51,9 @@ impl Default for Limits {
 }
 
 impl Limits {
-    /// Limits whose keys are numbers of 64 bits by [`KeyBits::BALANCED`]: 16 shards, each of which may
-    /// have 1,048,576 pages and open 268,435,456, and 16,777,215 generations. No key beyond them is
-    /// given out.
+    /// Limits whose keys are numbers of 64 bits by [`KeyBits::BALANCED`]: 16 shards, each of which
+    /// may have 1,048,576 pages and open 268,435,456, and 16,777,215 generations. No key beyond
+    /// them is given out.
     ///
     /// ```
     /// # use teurlaks::{Key, KeyBits, Limits, Slab};
@@ -74,8 +76,8 @@ impl Limits {
         }
     }
 
-    /// How many bits of a number the parts of a key take, whose slot takes 8: the fewest in which each
-    /// key within these limits has one. `None` if they come to more than 64.
+    /// How many bits of a number the parts of a key take, whose slot takes 8: the fewest in which
+    /// each key within these limits has one. `None` if they come to more than 64.
     #[must_use]
     pub fn key_bits(self) -> Option<KeyBits> {
         KeyBits::for_limits(self.shards, self.spans, self.generations)
@@ -116,8 +118,9 @@ pub(crate) fn ends_turn(key: Key) -> bool {
 
 /// Objects of 1 to 16 words of 16 bytes under keys, in shards: the proved library as it is.
 ///
-/// A shard that ends leaves its groups to a pool, and one that goes on may leave its sparsest ones there. A mark plans as many folds of the pool's groups onto those of the shards as can be,
-/// and each step carries one out, which gives one page back. Every key stays valid.
+/// A shard that ends leaves its groups to a pool, and one that goes on may leave its sparsest ones
+/// there. A mark plans as many folds of the pool's groups onto those of the shards as can be, and
+/// each step carries one out, which gives one page back. Every key stays valid.
 ///
 /// ```
 /// use teurlaks::{Core, Limits, Stepped};
@@ -193,7 +196,9 @@ impl Core {
     pub fn new(limits: Limits) -> Result<Core, Refused> {
         limits.check()?;
         Ok(Core {
-            handle: raw::Handle { at: ptr::null_mut() },
+            handle: raw::Handle {
+                at: ptr::null_mut(),
+            },
             limits,
             least_words: MOST_WORDS as u8,
             plan: Plan::None,
@@ -271,11 +276,13 @@ impl Core {
         self.ended.checked_shr(shard).unwrap_or(0) & 1 == 1
     }
 
-    /// Keeps an object of one word in the shard, and gives its key, which was never given out before.
+    /// Keeps an object of one word in the shard, and gives its key, which was never given out
+    /// before.
     ///
     /// # Errors
     ///
-    /// - [`Refused::PagesSpent`]: no page of the shard has a usable slot, and it may have no further one;
+    /// - [`Refused::PagesSpent`]: no page of the shard has a usable slot, and it may have no
+    ///   further one;
     /// - [`Refused::Ended`]: the shard has ended;
     /// - [`Refused::Config`]: there is no such shard;
     /// - [`Refused::OutOfMemory`]: none of these holds, and memory was refused.
@@ -291,10 +298,17 @@ impl Core {
     }
 
     /// What a put answers that got this status at first. It comes back in registers, by the
-    /// convention of the library's puts: for an answer in memory the caller would make room each time.
+    /// convention of the library's puts: for an answer in memory the caller would make room each
+    /// time.
     #[cold]
     #[allow(improper_ctypes_definitions)]
-    extern "C" fn put_again(&mut self, status: u32, shard: u32, low: u64, high: u64) -> raw::PutReply {
+    extern "C" fn put_again(
+        &mut self,
+        status: u32,
+        shard: u32,
+        low: u64,
+        high: u64,
+    ) -> raw::PutReply {
         self.again(status, shard, 1, |core| {
             // SAFETY: as in `insert`.
             unsafe { raw::teurlaks_put(&mut core.handle, shard, low, high) }
@@ -312,7 +326,10 @@ impl Core {
         loop {
             status = self.make_way(status, shard, len);
             if status != raw::OK {
-                return raw::PutReply { status, key: NO_KEY };
+                return raw::PutReply {
+                    status,
+                    key: NO_KEY,
+                };
             }
             let reply = put(self);
             if reply.status == raw::OK {
@@ -365,7 +382,9 @@ impl Core {
     #[inline]
     pub fn insert_bytes(&mut self, shard: u32, bytes: &[u8]) -> Result<BytesKey, Refused> {
         // SAFETY: so many words stand there.
-        let key = words_of(bytes, |first, len| unsafe { self.put_words(shard, first, len) })?;
+        let key = words_of(bytes, |first, len| unsafe {
+            self.put_words(shard, first, len)
+        })?;
         Ok(BytesKey::new(key, bytes.len()))
     }
 
@@ -378,7 +397,9 @@ impl Core {
     #[inline]
     pub fn set_bytes(&mut self, key: BytesKey, bytes: &[u8]) -> Result<Option<BytesKey>, Refused> {
         // SAFETY: so many words stand there.
-        let done = words_of(bytes, |first, len| unsafe { self.set_all_words(key.key(), first, len) })?;
+        let done = words_of(bytes, |first, len| unsafe {
+            self.set_all_words(key.key(), first, len)
+        })?;
         Ok(done.then(|| BytesKey::new(key.key(), bytes.len())))
     }
 
@@ -386,11 +407,18 @@ impl Core {
     ///
     /// # Safety
     ///
-    /// So many words stand there. Bytes of them may be uninitialised where no [`Words`] is made of them.
+    /// So many words stand there. Bytes of them may be uninitialised where no [`Words`] is made of
+    /// them.
     #[inline]
-    pub(crate) unsafe fn put_words(&mut self, shard: u32, first: *const u128, len: usize) -> Result<Key, Refused> {
+    pub(crate) unsafe fn put_words(
+        &mut self,
+        shard: u32,
+        first: *const u128,
+        len: usize,
+    ) -> Result<Key, Refused> {
         // SAFETY: as in `insert`, and a word is its two halves, the lower one first.
-        let mut put = unsafe { raw::teurlaks_put_words(&mut self.handle, shard, first.cast(), len) };
+        let mut put =
+            unsafe { raw::teurlaks_put_words(&mut self.handle, shard, first.cast(), len) };
         if put.status != raw::OK {
             // SAFETY: as of this call.
             put = unsafe { self.put_words_again(put.status, shard, first, len) };
@@ -454,7 +482,8 @@ impl Core {
         let (low, high) = key.numbers();
         // SAFETY: no call that writes runs beside this one.
         let got = unsafe { raw::teurlaks_get(&self.handle, low, high) };
-        (got.status == raw::OK).then(|| u128::from(got.value.high) << 64 | u128::from(got.value.low))
+        (got.status == raw::OK)
+            .then(|| u128::from(got.value.high) << 64 | u128::from(got.value.low))
     }
 
     /// The words of the key's object, where it is live.
@@ -463,13 +492,17 @@ impl Core {
     pub fn get_words(&self, key: Key) -> Option<Words> {
         let (low, high) = key.numbers();
         Words::written(|first| {
-            // SAFETY: as in `get`, and there is room for 16 words, of which it writes as many as it says.
-            let got = unsafe { raw::teurlaks_get_words(&self.handle, low, high, first.cast(), MOST_WORDS) };
+            // SAFETY: as in `get`, and there is room for 16 words, of which it writes as many as it
+            // says.
+            let got = unsafe {
+                raw::teurlaks_get_words(&self.handle, low, high, first.cast(), MOST_WORDS)
+            };
             (got.status == raw::OK).then_some(got.len)
         })
     }
 
-    /// What is read of the words of the key's object, where it is live, as they are written for this call.
+    /// What is read of the words of the key's object, where it is live, as they are written for
+    /// this call.
     #[inline]
     pub(crate) fn read_words<R>(&self, key: Key, read: impl FnOnce(*const u128) -> R) -> Option<R> {
         let mut words = [MaybeUninit::<u128>::uninit(); MOST_WORDS];
@@ -501,8 +534,8 @@ impl Core {
         status != raw::NONE && status != raw::NO_CORE
     }
 
-    /// The key of this slot of the span, if one is live: no other key stands between it and the last
-    /// one that the slot before could have.
+    /// The key of this slot of the span, if one is live: no other key stands between it and the
+    /// last one that the slot before could have.
     pub(crate) fn key_at(&self, span: Span, slot: u8) -> Option<Key> {
         let next = self
             .next_after(span.before(slot).map_or(NO_KEY, Key::raw))
@@ -510,13 +543,13 @@ impl Core {
         next.filter(|key| key.span() == span && key.slot() == u32::from(slot))
     }
 
-    /// Sets the key to an object of this word in place, and says whether it did: where the key is live and has an object of one word. The
-    /// key stays as it is, also while a plan is open.
+    /// Sets the key to an object of this word in place, and says whether it did: where the key is
+    /// live and has an object of one word. The key stays as it is, also while a plan is open.
     ///
     /// # Errors
     ///
-    /// [`Refused::OutOfMemory`], after 2^63 changes of a span, or if memory fails for the first object on its page that is not zeros. No
-    /// other set takes memory.
+    /// [`Refused::OutOfMemory`], after 2^63 changes of a span, or if memory fails for the first
+    /// object on its page that is not zeros. No other set takes memory.
     ///
     /// ```
     /// # use teurlaks::{Core, Limits};
@@ -540,7 +573,8 @@ impl Core {
         was_set(status)
     }
 
-    /// Sets the key to an object of these words, as [`Core::set`] does with one, where its object has as many.
+    /// Sets the key to an object of these words, as [`Core::set`] does with one, where its object
+    /// has as many.
     ///
     /// # Errors
     ///
@@ -557,18 +591,24 @@ impl Core {
     ///
     /// As of [`Core::put_words`].
     #[inline]
-    pub(crate) unsafe fn set_all_words(&mut self, key: Key, first: *const u128, len: usize) -> Result<bool, Refused> {
+    pub(crate) unsafe fn set_all_words(
+        &mut self,
+        key: Key,
+        first: *const u128,
+        len: usize,
+    ) -> Result<bool, Refused> {
         let (key, key_high) = key.numbers();
         // SAFETY: as in `put_words`.
-        let status = unsafe { raw::teurlaks_set_words(&mut self.handle, key, key_high, first.cast(), len) };
+        let status =
+            unsafe { raw::teurlaks_set_words(&mut self.handle, key, key_high, first.cast(), len) };
         if status == raw::NO_CORE {
             return is_length_of_object(len).map(|()| false);
         }
         was_set(status)
     }
 
-    /// Sets the key to an object of this word, and gives the one that it had, where it is live and has an object of one word; else nothing
-    /// changes.
+    /// Sets the key to an object of this word, and gives the one that it had, where it is live and
+    /// has an object of one word; else nothing changes.
     ///
     /// # Errors
     ///
@@ -601,7 +641,8 @@ impl Core {
         self.live -= 1;
     }
 
-    /// Frees the key, and gives its word, where it was live and had an object of one word; else nothing changes.
+    /// Frees the key, and gives its word, where it was live and had an object of one word; else
+    /// nothing changes.
     #[inline]
     pub fn remove(&mut self, key: Key) -> Option<u128> {
         let word = self.get(key)?;
@@ -609,11 +650,12 @@ impl Core {
         Some(word)
     }
 
-    /// The live key that comes next after this one, which need not be live, or the first one where none is given. Keys come by the
-    /// ids of their spans and then by slots, wherever folds have brought them.
+    /// The live key that comes next after this one, which need not be live, or the first one where
+    /// none is given. Keys come by the ids of their spans and then by slots, wherever folds have
+    /// brought them.
     ///
-    /// So a loop that goes from `None` to `None` meets each live key once, and may free keys on its way. Numbers that no key has, of
-    /// [`Key::from_bits`], are as `None`.
+    /// So a loop that goes from `None` to `None` meets each live key once, and may free keys on its
+    /// way. Numbers that no key has, of [`Key::from_bits`], are as `None`.
     ///
     /// ```
     /// # use teurlaks::{Core, Limits};
@@ -631,7 +673,8 @@ impl Core {
     /// ```
     #[must_use]
     pub fn next_live(&self, after: Option<Key>) -> Option<Key> {
-        self.next_after(after.map_or(NO_KEY, Key::raw)).and_then(Key::of)
+        self.next_after(after.map_or(NO_KEY, Key::raw))
+            .and_then(Key::of)
     }
 
     /// The numbers of the live key that comes next after these.
@@ -652,8 +695,9 @@ impl Core {
         Iter::new(self)
     }
 
-    /// Frees each live key, and gives it with the words of its object, in the order of [`Core::next_live`]. Those that are not asked for are freed
-    /// when the iterator is dropped. So an owner of what the words name comes to each of them.
+    /// Frees each live key, and gives it with the words of its object, in the order of
+    /// [`Core::next_live`]. Those that are not asked for are freed when the iterator is dropped. So
+    /// an owner of what the words name comes to each of them.
     pub fn drain(&mut self) -> Drain<'_> {
         Drain::new(self)
     }
@@ -695,8 +739,8 @@ impl Core {
     }
 }
 
-// SAFETY: that a handle may go to another thread is proved in `crates/teurlaks_c` (`unsafe impl Send for Handle`, with its proof), and `&mut`
-// and `Drop` order the calls.
+// SAFETY: that a handle may go to another thread is proved in `crates/teurlaks_c` (`unsafe impl
+// Send for Handle`, with its proof), and `&mut` and `Drop` order the calls.
 unsafe impl Send for Core {}
 
 // SAFETY: through `&self` a core asks the library by a `*const Handle` alone, and that call reads
@@ -732,7 +776,10 @@ pub(crate) const NO_KEY: raw::RawKey = raw::RawKey {
 
 // Lends the words of the least object that holds the bytes, and how many they are.
 #[inline]
-fn words_of<R>(bytes: &[u8], keep: impl FnOnce(*const u128, usize) -> Result<R, Refused>) -> Result<R, Refused> {
+fn words_of<R>(
+    bytes: &[u8],
+    keep: impl FnOnce(*const u128, usize) -> Result<R, Refused>,
+) -> Result<R, Refused> {
     if bytes.is_empty() || bytes.len() > MOST_BYTES {
         return Err(Refused::Config);
     }
@@ -743,7 +790,9 @@ fn words_of<R>(bytes: &[u8], keep: impl FnOnce(*const u128, usize) -> Result<R, 
     // which is a zero before.
     unsafe {
         first.add(len - 1).write(0);
-        first.cast::<u8>().copy_from_nonoverlapping(bytes.as_ptr(), bytes.len());
+        first
+            .cast::<u8>()
+            .copy_from_nonoverlapping(bytes.as_ptr(), bytes.len());
     }
     keep(first, len)
 }

@@ -10,9 +10,11 @@ use std::str::FromStr;
 
 /// The name of one stored value. It is 12 bytes, and no other value of the same slab ever has it.
 ///
-/// A key is printed as `shard.serial/slot/generation`, as in the reports of `meshrun`, and read from such a text. Keys are ordered as the walks of
-/// a [`Core`](crate::Core) and a [`Store`](crate::Store) come to them: by shard, serial number, slot and generation. Since no generation is 0,
-/// an `Option<Key>` is 12 bytes too. A key of another slab finds nothing, or what has the same numbers here.
+/// A key is printed as `shard.serial/slot/generation`, as in the reports of `meshrun`, and read
+/// from such a text. Keys are ordered as the walks of a [`Core`](crate::Core) and a
+/// [`Store`](crate::Store) come to them: by shard, serial number, slot and generation. Since no
+/// generation is 0, an `Option<Key>` is 12 bytes too. A key of another slab finds nothing, or what
+/// has the same numbers here.
 ///
 /// ```
 /// # use teurlaks::{Key, Slab};
@@ -42,8 +44,9 @@ impl Key {
     /// How many bits of [`Key::to_bits`] a key has.
     const BITS: u32 = 80;
 
-    /// The key as a number, as for a place that keeps numbers: from its 80th bit down 8 bits of the shard, 32 of the serial number, 8 of the slot
-    /// and 32 of the generation. So numbers are ordered as keys are.
+    /// The key as a number, as for a place that keeps numbers: from its 80th bit down 8 bits of the
+    /// shard, 32 of the serial number, 8 of the slot and 32 of the generation. So numbers are
+    /// ordered as keys are.
     ///
     /// ```
     /// # use teurlaks::{Key, Slab};
@@ -61,8 +64,9 @@ impl Key {
             | u128::from(self.generation())
     }
 
-    /// The key of a number, or `None` where no key has it: where the generation, which is its lowest 32 bits, is 0, or the number has more than 80
-    /// bits. Any number may be given: under a key that is not live nothing is found.
+    /// The key of a number, or `None` where no key has it: where the generation, which is its
+    /// lowest 32 bits, is 0, or the number has more than 80 bits. Any number may be given: under a
+    /// key that is not live nothing is found.
     #[must_use]
     // Each part is cut out of the number.
     #[allow(clippy::cast_possible_truncation)]
@@ -70,7 +74,12 @@ impl Key {
         if bits >> Self::BITS != 0 {
             return None;
         }
-        Key::of_parts((bits >> 72) as u8, (bits >> 40) as u32, (bits >> 32) as u8, bits as u32)
+        Key::of_parts(
+            (bits >> 72) as u8,
+            (bits >> 40) as u32,
+            (bits >> 32) as u8,
+            bits as u32,
+        )
     }
 
     /// The key of these parts, or `None` if the generation is 0.
@@ -132,7 +141,8 @@ impl Key {
         Key::of_parts((span >> 32) as u8, span as u32, slot, generation)
     }
 
-    /// The key as two numbers, of which the first is never 0: its serial number and generation, and its shard and slot.
+    /// The key as two numbers, of which the first is never 0: its serial number and generation, and
+    /// its shard and slot.
     #[inline]
     pub(crate) fn halves(self) -> (u64, u64) {
         (self.low.get(), self.high.into())
@@ -143,7 +153,12 @@ impl Key {
     // Each part is cut out of its number.
     #[allow(clippy::cast_possible_truncation)]
     pub(crate) fn of_halves(low: u64, high: u64) -> Option<Key> {
-        Key::of_parts(high as u8, low as u32, (high >> 8) as u8, (low >> 32) as u32)
+        Key::of_parts(
+            high as u8,
+            low as u32,
+            (high >> 8) as u8,
+            (low >> 32) as u32,
+        )
     }
 
     /// The key as a call gets it, in two numbers: those of `raw` in the order of their bytes.
@@ -166,7 +181,8 @@ impl Key {
         }
     }
 
-    /// The key that the library answers, or `None` where the generation is 0: a reply that has no key has zeros.
+    /// The key that the library answers, or `None` where the generation is 0: a reply that has no
+    /// key has zeros.
     #[inline]
     pub(crate) fn of(raw: RawKey) -> Option<Key> {
         Key::of_parts(raw.shard, raw.serial, raw.slot, raw.generation)
@@ -209,11 +225,13 @@ impl fmt::Debug for Key {
 impl FromStr for Key {
     type Err = ParseKeyError;
 
-    /// Reads a key as it is printed, `shard.serial/slot/generation`: so what is read is printed as the same text.
+    /// Reads a key as it is printed, `shard.serial/slot/generation`: so what is read is printed as
+    /// the same text.
     ///
     /// # Errors
     ///
-    /// [`ParseKeyError::Form`] where the text has another form, and else [`ParseKeyError::Range`] where a number does not fit a key.
+    /// [`ParseKeyError::Form`] where the text has another form, and else [`ParseKeyError::Range`]
+    /// where a number does not fit a key.
     fn from_str(text: &str) -> Result<Key, ParseKeyError> {
         let (shard, rest) = text.split_once('.').ok_or(ParseKeyError::Form)?;
         let (serial, rest) = rest.split_once('/').ok_or(ParseKeyError::Form)?;
@@ -229,7 +247,10 @@ impl FromStr for Key {
 
 /// Whether these are decimal digits with no leading zero.
 fn is_number(digits: &str) -> bool {
-    digits == "0" || !digits.starts_with('0') && !digits.is_empty() && digits.bytes().all(|byte| byte.is_ascii_digit())
+    digits == "0"
+        || !digits.starts_with('0')
+            && !digits.is_empty()
+            && digits.bytes().all(|byte| byte.is_ascii_digit())
 }
 
 /// The number of these digits, where its type has it.
@@ -241,9 +262,11 @@ fn in_range<N: FromStr>(digits: &str) -> Result<N, ParseKeyError> {
 #[derive(Clone, Copy, Debug, PartialEq, Eq, Hash)]
 #[non_exhaustive]
 pub enum ParseKeyError {
-    /// It is not of the form `shard.serial/slot/generation`, in decimal digits with no sign and no leading zero.
+    /// It is not of the form `shard.serial/slot/generation`, in decimal digits with no sign and no
+    /// leading zero.
     Form,
-    /// A shard or a slot is above 255, a serial number above 4,294,967,295, or a generation 0 or above that.
+    /// A shard or a slot is above 255, a serial number above 4,294,967,295, or a generation 0 or
+    /// above that.
     Range,
 }
 
@@ -276,8 +299,8 @@ impl Span {
         self.0
     }
 
-    /// A key of the slot before this one, in the order of walks, which need not be one of this span;
-    /// `None` for the first slot of all.
+    /// A key of the slot before this one, in the order of walks, which need not be one of this
+    /// span; `None` for the first slot of all.
     pub fn before(self, slot: u8) -> Option<Key> {
         if slot > 0 {
             return Key::of_span(self, slot - 1, 1);
@@ -299,8 +322,8 @@ impl Span {
     }
 }
 
-/// The name of a group of spans on one page: the shard that opened its head, and the head's serial number there. It is printed
-/// as `shard.serial`, as in certificates.
+/// The name of a group of spans on one page: the shard that opened its head, and the head's serial
+/// number there. It is printed as `shard.serial`, as in certificates.
 #[derive(Clone, Copy, PartialEq, Eq, PartialOrd, Ord, Hash)]
 pub struct Group(pub(crate) RawSpan);
 

@@ -70,7 +70,8 @@ impl Occupancy {
         if reachable <= 0.0 {
             return 0;
         }
-        self.pages.saturating_sub(count(real(self.live) / reachable))
+        self.pages
+            .saturating_sub(count(real(self.live) / reachable))
     }
 
     /// How many pages a round retires that has several folded onto each that stays, if so many can
@@ -122,7 +123,11 @@ mod tests {
     /// Pages of 16 slots with so many values of 100.
     fn thinned(pages: usize, percent: usize) -> Occupancy {
         let live = pages * 16 * percent / 100;
-        Occupancy { pages, live, slots: 16 }
+        Occupancy {
+            pages,
+            live,
+            slots: 16,
+        }
     }
 
     #[test]
@@ -135,7 +140,10 @@ mod tests {
         assert_eq!(thinned(2000, 50).expected_folds(), 0);
         // A round gathers if halves could not give as much, or of few pages.
         let gathered = |percent| thinned(2000, percent).gathered().is_some();
-        assert_eq!([10, 20, 25, 40, 50].map(gathered), [true, true, true, false, false]);
+        assert_eq!(
+            [10, 20, 25, 40, 50].map(gathered),
+            [true, true, true, false, false]
+        );
         let few = Occupancy {
             pages: 3,
             live: 5,

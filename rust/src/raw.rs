@@ -1,9 +1,10 @@
-//! The calls of the archive, as `crates/teurlaks_c` exports them. `tests/declarations.rs` compares the two, and `c/teurlaks.h` too. The
-//! parameter `alloc` there takes no bytes, and stands nowhere here.
+//! The calls of the archive, as `crates/teurlaks_c` exports them. `tests/declarations.rs` compares
+//! the two, and `c/teurlaks.h` too. The parameter `alloc` there takes no bytes, and stands nowhere
+//! here.
 //!
 //! The calls on one object get a key and a word as two numbers each. C's convention hands a struct
-//! of 12 or 16 bytes over in the same two registers, and LLVM inlines a call only if both sides name
-//! the same types.
+//! of 12 or 16 bytes over in the same two registers, and LLVM inlines a call only if both sides
+//! name the same types.
 
 #[repr(C)]
 pub struct Handle {
@@ -216,11 +217,22 @@ pub struct ArenaTotalsReply {
 }
 
 extern "C" {
-    pub fn teurlaks_new(out: *mut Handle, shards: u32, page_limit: u32, ring_capacity: u32, gens: u32) -> u32;
+    pub fn teurlaks_new(
+        out: *mut Handle,
+        shards: u32,
+        page_limit: u32,
+        ring_capacity: u32,
+        gens: u32,
+    ) -> u32;
     pub fn teurlaks_drop(handle: *mut Handle);
     pub fn teurlaks_put(handle: *mut Handle, shard: u32, value: u64, value_high: u64) -> PutReply;
     pub fn teurlaks_get(handle: *const Handle, key: u64, key_high: u32) -> GetReply;
-    pub fn teurlaks_put_words(handle: *mut Handle, shard: u32, words: *const RawWord, words_len: usize) -> PutReply;
+    pub fn teurlaks_put_words(
+        handle: *mut Handle,
+        shard: u32,
+        words: *const RawWord,
+        words_len: usize,
+    ) -> PutReply;
     pub fn teurlaks_get_words(
         handle: *const Handle,
         key: u64,
@@ -228,7 +240,13 @@ extern "C" {
         words: *mut RawWord,
         words_len: usize,
     ) -> WordsReply;
-    pub fn teurlaks_set(handle: *mut Handle, key: u64, key_high: u32, value: u64, value_high: u64) -> u32;
+    pub fn teurlaks_set(
+        handle: *mut Handle,
+        key: u64,
+        key_high: u32,
+        value: u64,
+        value_high: u64,
+    ) -> u32;
     pub fn teurlaks_set_words(
         handle: *mut Handle,
         key: u64,
@@ -245,7 +263,11 @@ extern "C" {
         keys: *mut RawKey,
         keys_len: usize,
     ) -> ManyReply;
-    pub fn teurlaks_free_many(handle: *mut Handle, keys: *const RawKey, keys_len: usize) -> ManyReply;
+    pub fn teurlaks_free_many(
+        handle: *mut Handle,
+        keys: *const RawKey,
+        keys_len: usize,
+    ) -> ManyReply;
     pub fn teurlaks_get_many(
         handle: *const Handle,
         keys: *const RawKey,
@@ -265,14 +287,22 @@ extern "C" {
     pub fn teurlaks_forget(handle: *mut Handle) -> ForgetReply;
     #[allow(dead_code)]
     pub fn teurlaks_compact_within(handle: *mut Handle, budget: usize) -> CompactReply;
-    pub fn teurlaks_compaction_step(handle: *mut Handle, left: usize, budget: usize) -> AdvanceReply;
+    pub fn teurlaks_compaction_step(
+        handle: *mut Handle,
+        left: usize,
+        budget: usize,
+    ) -> AdvanceReply;
     pub fn teurlaks_compaction_give_up(handle: *mut Handle) -> u32;
     pub fn teurlaks_adopt(handle: *mut Handle, shard: u32) -> AdoptReply;
     pub fn teurlaks_mark(handle: *mut Handle) -> MarkReply;
     pub fn teurlaks_mark_some(handle: *mut Handle) -> MarkReply;
     pub fn teurlaks_step(handle: *mut Handle) -> StepReply;
     pub fn teurlaks_close(handle: *mut Handle) -> u32;
-    pub fn teurlaks_certificate(handle: *const Handle, text: *mut u8, text_len: usize) -> CertificateReply;
+    pub fn teurlaks_certificate(
+        handle: *const Handle,
+        text: *mut u8,
+        text_len: usize,
+    ) -> CertificateReply;
     pub fn teurlaks_arena_open(
         out: *mut ShareHandle,
         shards: u32,
@@ -297,7 +327,11 @@ extern "C" {
     pub fn teurlaks_share_drop(handle: *mut ShareHandle);
     pub fn teurlaks_seat_session(handle: *mut ShareHandle) -> u32;
     pub fn teurlaks_seat_pause(handle: *mut ShareHandle) -> u32;
-    pub fn teurlaks_seat_put_words(handle: *mut ShareHandle, words: *const RawWord, words_len: usize) -> PutReply;
+    pub fn teurlaks_seat_put_words(
+        handle: *mut ShareHandle,
+        words: *const RawWord,
+        words_len: usize,
+    ) -> PutReply;
     pub fn teurlaks_seat_get_words(
         handle: *mut ShareHandle,
         key: RawKey,
@@ -326,7 +360,11 @@ extern "C" {
     pub fn teurlaks_steward_step(handle: *mut ShareHandle) -> StepReply;
     pub fn teurlaks_steward_close(handle: *mut ShareHandle) -> u32;
     pub fn teurlaks_steward_forget(handle: *mut ShareHandle) -> ForgetReply;
-    pub fn teurlaks_steward_certificate(handle: *mut ShareHandle, text: *mut u8, text_len: usize) -> CertificateReply;
+    pub fn teurlaks_steward_certificate(
+        handle: *mut ShareHandle,
+        text: *mut u8,
+        text_len: usize,
+    ) -> CertificateReply;
     pub fn teurlaks_steward_totals(handle: *mut ShareHandle) -> ArenaTotalsReply;
 }
 

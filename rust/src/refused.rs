@@ -18,8 +18,8 @@ pub enum Refused {
     Ended,
     /// The shard that is to begin again has not ended.
     Running,
-    /// A plan is open: a mark and an adoption wait for its close, and so do the end and the retirements of a shard that has a group
-    /// of the plan.
+    /// A plan is open: a mark and an adoption wait for its close, and so do the end and the
+    /// retirements of a shard that has a group of the plan.
     PlanOpen,
     /// A mark would see more than 4,096 groups on a side.
     TooMany,
@@ -29,7 +29,8 @@ pub enum Refused {
     Config,
     /// No plan is open.
     NoPlan,
-    /// The ring to another seat holds as many keys as it may: that seat is to tend first, or the key is freed here.
+    /// The ring to another seat holds as many keys as it may: that seat is to tend first, or the
+    /// key is freed here.
     RingFull,
     /// Each seat of the arena was handed out.
     NoSeatLeft,
@@ -40,7 +41,8 @@ pub enum Refused {
     /// The call would wait for a session of an arena, and its thread is in one
     /// ([`Seat::session`](crate::arena::Seat::session)): that is to be dropped first.
     Busy,
-    /// A status that no contract allows here: the archive is not the one that this crate is written for.
+    /// A status that no contract allows here: the archive is not the one that this crate is written
+    /// for.
     Unknown(u32),
 }
 
@@ -94,8 +96,9 @@ impl fmt::Display for Refused {
 
 impl Error for Refused {}
 
-/// A value that was not kept, and why: of [`Slab::try_insert`](crate::Slab::try_insert) and [`Slab::try_extend`](crate::Slab::try_extend). It
-/// gives the value back, as [`SendError`](std::sync::mpsc::SendError) does, and `?` makes a [`Refused`] of it.
+/// A value that was not kept, and why: of [`Slab::try_insert`](crate::Slab::try_insert) and
+/// [`Slab::try_extend`](crate::Slab::try_extend). It gives the value back, as
+/// [`SendError`](std::sync::mpsc::SendError) does, and `?` makes a [`Refused`] of it.
 #[derive(Clone, Copy, PartialEq, Eq, Hash)]
 pub struct InsertError<T> {
     /// The value, which was not kept.

@@ -22,12 +22,14 @@ use std::io;
 use std::sync::Arc;
 use turns::Turns;
 
-/// Plain values of one type, 1 to 256 bytes each, that any thread keeps, reads, sets and takes out, all through `&self`; and whose pages are
-/// given back while others go on.
+/// Plain values of one type, 1 to 256 bytes each, that any thread keeps, reads, sets and takes out,
+/// all through `&self`; and whose pages are given back while others go on.
 ///
-/// It has up to 64 shards, each with a lock and a core of its own, which comes with the first value. A thread keeps its values in up to four
-/// shards of its own in turn, which it finds by itself, and in others where these are full, so that threads hardly wait for each other. A key says
-/// which shard it is of, so a call under a key takes one lock. Values are handed out by copy: nothing is lent, and no lock is held between calls.
+/// It has up to 64 shards, each with a lock and a core of its own, which comes with the first
+/// value. A thread keeps its values in up to four shards of its own in turn, which it finds by
+/// itself, and in others where these are full, so that threads hardly wait for each other. A key
+/// says which shard it is of, so a call under a key takes one lock. Values are handed out by copy:
+/// nothing is lent, and no lock is held between calls.
 ///
 /// ```
 /// use std::thread;
@@ -50,8 +52,9 @@ use turns::Turns;
 ///
 /// # What is proved, and what is tested
 ///
-/// Under its lock each core answers as a plain map of keys: that is the proved library. That a call finds the core of its key, and that the locks
-/// are taken as they should be, is tested (`tests/shared.rs`). There is no `unsafe` in it.
+/// Under its lock each core answers as a plain map of keys: that is the proved library. That a call
+/// finds the core of its key, and that the locks are taken as they should be, is tested
+/// (`tests/shared.rs`). There is no `unsafe` in it.
 ///
 /// # Threads
 ///
@@ -62,15 +65,17 @@ use turns::Turns;
 /// share::<teurlaks::SharedStore<*const u8>>(); // a pointer is not `Send`
 /// ```
 ///
-/// Calls under one key are in one order, which all threads see. [`SharedStore::len`], [`SharedStore::pages`] and [`SharedStore::iter`] go from
-/// shard to shard, so beside other threads they are of no single moment.
+/// Calls under one key are in one order, which all threads see. [`SharedStore::len`],
+/// [`SharedStore::pages`] and [`SharedStore::iter`] go from shard to shard, so beside other threads
+/// they are of no single moment.
 ///
 /// # Closures that panic
 ///
-/// [`SharedStore::update`] and [`SharedStore::retain`] call a closure under the lock of a shard, so that it decides about the value that is there.
-/// Where it panics, that value stays as it was, what was done before stays done, and the lock is let go of: no later call of any thread panics
-/// because of it. The closure must not call the store itself, which may wait for its own lock for ever. An [`Iter`] holds no lock while its user
-/// works.
+/// [`SharedStore::update`] and [`SharedStore::retain`] call a closure under the lock of a shard, so
+/// that it decides about the value that is there. Where it panics, that value stays as it was, what
+/// was done before stays done, and the lock is let go of: no later call of any thread panics
+/// because of it. The closure must not call the store itself, which may wait for its own lock for
+/// ever. An [`Iter`] holds no lock while its user works.
 pub struct SharedStore<T> {
     shards: Box<[Shard<T>]>,
     homes: Homes,
@@ -99,19 +104,23 @@ impl<T: Copy> SharedStore<T> {
 
     /// A store of these limits. A shard takes some 8 KB with its first value, and nothing before.
     ///
-    /// As many threads as twice the processors have shards of their own, four each, or fewer where there are not so many; a thread beyond that
-    /// begins at those of an earlier one.
+    /// As many threads as twice the processors have shards of their own, four each, or fewer where
+    /// there are not so many; a thread beyond that begins at those of an earlier one.
     ///
     /// # Errors
     ///
-    /// [`Refused::Config`] exactly where a number is out of its range, and [`Refused::OutOfMemory`] where memory was refused.
+    /// [`Refused::Config`] exactly where a number is out of its range, and [`Refused::OutOfMemory`]
+    /// where memory was refused.
     pub fn with_limits(limits: Limits) -> Result<SharedStore<T>, Refused> {
         // What a core with these numbers would be refused.
         Store::<T>::with_limits(limits)?;
         Ok(SharedStore {
             shards: (0..limits.shards).map(|_| Shard::new()).collect(),
             homes: Homes::new(limits.shards as usize),
-            limits: Limits { shards: 1, ..limits },
+            limits: Limits {
+                shards: 1,
+                ..limits
+            },
             turns: Turns::default(),
         })
     }
@@ -120,7 +129,8 @@ impl<T: Copy> SharedStore<T> {
     ///
     /// # Errors
     ///
-    /// - [`Refused::PagesSpent`] only where no shard has room: each was asked, and may have no further page;
+    /// - [`Refused::PagesSpent`] only where no shard has room: each was asked, and may have no
+    ///   further page;
     /// - [`Refused::OutOfMemory`] where memory was refused.
     #[inline]
     pub fn insert(&self, value: T) -> Result<Key, Refused> {
@@ -155,8 +165,8 @@ impl<T: Copy> SharedStore<T> {
         Ok(key.with_shard(shard))
     }
 
-    /// Keeps a value in the next shard that has room: of those beside the home, and then of all, first in those that have a core. That is the
-    /// thread's home from then on.
+    /// Keeps a value in the next shard that has room: of those beside the home, and then of all,
+    /// first in those that have a core. That is the thread's home from then on.
     #[cold]
     fn insert_beyond(&self, home: Home<'_>, value: T) -> Result<Key, Refused> {
         let has_core = |shard: &u8| self.shards[usize::from(*shard)].lock().is_some();
@@ -181,8 +191,8 @@ impl<T: Copy> SharedStore<T> {
         self.find(key)?.lock().as_ref()?.get(inner(key))
     }
 
-    /// Sets the key to the value in place, and says whether it did: where it is live. It takes memory only for the first value
-    /// on a page whose bytes are not all zeros.
+    /// Sets the key to the value in place, and says whether it did: where it is live. It takes
+    /// memory only for the first value on a page whose bytes are not all zeros.
     ///
     /// # Errors
     ///
@@ -193,7 +203,8 @@ impl<T: Copy> SharedStore<T> {
         set.unwrap_or(Ok(false))
     }
 
-    /// Sets the key to the value, and gives the one that it had, where it is live; else nothing changes. No other call comes between the two.
+    /// Sets the key to the value, and gives the one that it had, where it is live; else nothing
+    /// changes. No other call comes between the two.
     ///
     /// # Errors
     ///
@@ -204,9 +215,11 @@ impl<T: Copy> SharedStore<T> {
             .transpose()
     }
 
-    /// Changes the value of the key by the closure, and gives what that returns, where the key is live. No other call comes between.
+    /// Changes the value of the key by the closure, and gives what that returns, where the key is
+    /// live. No other call comes between.
     ///
-    /// The closure runs under the lock of the key's shard, so it must not call this store. Where it panics the value stays as it was.
+    /// The closure runs under the lock of the key's shard, so it must not call this store. Where it
+    /// panics the value stays as it was.
     ///
     /// # Errors
     ///
@@ -218,13 +231,18 @@ impl<T: Copy> SharedStore<T> {
     /// let page = hits.insert(0_u64)?;
     /// std::thread::scope(|scope| {
     ///     for _ in 0..4 {
-    ///         scope.spawn(|| (0..100).try_for_each(|_| hits.update(page, |count| *count += 1).map(drop)));
+    ///         let visit = |_| hits.update(page, |count| *count += 1).map(drop);
+    ///         scope.spawn(move || (0..100).try_for_each(visit));
     ///     }
     /// });
     /// assert_eq!(hits.get(page), Some(400));
     /// # Ok::<(), teurlaks::Refused>(())
     /// ```
-    pub fn update<R>(&self, key: Key, change: impl FnOnce(&mut T) -> R) -> Result<Option<R>, Refused> {
+    pub fn update<R>(
+        &self,
+        key: Key,
+        change: impl FnOnce(&mut T) -> R,
+    ) -> Result<Option<R>, Refused> {
         self.with(key, |store, key| {
             let mut value = store.get(key)?;
             let answer = change(&mut value);
@@ -233,7 +251,8 @@ impl<T: Copy> SharedStore<T> {
         .transpose()
     }
 
-    /// Takes the value of the key out, where it is live. The key finds nothing from then on. Of threads that take out one key, one gets the value.
+    /// Takes the value of the key out, where it is live. The key finds nothing from then on. Of
+    /// threads that take out one key, one gets the value.
     #[inline]
     pub fn remove(&self, key: Key) -> Option<T> {
         self.with(key, Store::remove)
@@ -241,8 +260,9 @@ impl<T: Copy> SharedStore<T> {
 
     /// Each key with its value, by shards, the serial numbers of spans, and slots.
     ///
-    /// No lock is held while the caller works with what it was given, so it may call the store, and others go on. A key that is live all the while
-    /// comes once, with a value that it had meanwhile; one that comes or goes meanwhile may come or not, and none comes twice.
+    /// No lock is held while the caller works with what it was given, so it may call the store, and
+    /// others go on. A key that is live all the while comes once, with a value that it had
+    /// meanwhile; one that comes or goes meanwhile may come or not, and none comes twice.
     ///
     /// ```
     /// # use teurlaks::SharedStore;
@@ -262,11 +282,11 @@ impl<T: Copy> SharedStore<T> {
         Iter::new(&self.shards)
     }
 
-    /// Takes out each value that the test does not keep, in the order of [`SharedStore::iter`]. Of those that come meanwhile the test may be asked or
-    /// not.
+    /// Takes out each value that the test does not keep, in the order of [`SharedStore::iter`]. Of
+    /// those that come meanwhile the test may be asked or not.
     ///
-    /// The test runs under the lock of a shard, so it must not call this store; that is let go of after each 64 values. Where the test panics, all
-    /// that it has not come to stays.
+    /// The test runs under the lock of a shard, so it must not call this store; that is let go of
+    /// after each 64 values. Where the test panics, all that it has not come to stays.
     pub fn retain(&self, mut keeps: impl FnMut(Key, T) -> bool) {
         for (shard, number) in self.shards.iter().zip(0..) {
             let mut keeps = |key: Key, value| keeps(key.with_shard(number), value);
@@ -277,7 +297,8 @@ impl<T: Copy> SharedStore<T> {
         }
     }
 
-    /// Takes all values out, and keeps the pages, which [`SharedStore::trim`] gives back. Values that come meanwhile may stay.
+    /// Takes all values out, and keeps the pages, which [`SharedStore::trim`] gives back. Values
+    /// that come meanwhile may stay.
     pub fn clear(&self) {
         self.retain(|_, _| false);
     }
@@ -290,7 +311,8 @@ impl<T> SharedStore<T> {
         self.shards.get(key.shard() as usize)
     }
 
-    /// What the call on the key's store gives, where there is such a one, with the key as it is known there.
+    /// What the call on the key's store gives, where there is such a one, with the key as it is
+    /// known there.
     #[inline]
     fn with<R>(&self, key: Key, call: impl FnOnce(&mut Store<T>, Key) -> Option<R>) -> Option<R> {
         call(self.find(key)?.lock().as_mut()?, inner(key))
@@ -299,14 +321,16 @@ impl<T> SharedStore<T> {
     /// Frees the key, and says whether it was live: as [`SharedStore::remove`], but for the value.
     #[inline]
     pub fn free(&self, key: Key) -> bool {
-        self.with(key, |store, key| store.free(key).then_some(())).is_some()
+        self.with(key, |store, key| store.free(key).then_some(()))
+            .is_some()
     }
 
     /// Whether the key is live.
     #[inline]
     #[must_use]
     pub fn contains(&self, key: Key) -> bool {
-        self.with(key, |store, key| store.contains(key).then_some(())).is_some()
+        self.with(key, |store, key| store.contains(key).then_some(()))
+            .is_some()
     }
 
     /// How many values there are.
@@ -340,16 +364,19 @@ impl<T> SharedStore<T> {
         self.shards.len() as u32
     }
 
-    /// Gives back the pages on which nothing is live, shard by shard, and says how many went. It takes no memory and moves no value.
+    /// Gives back the pages on which nothing is live, shard by shard, and says how many went. It
+    /// takes no memory and moves no value.
     pub fn trim(&self) -> usize {
         self.shards.iter().map(Shard::trim).sum()
     }
 
-    /// Compacts each shard in turn, as [`SharedStore::compact_shard`] does one, and says how many pages went.
+    /// Compacts each shard in turn, as [`SharedStore::compact_shard`] does one, and says how many
+    /// pages went.
     ///
     /// # Errors
     ///
-    /// [`Refused::OutOfMemory`] where memory was refused. It stops where it is then, and may be tried again.
+    /// [`Refused::OutOfMemory`] where memory was refused. It stops where it is then, and may be
+    /// tried again.
     ///
     /// ```
     /// # use teurlaks::SharedStore;
@@ -406,9 +433,10 @@ impl<T> SharedStore<T> {
     /// # Ok::<(), teurlaks::Refused>(())
     /// ```
     pub fn compact_within(&self, budget: usize) -> Result<Compacted, Refused> {
-        self.turns.compact_within(self.shards.len(), budget, |shard, left| {
-            self.shards[shard].compact_within(left)
-        })
+        self.turns
+            .compact_within(self.shards.len(), budget, |shard, left| {
+                self.shards[shard].compact_within(left)
+            })
     }
 
     /// Ends a compaction by a budget where it is.
@@ -421,7 +449,9 @@ impl<T> SharedStore<T> {
         self.shards
             .iter()
             .map(Shard::pages_and_most_folds)
-            .fold((0, 0), |(pages, folds), (more, most)| (pages + more, folds + most))
+            .fold((0, 0), |(pages, folds), (more, most)| {
+                (pages + more, folds + most)
+            })
     }
 
     /// Gives back the pages of one shard on which no key is live, folds its sparse pages onto
@@ -434,13 +464,18 @@ impl<T> SharedStore<T> {
     /// wait. A value that is kept there meanwhile may take a new page. Another compaction of the
     /// shard waits for this one.
     ///
-    /// As of [`Core::compact`](crate::Core::compact), each fold uses up one of the 4,294,967,295 pages that a shard may open in its life.
+    /// As of [`Core::compact`](crate::Core::compact), each fold uses up one of the 4,294,967,295
+    /// pages that a shard may open in its life.
     ///
     /// # Errors
     ///
-    /// [`Refused::Config`] where there is no such shard, and [`Refused::OutOfMemory`] as of [`SharedStore::compact`].
+    /// [`Refused::Config`] where there is no such shard, and [`Refused::OutOfMemory`] as of
+    /// [`SharedStore::compact`].
     pub fn compact_shard(&self, shard: u32) -> Result<usize, Refused> {
-        self.shards.get(shard as usize).ok_or(Refused::Config)?.compact()
+        self.shards
+            .get(shard as usize)
+            .ok_or(Refused::Config)?
+            .compact()
     }
 
     /// Forgets of each shard in turn what [`SharedStore::forget_shard`] does of one, and says how
@@ -476,7 +511,11 @@ impl<T> SharedStore<T> {
     ///
     /// [`Refused::Config`] alone, when there is no such shard.
     pub fn forget_shard(&self, shard: u32) -> Result<usize, Refused> {
-        Ok(self.shards.get(shard as usize).ok_or(Refused::Config)?.forget())
+        Ok(self
+            .shards
+            .get(shard as usize)
+            .ok_or(Refused::Config)?
+            .forget())
     }
 }
 
@@ -536,7 +575,8 @@ fn inner(key: Key) -> Key {
     key.with_shard(0)
 }
 
-/// Takes out of the next values those that are not to be kept, and gives the last key that it came to, if any.
+/// Takes out of the next values those that are not to be kept, and gives the last key that it came
+/// to, if any.
 fn retain_some<T: Copy>(
     store: &mut Store<T>,
     after: Option<Key>,

@@ -2,10 +2,10 @@
 //!
 //! # How it works
 //!
-//! **The problem.** A thread that looks a value up must be sure of it until it is done, while others
-//! remove the value, give its slot to another one, or fold its page onto another page. A lock for
-//! each look-up would be sound. But threads that look up what others keep would then wait for each
-//! other, and a lock is two exchanges of a line of the cache beside the look-up.
+//! **The problem.** A thread that looks a value up must be sure of it until it is done, while
+//! others remove the value, give its slot to another one, or fold its page onto another page. A
+//! lock for each look-up would be sound. But threads that look up what others keep would then wait
+//! for each other, and a lock is two exchanges of a line of the cache beside the look-up.
 //!
 //! **Two halves.** What is true stands behind the lock of a shard: a core, which gives out each key
 //! once, and a table of which page has the values of a span. Beside it stand *slots*, which any
@@ -29,11 +29,11 @@
 //! | open, removed | at least 1, or soon claimed | there | pins; the last one claims it |
 //! | open, removed, awaited | any | there | pins; the waiting thread claims it |
 //!
-//! To close is one exchange, from *open with no pin* to *closed*; to claim is one from *removed with
-//! no pin*. So of all threads one alone has a closed slot, and only one without pins is ever closed.
-//! A pin is an exchange too, of a slot that is *open*: nobody pins a closed one, which is therefore
-//! opened by a store. A pin that finds another name is let go of as any other, so it may be the one
-//! that claims.
+//! To close is one exchange, from *open with no pin* to *closed*; to claim is one from *removed
+//! with no pin*. So of all threads one alone has a closed slot, and only one without pins is ever
+//! closed. A pin is an exchange too, of a slot that is *open*: nobody pins a closed one, which is
+//! therefore opened by a store. A pin that finds another name is let go of as any other, so it may
+//! be the one that claims.
 //!
 //! **Who may drop.** The thread that closed or claimed the slot takes the value out of it, then
 //! frees its key under the lock, and then drops the value without any lock. So a value whose drop
@@ -41,16 +41,16 @@
 //! forgotten keeps its pin, so nobody drops that value before the slab is dropped, and then nobody
 //! can have a guard.
 //!
-//! **What a fold moves.** The core folds as it likes: no two keys of a group have one slot, wherever
-//! their values are. The table follows: it closes all slots of the page that was folded, copies the
-//! values to the same slots of the other page, and opens these. If one slot can't be closed, it
-//! opens the others again, and the page *stays behind*, with its values where they were, until a
-//! later compaction finds it without pins.
+//! **What a fold moves.** The core folds as it likes: no two keys of a group have one slot,
+//! wherever their values are. The table follows: it closes all slots of the page that was folded,
+//! copies the values to the same slots of the other page, and opens these. If one slot can't be
+//! closed, it opens the others again, and the page *stays behind*, with its values where they were,
+//! until a later compaction finds it without pins.
 //!
 //! **What is proved.** That no key is given out twice, which keys share a group, and that no two of
-//! these have one slot: the core. All that stands here is tested: `models/pinned_slots.py` tries each
-//! interleaving of pins, removals, waits, folds and inserts at two slots, and finds each wrong step
-//! that it lists.
+//! these have one slot: the core. All that stands here is tested: `models/pinned_slots.py` tries
+//! each interleaving of pins, removals, waits, folds and inserts at two slots, and finds each wrong
+//! step that it lists.
 
 mod clear;
 mod guards;
@@ -100,8 +100,8 @@ const SLEEP: Duration = Duration::from_micros(50);
 ///
 /// [`SharedSlab::get`] lends a value by a guard, an [`Entry`]. As long as that is there the value
 /// stays, also when its key is removed, and no compaction moves it: the last guard drops what was
-/// removed. A look-up that finds its value takes no lock. A call that keeps or takes out a value, or
-/// that finds none, takes the lock of one shard of up to 64.
+/// removed. A look-up that finds its value takes no lock. A call that keeps or takes out a value,
+/// or that finds none, takes the lock of one shard of up to 64.
 ///
 /// ```
 /// use std::thread;
@@ -146,8 +146,8 @@ const SLEEP: Duration = Duration::from_micros(50);
 ///
 /// # Panics in the code of users
 ///
-/// No closure, no [`Clear`] and no drop of a value runs under a lock, so each may call the slab, and
-/// one that panics leaves all other values as they were: no later call panics because of it.
+/// No closure, no [`Clear`] and no drop of a value runs under a lock, so each may call the slab,
+/// and one that panics leaves all other values as they were: no later call panics because of it.
 pub struct SharedSlab<T> {
     shards: Box<[Shard<T>]>,
     // Of each shard.
@@ -206,7 +206,10 @@ impl<T> SharedSlab<T> {
             shards: (0..limits.shards).map(|_| Shard(Lock::new(None))).collect(),
             hints: (0..limits.shards).map(|_| Hints::new()).collect(),
             homes: Homes::new(limits.shards as usize),
-            limits: Limits { shards: 1, ..limits },
+            limits: Limits {
+                shards: 1,
+                ..limits
+            },
             clear: OnceLock::new(),
             turns: Turns::default(),
         })
@@ -516,8 +519,8 @@ impl<T> SharedSlab<T> {
         UniqueIter::new(self)
     }
 
-    /// How many values there are, with those that are still to come in a [`VacantEntry`] and without
-    /// those that are removed.
+    /// How many values there are, with those that are still to come in a [`VacantEntry`] and
+    /// without those that are removed.
     #[must_use]
     pub fn len(&self) -> usize {
         self.sum(Table::len)
@@ -535,8 +538,8 @@ impl<T> SharedSlab<T> {
         self.sum(Table::pages)
     }
 
-    /// How many pages of values there are: one for each page of a core with a value, and one for each
-    /// that stayed behind a fold, since one of its values had a guard.
+    /// How many pages of values there are: one for each page of a core with a value, and one for
+    /// each that stayed behind a fold, since one of its values had a guard.
     #[must_use]
     pub fn value_pages(&self) -> usize {
         self.sum(Table::value_pages)
@@ -578,18 +581,18 @@ impl<T> SharedSlab<T> {
             .sum()
     }
 
-    /// Gives back the pages on which no value is, folds sparse pages of each shard onto others until
-    /// that hardly gives any back, and says how many pages went. Every key stays valid.
+    /// Gives back the pages on which no value is, folds sparse pages of each shard onto others
+    /// until that hardly gives any back, and says how many pages went. Every key stays valid.
     ///
     /// It goes as [`Core::compact`](crate::Core::compact). Others go on meanwhile: the lock of a
-    /// shard is held for up to 16 steps at a time, and no value with a guard moves. If one such value
-    /// is on a page that is folded, the core's page goes back, and its page of values when a later
-    /// compaction finds no guard there.
+    /// shard is held for up to 16 steps at a time, and no value with a guard moves. If one such
+    /// value is on a page that is folded, the core's page goes back, and its page of values when a
+    /// later compaction finds no guard there.
     ///
     /// # Errors
     ///
-    /// [`Refused::OutOfMemory`] where memory was refused. It stops where it is then, and may be tried
-    /// again.
+    /// [`Refused::OutOfMemory`] where memory was refused. It stops where it is then, and may be
+    /// tried again.
     ///
     /// ```
     /// # use teurlaks::SharedSlab;
@@ -618,20 +621,21 @@ impl<T> SharedSlab<T> {
     ///
     /// # Errors
     ///
-    /// [`Refused::OutOfMemory`] where memory was refused. Every key has its value, and the next call
-    /// goes on from there. It also counts the pages that went in this one.
+    /// [`Refused::OutOfMemory`] where memory was refused. Every key has its value, and the next
+    /// call goes on from there. It also counts the pages that went in this one.
     pub fn compact_within(&self, budget: usize) -> Result<Compacted, Refused> {
-        self.turns.compact_within(self.shards.len(), budget, |shard, left| {
-            let piece = PIECE.min(*left);
-            *left -= piece;
-            compact_piece(&self.shards[shard], piece)
-        })
+        self.turns
+            .compact_within(self.shards.len(), budget, |shard, left| {
+                let piece = PIECE.min(*left);
+                *left -= piece;
+                compact_piece(&self.shards[shard], piece)
+            })
     }
 }
 
 impl<T: Default> SharedSlab<T> {
-    /// Keeps a value that was [cleared](SharedSlab::clear) before or, where there is none, a default
-    /// one, once the closure has made of it what it is to be; and gives its key.
+    /// Keeps a value that was [cleared](SharedSlab::clear) before or, where there is none, a
+    /// default one, once the closure has made of it what it is to be; and gives its key.
     ///
     /// Where the closure panics, nothing is kept, and the value is dropped.
     ///
@@ -685,8 +689,15 @@ impl<T: Send + Sync + 'static> Compacts for Arc<SharedSlab<T>> {
     fn pages_and_most_folds(&self) -> (usize, usize) {
         self.shards
             .iter()
-            .map(|shard| shard.lock().as_deref().map_or((0, 0), Table::pages_and_most_folds))
-            .fold((0, 0), |(pages, folds), (more, most)| (pages + more, folds + most))
+            .map(|shard| {
+                shard
+                    .lock()
+                    .as_deref()
+                    .map_or((0, 0), Table::pages_and_most_folds)
+            })
+            .fold((0, 0), |(pages, folds), (more, most)| {
+                (pages + more, folds + most)
+            })
     }
 
     fn compact_part(&self, budget: usize) -> Result<Compacted, Refused> {
@@ -719,7 +730,10 @@ fn compact_shard<T>(shard: &Shard<T>) -> Result<usize, Refused> {
 
 /// Takes so many steps of the compaction of one shard, and lets others have its lock.
 fn compact_piece<T>(shard: &Shard<T>, budget: usize) -> Result<Compacted, Refused> {
-    let done = shard.lock().as_mut().map(|table| table.compact_within(budget));
+    let done = shard
+        .lock()
+        .as_mut()
+        .map(|table| table.compact_within(budget));
     shard.let_others();
     done.unwrap_or(Ok(Compacted::default()))
 }
@@ -747,8 +761,9 @@ fn await_pins(slot: &Slot) {
 
 // SAFETY: it owns its values, and all else that it has may go to another thread.
 unsafe impl<T: Send> Send for SharedSlab<T> {}
-// SAFETY: through `&SharedSlab` values are lent, which needs `T: Sync`, and kept and taken out, which
-// needs `T: Send`. Whoever touches a value has a pin of it or its slot alone, as is said above.
+// SAFETY: through `&SharedSlab` values are lent, which needs `T: Sync`, and kept and taken out,
+// which needs `T: Send`. Whoever touches a value has a pin of it or its slot alone, as is said
+// above.
 unsafe impl<T: Send + Sync> Sync for SharedSlab<T> {}
 
 impl<T> Default for SharedSlab<T> {

@@ -16,20 +16,23 @@ use std::ptr::NonNull;
 
 /// Values of one type under keys that never lie.
 ///
-/// The values stand in pages of their own, one beside each page of the core, and move with its folds: so any type will do, what is found is a
-/// reference, each value is dropped once, and a fold gives the memory of a page of values back to the system. [`Slab::compact`] folds as much
-/// as can be. Beside a value there are 4 bytes of its key, and the core's object of one word of zeros or, from 80 bytes on, of more. For then a
-/// page has fewer slots, and more pages fit each other: 256, or 64 of 240 bytes, or 16 of 4,096. A value of more bytes stands in a block of the
-/// global allocator.
+/// The values stand in pages of their own, one beside each page of the core, and move with its
+/// folds: so any type will do, what is found is a reference, each value is dropped once, and a fold
+/// gives the memory of a page of values back to the system. [`Slab::compact`] folds as much as can
+/// be. Beside a value there are 4 bytes of its key, and the core's object of one word of zeros or,
+/// from 80 bytes on, of more. For then a page has fewer slots, and more pages fit each other: 256,
+/// or 64 of 240 bytes, or 16 of 4,096. A value of more bytes stands in a block of the global
+/// allocator.
 ///
-/// A look-up compares the key's generation with the one beside the value, and does not ask the core,
-/// which is proved never to give a key out twice; with debug assertions it asks, and panics if the
-/// answers differ. With the feature `lean` no generation stands there: the core alone is asked whether
-/// a key is live, which takes three times the instructions, and for each key of a walk. Values that are
-/// copied and have up to 256 bytes stand in the core's pages in a [`Store`](crate::Store).
+/// A look-up compares the key's generation with the one beside the value, and does not ask the
+/// core, which is proved never to give a key out twice; with debug assertions it asks, and panics
+/// if the answers differ. With the feature `lean` no generation stands there: the core alone is
+/// asked whether a key is live, which takes three times the instructions, and for each key of a
+/// walk. Values that are copied and have up to 256 bytes stand in the core's pages in a
+/// [`Store`](crate::Store).
 ///
-/// It is `Send` and `Sync` where its values are: many threads may look values up at once, as by an [`RwLock`](std::sync::RwLock), and one at a
-/// time changes it.
+/// It is `Send` and `Sync` where its values are: many threads may look values up at once, as by an
+/// [`RwLock`](std::sync::RwLock), and one at a time changes it.
 ///
 /// It is no `Clone`, since the copies would have other keys: a core gives out its keys by itself,
 /// each once. An insert may be refused: `extend` and `collect` panic then, and [`Slab::try_extend`]
@@ -107,8 +110,8 @@ impl<T> Slab<T> {
     ///
     /// # Errors
     ///
-    /// [`Refused::Config`] if 64 shards are too few: for more values than 67,108,864 pages have slots
-    /// for; [`Refused::OutOfMemory`] if memory was refused.
+    /// [`Refused::Config`] if 64 shards are too few: for more values than 67,108,864 pages have
+    /// slots for; [`Refused::OutOfMemory`] if memory was refused.
     ///
     /// ```
     /// # use teurlaks::Slab;
@@ -122,7 +125,9 @@ impl<T> Slab<T> {
         let of_a_shard = limits.pages as usize * values::Values::<T>::SLOTS;
         let shards = capacity / of_a_shard + usize::from(capacity % of_a_shard != 0);
         let mut slab = Slab::with_limits(Limits {
-            shards: u32::try_from(shards).map_err(|_| Refused::Config)?.max(SHARDS),
+            shards: u32::try_from(shards)
+                .map_err(|_| Refused::Config)?
+                .max(SHARDS),
             ..limits
         })?;
         slab.takes_turns = true;
@@ -130,30 +135,36 @@ impl<T> Slab<T> {
         Ok(slab)
     }
 
-    /// How many values it may hold at once at most: as many as there are slots on the pages that the shards which have not ended may have.
-    /// It is not what it has memory for. Fewer fit where slots have given out all their generations, or shards have opened all spans
-    /// that they open in their life.
+    /// How many values it may hold at once at most: as many as there are slots on the pages that
+    /// the shards which have not ended may have. It is not what it has memory for. Fewer fit where
+    /// slots have given out all their generations, or shards have opened all spans that they open
+    /// in their life.
     #[must_use]
     pub fn capacity(&self) -> usize {
         self.core.running_shards() * self.core.limits().pages as usize * values::Values::<T>::SLOTS
     }
 
-    /// Makes room beside the core for the pages of so many further values. They take memory as they are filled, and so do the core's: so an
-    /// insert may be refused memory all the same. There is no need of it: a slab grows page by page, and no value moves as it grows.
+    /// Makes room beside the core for the pages of so many further values. They take memory as they
+    /// are filled, and so do the core's: so an insert may be refused memory all the same. There is
+    /// no need of it: a slab grows page by page, and no value moves as it grows.
     ///
     /// # Errors
     ///
-    /// [`Refused::PagesSpent`] where there would be more values than [`Slab::capacity`] tells, and [`Refused::OutOfMemory`] where address space
-    /// was refused.
+    /// [`Refused::PagesSpent`] where there would be more values than [`Slab::capacity`] tells, and
+    /// [`Refused::OutOfMemory`] where address space was refused.
     pub fn reserve(&mut self, additional: usize) -> Result<(), Refused> {
-        let values = self.len().checked_add(additional).ok_or(Refused::PagesSpent)?;
+        let values = self
+            .len()
+            .checked_add(additional)
+            .ok_or(Refused::PagesSpent)?;
         if values > self.capacity() {
             return Err(Refused::PagesSpent);
         }
         self.values.reserve_pages(additional)
     }
 
-    /// Gives back the pages on which no value is, and says how many went. No value moves: [`Slab::compact`] does more. It takes no memory.
+    /// Gives back the pages on which no value is, and says how many went. No value moves:
+    /// [`Slab::compact`] does more. It takes no memory.
     ///
     /// ```
     /// # use teurlaks::Slab;
@@ -169,15 +180,17 @@ impl<T> Slab<T> {
         went
     }
 
-    /// Keeps a value in the first shard that has room for it, and gives its key, which was never given out before. A value that is
-    /// refused is dropped, and [`Slab::try_insert`] gives it back.
+    /// Keeps a value in the first shard that has room for it, and gives its key, which was never
+    /// given out before. A value that is refused is dropped, and [`Slab::try_insert`] gives it
+    /// back.
     ///
     /// # Errors
     ///
     /// - [`Refused::Ended`] only where each shard has ended;
     /// - [`Refused::PagesSpent`] only where each that has not may have no further page;
     /// - [`Refused::OutOfMemory`] where memory was refused.
-    #[allow(clippy::inline_always)] // So that the halves become a key in registers, where it is used.
+    // So that the halves become a key in registers, where it is used.
+    #[allow(clippy::inline_always)]
     #[inline(always)]
     pub fn insert(&mut self, value: T) -> Result<Key, Refused> {
         let mut why = Refused::OutOfMemory;
@@ -185,8 +198,8 @@ impl<T> Slab<T> {
         Key::of_halves(low, high).ok_or(why)
     }
 
-    /// The halves of the key, or zeros, and why the value is refused. A key itself would come back through memory, written in parts and read as a
-    /// whole, for which a processor waits.
+    /// The halves of the key, or zeros, and why the value is refused. A key itself would come back
+    /// through memory, written in parts and read as a whole, for which a processor waits.
     #[inline]
     fn insert_apart(&mut self, value: T, why: &mut Refused) -> (u64, u64) {
         match self.insert_key() {
@@ -249,8 +262,8 @@ impl<T> Slab<T> {
         Ok(key)
     }
 
-    /// A key for a value that is still to come. Where the entry is dropped without one, nothing is kept, and the key finds nothing, now and for
-    /// ever: it has used up a generation of its slot.
+    /// A key for a value that is still to come. Where the entry is dropped without one, nothing is
+    /// kept, and the key finds nothing, now and for ever: it has used up a generation of its slot.
     ///
     /// # Errors
     ///
@@ -279,8 +292,9 @@ impl<T> Slab<T> {
         }
     }
 
-    /// Keeps each value in turn, until one is refused. Those before it stay, and of an iterator that is lent, those after it are left.
-    /// [`Iterator::collect`] over [`Slab::insert`] gives their keys.
+    /// Keeps each value in turn, until one is refused. Those before it stay, and of an iterator
+    /// that is lent, those after it are left. [`Iterator::collect`] over [`Slab::insert`] gives
+    /// their keys.
     ///
     /// # Errors
     ///
@@ -290,11 +304,15 @@ impl<T> Slab<T> {
     /// # use teurlaks::Slab;
     /// let mut slab = Slab::new()?;
     /// slab.try_extend(["a", "b"])?;
-    /// let keys = ["c", "d"].into_iter().map(|value| slab.insert(value)).collect::<Result<Vec<_>, _>>()?;
+    /// let keys = ["c", "d"].into_iter().map(|value| slab.insert(value));
+    /// let keys = keys.collect::<Result<Vec<_>, _>>()?;
     /// assert_eq!((slab.len(), slab[keys[1]]), (4, "d"));
     /// # Ok::<(), teurlaks::Refused>(())
     /// ```
-    pub fn try_extend(&mut self, values: impl IntoIterator<Item = T>) -> Result<(), InsertError<T>> {
+    pub fn try_extend(
+        &mut self,
+        values: impl IntoIterator<Item = T>,
+    ) -> Result<(), InsertError<T>> {
         values
             .into_iter()
             .try_for_each(|value| self.try_insert(value).map(drop))
@@ -318,11 +336,13 @@ impl<T> Slab<T> {
         Ok(slab)
     }
 
-    /// Keeps a value in the shard. A value that is refused is dropped, and [`Slab::try_insert_in`] gives it back.
+    /// Keeps a value in the shard. A value that is refused is dropped, and [`Slab::try_insert_in`]
+    /// gives it back.
     ///
     /// # Errors
     ///
-    /// - [`Refused::PagesSpent`]: no page of the shard has a usable slot, and it may have no further one;
+    /// - [`Refused::PagesSpent`]: no page of the shard has a usable slot, and it may have no
+    ///   further one;
     /// - [`Refused::Ended`]: the shard has ended;
     /// - [`Refused::Config`]: there is no such shard;
     /// - [`Refused::OutOfMemory`]: memory was refused.
@@ -407,7 +427,10 @@ impl<T> Slab<T> {
             .values
             .find(key)
             .filter(|_| !values::LEAN || self.core.contains(key));
-        debug_assert_eq!(found.is_some(), self.core.contains(key) && self.vacant != Some(key));
+        debug_assert_eq!(
+            found.is_some(),
+            self.core.contains(key) && self.vacant != Some(key)
+        );
         found
     }
 
@@ -442,7 +465,8 @@ impl<T> Slab<T> {
         unsafe { self.values.get_unchecked(key).as_mut() }
     }
 
-    /// The values of these keys, to be changed, in their order: `None` where one is not live, or two are the same.
+    /// The values of these keys, to be changed, in their order: `None` where one is not live, or
+    /// two are the same.
     ///
     /// ```
     /// # use teurlaks::Slab;
@@ -531,7 +555,8 @@ impl<T> Slab<T> {
         Some((key, self.remove(key)?))
     }
 
-    /// Takes out each value that the test does not keep. Where the test or the drop of a value panics, all that it has not come to stays.
+    /// Takes out each value that the test does not keep. Where the test or the drop of a value
+    /// panics, all that it has not come to stays.
     ///
     /// ```
     /// # use teurlaks::Slab;
@@ -550,14 +575,14 @@ impl<T> Slab<T> {
         }
     }
 
-    /// Takes all values out, and keeps the core's pages, which [`Slab::shrink_to_fit`] gives back. Where the drop of a value panics, those after
-    /// it stay.
+    /// Takes all values out, and keeps the core's pages, which [`Slab::shrink_to_fit`] gives back.
+    /// Where the drop of a value panics, those after it stay.
     pub fn clear(&mut self) {
         self.retain(|_, _| false);
     }
 
-    /// Takes all values out, and gives each with the key that it had, in no particular order. Values that are not asked for are dropped
-    /// with the iterator.
+    /// Takes all values out, and gives each with the key that it had, in no particular order.
+    /// Values that are not asked for are dropped with the iterator.
     ///
     /// ```
     /// # use teurlaks::Slab;
@@ -659,7 +684,8 @@ impl<T> Slab<T> {
         Ok(group)
     }
 
-    /// Carries out the next fold, as [`Core::step`]. The values move with it, and their page goes back.
+    /// Carries out the next fold, as [`Core::step`]. The values move with it, and their page goes
+    /// back.
     ///
     /// # Errors
     ///
@@ -678,7 +704,8 @@ impl<T> Slab<T> {
         self.core.close()
     }
 
-    /// Marks, takes all steps and closes, as [`Core::mesh`]. The values move with the folds, and their pages go back.
+    /// Marks, takes all steps and closes, as [`Core::mesh`]. The values move with the folds, and
+    /// their pages go back.
     ///
     /// # Errors
     ///
@@ -707,7 +734,8 @@ impl<T> Slab<T> {
     /// # Errors
     ///
     /// - [`Refused::PlanOpen`]: a mark has opened a plan; then nothing has changed;
-    /// - [`Refused::OutOfMemory`]: memory was refused; it stops where it is, every key has its value, and it may be tried again.
+    /// - [`Refused::OutOfMemory`]: memory was refused; it stops where it is, every key has its
+    ///   value, and it may be tried again.
     ///
     /// ```
     /// # use teurlaks::Slab;

@@ -13,17 +13,20 @@ pub(crate) struct Home {
     pub block: Block,
     /// The number of its page.
     pub page: u32,
-    /// The upper half of the span's marks, which is the number of the span among those that have homes: no two have the same at one time.
+    /// The upper half of the span's marks, which is the number of the span among those that have
+    /// homes: no two have the same at one time.
     pub mark: u64,
     /// How many values it has there.
     pub live: u32,
 }
 
-/// The homes of spans, by the names of spans: it takes memory for as many as there were at one time, whatever their serial numbers are.
+/// The homes of spans, by the names of spans: it takes memory for as many as there were at one
+/// time, whatever their serial numbers are.
 ///
-/// A home stands at the place that follows from its span or, where that is taken, at the next free one behind it (Knuth, *The Art of Computer
-/// Programming*, volume 3, 6.4, algorithms L and R). So a look-up is mostly a product and a comparison: with a `HashMap`
-/// of as cheap a hash the look-up of a value took half as long again.
+/// A home stands at the place that follows from its span or, where that is taken, at the next free
+/// one behind it (Knuth, *The Art of Computer Programming*, volume 3, 6.4, algorithms L and R). So
+/// a look-up is mostly a product and a comparison: with a `HashMap` of as cheap a hash the look-up
+/// of a value took half as long again.
 pub(crate) struct Spans {
     // None at first, and then a power of two, of which at most half are homes.
     places: Box<[Option<Home>]>,
@@ -43,8 +46,9 @@ pub(crate) fn number_of(mark: u64) -> u32 {
 /// How many places there are at least, once there are any: those of one span.
 const LEAST_PLACES: usize = 2;
 
-/// An odd number, found by trial, by which spans seldom want the same place, in shards that open them one after another, and where each second to
-/// 4,096th of these is left: where half of the places are taken, a search takes 1.07 steps on average then, and 1.5 at worst.
+/// An odd number, found by trial, by which spans seldom want the same place, in shards that open
+/// them one after another, and where each second to 4,096th of these is left: where half of the
+/// places are taken, a search takes 1.07 steps on average then, and 1.5 at worst.
 const FACTOR: u64 = 0xD780_1A74_78B1_1F29;
 
 impl Spans {
@@ -76,7 +80,9 @@ impl Spans {
             return Ok(());
         }
         let spans = self.len();
-        let len = (2 * (spans + additional)).next_power_of_two().max(LEAST_PLACES);
+        let len = (2 * (spans + additional))
+            .next_power_of_two()
+            .max(LEAST_PLACES);
         // A number has 32 bits.
         if len / 2 > u32::MAX as usize {
             return Err(Refused::OutOfMemory);
@@ -208,7 +214,8 @@ impl Spans {
         place
     }
 
-    /// Where the span's home is to stand: by the middle of the product of its name with `FACTOR`, in which all of the name is.
+    /// Where the span's home is to stand: by the middle of the product of its name with `FACTOR`,
+    /// in which all of the name is.
     #[inline]
     // The upper half of the product has 32 bits.
     #[allow(clippy::cast_possible_truncation)]
@@ -266,7 +273,10 @@ mod tests {
                 random ^= random << 13;
                 random ^= random >> 7;
                 random ^= random << 17;
-                assert_eq!(spans.find(span).map(|home| home.page), map.get(&span.number()).copied());
+                assert_eq!(
+                    spans.find(span).map(|home| home.page),
+                    map.get(&span.number()).copied()
+                );
                 if map.remove(&span.number()).is_some() {
                     spans.remove(span);
                 } else if random % 3 > 0 {
@@ -284,7 +294,8 @@ mod tests {
         Ok(())
     }
 
-    /// Of spans that come and go, as many places stay as there were spans at one time, however many come.
+    /// Of spans that come and go, as many places stay as there were spans at one time, however many
+    /// come.
     #[test]
     fn places_go_by_what_there_is() -> Result<(), Refused> {
         let mut spans = Spans::new();

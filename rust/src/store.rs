@@ -13,12 +13,14 @@ use std::fmt;
 use std::marker::PhantomData;
 use std::mem::{size_of, MaybeUninit};
 
-/// Plain values of one type, 1 to 256 bytes each, whose bytes stand in the pages: what folds give back is theirs.
+/// Plain values of one type, 1 to 256 bytes each, whose bytes stand in the pages: what folds give
+/// back is theirs.
 ///
 /// A value takes as few words of 16 bytes as hold it, and as many share a page as fit its 256
 /// words: 85 values of 33 to 48 bytes, for example. It is handed out by copy. For values that are
 /// to be borrowed, or dropped, there is [`Slab`](crate::Slab). As there, an insert may be refused:
-/// `extend` and `collect` panic then, and [`Store::try_extend`] and [`Store::try_from_iter`] do not.
+/// `extend` and `collect` panic then, and [`Store::try_extend`] and [`Store::try_from_iter`] do
+/// not.
 ///
 /// It is `Send` and `Sync` if its values are: many threads may look values up at once, for example
 /// as readers of an [`RwLock`](std::sync::RwLock), and one at a time changes it.
@@ -45,8 +47,9 @@ use std::mem::{size_of, MaybeUninit};
 /// # Ok::<(), teurlaks::Refused>(())
 /// ```
 pub struct Store<T> {
-    // SAFETY: only `keep_in` puts into it, and what is set is a `T`, so that each live key's object begins with the bytes of one, but for a key
-    // of `insert_with_key`, which has zeros for as long as nobody may ask for it.
+    // SAFETY: only `keep_in` puts into it, and what is set is a `T`, so that each live key's object
+    // begins with the bytes of one, but for a key of `insert_with_key`, which has zeros for as long
+    // as nobody may ask for it.
     core: Core,
     // The shard that an insert without a shard asks before the others: the last that had room.
     first: u32,
@@ -65,8 +68,8 @@ impl<T: Copy> Store<T> {
     const SLOTS: usize = slots_for(words_for(size_of::<T>()));
 
     /// A store with no value, whose limits are those of memory: of 16 shards, each of as many pages
-    /// as a shard may have. So it may hold as many values at once as 16,777,216 pages have room for:
-    /// 4,294,967,296 of up to 16 bytes, or 268,435,456 of 256. It asks for nothing but a
+    /// as a shard may have. So it may hold as many values at once as 16,777,216 pages have room
+    /// for: 4,294,967,296 of up to 16 bytes, or 268,435,456 of 256. It asks for nothing but a
     /// [`Store::compact`] now and then, if most of what it held is gone and the memory is wanted
     /// back.
     ///
@@ -105,30 +108,33 @@ impl<T: Copy> Store<T> {
     ///
     /// # Errors
     ///
-    /// [`Refused::Config`] if 64 shards are too few: for more values than 67,108,864 pages have room
-    /// for.
+    /// [`Refused::Config`] if 64 shards are too few: for more values than 67,108,864 pages have
+    /// room for.
     pub fn with_capacity(capacity: usize) -> Result<Store<T>, Refused> {
         let limits = Limits::default();
         let of_a_shard = limits.pages as usize * Self::SLOTS;
         let shards = capacity / of_a_shard + usize::from(capacity % of_a_shard != 0);
         let mut store = Store::with_limits(Limits {
-            shards: u32::try_from(shards).map_err(|_| Refused::Config)?.max(SHARDS),
+            shards: u32::try_from(shards)
+                .map_err(|_| Refused::Config)?
+                .max(SHARDS),
             ..limits
         })?;
         store.takes_turns = true;
         Ok(store)
     }
 
-    /// How many values it may hold at once at most: as many as there are slots on the pages that the shards which have not ended may have.
-    /// It is not what it has memory for. Fewer fit where slots have given out all their generations, or shards have opened all spans
-    /// that they open in their life.
+    /// How many values it may hold at once at most: as many as there are slots on the pages that
+    /// the shards which have not ended may have. It is not what it has memory for. Fewer fit where
+    /// slots have given out all their generations, or shards have opened all spans that they open
+    /// in their life.
     #[must_use]
     pub fn capacity(&self) -> usize {
         self.core.running_shards() * self.core.limits().pages as usize * Self::SLOTS
     }
 
-    /// Keeps a value in the shard that the last such value went to, or where that has no room, in the first that has; and gives its key, which
-    /// was never given out before.
+    /// Keeps a value in the shard that the last such value went to, or where that has no room, in
+    /// the first that has; and gives its key, which was never given out before.
     ///
     /// # Errors
     ///
@@ -177,7 +183,9 @@ impl<T: Copy> Store<T> {
     #[inline]
     fn keep_in<V: Copy>(&mut self, shard: u32, value: V) -> Result<Key, Refused> {
         // SAFETY: so many words stand there.
-        as_words(value, |first, len| unsafe { self.core.put_words(shard, first, len) })
+        as_words(value, |first, len| unsafe {
+            self.core.put_words(shard, first, len)
+        })
     }
 
     /// Keeps a value in the shard.
@@ -190,7 +198,8 @@ impl<T: Copy> Store<T> {
         self.keep_in(shard, value)
     }
 
-    /// Keeps the value that is made with its own key, where [`Store::insert`] would. Where that panics, nothing is kept.
+    /// Keeps the value that is made with its own key, where [`Store::insert`] would. Where that
+    /// panics, nothing is kept.
     ///
     /// # Errors
     ///
@@ -221,13 +230,16 @@ impl<T: Copy> Store<T> {
         Ok(key)
     }
 
-    /// Keeps each value in turn, until one is refused. Those before it stay, and of an iterator that is lent, those after it are left.
+    /// Keeps each value in turn, until one is refused. Those before it stay, and of an iterator
+    /// that is lent, those after it are left.
     ///
     /// # Errors
     ///
     /// As of [`Store::insert`].
     pub fn try_extend(&mut self, values: impl IntoIterator<Item = T>) -> Result<(), Refused> {
-        values.into_iter().try_for_each(|value| self.insert(value).map(drop))
+        values
+            .into_iter()
+            .try_for_each(|value| self.insert(value).map(drop))
     }
 
     /// A store of these values, as [`Store::new`] and [`Store::try_extend`] make it.
@@ -252,8 +264,8 @@ impl<T: Copy> Store<T> {
         Ok(store)
     }
 
-    /// Sets the key to the value in place, and says whether it did: where it is live. It takes memory only for the first value
-    /// on a page whose bytes are not all zeros.
+    /// Sets the key to the value in place, and says whether it did: where it is live. It takes
+    /// memory only for the first value on a page whose bytes are not all zeros.
     ///
     /// # Errors
     ///
@@ -261,10 +273,13 @@ impl<T: Copy> Store<T> {
     #[inline]
     pub fn set(&mut self, key: Key, value: T) -> Result<bool, Refused> {
         // SAFETY: so many words stand there.
-        as_words(value, |first, len| unsafe { self.core.set_all_words(key, first, len) })
+        as_words(value, |first, len| unsafe {
+            self.core.set_all_words(key, first, len)
+        })
     }
 
-    /// Sets the key to the value, and gives the one that it had, where it is live; else nothing changes.
+    /// Sets the key to the value, and gives the one that it had, where it is live; else nothing
+    /// changes.
     ///
     /// # Errors
     ///
@@ -296,8 +311,8 @@ impl<T: Copy> Store<T> {
         Some(value)
     }
 
-    /// Takes out each value that the test does not keep, in the order of [`Store::iter`]. Where the test panics, all that it has not come to
-    /// stays.
+    /// Takes out each value that the test does not keep, in the order of [`Store::iter`]. Where the
+    /// test panics, all that it has not come to stays.
     pub fn retain(&mut self, mut keeps: impl FnMut(Key, T) -> bool) {
         let mut place = Place::first();
         while let Some(key) = place.next(&self.core) {
@@ -307,13 +322,14 @@ impl<T: Copy> Store<T> {
         }
     }
 
-    /// Takes all values out, and gives each with the key that it had, in the order of [`Store::iter`]. Those that are not asked for go with the
-    /// iterator.
+    /// Takes all values out, and gives each with the key that it had, in the order of
+    /// [`Store::iter`]. Those that are not asked for go with the iterator.
     pub fn drain(&mut self) -> Drain<'_, T> {
         Drain::new(self)
     }
 
-    /// Each key with its value, by the ids of their spans and then by slots, which is the order of keys.
+    /// Each key with its value, by the ids of their spans and then by slots, which is the order of
+    /// keys.
     pub fn iter(&self) -> Iter<'_, T> {
         Iter::new(self)
     }
@@ -360,7 +376,8 @@ impl<T> Store<T> {
         self.first = 0;
     }
 
-    /// Gives back the pages on which no value is, and says how many went. No value moves: [`Store::compact`] does more. It takes no memory.
+    /// Gives back the pages on which no value is, and says how many went. No value moves:
+    /// [`Store::compact`] does more. It takes no memory.
     pub fn shrink_to_fit(&mut self) -> usize {
         self.core.trim_all()
     }
@@ -418,8 +435,9 @@ pub(crate) fn as_words<T: Copy, R>(value: T, keep: impl FnOnce(*const u128, usiz
 pub(crate) fn write_words<T: Copy>(words: &mut [MaybeUninit<u128>; MOST_WORDS], value: T) -> usize {
     let first = words.as_mut_ptr().cast::<u128>();
     let len = words_for(size_of::<T>());
-    // SAFETY: the words have room for the value, whatever its alignment. The last one, which alone it may not fill, is a zero before; bytes within
-    // the value that it does not use are copied and never read, since the library looks into no word.
+    // SAFETY: the words have room for the value, whatever its alignment. The last one, which alone
+    // it may not fill, is a zero before; bytes within the value that it does not use are copied and
+    // never read, since the library looks into no word.
     unsafe {
         first.add(len - 1).write(0);
         first.cast::<T>().write_unaligned(value);
@@ -434,7 +452,8 @@ impl<T: Copy> Extend<T> for Store<T> {
     ///
     /// If a value is refused.
     fn extend<I: IntoIterator<Item = T>>(&mut self, values: I) {
-        self.try_extend(values).expect("there is room for each value");
+        self.try_extend(values)
+            .expect("there is room for each value");
     }
 }
 

@@ -144,7 +144,9 @@ impl<K: TypedKey, T> TypedSlab<K, T> {
     ///
     /// As of [`Slab::insert_with_key`].
     pub fn insert_with_key(&mut self, value: impl FnOnce(K) -> T) -> Result<K, Refused> {
-        self.slab.insert_with_key(|key| value(key.into())).map(K::from)
+        self.slab
+            .insert_with_key(|key| value(key.into()))
+            .map(K::from)
     }
 
     /// As [`Slab::get`].
@@ -217,7 +219,9 @@ impl<K: TypedKey, T> TypedSlab<K, T> {
     }
 
     /// As [`Slab::iter_mut`].
-    pub fn iter_mut(&mut self) -> impl DoubleEndedIterator<Item = (K, &mut T)> + ExactSizeIterator + '_ {
+    pub fn iter_mut(
+        &mut self,
+    ) -> impl DoubleEndedIterator<Item = (K, &mut T)> + ExactSizeIterator + '_ {
         self.slab.iter_mut().map(|(key, value)| (key.into(), value))
     }
 

@@ -1,6 +1,7 @@
 //! Values beside the pages of a core, which move with its folds.
 
-// What is cut to fewer bits has a bound: 64 shards, the blocks of their pages, and at most 256 slots in each.
+// What is cut to fewer bits has a bound: 64 shards, the blocks of their pages, and at most 256
+// slots in each.
 #![allow(clippy::cast_possible_truncation)]
 // A block lies as its generations and values must, which `BLOCK_BYTES` sees to.
 #![allow(clippy::cast_ptr_alignment)]
@@ -39,8 +40,8 @@ const SHARES: u64 = 1;
 const NO_WORDS: [u128; MOST_WORDS] = [0; MOST_WORDS];
 
 /// How many words the core's object has beside a value of so many bytes. The object is zeros, which
-/// take no memory. The more words it has, the fewer slots a page has. Fewer slots leave fewer sparse
-/// pages after folds, but each page takes some memory of its own.
+/// take no memory. The more words it has, the fewer slots a page has. Fewer slots leave fewer
+/// sparse pages after folds, but each page takes some memory of its own.
 ///
 /// Of a million values these numbers have the least sum of what is resident when all are there, and
 /// when 80 % or 90 % are freed and the slab is compacted. A full slab takes at most 3 % more than
@@ -60,12 +61,12 @@ const fn round_up(bytes: usize, step: usize) -> usize {
     (bytes + step - 1) / step * step
 }
 
-/// The values of live keys, each at the slot of its key in a page of values. There is such a page for
-/// each page of the core with a live key, and a fold moves the values as the core moves its objects:
-/// to the same slots of the other page.
+/// The values of live keys, each at the slot of its key in a page of values. There is such a page
+/// for each page of the core with a live key, and a fold moves the values as the core moves its
+/// objects: to the same slots of the other page.
 ///
 /// ```text
-///   homes, by span:  0.0 ──► page 3 ◄── 1.7       1.7 is the head of the page's group, 0.0 was folded there
+///   homes, by span:  0.0 ──► page 3 ◄── 1.7       1.7 is the group's head, 0.0 was folded there
 ///                              │
 ///   block:           | generation | .. | value | value | ..
 ///   rows, by span:   0.0 has values at 2, 17, ..    1.7 at 0, 1, ..
@@ -73,8 +74,8 @@ const fn round_up(bytes: usize, step: usize) -> usize {
 ///
 /// With its span and slot a generation is all of a key, in 4 bytes. With the feature `lean` none
 /// stands there, and the core is asked whether a key is live. A span has a home as long as it has a
-/// value, or is the head of a page that has one. So what all this takes goes by the values that there
-/// are, and not by the spans that there were.
+/// value, or is the head of a page that has one. So what all this takes goes by the values that
+/// there are, and not by the spans that there were.
 ///
 /// Values that are large stand in blocks of the global allocator, and their addresses in the page.
 ///
@@ -136,7 +137,9 @@ impl Spot {
     #[inline]
     pub fn key(&self, core: &Core) -> Key {
         if LEAN {
-            return core.key_at(self.span, self.slot).expect("the key of a value is live");
+            return core
+                .key_at(self.span, self.slot)
+                .expect("the key of a value is live");
         }
         let key = Key::of_span(self.span, self.slot, self.block.generation(self.slot));
         debug_assert_eq!(key, core.key_at(self.span, self.slot));
@@ -152,7 +155,8 @@ impl Spot {
 
 impl<T> Values<T> {
     /// Whether a value stands in a block of its own.
-    pub const APART: bool = size_of::<T>() > MOST_BYTES || size_of::<T>() > 0 && align_of::<T>() > MOST_ALIGN;
+    pub const APART: bool =
+        size_of::<T>() > MOST_BYTES || size_of::<T>() > 0 && align_of::<T>() > MOST_ALIGN;
 
     /// What stands at a slot of a page: the value, or where it is.
     pub const STORED: Layout = if Self::APART {
@@ -180,7 +184,10 @@ impl<T> Values<T> {
         round_up(Self::SLOTS * size_of::<u32>(), Self::ALIGN)
     };
 
-    const BLOCK_BYTES: usize = match round_up(Self::VALUES_AT + Self::SLOTS * Self::STORED.size(), Self::ALIGN) {
+    const BLOCK_BYTES: usize = match round_up(
+        Self::VALUES_AT + Self::SLOTS * Self::STORED.size(),
+        Self::ALIGN,
+    ) {
         // A block has some bytes, also for values of none.
         0 => 64,
         bytes => bytes,
@@ -209,7 +216,8 @@ impl<T> Values<T> {
         }
     }
 
-    /// Makes room for one value, wherever a shard puts it, so that `put` needs no memory. A refusal changes nothing that is seen.
+    /// Makes room for one value, wherever a shard puts it, so that `put` needs no memory. A refusal
+    /// changes nothing that is seen.
     #[inline]
     pub fn reserve(&mut self) -> Result<(), Refused> {
         if self.ready {
@@ -267,7 +275,9 @@ impl<T> Values<T> {
     fn grow_spans(&mut self, spans: usize) -> Result<(), Refused> {
         self.spans.reserve(spans)?;
         let more = self.spans.most() - self.rows.len();
-        self.rows.try_reserve_exact(more).map_err(|_| Refused::OutOfMemory)?;
+        self.rows
+            .try_reserve_exact(more)
+            .map_err(|_| Refused::OutOfMemory)?;
         self.rows.resize(self.spans.most(), Row::NONE);
         Ok(())
     }
@@ -291,7 +301,10 @@ impl<T> Values<T> {
             self.paged.pages[page as usize].spans += 1;
         }
         let (slot, row) = (slot_of(key), &mut self.rows[number_of(mark) as usize]);
-        assert!(usize::from(slot) < Self::SLOTS, "the slot is one of the page's");
+        assert!(
+            usize::from(slot) < Self::SLOTS,
+            "the slot is one of the page's"
+        );
         debug_assert!(!row.live.contains(slot), "the slot is free");
         row.live.insert(slot);
         if !LEAN {
@@ -303,7 +316,8 @@ impl<T> Values<T> {
             // SAFETY: the slot has no value, so an address may be written there.
             unsafe { block.stored::<T>(slot).cast::<NonNull<T>>().write(room) };
         }
-        // SAFETY: the slot is one of the page's and has no value, so one may be written where it stands, or to the room that is there.
+        // SAFETY: the slot is one of the page's and has no value, so one may be written where it
+        // stands, or to the room that is there.
         unsafe { block.value::<T>(slot).as_ptr().write(value) };
     }
 
@@ -350,7 +364,8 @@ impl<T> Values<T> {
         }
     }
 
-    /// Whether the span of the home has the value of the slot, if one stands there with a generation.
+    /// Whether the span of the home has the value of the slot, if one stands there with a
+    /// generation.
     #[inline]
     fn rows_tell(&self, home: &Home, slot: u8) -> bool {
         !LEAN && home.mark & SHARES == 0 || self.row_of(home).live.contains(slot)
@@ -414,7 +429,8 @@ impl<T> Values<T> {
     fn unlink(&mut self, span: u32, head: u32) {
         let is_before = |number: &u32| self.rows[*number as usize].next == Some(span);
         let before = self.row_from(head).find(is_before);
-        self.rows[before.expect("the span is on the page") as usize].next = self.rows[span as usize].next;
+        self.rows[before.expect("the span is on the page") as usize].next =
+            self.rows[span as usize].next;
         self.spans.remove(self.spans.name(span));
     }
 
@@ -433,7 +449,8 @@ impl<T> Values<T> {
         self.grow_spans(1)
     }
 
-    /// Follows a fold: the values of the first group move to the page of the second, each to the slot where it is.
+    /// Follows a fold: the values of the first group move to the page of the second, each to the
+    /// slot where it is.
     pub fn follow(&mut self, abandoned: Group, owned: Group) {
         let Some(&from) = self.spans.find(abandoned.head()) else {
             return;
@@ -522,9 +539,9 @@ impl<T> Values<T> {
         }
     }
 
-    /// Moves pages of values to blocks of lower numbers until no free block lies before a taken one,
-    /// and hands the memory behind them to the system. Where blocks are not whole system pages, a
-    /// free block would keep what it shares with a taken one.
+    /// Moves pages of values to blocks of lower numbers until no free block lies before a taken
+    /// one, and hands the memory behind them to the system. Where blocks are not whole system
+    /// pages, a free block would keep what it shares with a taken one.
     pub fn pack(&mut self) {
         let Some(paged) = self.paged.get_mut() else {
             return;
@@ -549,8 +566,8 @@ impl<T> Values<T> {
         while let Some(number) = next {
             let row = self.rows[number as usize];
             for slot in row.live.iter() {
-                // SAFETY: the blocks are two. The slot has a value on the one, where nobody finds it
-                // from now on, and none on the other.
+                // SAFETY: the blocks are two. The slot has a value on the one, where nobody finds
+                // it from now on, and none on the other.
                 unsafe { page.block.move_to::<T>(block, slot) };
             }
             self.spans.move_home(number, to, block);
@@ -558,16 +575,17 @@ impl<T> Values<T> {
         }
     }
 
-    /// Where the value stands that has this address, if it is one of these. It looks at each segment
-    /// of blocks; at each value, if they stand in blocks of their own; and values of no bytes all
-    /// stand at one place, where it finds none.
+    /// Where the value stands that has this address, if it is one of these. It looks at each
+    /// segment of blocks; at each value, if they stand in blocks of their own; and values of no
+    /// bytes all stand at one place, where it finds none.
     pub fn spot_at(&self, at: *const T) -> Option<Spot> {
         if size_of::<T>() == 0 {
             return None;
         }
         if Self::APART {
             let mut walk = self.walk(0);
-            return iter::from_fn(|| walk.next_in(self)).find(|spot| ptr::eq(spot.value::<T>().as_ptr(), at));
+            return iter::from_fn(|| walk.next_in(self))
+                .find(|spot| ptr::eq(spot.value::<T>().as_ptr(), at));
         }
         let paged = self.paged.get()?;
         let (number, offset) = paged.blocks.find(at.cast())?;
@@ -614,7 +632,8 @@ impl<T> Drop for Values<T> {
     }
 }
 
-// SAFETY: a block is an address, and who reads or writes there has the values, or a part of them, lent.
+// SAFETY: a block is an address, and who reads or writes there has the values, or a part of them,
+// lent.
 unsafe impl Send for Block {}
 // SAFETY: as above.
 unsafe impl Sync for Block {}
@@ -656,10 +675,11 @@ impl Block {
         self.0
     }
 
-    // SAFETY, of all below: the block of a home, and of a page on which spans have values, has `BLOCK_BYTES` bytes, and a slot is one below `SLOTS`.
+    // SAFETY, of all below: the block of a home, and of a page on which spans have values, has
+    // `BLOCK_BYTES` bytes, and a slot is one below `SLOTS`.
 
-    /// Whether a value stands at the slot with the generation of the key; or a lean slab, which keeps
-    /// none, has a value there.
+    /// Whether a value stands at the slot with the generation of the key; or a lean slab, which
+    /// keeps none, has a value there.
     #[inline]
     fn is_of(self, slot: u8, key: Key) -> bool {
         LEAN || self.generation(slot) == key.generation()
@@ -680,7 +700,13 @@ impl Block {
 
     #[inline]
     fn set_generation(self, slot: u8, generation: u32) {
-        unsafe { self.0.as_ptr().cast::<u32>().add(slot.into()).write(generation) }
+        unsafe {
+            self.0
+                .as_ptr()
+                .cast::<u32>()
+                .add(slot.into())
+                .write(generation)
+        }
     }
 
     /// Where the value of the slot stands, or its address.

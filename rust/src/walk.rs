@@ -80,7 +80,9 @@ pub struct Iter<'c> {
 
 impl Iter<'_> {
     pub(crate) fn new(core: &Core) -> Iter<'_> {
-        Iter { keys: Keys::new(core) }
+        Iter {
+            keys: Keys::new(core),
+        }
     }
 }
 

@@ -1,4 +1,5 @@
-//! Seats of an arena by threads: each thread's values are what it expects of them, beside other threads and a steward who folds.
+//! Seats of an arena by threads: each thread's values are what it expects of them, beside other
+//! threads and a steward who folds.
 
 mod common;
 
@@ -177,7 +178,9 @@ impl<'i, const WORDS: usize> Worker<'i, WORDS> {
         loop {
             match seat.adopt() {
                 Ok(_) => {}
-                Err(Refused::NothingToAdopt | Refused::PlanOpen | Refused::PagesSpent) => return Ok(()),
+                Err(Refused::NothingToAdopt | Refused::PlanOpen | Refused::PagesSpent) => {
+                    return Ok(())
+                }
                 Err(refused) => return Err(refused),
             }
         }
@@ -216,7 +219,8 @@ impl<'i, const WORDS: usize> Worker<'i, WORDS> {
         if to < self.inboxes.len() && !self.live.is_empty() {
             let handed = self.live.swap_remove(self.random.below(self.live.len()));
             self.inboxes[to].lock().unwrap().push(handed);
-            self.live.append(&mut self.inboxes[self.here].lock().unwrap());
+            self.live
+                .append(&mut self.inboxes[self.here].lock().unwrap());
         }
     }
 }
@@ -235,14 +239,22 @@ enum Manner {
 /// How many calls one of many sessions has.
 const BURST: usize = 1000;
 
-/// What a thread leaves: its seat, its live keys with the numbers of their values, and the keys that it left to others.
+/// What a thread leaves: its seat, its live keys with the numbers of their values, and the keys
+/// that it left to others.
 type Left<const WORDS: usize> = (Seat<Value<WORDS>>, Vec<(Key, u64)>, Vec<Key>);
 
-/// So many threads make so many calls in all, each at a seat of so many shards, and a steward folds beside them. Then all is taken out.
-fn threads_find_what_they_expect<const WORDS: usize>(manner: Manner, threads: u32, lanes: u32, calls: usize) {
+/// So many threads make so many calls in all, each at a seat of so many shards, and a steward folds
+/// beside them. Then all is taken out.
+fn threads_find_what_they_expect<const WORDS: usize>(
+    manner: Manner,
+    threads: u32,
+    lanes: u32,
+    calls: usize,
+) {
     let mut arena = Arena::with_lanes(limits(threads, 1024), 256, lanes).unwrap();
     let inboxes: Vec<Handed> = (0..threads).map(|_| Handed::default()).collect();
-    let (done, folds) = beside_a_steward::<WORDS>(manner, &mut arena, &inboxes, calls / threads as usize);
+    let (done, folds) =
+        beside_a_steward::<WORDS>(manner, &mut arena, &inboxes, calls / threads as usize);
     // A short run has no sparse page.
     assert!(folds > 0 || calls < 1_000_000);
     let mut seats = Vec::new();
@@ -253,7 +265,11 @@ fn threads_find_what_they_expect<const WORDS: usize>(manner: Manner, threads: u3
         live.extend(its_live);
         left.extend(its_left);
     }
-    live.extend(inboxes.into_iter().flat_map(|inbox| inbox.into_inner().unwrap()));
+    live.extend(
+        inboxes
+            .into_iter()
+            .flat_map(|inbox| inbox.into_inner().unwrap()),
+    );
     settle(&mut seats);
     assert_eq!(arena.totals().live, live.len());
     let seat = &mut seats[0];
@@ -267,7 +283,8 @@ fn threads_find_what_they_expect<const WORDS: usize>(manner: Manner, threads: u3
     assert_eq!(arena.totals(), Totals { pages: 0, live: 0 });
 }
 
-/// One thread for each inbox makes so many calls. It tells what each leaves, and how many folds there were meanwhile.
+/// One thread for each inbox makes so many calls. It tells what each leaves, and how many folds
+/// there were meanwhile.
 fn beside_a_steward<const WORDS: usize>(
     manner: Manner,
     arena: &mut Arena<Value<WORDS>>,
@@ -302,7 +319,10 @@ fn beside_a_steward<const WORDS: usize>(
             thread::sleep(Duration::from_millis(1));
         }
         (
-            workers.into_iter().map(|worker| worker.join().unwrap()).collect(),
+            workers
+                .into_iter()
+                .map(|worker| worker.join().unwrap())
+                .collect(),
             folds,
         )
     })
@@ -318,7 +338,9 @@ fn settle<T>(seats: &mut [Seat<T>]) {
 
 /// Five million calls are asked for, where no variable says how many.
 fn calls() -> usize {
-    let asked = std::env::var("CALLS").ok().and_then(|calls| calls.parse().ok());
+    let asked = std::env::var("CALLS")
+        .ok()
+        .and_then(|calls| calls.parse().ok());
     asked.unwrap_or(5_000_000)
 }
 
@@ -359,7 +381,10 @@ fn a_session_keeps_its_shard_and_lets_go_of_it() -> Result<(), Refused> {
     assert!(session.set(key, 3)? && session.contains(key));
     // What is in the other shard is found there, is set and freed.
     assert!(session.set(elsewhere, 4)?);
-    assert_eq!((session.get(key), session.get(elsewhere)), (Some(3), Some(4)));
+    assert_eq!(
+        (session.get(key), session.get(elsewhere)),
+        (Some(3), Some(4))
+    );
     assert!(session.free(elsewhere) && !session.free(elsewhere));
     assert_eq!(session.get(elsewhere), None);
     // What its own shard has retired is found in the pool, and its thread is not kept from it.
@@ -439,7 +464,8 @@ fn pages_fold_beside_those_who_look_up_and_change() -> Result<(), Refused> {
                     for (key, number) in own() {
                         assert_eq!(seat.get(*key), Some(Value::new(number + times - 1)));
                         assert_eq!(seat.set(*key, Value::new(number + times)), Ok(true));
-                        let other = seat.get(stay[(*number as usize + times as usize) % stay.len()].0);
+                        let other =
+                            seat.get(stay[(*number as usize + times as usize) % stay.len()].0);
                         assert!(other.is_some_and(|value| value.is_whole()));
                     }
                 }
@@ -462,12 +488,14 @@ fn pages_fold_beside_those_who_look_up_and_change() -> Result<(), Refused> {
     Ok(())
 }
 
-/// Three hundred threads come and go at four seats, and each opens more pages than it leaves. Keys of all shards are found, and freed ones
-/// are not, also once what they were of was forgotten.
+/// Three hundred threads come and go at four seats, and each opens more pages than it leaves. Keys
+/// of all shards are found, and freed ones are not, also once what they were of was forgotten.
 #[test]
 fn threads_come_and_go() -> Result<(), Refused> {
     let mut arena = Arena::open(limits(4, 64))?;
-    let mut seats = (0..4).map(|_| arena.seat()).collect::<Result<Vec<_>, _>>()?;
+    let mut seats = (0..4)
+        .map(|_| arena.seat())
+        .collect::<Result<Vec<_>, _>>()?;
     let mut kept: Vec<(Key, u64)> = Vec::new();
     let mut gone: Vec<Key> = Vec::new();
     for round in 0..75_u64 {
@@ -488,8 +516,12 @@ fn threads_come_and_go() -> Result<(), Refused> {
             gone.push(key);
         }
         arena.forget()?;
-        assert!(kept.iter().all(|(key, number)| seat.get(*key) == Some([*number; 32])));
-        assert!(!gone.iter().any(|key| seat.contains(*key) || seat.free(*key)));
+        assert!(kept
+            .iter()
+            .all(|(key, number)| seat.get(*key) == Some([*number; 32])));
+        assert!(!gone
+            .iter()
+            .any(|key| seat.contains(*key) || seat.free(*key)));
         assert_eq!(arena.totals().live, kept.len());
     }
     // Each thread opened 25 pages.
@@ -500,7 +532,8 @@ fn threads_come_and_go() -> Result<(), Refused> {
 /// A seat, and the keys and values that its thread leaves to those after it.
 type HandedOn = (Seat<[u64; 32]>, Vec<(Key, u64)>);
 
-/// A thread at the seat, whose shard may have ended with the thread before: of 400 values it leaves each eighth.
+/// A thread at the seat, whose shard may have ended with the thread before: of 400 values it leaves
+/// each eighth.
 fn come_and_go(mut seat: Seat<[u64; 32]>, number: u64) -> Result<HandedOn, Refused> {
     match seat.begin() {
         Ok(()) | Err(Refused::Running) => {}
@@ -509,20 +542,25 @@ fn come_and_go(mut seat: Seat<[u64; 32]>, number: u64) -> Result<HandedOn, Refus
     let all: Vec<(Key, u64)> = (0..400)
         .map(|at| Ok((seat.insert([1000 * number + at; 32])?, 1000 * number + at)))
         .collect::<Result<_, Refused>>()?;
-    let (stay, go): (Vec<_>, Vec<_>) = all.into_iter().partition(|(_, value)| value % 8 == number % 8);
+    let (stay, go): (Vec<_>, Vec<_>) = all
+        .into_iter()
+        .partition(|(_, value)| value % 8 == number % 8);
     assert!(go.iter().all(|(key, _)| seat.free(*key)));
     seat.end()?;
     Ok((seat, stay))
 }
 
-/// The shard of a thread that is gone goes on in another one, which frees what was left to it meanwhile.
+/// The shard of a thread that is gone goes on in another one, which frees what was left to it
+/// meanwhile.
 #[test]
 fn a_shard_begins_again_in_another_thread() -> Result<(), Refused> {
     let mut arena = Arena::open(limits(2, 64))?;
     let (mut ends, mut stays) = (arena.seat()?, arena.seat()?);
     let gone = thread::spawn(move || {
         assert_eq!(ends.begin(), Err(Refused::Running));
-        let keys: Vec<_> = (0..600_u64).map(|n| ends.insert(n)).collect::<Result<_, _>>()?;
+        let keys: Vec<_> = (0..600_u64)
+            .map(|n| ends.insert(n))
+            .collect::<Result<_, _>>()?;
         ends.end()?;
         Ok::<_, Refused>((ends, keys))
     });
@@ -531,8 +569,13 @@ fn a_shard_begins_again_in_another_thread() -> Result<(), Refused> {
     stays.hand_over();
     let begun = thread::spawn(move || {
         assert_eq!(seat.insert(0), Err(Refused::Ended));
-        assert_eq!((seat.begin(), seat.begin()), (Ok(()), Err(Refused::Running)));
-        let keys: Vec<_> = (0..600_u64).map(|n| seat.insert(n)).collect::<Result<_, _>>()?;
+        assert_eq!(
+            (seat.begin(), seat.begin()),
+            (Ok(()), Err(Refused::Running))
+        );
+        let keys: Vec<_> = (0..600_u64)
+            .map(|n| seat.insert(n))
+            .collect::<Result<_, _>>()?;
         assert_eq!(
             (seat.tend(), seat.get(before[0]), seat.get(before[599])),
             (Ok(1), None, Some(599))
@@ -543,7 +586,10 @@ fn a_shard_begins_again_in_another_thread() -> Result<(), Refused> {
     assert!(after
         .iter()
         .all(|key| !before.contains(key) && key.shard() == before[0].shard()));
-    assert_eq!((stays.get(after[7]), stays.get(before[7])), (Some(7), Some(7)));
+    assert_eq!(
+        (stays.get(after[7]), stays.get(before[7])),
+        (Some(7), Some(7))
+    );
     Ok(())
 }
 
@@ -552,15 +598,22 @@ fn a_thread_ends_while_others_hold_its_keys() -> Result<(), Refused> {
     let mut arena = Arena::open(limits(3, 64))?;
     let (mut ends, mut stays, mut looks) = (arena.seat()?, arena.seat()?, arena.seat()?);
     let keys = thread::spawn(move || {
-        let keys: Vec<_> = (0..4000_u64).map(|n| ends.insert(n)).collect::<Result<_, _>>()?;
+        let keys: Vec<_> = (0..4000_u64)
+            .map(|n| ends.insert(n))
+            .collect::<Result<_, _>>()?;
         ends.end()?;
-        assert_eq!((ends.end(), ends.insert(0)), (Err(Refused::Ended), Err(Refused::Ended)));
+        assert_eq!(
+            (ends.end(), ends.insert(0)),
+            (Err(Refused::Ended), Err(Refused::Ended))
+        );
         assert_eq!(ends.get(keys[7]), Some(7)); // it goes on to look up and free
         Ok::<_, Refused>(keys)
     });
     let keys = keys.join().unwrap()?;
     let of_it = keys[0].shard();
-    let own: Vec<_> = (0..256).map(|n| stays.insert(n)).collect::<Result<_, _>>()?;
+    let own: Vec<_> = (0..256)
+        .map(|n| stays.insert(n))
+        .collect::<Result<_, _>>()?;
     thread::scope(|scope| {
         let (keys, looks) = (&keys, &mut looks);
         scope.spawn(move || {
@@ -589,7 +642,9 @@ fn a_thread_ends_while_others_hold_its_keys() -> Result<(), Refused> {
 fn frees_come_later() -> Result<(), Refused> {
     let mut arena = Arena::with_rings(limits(2, 4), 8)?;
     let (mut here, mut there) = (arena.seat()?, arena.seat()?);
-    let keys: Vec<_> = (0..12_u128).map(|n| there.insert(n)).collect::<Result<_, _>>()?;
+    let keys: Vec<_> = (0..12_u128)
+        .map(|n| there.insert(n))
+        .collect::<Result<_, _>>()?;
     for key in &keys[..8] {
         assert_eq!(here.free_later(*key), Ok(()));
     }
@@ -607,7 +662,9 @@ fn frees_come_later() -> Result<(), Refused> {
 fn a_key_that_waits_is_handed_over_by_its_seat() -> Result<(), Refused> {
     let mut arena = Arena::open(limits(2, 4))?;
     let (mut here, mut there) = (arena.seat()?, arena.seat()?);
-    let keys: Vec<_> = (0..3_u128).map(|n| there.insert(n)).collect::<Result<_, _>>()?;
+    let keys: Vec<_> = (0..3_u128)
+        .map(|n| there.insert(n))
+        .collect::<Result<_, _>>()?;
     here.free_later(keys[0])?;
     here.hand_over();
     assert_eq!(there.tend(), Ok(1));
@@ -624,7 +681,12 @@ fn a_key_that_waits_is_handed_over_by_its_seat() -> Result<(), Refused> {
 
 #[test]
 fn calls_are_refused_as_they_say() -> Result<(), Refused> {
-    for wrong in [limits(0, 1), limits(65, 1), limits(1, 0), limits(1, 1_048_577)] {
+    for wrong in [
+        limits(0, 1),
+        limits(65, 1),
+        limits(1, 0),
+        limits(1, 1_048_577),
+    ] {
         assert_eq!(Arena::<u64>::open(wrong).err(), Some(Refused::Config));
     }
     for keys in [0, 1025] {
@@ -642,7 +704,9 @@ fn calls_are_refused_as_they_say() -> Result<(), Refused> {
         (Err(Refused::NoPlan), Err(Refused::NoPlan))
     );
     assert_eq!(here.adopt(), Err(Refused::NothingToAdopt));
-    let keys: Vec<_> = (0..256_u64).map(|n| here.insert(n)).collect::<Result<_, _>>()?;
+    let keys: Vec<_> = (0..256_u64)
+        .map(|n| here.insert(n))
+        .collect::<Result<_, _>>()?;
     assert_eq!(here.insert(0), Err(Refused::PagesSpent));
     let other = there.insert(7)?;
     keys[..255].iter().for_each(|key| assert!(here.free(*key)));
@@ -658,8 +722,14 @@ fn calls_are_refused_as_they_say() -> Result<(), Refused> {
     assert!(matches!(arena.step(), Ok(Stepped::Folded(..))));
     assert_eq!(arena.step(), Ok(Stepped::NoPairLeft));
     assert_eq!(arena.close(), Ok(()));
-    assert_eq!((arena.mesh(), arena.totals()), (Ok(0), Totals { pages: 1, live: 2 }));
-    assert_eq!((there.get(keys[255]), here.get(other)), (Some(255), Some(7)));
+    assert_eq!(
+        (arena.mesh(), arena.totals()),
+        (Ok(0), Totals { pages: 1, live: 2 })
+    );
+    assert_eq!(
+        (there.get(keys[255]), here.get(other)),
+        (Some(255), Some(7))
+    );
     assert!(format!("{arena:?} {here:?}").contains("Arena"));
     Ok(())
 }
@@ -676,17 +746,25 @@ fn a_seat_has_several_shards() -> Result<(), Refused> {
     assert_eq!(arena.seat().err(), Some(Refused::NoSeatLeft));
     let mut keys: Vec<_> = (0..768).map(|n| here.insert(n)).collect::<Result<_, _>>()?;
     let shards = keys.iter().map(|key| key.shard()).collect::<BTreeSet<_>>();
-    assert_eq!((shards.len(), here.insert(0)), (3, Err(Refused::PagesSpent)));
+    assert_eq!(
+        (shards.len(), here.insert(0)),
+        (3, Err(Refused::PagesSpent))
+    );
     // Whichever has room.
     assert!(here.free(keys[100]));
     keys[100] = here.insert(100)?;
-    keys[..8].iter().try_for_each(|key| there.free_later(*key))?;
+    keys[..8]
+        .iter()
+        .try_for_each(|key| there.free_later(*key))?;
     assert_eq!(there.free_later(keys[9]), Err(Refused::RingFull));
     assert_eq!((here.tend(), here.tend()), (Ok(8), Ok(0)));
     // The last of each shard stays.
     let go = keys[8..].iter().filter(|key| key.slot() < 255);
     go.for_each(|key| assert!(there.free(*key)));
-    assert_eq!((here.retire(2), here.retire(2), here.retire(3)), (Ok(2), Ok(0), Ok(1)));
+    assert_eq!(
+        (here.retire(2), here.retire(2), here.retire(3)),
+        (Ok(2), Ok(0), Ok(1))
+    );
     let others: Vec<_> = (0..64).map(|n| there.insert(n)).collect::<Result<_, _>>()?;
     assert_eq!(arena.mark_some().map(|marked| marked.folds), Ok(1));
     // The first of its shards had its turn, and stands last: those before it go on.
@@ -709,11 +787,15 @@ fn a_seat_has_several_shards() -> Result<(), Refused> {
         .iter()
         .zip(0..)
         .all(|(key, n)| here.get(*key) == (key.slot() == 255).then_some(n)));
-    assert!(others.iter().zip(0..).all(|(key, n)| here.get(*key) == Some(n)));
+    assert!(others
+        .iter()
+        .zip(0..)
+        .all(|(key, n)| here.get(*key) == Some(n)));
     Ok(())
 }
 
-/// As of a core (`tests/tour.rs`): a slot of its own on each side, in the text that `docs/FORMATS.md` describes.
+/// As of a core (`tests/tour.rs`): a slot of its own on each side, in the text that
+/// `docs/FORMATS.md` describes.
 #[test]
 fn a_mark_of_all_groups_leaves_its_certificate() -> Result<(), Refused> {
     let mut arena = Arena::open(limits(2, 4))?;
@@ -730,12 +812,20 @@ fn a_mark_of_all_groups_leaves_its_certificate() -> Result<(), Refused> {
     assert!(here.free(keys[1]) && here.free(keys[2]));
     let marked = arena.mark()?;
     assert_eq!(
-        (marked.abandoned, marked.owned, marked.folds, marked.short_set),
+        (
+            marked.abandoned,
+            marked.owned,
+            marked.folds,
+            marked.short_set
+        ),
         (1, 1, 1, 0)
     );
     assert_eq!(arena.mark(), Err(Refused::PlanOpen));
     // The first of the 64 digits' bytes has the slots 0 to 7.
-    let (slot_0, slot_1) = (format!("01{}", "0".repeat(62)), format!("02{}", "0".repeat(62)));
+    let (slot_0, slot_1) = (
+        format!("01{}", "0".repeat(62)),
+        format!("02{}", "0".repeat(62)),
+    );
     let text = format!(
         "meshcert 2\nabandoned 1\n{first}.0 16 {slot_0}\nowned 1\n{second}.0 16 {slot_1}\nfolds 1\n{first}.0 {second}.0\nshort 0\nend\n"
     );
@@ -745,7 +835,9 @@ fn a_mark_of_all_groups_leaves_its_certificate() -> Result<(), Refused> {
     // That of the last mark stays until the next one.
     assert_eq!(arena.certificate(), Ok(Some(text)));
     assert_eq!((arena.mark()?.folds, arena.close()), (0, Ok(())));
-    assert!(arena.certificate()?.is_some_and(|text| text.contains("folds 0\n")));
+    assert!(arena
+        .certificate()?
+        .is_some_and(|text| text.contains("folds 0\n")));
     assert_eq!((there.get(keys[0]), here.get(keys[3])), (Some(10), Some(8)));
     Ok(())
 }
@@ -804,7 +896,9 @@ fn a_plan_goes_with_the_arena() -> Result<(), Refused> {
 #[test]
 fn many_groups_and_an_empty_pool() -> Result<(), Refused> {
     let mut arena = Arena::open(limits(5, 1_024))?;
-    let mut seats = (0..5).map(|_| arena.seat()).collect::<Result<Vec<_>, _>>()?;
+    let mut seats = (0..5)
+        .map(|_| arena.seat())
+        .collect::<Result<Vec<_>, _>>()?;
     for seat in &mut seats {
         let keys: Vec<Key> = (0..1_000 * 16)
             .map(|number| seat.insert([number as u64; 32]))
@@ -817,7 +911,8 @@ fn many_groups_and_an_empty_pool() -> Result<(), Refused> {
     Ok(())
 }
 
-/// Has a method for each type, and another one for each that is `Sync`: only where the type is not is it known which is meant.
+/// Has a method for each type, and another one for each that is `Sync`: only where the type is not
+/// is it known which is meant.
 trait NotIfSync<Marker> {
     fn is_not_sync() {}
 }
@@ -837,7 +932,8 @@ fn handles_may_go_to_another_thread_and_are_of_one() {
     <Seat<u64> as NotIfSync<_>>::is_not_sync();
 }
 
-/// A walk meets each key once that is live all the while, beside threads that put and free others, end, adopt and are folded.
+/// A walk meets each key once that is live all the while, beside threads that put and free others,
+/// end, adopt and are folded.
 #[test]
 fn a_walk_meets_what_stays() -> Result<(), Refused> {
     let mut arena = Arena::open(limits(4, 1024))?;
@@ -877,7 +973,10 @@ fn a_walk_meets_what_stays() -> Result<(), Refused> {
         let walker = scope.spawn(move || {
             for _ in 0..20 {
                 let met: Vec<_> = seat.keys().collect();
-                assert!(met.windows(2).all(|keys| keys[0] < keys[1]), "none comes twice");
+                assert!(
+                    met.windows(2).all(|keys| keys[0] < keys[1]),
+                    "none comes twice"
+                );
                 assert!(
                     staying.iter().all(|key| met.binary_search(key).is_ok()),
                     "each that stays is met"

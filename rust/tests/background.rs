@@ -19,7 +19,10 @@ const SOON: Policy = Policy {
 fn waits_until(mut is_so: impl FnMut() -> bool) {
     let begun = Instant::now();
     while !is_so() {
-        assert!(begun.elapsed() < Duration::from_secs(240), "it waits for ever");
+        assert!(
+            begun.elapsed() < Duration::from_secs(240),
+            "it waits for ever"
+        );
         thread::sleep(Duration::from_millis(1));
     }
 }
@@ -80,7 +83,10 @@ fn sleeps_where_nothing_pays() {
     thread::sleep(Duration::from_millis(200));
     assert_eq!((background.pages(), store.pages()), (0, 200));
     // Half of the slots that are left go on each page but the last, and then some pages pay.
-    for key in keys.iter().filter(|key| key.slot() < 64 && key.serial() < 190) {
+    for key in keys
+        .iter()
+        .filter(|key| key.slot() < 64 && key.serial() < 190)
+    {
         assert!(store.free(*key));
     }
     waits_until(|| store.pages() < 20);
@@ -109,7 +115,9 @@ fn counts_pages() {
 fn ends_at_once() -> Result<(), Refused> {
     for round in 0..30 {
         let store = Arc::new(SharedStore::<u64>::new()?);
-        let keys: Vec<_> = (0..60_000).map(|n| store.insert(n)).collect::<Result<_, _>>()?;
+        let keys: Vec<_> = (0..60_000)
+            .map(|n| store.insert(n))
+            .collect::<Result<_, _>>()?;
         for (n, key) in keys.iter().enumerate().filter(|(n, _)| n % 11 != 0) {
             assert_eq!(store.remove(*key), Some(n as u64));
         }
@@ -136,13 +144,17 @@ fn seats_help() -> Result<(), Refused> {
     })?;
     let arena = Arc::new(Mutex::new(arena));
     let background: Background = Arena::compact_in_background(&arena, SOON).unwrap();
-    let seats: Vec<_> = (0..3).map(|_| arena.lock().unwrap().seat()).collect::<Result<_, _>>()?;
+    let seats: Vec<_> = (0..3)
+        .map(|_| arena.lock().unwrap().seat())
+        .collect::<Result<_, _>>()?;
     let done = Arc::new(AtomicBool::new(false));
     let workers = seats.into_iter().zip(0..).map(|(mut seat, thread)| {
         let done = Arc::clone(&done);
         thread::spawn(move || {
             let mut random = Random(thread + 1);
-            let mut keys: Vec<_> = (0..20_000_u64).map(|n| (seat.insert(n).unwrap(), n)).collect();
+            let mut keys: Vec<_> = (0..20_000_u64)
+                .map(|n| (seat.insert(n).unwrap(), n))
+                .collect();
             while keys.len() > 600 {
                 let (key, n) = keys.swap_remove(random.below(keys.len()));
                 assert_eq!(seat.remove(key), Some(n));
@@ -157,7 +169,8 @@ fn seats_help() -> Result<(), Refused> {
                     }
                 }
             }
-            keys.into_iter().for_each(|(key, n)| assert_eq!(seat.get(key), Some(n)));
+            keys.into_iter()
+                .for_each(|(key, n)| assert_eq!(seat.get(key), Some(n)));
             seat
         })
     });

@@ -54,8 +54,14 @@ fn both_ends_meet() -> Result<(), Refused> {
             .rev()
             .map(|(key, value)| (key, *value))
             .eq(pairs.iter().rev().copied()));
-        assert!(slab.keys().rev().eq(pairs.iter().rev().map(|(key, _)| *key)));
-        assert!(slab.values().rev().eq(pairs.iter().rev().map(|(_, value)| value)));
+        assert!(slab
+            .keys()
+            .rev()
+            .eq(pairs.iter().rev().map(|(key, _)| *key)));
+        assert!(slab
+            .values()
+            .rev()
+            .eq(pairs.iter().rev().map(|(_, value)| value)));
         for _ in 0..10 {
             let met = in_order(zigzag(slab.iter(), &mut random));
             assert!(met
@@ -65,7 +71,10 @@ fn both_ends_meet() -> Result<(), Refused> {
             // All are lent at one time, each once.
             let met = in_order(zigzag(slab.iter_mut(), &mut random));
             assert_eq!(
-                met.iter().map(|(key, _)| *key).collect::<HashSet<_>>().len(),
+                met.iter()
+                    .map(|(key, _)| *key)
+                    .collect::<HashSet<_>>()
+                    .len(),
                 pairs.len()
             );
             met.into_iter().for_each(|(_, value)| *value += 1);
@@ -133,7 +142,10 @@ fn finds_keys<T>(values: impl IntoIterator<Item = T>, other: T) -> Result<(), Re
         let within = at.cast::<u8>().wrapping_add(1);
         assert_eq!(slab.key_at(within.cast()), None);
     }
-    assert_eq!((slab.key_of(&other), slab.key_at(std::ptr::null())), (None, None));
+    assert_eq!(
+        (slab.key_of(&other), slab.key_at(std::ptr::null())),
+        (None, None)
+    );
     Ok(())
 }
 
@@ -175,7 +187,9 @@ fn typed_keys() -> Result<(), Refused> {
         (players.get(ann), players[bob], players.len()),
         (Some(&"Ann"), "Rob", 2)
     );
-    assert!(players.keys().eq([ann, bob]) && players.iter().rev().map(|(key, _)| key).eq([bob, ann]));
+    assert!(
+        players.keys().eq([ann, bob]) && players.iter().rev().map(|(key, _)| key).eq([bob, ann])
+    );
     let [one, two] = players.get_disjoint_mut([ann, bob]).expect("both are live");
     std::mem::swap(one, two);
     assert_eq!(players.key_of(&players[ann]), Some(ann));
@@ -185,10 +199,17 @@ fn typed_keys() -> Result<(), Refused> {
     );
     players.retain(|key, _| key != ann);
     assert_eq!(
-        (players.contains(ann), players.remove(bob), players.compact()?),
+        (
+            players.contains(ann),
+            players.remove(bob),
+            players.compact()?
+        ),
         (false, Some("Ann"), 1)
     );
-    assert_eq!("1.2/3/4".parse::<TeamKey>().map(Key::from), "1.2/3/4".parse::<Key>());
+    assert_eq!(
+        "1.2/3/4".parse::<TeamKey>().map(Key::from),
+        "1.2/3/4".parse::<Key>()
+    );
     assert!("1.2/3".parse::<TeamKey>().is_err());
     assert_eq!(players.into_slab().len(), 0);
     Ok(())
@@ -216,5 +237,8 @@ fn is_unwind_safe() {
     let slab: Slab<_> = (0..10).collect();
     assert!(std::panic::catch_unwind(|| slab.values().sum::<i32>()).is_ok());
     let mut slab = AssertUnwindSafe(slab);
-    assert!(std::panic::catch_unwind(move || slab.retain(|_, value| *value < 5 || panic!("at {value}"))).is_err());
+    assert!(std::panic::catch_unwind(
+        move || slab.retain(|_, value| *value < 5 || panic!("at {value}"))
+    )
+    .is_err());
 }

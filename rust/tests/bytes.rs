@@ -45,7 +45,8 @@ fn other_numbers_are_refused() -> Result<(), Refused> {
     Ok(())
 }
 
-/// Pages of objects of different width are never folded onto each other, and those of one width are.
+/// Pages of objects of different width are never folded onto each other, and those of one width
+/// are.
 #[test]
 fn folds_are_within_a_width() -> Result<(), Refused> {
     let mut core = Core::new(Limits {
@@ -104,7 +105,13 @@ fn plain_values_of_each_size() -> Result<(), Refused> {
         large: 2,
         even: Some(3),
     };
-    round_trip(value, Padded { even: None, ..value })
+    round_trip(
+        value,
+        Padded {
+            even: None,
+            ..value
+        },
+    )
 }
 
 /// Other bytes stand under the same key, if they take as many words.
@@ -122,7 +129,8 @@ fn bytes_are_set_in_place() -> Result<(), Refused> {
     Ok(())
 }
 
-/// A name may be put together of any key and number: what it finds was put under the key, with zeros up to the end of its object.
+/// A name may be put together of any key and number: what it finds was put under the key, with
+/// zeros up to the end of its object.
 #[test]
 fn names_put_together() -> Result<(), Refused> {
     let mut core = Core::new(Limits::default())?;

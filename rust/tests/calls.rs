@@ -31,7 +31,10 @@ fn loops_over_a_slab() -> Result<(), Refused> {
     assert_eq!(seen, ["a!", "b!"]);
     let keys: Vec<Key> = slab.keys().collect();
     let mut values = slab.into_iter();
-    assert_eq!((values.len(), values.next()), (2, Some((keys[0], "a!".into()))));
+    assert_eq!(
+        (values.len(), values.next()),
+        (2, Some((keys[0], "a!".into())))
+    );
     assert_eq!(values.size_hint(), (1, Some(1)));
     assert!(values.by_ref().eq([(keys[1], "b!".to_string())]));
     assert!(values.next().is_none() && values.len() == 0);
@@ -47,10 +50,16 @@ fn iterators_tell_what_is_left() -> Result<(), Refused> {
     assert_eq!(iter.clone().len(), 2);
     let mut keys = slab.keys();
     keys.next();
-    assert_eq!((format!("{keys:?}"), keys.len()), ("[0.0/1/1, 0.0/2/1]".into(), 2));
+    assert_eq!(
+        (format!("{keys:?}"), keys.len()),
+        ("[0.0/1/1, 0.0/2/1]".into(), 2)
+    );
     let mut values = slab.values();
     values.next();
-    assert_eq!((format!("{values:?}"), values.clone().sum()), ("[2, 3]".into(), 5));
+    assert_eq!(
+        (format!("{values:?}"), values.clone().sum()),
+        ("[2, 3]".into(), 5)
+    );
     let mut iter = slab.iter_mut();
     let (_, first) = iter.next().expect("there are three");
     assert_eq!(
@@ -85,7 +94,9 @@ fn values_that_are_changed_beside_each_other() -> Result<(), Refused> {
     }
     assert_eq!(slab.values().sum::<i32>(), 600);
     let keys: Vec<Key> = slab.keys().collect();
-    let [first, last] = slab.get_disjoint_mut([keys[0], keys[599]]).expect("both are live");
+    let [first, last] = slab
+        .get_disjoint_mut([keys[0], keys[599]])
+        .expect("both are live");
     (*first, *last) = (5, 6);
     assert_eq!((slab[keys[0]], slab[keys[599]]), (5, 6));
     assert_eq!(slab.get_disjoint_mut([keys[0], keys[1], keys[0]]), None);
@@ -102,9 +113,17 @@ fn a_value_that_is_refused_comes_back() -> Result<(), Refused> {
     let mut values = values.collect::<Vec<_>>().into_iter();
     let error = slab.try_extend(values.by_ref()).unwrap_err();
     assert_eq!((*error.value, error.refused), (256, Refused::PagesSpent));
-    assert_eq!((slab.len(), values.len(), Rc::strong_count(&error.value)), (256, 43, 1));
-    assert!(error.to_string().ends_with(&Refused::PagesSpent.to_string()));
-    assert_eq!(format!("{error:?}"), "InsertError { refused: PagesSpent, .. }");
+    assert_eq!(
+        (slab.len(), values.len(), Rc::strong_count(&error.value)),
+        (256, 43, 1)
+    );
+    assert!(error
+        .to_string()
+        .ends_with(&Refused::PagesSpent.to_string()));
+    assert_eq!(
+        format!("{error:?}"),
+        "InsertError { refused: PagesSpent, .. }"
+    );
     let error = slab.try_insert(error.value).unwrap_err();
     let error = slab.try_insert_in(0, error.value).unwrap_err();
     assert_eq!((*error.value, error.refused), (256, Refused::PagesSpent));
@@ -113,8 +132,14 @@ fn a_value_that_is_refused_comes_back() -> Result<(), Refused> {
     let gone = slab.keys().next().and_then(|key| slab.remove(key));
     assert!(gone.is_some_and(|value| slab.try_insert_in(0, value).is_ok()));
     slab.end(0)?;
-    assert_eq!(slab.try_insert(Rc::new(1)).unwrap_err().refused, Refused::Ended);
-    assert_eq!(slab.insert_with_key(|_| unreachable!()), Err(Refused::Ended));
+    assert_eq!(
+        slab.try_insert(Rc::new(1)).unwrap_err().refused,
+        Refused::Ended
+    );
+    assert_eq!(
+        slab.insert_with_key(|_| unreachable!()),
+        Err(Refused::Ended)
+    );
     assert_eq!(slab.vacant_entry().err(), Some(Refused::Ended));
     Ok(())
 }
@@ -167,14 +192,17 @@ fn entries_that_wait_for_their_values() -> Result<(), Refused> {
     std::mem::forget(forgotten);
     assert!(slab.len() == 2 && slab.iter().len() == 2 && !slab.contains(shown));
     let other = slab.vacant_entry()?;
-    assert_eq!((other.key().slot(), other.key().generation()), (shown.slot(), 2));
+    assert_eq!(
+        (other.key().slot(), other.key().generation()),
+        (shown.slot(), 2)
+    );
     other.insert((next, 4));
     assert_eq!((slab.len(), slab.into_iter().count()), (3, 3));
     Ok(())
 }
 
-/// If entries are dropped again and again, each uses up a generation, and in the end the page, which
-/// makes way for another one.
+/// If entries are dropped again and again, each uses up a generation, and in the end the page,
+/// which makes way for another one.
 #[test]
 fn entries_that_are_dropped_use_up_their_slots() -> Result<(), Refused> {
     let mut slab = Slab::<u8>::with_limits(ONE_PAGE)?;
@@ -188,15 +216,35 @@ fn entries_that_are_dropped_use_up_their_slots() -> Result<(), Refused> {
 #[test]
 fn room_for_many() -> Result<(), Refused> {
     let small = Slab::<u64>::with_capacity(10)?;
-    assert_eq!((small.limits().shards, small.capacity()), (16, 16 * 1_048_576 * 256));
+    assert_eq!(
+        (small.limits().shards, small.capacity()),
+        (16, 16 * 1_048_576 * 256)
+    );
     let large = Slab::<[u64; 30]>::with_capacity(1_048_577)?;
-    assert_eq!((large.limits().shards, large.capacity()), (16, 16 * 1_048_576 * 64));
+    assert_eq!(
+        (large.limits().shards, large.capacity()),
+        (16, 16 * 1_048_576 * 64)
+    );
     for capacity in [64 * 1_048_576 * 256 + 1, usize::MAX] {
-        assert_eq!(Slab::<u64>::with_capacity(capacity).err(), Some(Refused::Config));
-        assert_eq!(Store::<u64>::with_capacity(capacity).err(), Some(Refused::Config));
+        assert_eq!(
+            Slab::<u64>::with_capacity(capacity).err(),
+            Some(Refused::Config)
+        );
+        assert_eq!(
+            Store::<u64>::with_capacity(capacity).err(),
+            Some(Refused::Config)
+        );
     }
-    assert_eq!(Store::<u64>::with_capacity(17 * 1_048_576 * 256)?.limits().shards, 17);
-    let mut slab = Slab::with_limits(Limits { shards: 2, ..ONE_PAGE })?;
+    assert_eq!(
+        Store::<u64>::with_capacity(17 * 1_048_576 * 256)?
+            .limits()
+            .shards,
+        17
+    );
+    let mut slab = Slab::with_limits(Limits {
+        shards: 2,
+        ..ONE_PAGE
+    })?;
     slab.try_extend(0..256)?;
     assert_eq!(slab.capacity(), 512);
     slab.reserve(256)?;
@@ -215,7 +263,10 @@ fn shrinks_to_what_has_values() -> Result<(), Refused> {
     let mut slab = Slab::try_from_iter(0..1024)?;
     let first = slab.keys().next().expect("there are some");
     slab.retain(|key, _| key == first);
-    assert_eq!((slab.pages(), slab.shrink_to_fit(), slab.pages()), (4, 3, 1));
+    assert_eq!(
+        (slab.pages(), slab.shrink_to_fit(), slab.pages()),
+        (4, 3, 1)
+    );
     slab.clear();
     assert_eq!((slab.shrink_to_fit(), slab.pages(), slab.len()), (1, 0, 0));
     slab.insert(1)?;
@@ -233,7 +284,8 @@ fn defaults_are_empty() {
     assert!(Store::<u64>::default().is_empty());
 }
 
-/// Filled, thinned out at random and compacted again and again, a new slab gives most of its pages back each time.
+/// Filled, thinned out at random and compacted again and again, a new slab gives most of its pages
+/// back each time.
 #[test]
 fn a_new_slab_is_compacted_as_it_is() -> Result<(), Refused> {
     let mut random = Random(9);
@@ -244,7 +296,10 @@ fn a_new_slab_is_compacted_as_it_is() -> Result<(), Refused> {
         slab.retain(|_, (of, _)| *of + 2 >= round && (*of != round || random.below(100) == 0));
         let pages = slab.pages();
         let went = slab.compact()?;
-        assert!(4 * went >= 3 * pages, "round {round}: {went} of {pages} pages");
+        assert!(
+            4 * went >= 3 * pages,
+            "round {round}: {went} of {pages} pages"
+        );
     }
     assert!((450..750).contains(&slab.len()));
     Ok(())
@@ -261,7 +316,10 @@ fn what_a_core_was_made_with() -> Result<(), Refused> {
     let mut core = Core::new(limits)?;
     let mut slab = Slab::<u8>::with_limits(limits)?;
     let store = Store::<u8>::with_limits(limits)?;
-    assert_eq!((core.limits(), slab.limits(), store.limits()), (limits, limits, limits));
+    assert_eq!(
+        (core.limits(), slab.limits(), store.limits()),
+        (limits, limits, limits)
+    );
     slab.end(2)?;
     assert_eq!(
         [0, 1, 2, 3].map(|shard| slab.is_ended(shard)),
@@ -367,7 +425,10 @@ fn values_of_a_store_that_know_their_keys() -> Result<(), Refused> {
         .iter()
         .zip(0..)
         .all(|(key, n)| store.get(*key) == Some((*key, [n; 50]))));
-    assert_eq!(store.insert_with_key(|_| unreachable!()), Err(Refused::PagesSpent));
+    assert_eq!(
+        store.insert_with_key(|_| unreachable!()),
+        Err(Refused::PagesSpent)
+    );
     assert_eq!((store.len(), store.iter().count()), (18, 18));
     Ok(())
 }
@@ -375,9 +436,19 @@ fn values_of_a_store_that_know_their_keys() -> Result<(), Refused> {
 #[test]
 fn room_in_a_store() -> Result<(), Refused> {
     assert_eq!(Store::<u64>::with_capacity(1)?.limits().shards, 16);
-    assert_eq!(Store::<[u8; 64]>::with_capacity(1_073_741_825)?.limits().shards, 17);
+    assert_eq!(
+        Store::<[u8; 64]>::with_capacity(1_073_741_825)?
+            .limits()
+            .shards,
+        17
+    );
     // 85 values of 48 bytes share a page, of which 64 shards may have 67,108,864.
-    assert_eq!(Store::<[u8; 48]>::with_capacity(5_704_253_440)?.limits().shards, 64);
+    assert_eq!(
+        Store::<[u8; 48]>::with_capacity(5_704_253_440)?
+            .limits()
+            .shards,
+        64
+    );
     assert_eq!(
         Store::<[u8; 48]>::with_capacity(5_704_253_441).err(),
         Some(Refused::Config)
@@ -411,7 +482,9 @@ fn a_store_as_a_map() -> Result<(), Refused> {
         };
         assert_eq!(store.pages() + went, pages);
         assert_eq!((store.len(), store.iter().len()), (map.len(), map.len()));
-        assert!(store.iter().eq(map.iter().map(|(key, value)| (*key, *value))));
+        assert!(store
+            .iter()
+            .eq(map.iter().map(|(key, value)| (*key, *value))));
         assert!(store.keys().eq(map.keys().copied()) && store.values().eq(map.values().copied()));
         assert!(map.keys().all(|key| store.contains_key(*key)));
         if round % 10 == 9 {
@@ -444,7 +517,10 @@ fn loops_over_a_store() -> Result<(), Refused> {
         ("[3, 4, 5]".into(), 3)
     );
     let mut drain = store.drain();
-    assert_eq!((drain.next().map(|(_, value)| value), drain.len()), (Some(3), 2));
+    assert_eq!(
+        (drain.next().map(|(_, value)| value), drain.len()),
+        (Some(3), 2)
+    );
     assert_eq!(format!("{drain:?}"), "{0.0/1/1: 4, 0.0/2/1: 5}");
     std::mem::forget(drain);
     assert_eq!(store.len(), 2);
@@ -452,7 +528,10 @@ fn loops_over_a_store() -> Result<(), Refused> {
     assert!(store.is_empty() && store.pages() == 1);
     store.insert(6)?;
     let mut values = store.into_iter();
-    assert_eq!((format!("{values:?}"), values.len()), ("{0.0/0/2: 6}".into(), 1));
+    assert_eq!(
+        (format!("{values:?}"), values.len()),
+        ("{0.0/0/2: 6}".into(), 1)
+    );
     assert_eq!(values.next().map(|(_, value)| value), Some(6));
     assert!(values.next().is_none() && values.len() == 0);
     Ok(())

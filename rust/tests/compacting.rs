@@ -94,12 +94,16 @@ macro_rules! compacts {
     };
 }
 
-compacts!(Store<[u64; 7]>, Store::with_limits(FEW).unwrap(), |store, key| store
-    .get(key)
-    .map(|value| value[6]));
-compacts!(Slab<[u64; 7]>, Slab::with_limits(FEW).unwrap(), |slab, key| slab
-    .get(key)
-    .map(|value| value[6]));
+compacts!(
+    Store<[u64; 7]>,
+    Store::with_limits(FEW).unwrap(),
+    |store, key| store.get(key).map(|value| value[6])
+);
+compacts!(
+    Slab<[u64; 7]>,
+    Slab::with_limits(FEW).unwrap(),
+    |slab, key| slab.get(key).map(|value| value[6])
+);
 compacts!(
     SharedStore<[u64; 7]>,
     SharedStore::with_limits(FEW).unwrap(),
@@ -120,7 +124,9 @@ fn sparse<C: Compacts>(count: u64, one_in: usize) -> Result<(C, Vec<(Key, u64)>)
 }
 
 fn finds_all<C: Compacts>(values: &C, stay: &[(Key, u64)]) {
-    assert!(stay.iter().all(|(key, value)| values.find(*key) == Some(*value)));
+    assert!(stay
+        .iter()
+        .all(|(key, value)| values.find(*key) == Some(*value)));
 }
 
 /// Parts of whatever budget come to about as few pages as one call does, and each says what went.
@@ -186,12 +192,16 @@ fn as_a_map_between_parts<C: Compacts>(seed: u64) -> Result<(), Refused> {
             }
         }
         if value % 500 == 0 {
-            assert!(map.iter().all(|(key, value)| values.find(*key) == Some(*value)));
+            assert!(map
+                .iter()
+                .all(|(key, value)| values.find(*key) == Some(*value)));
             assert!(gone_keys.iter().all(|key| values.find(*key).is_none()));
         }
     }
     values.parts(3)?;
-    assert!(map.iter().all(|(key, value)| values.find(*key) == Some(*value)));
+    assert!(map
+        .iter()
+        .all(|(key, value)| values.find(*key) == Some(*value)));
     assert!(gone_keys.iter().all(|key| values.find(*key).is_none()));
     // What is left to the pool by nobody: all groups take values again.
     values.whole()?;
@@ -283,7 +293,9 @@ fn one_call_ends_parts() -> Result<(), Refused> {
 #[test]
 fn full_pages_stay() -> Result<(), Refused> {
     let mut slab = Slab::with_limits(FEW)?;
-    let keys: Vec<_> = (0..40_192).map(|n| slab.insert(n)).collect::<Result<_, _>>()?;
+    let keys: Vec<_> = (0..40_192)
+        .map(|n| slab.insert(n))
+        .collect::<Result<_, _>>()?;
     // More than half of each page stays.
     slab.retain(|_, n| *n % 9 < 5);
     let before = slab.pages();
@@ -300,7 +312,10 @@ fn full_pages_stay() -> Result<(), Refused> {
         core.insert(0, n)?;
     }
     let pages = core.pages();
-    assert_eq!((core.compact()?, core.pages(), core.retire(1, 1)), (0, pages, Ok(0)));
+    assert_eq!(
+        (core.compact()?, core.pages(), core.retire(1, 1)),
+        (0, pages, Ok(0))
+    );
     assert_eq!((slab.certificate()?, core.certificate()?), (None, None)); // nothing was planned
     Ok(())
 }
@@ -313,7 +328,10 @@ fn few_pages_stay() -> Result<(), Refused> {
         let before = core.pages();
         core.compact()?;
         let after = core.pages();
-        assert!(after * 100 <= before * percent, "one in {one_in}: {after} of {before}");
+        assert!(
+            after * 100 <= before * percent,
+            "one in {one_in}: {after} of {before}"
+        );
         finds_all(&core, &stay);
     }
     Ok(())
@@ -372,7 +390,9 @@ fn budgets_are_kept() -> Result<(), Refused> {
 #[test]
 fn few_sparse_pages_among_full_ones() -> Result<(), Refused> {
     let mut store = Store::with_limits(FEW)?;
-    let keys: Vec<_> = (0..25_600_u64).map(|n| store.insert(n)).collect::<Result<_, _>>()?;
+    let keys: Vec<_> = (0..25_600_u64)
+        .map(|n| store.insert(n))
+        .collect::<Result<_, _>>()?;
     // One value stays on each of three pages, at slots of their own.
     for (place, key) in keys
         .iter()
@@ -383,7 +403,10 @@ fn few_sparse_pages_among_full_ones() -> Result<(), Refused> {
             store.free(*key);
         }
     }
-    assert_eq!((store.pages(), store.compact()?, store.pages()), (100, 2, 98));
+    assert_eq!(
+        (store.pages(), store.compact()?, store.pages()),
+        (100, 2, 98)
+    );
     assert!(keys.iter().enumerate().all(|(place, key)| {
         let page = place / 256;
         store.contains(*key) == (![7, 50, 93].contains(&page) || place % 256 == page)
@@ -455,7 +478,9 @@ fn parts_of_an_arena() -> Result<(), Refused> {
 fn plans_of_an_arena() -> Result<(), Refused> {
     let mut arena = Arena::open(FEW)?;
     let mut seat = arena.seat()?;
-    let keys: Vec<_> = (0..25_600_u64).map(|n| seat.insert(n)).collect::<Result<_, _>>()?;
+    let keys: Vec<_> = (0..25_600_u64)
+        .map(|n| seat.insert(n))
+        .collect::<Result<_, _>>()?;
     for key in &keys[1..] {
         if key.slot() != key.serial() {
             seat.free(*key);
@@ -465,7 +490,11 @@ fn plans_of_an_arena() -> Result<(), Refused> {
     assert!(arena.compact_within(2)?.more);
     assert_eq!(
         (arena.mark(), arena.forget(), seat.adopt()),
-        (Err(Refused::PlanOpen), Err(Refused::PlanOpen), Err(Refused::PlanOpen))
+        (
+            Err(Refused::PlanOpen),
+            Err(Refused::PlanOpen),
+            Err(Refused::PlanOpen)
+        )
     );
     arena.close()?;
     assert_eq!(arena.close(), Err(Refused::NoPlan));
@@ -507,7 +536,9 @@ fn a_shard_that_folds_keeps_its_turn() -> Result<(), Refused> {
     let store = SharedStore::new()?;
     let mut random = Random(88_172_645_463_325_252);
     let mut round = || -> Result<BTreeSet<u32>, Refused> {
-        let keys: Vec<_> = (0..16 * 400).map(|n| store.insert([n; 64])).collect::<Result<_, _>>()?;
+        let keys: Vec<_> = (0..16 * 400)
+            .map(|n| store.insert([n; 64]))
+            .collect::<Result<_, _>>()?;
         store.retain(|_, _| random.below(20) == 0);
         store.compact()?;
         Ok(keys.iter().map(|key| key.shard()).collect())

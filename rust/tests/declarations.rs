@@ -1,5 +1,6 @@
-//! The declarations of Rust (`src/raw.rs`) and of C (`c/teurlaks.h`) are those of the exports (`crates/teurlaks_c/src`): the same structs with
-//! the same fields, the same functions with the same parameters, and the same statuses.
+//! The declarations of Rust (`src/raw.rs`) and of C (`c/teurlaks.h`) are those of the exports
+//! (`crates/teurlaks_c/src`): the same structs with the same fields, the same functions with the
+//! same parameters, and the same statuses.
 
 use std::collections::BTreeMap;
 use std::fs;
@@ -96,7 +97,8 @@ fn slice(name: String, pointer: &str, of: &str) -> Vec<(String, String)> {
     vec![first, (name + "_len", "usize".into())]
 }
 
-/// `name: type` of Rust and of Rattle: none for what takes no bytes, and a pointer and a length for a slice.
+/// `name: type` of Rust and of Rattle: none for what takes no bytes, and a pointer and a length for
+/// a slice.
 fn rust_fields(part: &[String]) -> Vec<(String, String)> {
     let part = if part[0] == "pub" { &part[1..] } else { part };
     if part[0] == "ghost" {
@@ -131,7 +133,10 @@ fn of_rust(text: &str, external: bool, declarations: &mut Declarations) {
             }
             "fn" if !external || (tokens[place - 4] == "extern" && tokens[place - 2] == "C") => {
                 let (params, behind) = inside(&tokens[place + 2..]);
-                let params = parts(params, ",").into_iter().flat_map(rust_fields).collect();
+                let params = parts(params, ",")
+                    .into_iter()
+                    .flat_map(rust_fields)
+                    .collect();
                 let result = if behind[0] == "-" {
                     without_raw(&behind[2])
                 } else {
@@ -141,7 +146,9 @@ fn of_rust(text: &str, external: bool, declarations: &mut Declarations) {
             }
             // A status is seen beyond its file: `pub const`, `pub(crate) const`.
             "const" if place > 0 && matches!(tokens[place - 1].as_str(), "pub" | ")") => {
-                declarations.statuses.insert(name(), tokens[place + 5].clone());
+                declarations
+                    .statuses
+                    .insert(name(), tokens[place + 5].clone());
             }
             _ => {}
         }
@@ -184,14 +191,22 @@ fn of_c(text: &str) -> Declarations {
     for item in parts(&tokens, ";") {
         if item[0] == "enum" {
             for status in parts(inside(&item[1..]).0, ",") {
-                let name = status[0].strip_prefix("TEURLAKS_").expect("a status of ours");
+                let name = status[0]
+                    .strip_prefix("TEURLAKS_")
+                    .expect("a status of ours");
                 declarations.statuses.insert(name.into(), status[2].clone());
             }
         } else if item.last().is_some_and(|last| last == "}") {
-            let fields = parts(inside(&item[2..]).0, ";").into_iter().map(c_field).collect();
+            let fields = parts(inside(&item[2..]).0, ";")
+                .into_iter()
+                .map(c_field)
+                .collect();
             declarations.structs.insert(c_type(&item[..2]), fields);
         } else {
-            let bracket = item.iter().position(|token| token == "(").expect("a function");
+            let bracket = item
+                .iter()
+                .position(|token| token == "(")
+                .expect("a function");
             let params = parts(inside(&item[bracket..]).0, ",")
                 .into_iter()
                 .map(c_field)
@@ -240,8 +255,8 @@ fn exported() -> Declarations {
     declarations
 }
 
-/// The calls that only read a core. The exports of Rattle declare `&mut Handle` for each; Rust and C
-/// declare it as a pointer through which nothing is written.
+/// The calls that only read a core. The exports of Rattle declare `&mut Handle` for each; Rust and
+/// C declare it as a pointer through which nothing is written.
 const READING: [&str; 6] = [
     "teurlaks_get",
     "teurlaks_get_words",

@@ -16,7 +16,9 @@ const SETTLED: usize = 9;
 
 /// How many rounds there are, unless the variable `ROUNDS` says more.
 fn rounds() -> usize {
-    let asked = env::var("ROUNDS").ok().and_then(|rounds| rounds.parse().ok());
+    let asked = env::var("ROUNDS")
+        .ok()
+        .and_then(|rounds| rounds.parse().ok());
     asked.unwrap_or(20)
 }
 

@@ -29,7 +29,8 @@ fn limits(shards: u32) -> Limits {
     }
 }
 
-/// Whether seats keep their shards here: where the system has the fence, and nobody has switched it off.
+/// Whether seats keep their shards here: where the system has the fence, and nobody has switched it
+/// off.
 fn are_kept() -> bool {
     !matches!(env::var(SWITCH), Ok(told) if told == "missing") && has_fence()
 }
@@ -54,7 +55,9 @@ fn has_fence() -> bool {
 
 /// So many values under their keys.
 fn fill(seat: &mut Seat<u64>, values: u64) -> Vec<Key> {
-    (0..values).map(|value| seat.insert(value).unwrap()).collect()
+    (0..values)
+        .map(|value| seat.insert(value).unwrap())
+        .collect()
 }
 
 /// A seat with as many values as it takes to keep its shard.
@@ -75,8 +78,14 @@ fn a_seat_comes_to_keep_its_shard() -> Result<(), Refused> {
     (0..SOON).for_each(|_| assert!(there.contains(key)));
     assert!(!here.keeps_its_shard() && !there.keeps_its_shard());
     assert!(here.set(key, 2)?);
-    assert_eq!((here.keeps_its_shard(), there.keeps_its_shard()), (are_kept(), false));
-    assert_eq!((here.get(key), here.free(key), here.free(key)), (Some(2), true, false));
+    assert_eq!(
+        (here.keeps_its_shard(), there.keeps_its_shard()),
+        (are_kept(), false)
+    );
+    assert_eq!(
+        (here.get(key), here.free(key), here.free(key)),
+        (Some(2), true, false)
+    );
     // What needs more than its own shard lets it go.
     let keys = fill(&mut here, SOON);
     assert_eq!((here.tend()?, here.keeps_its_shard()), (0, false));
@@ -105,7 +114,10 @@ fn whoever_asks_takes_it_back() -> Result<(), Refused> {
     assert_eq!(here.keeps_its_shard(), are_kept());
     // The steward takes all of them.
     fill(&mut there, SOON);
-    assert_eq!((there.keeps_its_shard(), arena.totals().live), (are_kept(), 128));
+    assert_eq!(
+        (there.keeps_its_shard(), arena.totals().live),
+        (are_kept(), 128)
+    );
     assert!(!here.keeps_its_shard() && !there.keeps_its_shard());
     assert_eq!((here.get(keys[7]), here.get(keys[63])), (Some(8), Some(63)));
     Ok(())
@@ -120,7 +132,8 @@ fn a_thread_that_sleeps_keeps_nobody_waiting() -> Result<(), Refused> {
         let (say, awake): (Sender<()>, Receiver<()>) = channel();
         let (give, keys) = channel();
         let sleeper = thread::spawn(move || {
-            // As many values as have it keep each of its shards, and again once these were taken back.
+            // As many values as have it keep each of its shards, and again once these were taken
+            // back.
             for _ in 0..2 {
                 let keys = fill(&mut sleeps, 8 * LATER);
                 assert_eq!(sleeps.keeps_its_shard(), are_kept());
@@ -130,14 +143,20 @@ fn a_thread_that_sleeps_keeps_nobody_waiting() -> Result<(), Refused> {
             sleeps
         });
         let first = keys.recv().unwrap();
-        assert_eq!((asks.get(first[1]), asks.set(first[1], 100)), (Some(1), Ok(true)));
+        assert_eq!(
+            (asks.get(first[1]), asks.set(first[1], 100)),
+            (Some(1), Ok(true))
+        );
         assert!(asks.free(first[2]) && !asks.contains(first[2]));
         say.send(()).unwrap();
         let second = keys.recv().unwrap();
         assert_eq!(arena.totals().live, first.len() + second.len() - 1);
         assert_eq!(arena.mark().map(|marked| marked.folds), Ok(0));
         arena.close()?;
-        assert_eq!((asks.remove(second[0]), asks.get(first[1])), (Some(0), Some(100)));
+        assert_eq!(
+            (asks.remove(second[0]), asks.get(first[1])),
+            (Some(0), Some(100))
+        );
         say.send(()).unwrap();
         assert!(sleeper.join().unwrap().contains(second[1]));
     }
@@ -171,15 +190,24 @@ fn a_seat_keeps_several_shards() -> Result<(), Refused> {
     let mut here = arena.seat()?;
     let keys = fill(&mut here, 16 * SOON);
     for (key, value) in keys.iter().zip(0..) {
-        assert_eq!((here.get(*key), here.set(*key, value + 1)), (Some(value), Ok(true)));
+        assert_eq!(
+            (here.get(*key), here.set(*key, value + 1)),
+            (Some(value), Ok(true))
+        );
     }
     let there = arena.seat()?;
-    assert!(keys.iter().zip(1..).all(|(key, value)| there.get(*key) == Some(value)));
+    assert!(keys
+        .iter()
+        .zip(1..)
+        .all(|(key, value)| there.get(*key) == Some(value)));
     assert_eq!(here.retire(2)?, 2);
     fill(&mut here, SOON);
     while here.adopt().is_ok() {}
     for _ in 0..SOON {
-        assert!(keys.iter().zip(1..).all(|(key, value)| here.get(*key) == Some(value)));
+        assert!(keys
+            .iter()
+            .zip(1..)
+            .all(|(key, value)| here.get(*key) == Some(value)));
     }
     assert_eq!(here.session().remove(keys[9]), Some(10));
     assert!(keys.iter().filter(|key| here.free(**key)).count() == keys.len() - 1);
@@ -234,7 +262,10 @@ fn seats_go_while_others_take_from_them() -> Result<(), Refused> {
             // It keeps its shard in one thread after the other.
             let seat = (0..3).fold(here, |seat, _| {
                 let calls = move || {
-                    assert!(keys.iter().zip(0..).all(|(key, value)| seat.get(*key) == Some(value)));
+                    assert!(keys
+                        .iter()
+                        .zip(0..)
+                        .all(|(key, value)| seat.get(*key) == Some(value)));
                     seat
                 };
                 scope.spawn(calls).join().unwrap()
@@ -255,8 +286,14 @@ fn seats_go_while_others_take_from_them() -> Result<(), Refused> {
     Ok(())
 }
 
-/// The seat ends and begins, or goes to the arena and comes back, beside a steward's or its own calls.
-fn leave(arena: &mut Arena<u64>, mut seat: Seat<u64>, keys: &[Key], round: u64) -> Result<Seat<u64>, Refused> {
+/// The seat ends and begins, or goes to the arena and comes back, beside a steward's or its own
+/// calls.
+fn leave(
+    arena: &mut Arena<u64>,
+    mut seat: Seat<u64>,
+    keys: &[Key],
+    round: u64,
+) -> Result<Seat<u64>, Refused> {
     assert!(seat.contains(keys[0]));
     match round % 3 {
         0 => {
@@ -265,7 +302,9 @@ fn leave(arena: &mut Arena<u64>, mut seat: Seat<u64>, keys: &[Key], round: u64) 
             arena.mesh()?;
         }
         1 => {
-            arena.take_back(seat).map_err(|not_taken| not_taken.refused)?;
+            arena
+                .take_back(seat)
+                .map_err(|not_taken| not_taken.refused)?;
             seat = arena.seat()?;
         }
         _ => assert!(seat.free(keys[0])),
@@ -287,7 +326,8 @@ fn of_shown(thread: usize, at: usize) -> u64 {
     (thread as u64) << 8 | at as u64
 }
 
-/// So many calls, nearly all on the thread's own values, so that it keeps its shards, and now and then some on others'.
+/// So many calls, nearly all on the thread's own values, so that it keeps its shards, and now and
+/// then some on others'.
 fn work(seat: &mut Seat<u64>, board: &Board, here: usize, calls: usize) {
     let mut random = Random(here as u64 + 88_172_645_463_325_252);
     let threads = board.shown.len();
@@ -333,7 +373,8 @@ fn take_in(seat: &mut Seat<u64>, board: &Board, here: usize) {
     }
 }
 
-/// Threads at seats of so many shards, beside a steward who marks, takes steps, closes and asks how much there is.
+/// Threads at seats of so many shards, beside a steward who marks, takes steps, closes and asks how
+/// much there is.
 fn beside_each_other(threads: usize, lanes: u32, calls: usize) {
     let mut arena = Arena::with_lanes(limits(threads as u32), 256, lanes).unwrap();
     let board = Board {
@@ -361,7 +402,10 @@ fn beside_each_other(threads: usize, lanes: u32, calls: usize) {
             arena.mesh().unwrap();
             thread::sleep(Duration::from_millis(1));
         }
-        workers.into_iter().map(|worker| worker.join().unwrap()).collect()
+        workers
+            .into_iter()
+            .map(|worker| worker.join().unwrap())
+            .collect()
     });
     for (here, seat) in seats.iter_mut().enumerate() {
         take_in(seat, &board, here);
@@ -403,14 +447,22 @@ fn beside_each_other_by_eight_threads() {
 /// What tests do, all or those of a name, in a process that is told so of its fence.
 fn with_a_fence_that_is(told: &str, names: &[&str]) -> Output {
     let mut run = Command::new(env::current_exe().unwrap());
-    run.args(names).arg("--quiet").env(SWITCH, told).output().unwrap()
+    run.args(names)
+        .arg("--quiet")
+        .env(SWITCH, told)
+        .output()
+        .unwrap()
 }
 
 #[test]
 fn all_is_as_ever_where_there_is_no_fence() {
     if env::var_os(SWITCH).is_none() {
         let done = with_a_fence_that_is("missing", &[]);
-        assert!(done.status.success(), "{}", String::from_utf8_lossy(&done.stdout));
+        assert!(
+            done.status.success(),
+            "{}",
+            String::from_utf8_lossy(&done.stdout)
+        );
     }
 }
 
@@ -424,7 +476,10 @@ fn a_seat_that_is_dropped_lets_go() -> Result<(), Refused> {
     drop(gone);
     assert_eq!(arena.totals().live, 128);
     assert!(!stays.keeps_its_shard());
-    assert_eq!((stays.get(keys[7]), stays.get(others[7])), (Some(7), Some(7)));
+    assert_eq!(
+        (stays.get(keys[7]), stays.get(others[7])),
+        (Some(7), Some(7))
+    );
     Ok(())
 }
 
@@ -503,12 +558,19 @@ fn the_system_is_asked_for_the_fence() -> Result<(), Refused> {
         return Ok(());
     }
     let mut run = Command::new(env::current_exe().unwrap());
-    let words = ["the_system_is_asked_for_the_fence", "--nocapture", "--quiet"];
+    let words = [
+        "the_system_is_asked_for_the_fence",
+        "--nocapture",
+        "--quiet",
+    ];
     let done = run.args(words).env(FILTER, "1").output().unwrap();
     let told = String::from_utf8_lossy(&done.stdout);
     let complains = String::from_utf8_lossy(&done.stderr).contains("membarrier");
     let is_refused = !done.status.success() && complains;
-    assert!(is_refused || !told.contains("the filter is there"), "{told}");
+    assert!(
+        is_refused || !told.contains("the filter is there"),
+        "{told}"
+    );
     Ok(())
 }
 

@@ -10,7 +10,10 @@ use teurlaks::{BytesKey, Core, Key, Limits, ParseKeyError, Refused, Slab};
 #[test]
 fn no_key_takes_no_room_of_its_own() {
     assert_eq!((size_of::<Key>(), size_of::<Option<Key>>()), (12, 12));
-    assert_eq!((size_of::<BytesKey>(), size_of::<Option<BytesKey>>()), (16, 16));
+    assert_eq!(
+        (size_of::<BytesKey>(), size_of::<Option<BytesKey>>()),
+        (16, 16)
+    );
 }
 
 #[test]
@@ -23,21 +26,43 @@ fn parts_numbers_and_texts_of_any_key() {
             continue;
         };
         assert_eq!(key.to_bits(), bits);
-        let text = format!("{}.{}/{}/{}", key.shard(), key.serial(), key.slot(), key.generation());
-        assert_eq!((key.to_string(), format!("{key:?}")), (text.clone(), text.clone()));
+        let text = format!(
+            "{}.{}/{}/{}",
+            key.shard(),
+            key.serial(),
+            key.slot(),
+            key.generation()
+        );
+        assert_eq!(
+            (key.to_string(), format!("{key:?}")),
+            (text.clone(), text.clone())
+        );
         assert_eq!(text.parse(), Ok(key));
         let parts = [key.shard(), key.serial(), key.slot(), key.generation()].map(u128::from);
-        assert_eq!(bits, parts[0] << 72 | parts[1] << 40 | parts[2] << 32 | parts[3]);
+        assert_eq!(
+            bits,
+            parts[0] << 72 | parts[1] << 40 | parts[2] << 32 | parts[3]
+        );
     }
 }
 
-/// A serial number has 32 bits in texts and numbers, and a key that no slab gave out finds nothing, however large that is.
+/// A serial number has 32 bits in texts and numbers, and a key that no slab gave out finds nothing,
+/// however large that is.
 #[test]
 fn serial_numbers_of_32_bits() -> Result<(), Refused> {
     let mut slab = Slab::new()?;
     let mut core = Core::new(Limits::default())?;
     let live = (slab.insert("a")?, core.insert(0, 7)?);
-    for serial in [1, 1023, 1024, 65_535, 65_536, 16_777_216, u32::MAX - 1, u32::MAX] {
+    for serial in [
+        1,
+        1023,
+        1024,
+        65_535,
+        65_536,
+        16_777_216,
+        u32::MAX - 1,
+        u32::MAX,
+    ] {
         let text = format!("0.{serial}/0/1");
         let key: Key = text.parse().expect("a serial number has 32 bits");
         assert_eq!((key.serial(), key.to_string()), (serial, text));
@@ -99,7 +124,9 @@ fn numbers_that_no_key_has() {
         (Key::from_bits(1 << 80 | 1), Key::from_bits(u128::MAX << 32)),
         (None, None)
     );
-    assert!(ParseKeyError::Form.to_string().contains("shard.serial/slot/generation"));
+    assert!(ParseKeyError::Form
+        .to_string()
+        .contains("shard.serial/slot/generation"));
     assert!(ParseKeyError::Range.to_string().contains("generation is 0"));
 }
 
@@ -133,7 +160,9 @@ fn keys_are_in_order(core: &Core) {
 #[test]
 fn in_a_map_that_hashes() -> Result<(), Refused> {
     let mut slab = Slab::new()?;
-    let keys = (0..3000).map(|n| slab.insert(n)).collect::<Result<HashSet<_>, _>>()?;
+    let keys = (0..3000)
+        .map(|n| slab.insert(n))
+        .collect::<Result<HashSet<_>, _>>()?;
     assert!(keys.len() == 3000 && slab.keys().all(|key| keys.contains(&key)));
     let key = slab.keys().next().expect("there are some");
     slab.remove(key);
@@ -152,6 +181,9 @@ fn groups_tell_their_parts() -> Result<(), Refused> {
     core.insert(1, 7)?;
     core.end(1)?;
     let group = core.adopt(0)?;
-    assert_eq!((group.shard(), group.serial(), group.to_string()), (1, 0, "1.0".into()));
+    assert_eq!(
+        (group.shard(), group.serial(), group.to_string()),
+        (1, 0, "1.0".into())
+    );
     Ok(())
 }

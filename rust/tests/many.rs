@@ -15,10 +15,15 @@ fn gives_the_keys_of_so_many_calls() {
     let words: Vec<u128> = (0..300).map(|word| word << 64 | word).collect();
     let mut keys = Vec::new();
     core.insert_many(1, &words, &mut keys).unwrap();
-    let one_by_one: Vec<Key> = words.iter().map(|word| twin.insert(1, *word).unwrap()).collect();
+    let one_by_one: Vec<Key> = words
+        .iter()
+        .map(|word| twin.insert(1, *word).unwrap())
+        .collect();
     assert_eq!(keys, one_by_one);
     assert_eq!(core.len(), 300);
-    assert!(core.get_many(&keys).eq(words.iter().map(|word| Some(*word))));
+    assert!(core
+        .get_many(&keys)
+        .eq(words.iter().map(|word| Some(*word))));
 
     assert_eq!(core.free_many(&keys[100..250]), 150);
     assert_eq!(core.free_many(&keys[..200]), 100);
@@ -33,7 +38,10 @@ fn keeps_what_comes_before_a_refusal() {
     let mut core = Core::new(LIMITS).unwrap();
     let words: Vec<u128> = (0..2000).collect();
     let mut keys = Vec::new();
-    assert_eq!(core.insert_many(0, &words, &mut keys), Err(Refused::PagesSpent));
+    assert_eq!(
+        core.insert_many(0, &words, &mut keys),
+        Err(Refused::PagesSpent)
+    );
     assert_eq!((keys.len(), core.len()), (1024, 1024));
     assert!(core.get_many(&keys).eq((0..1024).map(Some)));
     assert_eq!(core.insert_many(2, &words, &mut keys), Err(Refused::Config));

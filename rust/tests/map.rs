@@ -25,13 +25,16 @@ fn words(call: u128, random: &mut Random) -> Vec<u128> {
 
 /// Whether each kind of look-up finds these words, or nothing where there are none.
 fn finds(core: &Core, key: Key, wanted: Option<&Vec<u128>>) -> bool {
-    let word = wanted.filter(|words| words.len() == 1).map(|words| words[0]);
+    let word = wanted
+        .filter(|words| words.len() == 1)
+        .map(|words| words[0]);
     core.get_words(key).map(|words| words.to_vec()).as_ref() == wanted
         && core.get(key) == word
         && core.contains(key) == wanted.is_some()
 }
 
-/// A million puts, frees, sets, look-ups, ends, adoptions and meshes, of live keys, stale ones and made-up ones, and of objects of each class.
+/// A million puts, frees, sets, look-ups, ends, adoptions and meshes, of live keys, stale ones and
+/// made-up ones, and of objects of each class.
 #[test]
 fn a_million_calls_as_a_map() -> Result<(), Refused> {
     let mut random = Random(7);
@@ -75,7 +78,8 @@ fn a_million_calls_as_a_map() -> Result<(), Refused> {
             core.end(running)?;
             assert!(core.is_ended(running) && core.end(running) == Err(Refused::Ended));
             running += 1;
-            core.insert(running, 0).map(|key| map.insert(key, vec![0]))?;
+            core.insert(running, 0)
+                .map(|key| map.insert(key, vec![0]))?;
             let regained = core.mesh()?;
             assert_eq!(core.pages() + regained, pages + 1);
             if call % 2 == 1 {
@@ -84,21 +88,27 @@ fn a_million_calls_as_a_map() -> Result<(), Refused> {
         }
     }
     assert_eq!(core.len(), map.len());
-    assert!(map.iter().all(|(key, words)| finds(&core, *key, Some(words))));
+    assert!(map
+        .iter()
+        .all(|(key, words)| finds(&core, *key, Some(words))));
     // The walk meets each live key once, in order, and a drain frees all.
     assert!(core.keys().eq(sorted(map.keys())));
     assert!(core
         .iter()
         .map(|(key, words)| (key, words.to_vec()))
         .eq(sorted(map.keys()).map(|key| (key, map[&key].clone()))));
-    assert_eq!((core.keys().len(), core.iter().len()), (map.len(), map.len()));
+    assert_eq!(
+        (core.keys().len(), core.iter().len()),
+        (map.len(), map.len())
+    );
     let some: Vec<Key> = core.drain().take(100).map(|(key, _)| key).collect();
     assert!(some.into_iter().eq(sorted(map.keys()).take(100)));
     assert_eq!((core.len(), core.next_live(None)), (0, None));
     Ok(())
 }
 
-/// A set finds its key wherever it is: at home, in the pool, as a guest, and between a mark and its step at each side of the pair.
+/// A set finds its key wherever it is: at home, in the pool, as a guest, and between a mark and its
+/// step at each side of the pair.
 #[test]
 fn sets_in_place() -> Result<(), Refused> {
     let mut core = Core::new(Limits {
@@ -120,9 +130,18 @@ fn sets_in_place() -> Result<(), Refused> {
     assert!(core.set(pooled, 42)?);
     assert_eq!((core.set(stale, 41)?, core.set(wide, 43)?), (false, false));
     assert!(!core.set_words(wide, &[1; 3])?);
-    assert_eq!(core.get_words(wide).map(|words| words.to_vec()), Some(vec![23; 4]));
-    assert_eq!((core.replace(owned, 44)?, core.replace(stale, 41)?), (Some(34), None));
-    assert_eq!((core.remove(pooled), core.remove(owned)), (Some(42), Some(44)));
+    assert_eq!(
+        core.get_words(wide).map(|words| words.to_vec()),
+        Some(vec![23; 4])
+    );
+    assert_eq!(
+        (core.replace(owned, 44)?, core.replace(stale, 41)?),
+        (Some(34), None)
+    );
+    assert_eq!(
+        (core.remove(pooled), core.remove(owned)),
+        (Some(42), Some(44))
+    );
     Ok(())
 }
 
@@ -133,7 +152,10 @@ fn a_store_sets_in_place() -> Result<(), Refused> {
     assert!(store.set(key, [2; 5])?);
     assert_eq!(store.replace(key, [3; 5])?, Some([2; 5]));
     assert_eq!(store.remove(key), Some([3; 5]));
-    assert_eq!((store.set(key, [4; 5])?, store.replace(key, [4; 5])?), (false, None));
+    assert_eq!(
+        (store.set(key, [4; 5])?, store.replace(key, [4; 5])?),
+        (false, None)
+    );
     Ok(())
 }
 

@@ -1,4 +1,5 @@
-//! What the system has again after a compaction and after trims, and what happens where it has none left. It is one test, since the limit is the process's.
+//! What the system has again after a compaction and after trims, and what happens where it has none
+//! left. It is one test, since the limit is the process's.
 
 mod common;
 
@@ -26,7 +27,8 @@ fn most_of_it_leaves_the_process(values: usize, fold: Fold) -> Result<(), Refuse
     Ok(())
 }
 
-/// What a million values of 48 bytes take when full, and what they leave when nine of ten are freed.
+/// What a million values of 48 bytes take when full, and what they leave when nine of ten are
+/// freed.
 fn values_of_48_bytes_take_little_more() -> Result<(), Refused> {
     const VALUES: usize = 1_000_000;
     let mut keys = vec![Key::from_bits(1).expect("its generation is 1"); VALUES];
@@ -65,8 +67,8 @@ fn by_steps(slab: &mut Slab<[u64; 30]>) -> Result<(), Refused> {
     Ok(())
 }
 
-/// Three of four pages of a core have nothing live, and a trim of each shard takes them out of the process; but for the few free ones that
-/// are kept for what is asked next (`c/pages.c`).
+/// Three of four pages of a core have nothing live, and a trim of each shard takes them out of the
+/// process; but for the few free ones that are kept for what is asked next (`c/pages.c`).
 fn trimmed_pages_leave_the_process() -> Result<(), Refused> {
     const SHARDS: u32 = 4;
     const PAGES: usize = 1024;
@@ -75,7 +77,8 @@ fn trimmed_pages_leave_the_process() -> Result<(), Refused> {
         shards: SHARDS,
         ..Limits::default()
     })?;
-    let mut keys = vec![Key::from_bits(1).expect("its generation is 1"); SHARDS as usize * PAGES * 256];
+    let mut keys =
+        vec![Key::from_bits(1).expect("its generation is 1"); SHARDS as usize * PAGES * 256];
     for (number, key) in keys.iter_mut().enumerate() {
         *key = core.insert(number as u32 % SHARDS, number as u128)?;
     }
@@ -98,7 +101,8 @@ fn trimmed_pages_leave_the_process() -> Result<(), Refused> {
         "of {full} KB {left} are left"
     );
 
-    // What stayed is found, and what is put comes to the groups that were trimmed: no shard may have a further one.
+    // What stayed is found, and what is put comes to the groups that were trimmed: no shard may
+    // have a further one.
     for (number, key) in keys.iter().enumerate() {
         assert_eq!(core.get(*key), stays(number).then_some(number as u128));
     }

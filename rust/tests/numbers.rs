@@ -44,6 +44,9 @@ fn a_layout_takes_64_bits_at_most() {
     assert_eq!(KeyBits::new(4, 28, 25), None);
     assert_eq!(KeyBits::new(0, 33, 0), None);
     assert_eq!(KeyBits::new(255, 255, 255), None);
-    assert_eq!(KeyBits::for_limits(16, 1 << 28, (1 << 24) - 1), Some(KeyBits::BALANCED));
+    assert_eq!(
+        KeyBits::for_limits(16, 1 << 28, (1 << 24) - 1),
+        Some(KeyBits::BALANCED)
+    );
     assert_eq!(KeyBits::for_limits(64, u32::MAX, u32::MAX), None);
 }

@@ -145,7 +145,10 @@ fn in_an_iterator_whose_values_are_kept() -> Result<(), Refused> {
     assert_eq!(count.get(), 1);
     let mut slab = Slab::new()?;
     assert!(panics(|| drop(slab.try_extend(values.iter().cloned()))));
-    assert_eq!((slab.len(), slab.iter().count(), Rc::strong_count(&count)), (1, 1, 4));
+    assert_eq!(
+        (slab.len(), slab.iter().count(), Rc::strong_count(&count)),
+        (1, 1, 4)
+    );
     slab.try_extend(values.iter().cloned())?;
     drop((values, slab));
     assert_eq!(Rc::strong_count(&count), 1);

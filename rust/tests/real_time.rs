@@ -86,7 +86,9 @@ fn it_sleeps_while_it_waits() -> Result<(), Refused> {
     };
     let mut arena = Arena::open(limits)?;
     let (mut here, there) = (arena.seat()?, arena.seat()?);
-    let keys: Vec<Key> = (0..100).map(|value| here.insert(value)).collect::<Result<_, _>>()?;
+    let keys: Vec<Key> = (0..100)
+        .map(|value| here.insert(value))
+        .collect::<Result<_, _>>()?;
     // SAFETY: it tells which processor this thread is on.
     let processor = u32::try_from(unsafe { sched_getcpu() }).expect("Linux tells it");
     let (is_kept, done) = (AtomicBool::new(false), AtomicBool::new(false));
@@ -110,7 +112,10 @@ fn it_sleeps_while_it_waits() -> Result<(), Refused> {
                 "a real-time thread had the processor for {:?} at most, of {times:?}",
                 times[ROUNDS - 1]
             );
-            assert!(times[ROUNDS - 1 - BUT_FOR] < LONGEST, "it had it for {times:?}");
+            assert!(
+                times[ROUNDS - 1 - BUT_FOR] < LONGEST,
+                "it had it for {times:?}"
+            );
         }
         None => println!("the system refuses a real-time thread: its times stay unknown"),
     }

@@ -29,7 +29,12 @@ fn calls() -> usize {
 }
 
 /// Calls on keys that all threads share, whatever another has made of them meanwhile.
-fn work(seat: &mut Seat<u64>, shared: &Mutex<Vec<Key>>, random: &mut Random, calls: usize) -> Result<(), Refused> {
+fn work(
+    seat: &mut Seat<u64>,
+    shared: &Mutex<Vec<Key>>,
+    random: &mut Random,
+    calls: usize,
+) -> Result<(), Refused> {
     let mut own = Vec::new();
     for turn in 0..calls {
         match random.below(8) {
@@ -74,7 +79,8 @@ fn work(seat: &mut Seat<u64>, shared: &Mutex<Vec<Key>>, random: &mut Random, cal
     seat.tend().map(drop)
 }
 
-/// Marks, takes all steps and closes, again and again until so many threads have ended; how many folds there were.
+/// Marks, takes all steps and closes, again and again until so many threads have ended; how many
+/// folds there were.
 fn fold_until(arena: &mut Arena<u64>, ended: &AtomicUsize) -> Result<usize, Refused> {
     let mut folds = 0;
     while ended.load(Ordering::SeqCst) < THREADS as usize {
@@ -123,7 +129,10 @@ fn threads_beside_folds_have_one_history() {
 
 #[test]
 fn a_seat_of_another_arena_is_not_taken_back() {
-    let limits = Limits { shards: 2, ..limits() };
+    let limits = Limits {
+        shards: 2,
+        ..limits()
+    };
     let mut arenas = [
         Arena::<u64>::open(limits).unwrap(),
         Arena::open(limits).unwrap(),
@@ -155,7 +164,11 @@ fn a_seat_of_another_arena_is_not_taken_back() {
 
 #[test]
 fn a_seat_goes_from_thread_to_thread() {
-    let mut arena = Arena::open(Limits { shards: 1, ..limits() }).unwrap();
+    let mut arena = Arena::open(Limits {
+        shards: 1,
+        ..limits()
+    })
+    .unwrap();
     let mut keys = Vec::new();
     for n in 0..8_u64 {
         let mut seat = arena.seat().unwrap();
@@ -199,7 +212,11 @@ fn what_an_arena_answers_before_and_after_its_end() {
 
 #[test]
 fn what_a_lost_seat_leaves_is_not_audited() {
-    let mut arena = Arena::<u64>::open_recorded(Limits { shards: 2, ..limits() }).unwrap();
+    let mut arena = Arena::<u64>::open_recorded(Limits {
+        shards: 2,
+        ..limits()
+    })
+    .unwrap();
     let (mut one, mut two) = (arena.seat().unwrap(), arena.seat().unwrap());
     one.insert(1).unwrap();
     two.insert(2).unwrap();
@@ -210,7 +227,11 @@ fn what_a_lost_seat_leaves_is_not_audited() {
 
 #[test]
 fn a_session_of_a_recorded_seat_keeps_no_shard() {
-    let mut arena = Arena::<u64>::open_recorded(Limits { shards: 2, ..limits() }).unwrap();
+    let mut arena = Arena::<u64>::open_recorded(Limits {
+        shards: 2,
+        ..limits()
+    })
+    .unwrap();
     let (mut one, two) = (arena.seat().unwrap(), arena.seat().unwrap());
     let mut session = one.session();
     let key = session.insert(7).unwrap();
@@ -229,8 +250,18 @@ fn a_session_of_a_recorded_seat_keeps_no_shard() {
 
 #[test]
 fn a_seat_goes_back_with_all_its_shards() {
-    let mut arena = Arena::<u64>::with_lanes(Limits { shards: 2, ..limits() }, 8, 3).unwrap();
-    let shards = |seat: &mut Seat<u64>| -> HashSet<u32> { (0..200).map(|n| seat.insert(n).unwrap().shard()).collect() };
+    let mut arena = Arena::<u64>::with_lanes(
+        Limits {
+            shards: 2,
+            ..limits()
+        },
+        8,
+        3,
+    )
+    .unwrap();
+    let shards = |seat: &mut Seat<u64>| -> HashSet<u32> {
+        (0..200).map(|n| seat.insert(n).unwrap().shard()).collect()
+    };
     let (mut one, two) = (arena.seat().unwrap(), arena.seat().unwrap());
     let key = one.insert(7).unwrap();
     let had = shards(&mut one);
@@ -244,7 +275,10 @@ fn a_seat_goes_back_with_all_its_shards() {
 
 #[test]
 fn faults_have_words() {
-    assert_eq!(AuditError::Fault(AuditCause::Reply).to_string(), "audit: reply");
+    assert_eq!(
+        AuditError::Fault(AuditCause::Reply).to_string(),
+        "audit: reply"
+    );
     assert_eq!(
         AuditError::Unfinished.to_string(),
         "a seat is not back: have the arena take it back first"

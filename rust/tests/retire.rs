@@ -46,7 +46,11 @@ fn thinned() -> Result<Thinned, Refused> {
 
 #[test]
 fn one_shard_gives_half_of_its_pages_back() -> Result<(), Refused> {
-    let Thinned { mut slab, kept, freed } = thinned()?;
+    let Thinned {
+        mut slab,
+        kept,
+        freed,
+    } = thinned()?;
     assert_eq!(slab.pages(), PAGES);
 
     assert_eq!(slab.retire(0, PAGES / 2)?, PAGES / 2);
@@ -60,7 +64,9 @@ fn one_shard_gives_half_of_its_pages_back() -> Result<(), Refused> {
 
     assert_eq!(slab.pages(), PAGES / 2);
     assert_eq!(slab.len(), kept.len());
-    assert!(kept.iter().all(|(key, value)| slab.get(*key) == Some(value)));
+    assert!(kept
+        .iter()
+        .all(|(key, value)| slab.get(*key) == Some(value)));
     assert!(freed.iter().all(|key| slab.get(*key).is_none()));
     Ok(())
 }
@@ -101,7 +107,10 @@ fn more_pages_than_a_plan_has() -> Result<(), Refused> {
     let went = slab.compact()?;
     assert!(slab.pages() <= PAGES / 8 && slab.pages() + went == pages);
     for (place, key) in keys.iter().enumerate() {
-        assert_eq!(slab.get(*key).map(|value| value.0), stays(place).then_some(place));
+        assert_eq!(
+            slab.get(*key).map(|value| value.0),
+            stays(place).then_some(place)
+        );
     }
 
     // Of pages with nothing on them there may be any number.
@@ -111,7 +120,8 @@ fn more_pages_than_a_plan_has() -> Result<(), Refused> {
     Ok(())
 }
 
-/// With more groups on a side than a plan may have a mark is refused, and a mark of some sees those with the fewest live keys.
+/// With more groups on a side than a plan may have a mark is refused, and a mark of some sees those
+/// with the fewest live keys.
 #[test]
 fn marks_some_of_many() -> Result<(), Refused> {
     const SHARDS: u32 = 10;
@@ -119,12 +129,16 @@ fn marks_some_of_many() -> Result<(), Refused> {
         shards: SHARDS,
         ..Limits::default()
     })?;
-    // Half of the shards end. On a page of theirs the first slot stays, on one of the others the ninth; in the first and the last shard so
-    // do the two after it.
+    // Half of the shards end. On a page of theirs the first slot stays, on one of the others the
+    // ninth; in the first and the last shard so do the two after it.
     let mut kept = Vec::new();
     for shard in 0..SHARDS {
         let first = if shard < SHARDS / 2 { 0 } else { 8 };
-        let stay = if shard == 0 || shard == SHARDS - 1 { 3 } else { 1 };
+        let stay = if shard == 0 || shard == SHARDS - 1 {
+            3
+        } else {
+            1
+        };
         let words = |place: usize| [u128::from(shard) << 64 | place as u128; 16];
         let keys = (0..PAGES * 16)
             .map(|place| core.insert_words(shard, &words(place)))
@@ -144,7 +158,10 @@ fn marks_some_of_many() -> Result<(), Refused> {
     assert_eq!((pages, core.mark()), (10 * PAGES, Err(Refused::TooMany)));
 
     let marked = core.mark_some()?;
-    assert_eq!((marked.abandoned, marked.owned, marked.folds), (4096, 4096, 4096));
+    assert_eq!(
+        (marked.abandoned, marked.owned, marked.folds),
+        (4096, 4096, 4096)
+    );
     assert_eq!(core.mark_some(), Err(Refused::PlanOpen));
     // Those of the first shard and of the last were left out.
     while let Stepped::Folded(abandoned, owned) = core.step()? {
@@ -180,7 +197,10 @@ fn trims_what_has_no_live_key() -> Result<(), Refused> {
 
     // The shard may have two pages, and has them again.
     let again = slab.insert(7)?;
-    assert_eq!((slab.pages(), slab.get(again), slab.get(keys[0])), (2, Some(&7), None));
+    assert_eq!(
+        (slab.pages(), slab.get(again), slab.get(keys[0])),
+        (2, Some(&7), None)
+    );
     assert!(keys[SLOTS..]
         .iter()
         .enumerate()

@@ -26,7 +26,8 @@ fn limits(shards: u32) -> Limits {
 fn comes_to_an_end<R: Send + 'static>(work: impl FnOnce() -> R + Send + 'static) -> R {
     let (say, done) = channel();
     thread::spawn(move || say.send(work()));
-    done.recv_timeout(LONG).expect("no call waits for ever, and none fails")
+    done.recv_timeout(LONG)
+        .expect("no call waits for ever, and none fails")
 }
 
 /// Whether this is what a call says that would wait for a session.
@@ -50,8 +51,12 @@ type Pair = (Arena<u64>, Seat<u64>, Vec<Key>, Seat<u64>, Vec<Key>);
 fn pair() -> Result<Pair, Refused> {
     let mut arena = Arena::open(limits(2))?;
     let (mut here, mut there) = (arena.seat()?, arena.seat()?);
-    let own = (0..10).map(|value| here.insert(value)).collect::<Result<_, _>>()?;
-    let others = (10..20).map(|value| there.insert(value)).collect::<Result<_, _>>()?;
+    let own = (0..10)
+        .map(|value| here.insert(value))
+        .collect::<Result<_, _>>()?;
+    let others = (10..20)
+        .map(|value| there.insert(value))
+        .collect::<Result<_, _>>()?;
     Ok((arena, here, own, there, others))
 }
 
@@ -83,7 +88,10 @@ fn a_plan_waits_until_the_session_is_over() -> Result<(), Refused> {
         there.end()?;
         assert_eq!(arena.mark()?.folds, 1);
         let session = here.session();
-        assert_eq!((arena.step(), arena.close()), (Err(Refused::Busy), Err(Refused::Busy)));
+        assert_eq!(
+            (arena.step(), arena.close()),
+            (Err(Refused::Busy), Err(Refused::Busy))
+        );
         drop(session);
         assert!(matches!(arena.step()?, Stepped::Folded(..)));
         assert_eq!((arena.close(), here.get(others[0])), (Ok(()), Some(10)));
@@ -104,12 +112,24 @@ fn another_seat_does_not_wait_for_its_own_thread() -> Result<(), Refused> {
         assert_eq!(there.set(own[1], 7), Err(Refused::Busy));
         // What needs nothing of the session's goes on.
         let key = there.insert(20)?;
-        assert_eq!((there.get(key), there.remove(others[0])), (Some(20), Some(10)));
-        assert_eq!((there.retire(9), there.adopt().is_ok(), there.trim()), (Ok(1), true, 0));
-        assert_eq!((there.end(), there.begin(), there.tend()), (Ok(()), Ok(()), Ok(0)));
+        assert_eq!(
+            (there.get(key), there.remove(others[0])),
+            (Some(20), Some(10))
+        );
+        assert_eq!(
+            (there.retire(9), there.adopt().is_ok(), there.trim()),
+            (Ok(1), true, 0)
+        );
+        assert_eq!(
+            (there.end(), there.begin(), there.tend()),
+            (Ok(()), Ok(()), Ok(0))
+        );
         assert_eq!(session.get(own[1]), Some(1));
         drop(session);
-        assert_eq!((there.set(own[1], 7), there.remove(own[1])), (Ok(true), Some(7)));
+        assert_eq!(
+            (there.set(own[1], 7), there.remove(own[1])),
+            (Ok(true), Some(7))
+        );
         Ok(())
     })
 }
@@ -146,7 +166,10 @@ fn a_session_does_not_wait_for_another_of_its_thread() -> Result<(), Refused> {
         assert!(first.insert(30).is_ok() && second.free(others[1]));
         panics(|| arena.totals());
         drop(second);
-        assert_eq!((first.get(others[1]), first.get(others[2])), (None, Some(12)));
+        assert_eq!(
+            (first.get(others[1]), first.get(others[2])),
+            (None, Some(12))
+        );
         panics(|| arena.totals());
         drop(first);
         assert_eq!(arena.totals().live, 20);
@@ -205,7 +228,10 @@ fn a_plan_is_closed_when_the_session_is_over() -> Result<(), Refused> {
         assert_eq!(arena.mark()?.folds, 1);
         let mut session = here.session();
         drop(arena);
-        assert_eq!((session.get(own[1]), session.insert(30).is_ok()), (Some(1), true));
+        assert_eq!(
+            (session.get(own[1]), session.insert(30).is_ok()),
+            (Some(1), true)
+        );
         drop(session);
         // A plan that is open has a group of this shard.
         assert_eq!((here.end(), there.get(own[1])), (Ok(()), Some(1)));
@@ -238,7 +264,9 @@ fn a_forgotten_session_goes_with_its_seat() -> Result<(), Refused> {
         mem::forget(here.session());
         panics(|| arena.totals());
         assert_eq!((here.get(own[1]), here.insert(30).is_ok()), (Some(1), true));
-        arena.take_back(here).map_err(|not_taken| not_taken.refused)?;
+        arena
+            .take_back(here)
+            .map_err(|not_taken| not_taken.refused)?;
         assert_eq!(arena.totals().live, 21);
         mem::forget(there.session());
         panics(|| arena.totals());

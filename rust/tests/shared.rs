@@ -1,4 +1,5 @@
-//! A store that threads share: each thread's values are what it expects of them, beside other threads and a compaction.
+//! A store that threads share: each thread's values are what it expects of them, beside other
+//! threads and a compaction.
 
 mod common;
 
@@ -89,14 +90,20 @@ impl<const WORDS: usize> Worker<'_, WORDS> {
             0 => assert!(self.store.set(key, after)?),
             1 => assert_eq!(self.store.replace(key, after)?, Some(Value::new(before))),
             _ => {
-                let seen = self.store.update(key, |value| std::mem::replace(value, after));
+                let seen = self
+                    .store
+                    .update(key, |value| std::mem::replace(value, after));
                 assert_eq!(seen?, Some(Value::new(before)));
             }
         }
         self.live[at].1 = self.number;
         self.number += 1;
         if let Some(key) = self.stale.last() {
-            assert!(!self.store.set(*key, after)? && !self.store.free(*key) && !self.store.contains(*key));
+            assert!(
+                !self.store.set(*key, after)?
+                    && !self.store.free(*key)
+                    && !self.store.contains(*key)
+            );
             assert_eq!(self.store.replace(*key, after)?, None);
             assert_eq!(self.store.update(*key, |_| unreachable!())?, None::<()>);
             assert_eq!(self.store.remove(*key), None);
@@ -110,7 +117,8 @@ impl<const WORDS: usize> Worker<'_, WORDS> {
         if to < self.inboxes.len() && !self.live.is_empty() {
             let handed = self.live.swap_remove(self.random.below(self.live.len()));
             self.inboxes[to].lock().unwrap().push(handed);
-            self.live.append(&mut self.inboxes[self.here].lock().unwrap());
+            self.live
+                .append(&mut self.inboxes[self.here].lock().unwrap());
         }
     }
 
@@ -120,7 +128,8 @@ impl<const WORDS: usize> Worker<'_, WORDS> {
     }
 }
 
-/// So many threads make so many calls in all, each thread in several lives, and one compacts beside them. Then all is taken out.
+/// So many threads make so many calls in all, each thread in several lives, and one compacts beside
+/// them. Then all is taken out.
 fn threads_find_what_they_expect<const WORDS: usize>(threads: usize, limits: Limits, calls: usize) {
     const LIVES: usize = 4;
     let store = SharedStore::<Value<WORDS>>::with_limits(limits).unwrap();
@@ -158,16 +167,22 @@ fn threads_find_what_they_expect<const WORDS: usize>(threads: usize, limits: Lim
             .collect();
         let mut gone = 0;
         while !workers.iter().all(|worker| worker.is_finished()) {
-            // Each fold uses up one of the pages that a shard opens in its life, which are to last for all calls.
+            // Each fold uses up one of the pages that a shard opens in its life, which are to last
+            // for all calls.
             if gone < 300 * limits.shards as usize {
                 gone += store.compact().unwrap();
             }
             thread::sleep(Duration::from_millis(1));
         }
-        let left: Vec<_> = workers.into_iter().map(|worker| worker.join().unwrap()).collect();
+        let left: Vec<_> = workers
+            .into_iter()
+            .map(|worker| worker.join().unwrap())
+            .collect();
         (left, gone)
     });
-    let handed = inboxes.iter().map(|inbox| std::mem::take(&mut *inbox.lock().unwrap()));
+    let handed = inboxes
+        .iter()
+        .map(|inbox| std::mem::take(&mut *inbox.lock().unwrap()));
     let left: BTreeMap<Key, u64> = left.into_iter().chain(handed).flatten().collect();
     // A short run has no sparse page.
     assert!(gone > 0 || calls < 1_000_000);
@@ -186,7 +201,9 @@ fn threads_find_what_they_expect<const WORDS: usize>(threads: usize, limits: Lim
 
 /// Ten million calls are asked for, where no variable says how many.
 fn calls() -> usize {
-    let asked = std::env::var("CALLS").ok().and_then(|calls| calls.parse().ok());
+    let asked = std::env::var("CALLS")
+        .ok()
+        .and_then(|calls| calls.parse().ok());
     asked.unwrap_or(10_000_000)
 }
 
@@ -211,8 +228,14 @@ fn limits(shards: u32, pages: u32) -> Limits {
 /// The serial number of the span of a key, and its slot.
 fn place(key: Key) -> (usize, usize) {
     let key = key.to_string();
-    let mut numbers = key.split(['.', '/']).skip(1).map_while(|number| number.parse().ok());
-    numbers.next().zip(numbers.next()).expect("a key is printed so")
+    let mut numbers = key
+        .split(['.', '/'])
+        .skip(1)
+        .map_while(|number| number.parse().ok());
+    numbers
+        .next()
+        .zip(numbers.next())
+        .expect("a key is printed so")
 }
 
 /// So many values that each page keeps one of 16, at another slot than the next page does.
@@ -251,7 +274,8 @@ fn pages_fold_beside_those_who_look_up_and_change() -> Result<(), Refused> {
                         assert_eq!(store.get(*key), Some(Value::new(number + times - 1)));
                         let done = store.update(*key, |value| *value = Value::new(number + times));
                         assert_eq!(done, Ok(Some(())));
-                        let other = store.get(stay[(*number as usize + times as usize) % stay.len()].0);
+                        let other =
+                            store.get(stay[(*number as usize + times as usize) % stay.len()].0);
                         assert!(other.is_some_and(|value| value.is_whole()));
                     }
                 }
@@ -331,7 +355,10 @@ fn a_walk_goes_by_shards_serial_numbers_and_slots() -> Result<(), Refused> {
             .next()
             .and_then(|shard| shard.parse::<u8>().ok())
     };
-    let places: Vec<_> = store.iter().map(|(key, _)| (shard(key), place(key))).collect();
+    let places: Vec<_> = store
+        .iter()
+        .map(|(key, _)| (shard(key), place(key)))
+        .collect();
     assert!(places.len() == 4000 && places.windows(2).all(|two| two[0] < two[1]));
     Ok(())
 }
@@ -342,11 +369,17 @@ fn few_pages_are_trimmed_alone() -> Result<(), Refused> {
     let keys: Vec<Key> = (0..512_u32)
         .map(|number| store.insert(number))
         .collect::<Result<_, _>>()?;
-    assert!(keys[1..256].iter().all(|key| store.free(*key)) && keys[258..].iter().all(|key| store.free(*key)));
+    assert!(
+        keys[1..256].iter().all(|key| store.free(*key))
+            && keys[258..].iter().all(|key| store.free(*key))
+    );
     assert_eq!((store.compact(), store.pages()), (Ok(0), 2));
     assert!(store.free(keys[0]));
     assert_eq!((store.compact(), store.pages()), (Ok(1), 1));
-    assert_eq!((store.get(keys[256]), store.get(keys[257])), (Some(256), Some(257)));
+    assert_eq!(
+        (store.get(keys[256]), store.get(keys[257])),
+        (Some(256), Some(257))
+    );
     Ok(())
 }
 
@@ -378,8 +411,9 @@ fn compactions_wait_for_each_other() -> Result<(), Refused> {
 #[test]
 fn values_of_a_thread_that_ended() -> Result<(), Refused> {
     let store = SharedStore::new()?;
-    let keep =
-        |numbers: Range<u64>| -> Result<Vec<Key>, Refused> { numbers.map(|number| store.insert(number)).collect() };
+    let keep = |numbers: Range<u64>| -> Result<Vec<Key>, Refused> {
+        numbers.map(|number| store.insert(number)).collect()
+    };
     let keys = thread::scope(|scope| scope.spawn(|| keep(0..1000)).join().unwrap())?;
     let others = keep(1000..2000)?;
     assert!(keys.iter().all(|key| !others.contains(key)));
@@ -389,7 +423,10 @@ fn values_of_a_thread_that_ended() -> Result<(), Refused> {
             scope.spawn(move || {
                 for (key, number) in keys.iter().zip(0..).skip(part).step_by(4) {
                     assert_eq!(store.get(*key), Some(number));
-                    assert_eq!((store.remove(*key), store.remove(*key)), (Some(number), None));
+                    assert_eq!(
+                        (store.remove(*key), store.remove(*key)),
+                        (Some(number), None)
+                    );
                 }
             });
         }
@@ -410,7 +447,13 @@ fn one_of_all_who_remove_a_key_has_its_value() -> Result<(), Refused> {
         .collect::<Result<_, _>>()?;
     let sums = thread::scope(|scope| {
         let all: Vec<_> = (0..4)
-            .map(|_| scope.spawn(|| keys.iter().filter_map(|key| store.remove(*key)).sum::<u64>()))
+            .map(|_| {
+                scope.spawn(|| {
+                    keys.iter()
+                        .filter_map(|key| store.remove(*key))
+                        .sum::<u64>()
+                })
+            })
             .collect();
         all.into_iter().map(|one| one.join().unwrap()).sum::<u64>()
     });
@@ -426,9 +469,17 @@ fn a_full_shard_passes_on() -> Result<(), Refused> {
         // Together they keep as many as there is room for, whatever the homes are where they began.
         let keys: Vec<Key> = thread::scope(|scope| {
             let all: Vec<_> = (0..4)
-                .map(|_| scope.spawn(|| (0..=room).map_while(|_| store.insert(7_u8).ok()).collect::<Vec<_>>()))
+                .map(|_| {
+                    scope.spawn(|| {
+                        (0..=room)
+                            .map_while(|_| store.insert(7_u8).ok())
+                            .collect::<Vec<_>>()
+                    })
+                })
                 .collect();
-            all.into_iter().flat_map(|one| one.join().unwrap()).collect()
+            all.into_iter()
+                .flat_map(|one| one.join().unwrap())
+                .collect()
         });
         assert_eq!(keys.iter().collect::<BTreeSet<_>>().len(), room);
         assert_eq!((store.len(), store.pages()), (room, 2 * shards as usize));
@@ -438,7 +489,10 @@ fn a_full_shard_passes_on() -> Result<(), Refused> {
             assert!(store.free(*key));
             let again = store.insert(8)?;
             assert!(again != *key && store.get(again) == Some(8));
-            assert_eq!((store.get(*key), store.insert(7)), (None, Err(Refused::PagesSpent)));
+            assert_eq!(
+                (store.get(*key), store.insert(7)),
+                (None, Err(Refused::PagesSpent))
+            );
         }
     }
     Ok(())
@@ -446,8 +500,17 @@ fn a_full_shard_passes_on() -> Result<(), Refused> {
 
 #[test]
 fn limits_out_of_range() {
-    let refused = |limits| SharedStore::<u8>::with_limits(limits).map(drop).unwrap_err();
-    for bad in [limits(0, 9), limits(65, 9), limits(9, 0), limits(9, 1_048_577)] {
+    let refused = |limits| {
+        SharedStore::<u8>::with_limits(limits)
+            .map(drop)
+            .unwrap_err()
+    };
+    for bad in [
+        limits(0, 9),
+        limits(65, 9),
+        limits(9, 0),
+        limits(9, 1_048_577),
+    ] {
         assert_eq!(refused(bad), Refused::Config);
     }
     let generations = 0;
@@ -466,7 +529,9 @@ fn limits_out_of_range() {
 fn keys_of_no_shard_find_nothing() -> Result<(), Refused> {
     let [small, large] = [limits(1, 9), limits(64, 9)].map(SharedStore::with_limits);
     let (small, large) = (small?, large?);
-    let keys: Vec<Key> = (0..100).map(|n| large.insert(n)).collect::<Result<_, _>>()?;
+    let keys: Vec<Key> = (0..100)
+        .map(|n| large.insert(n))
+        .collect::<Result<_, _>>()?;
     let of_another_shard = |key: &&Key| !key.to_string().starts_with("0.");
     assert!(keys.iter().filter(of_another_shard).count() > 0);
     for key in &keys {
@@ -474,8 +539,14 @@ fn keys_of_no_shard_find_nothing() -> Result<(), Refused> {
             (small.get(*key), small.contains(*key), small.free(*key)),
             (None, false, false)
         );
-        assert_eq!((small.set(*key, 7), small.replace(*key, 7)), (Ok(false), Ok(None)));
-        assert_eq!((small.remove(*key), small.update(*key, |_| ())), (None, Ok(None)));
+        assert_eq!(
+            (small.set(*key, 7), small.replace(*key, 7)),
+            (Ok(false), Ok(None))
+        );
+        assert_eq!(
+            (small.remove(*key), small.update(*key, |_| ())),
+            (None, Ok(None))
+        );
     }
     Ok(())
 }
@@ -514,10 +585,16 @@ fn a_closure_that_panics_leaves_the_store_to_all() -> Result<(), Refused> {
     thread::scope(|scope| {
         let goes_on = || {
             let key = store.insert(5)?;
-            assert_eq!((store.replace(key, 6)?, store.remove(key)), (Some(5), Some(6)));
+            assert_eq!(
+                (store.replace(key, 6)?, store.remove(key)),
+                (Some(5), Some(6))
+            );
             store.compact()
         };
-        assert_eq!((scope.spawn(goes_on).join().unwrap(), goes_on()), (Ok(0), Ok(0)));
+        assert_eq!(
+            (scope.spawn(goes_on).join().unwrap(), goes_on()),
+            (Ok(0), Ok(0))
+        );
     });
     assert_eq!(store.iter().count(), 299);
     store.retain(|_, number| number % 2 == 0);
@@ -547,7 +624,10 @@ fn a_test_is_asked_about_each_value_under_its_key() -> Result<(), Refused> {
 #[test]
 fn a_walk_holds_no_lock_and_meets_each_key_once() -> Result<(), Refused> {
     let store = SharedStore::new()?;
-    let stay: BTreeSet<u64> = sparse(&store)?.into_iter().map(|(_, number)| number).collect();
+    let stay: BTreeSet<u64> = sparse(&store)?
+        .into_iter()
+        .map(|(_, number)| number)
+        .collect();
     let walking = AtomicBool::new(true);
     thread::scope(|scope| {
         let (store, walking, stay) = (&store, &walking, &stay);
@@ -569,7 +649,10 @@ fn a_walk_holds_no_lock_and_meets_each_key_once() -> Result<(), Refused> {
                 *met.entry(value.number).or_insert(0) += 1;
                 assert!(value.number >= 1_000_000 || store.get(key) == Some(value));
             }
-            let of_those_that_stay: Vec<u32> = stay.iter().filter_map(|number| met.get(number).copied()).collect();
+            let of_those_that_stay: Vec<u32> = stay
+                .iter()
+                .filter_map(|number| met.get(number).copied())
+                .collect();
             assert_eq!(of_those_that_stay, vec![1; stay.len()]);
             assert!(met.values().all(|times| *times == 1));
         }
@@ -589,10 +672,16 @@ fn keeps<T: Copy + Send + std::fmt::Debug + PartialEq>(values: [T; 2]) -> Result
     );
     assert!(store.set(first, values[1])?);
     assert_eq!(store.remove(first), Some(values[1]));
-    assert_eq!(format!("{store:?}"), format!("{{{second:?}: {:?}}}", values[1]));
+    assert_eq!(
+        format!("{store:?}"),
+        format!("{{{second:?}: {:?}}}", values[1])
+    );
     store.clear();
     assert!(store.is_empty() && !store.contains(second));
-    assert_eq!((store.pages() > 0, store.trim() > 0, store.pages()), (true, true, 0));
+    assert_eq!(
+        (store.pages() > 0, store.trim() > 0, store.pages()),
+        (true, true, 0)
+    );
     Ok(())
 }
 

@@ -1,5 +1,5 @@
-//! What the system has again of a store that threads share, as they go on, and what happens where it has none left. It is one test, since the limit is the
-//! process's.
+//! What the system has again of a store that threads share, as they go on, and what happens where
+//! it has none left. It is one test, since the limit is the process's.
 
 mod common;
 
@@ -12,11 +12,13 @@ use teurlaks::{Key, Refused, SharedStore};
 const THREADS: u64 = 4;
 const VALUES: u64 = 75_000;
 
-/// Of what four threads have kept one of 20 stays, and most of the memory goes back while they look that up.
+/// Of what four threads have kept one of 20 stays, and most of the memory goes back while they look
+/// that up.
 fn most_of_it_leaves_the_process() -> Result<(), Refused> {
     let store = SharedStore::new()?;
     // The first key of each thread, and the places of the others.
-    let mut keys: Vec<Vec<Key>> = vec![vec![store.insert([0; 30])?; VALUES as usize]; THREADS as usize];
+    let mut keys: Vec<Vec<Key>> =
+        vec![vec![store.insert([0; 30])?; VALUES as usize]; THREADS as usize];
     store.clear();
     let base = kilobytes("VmRSS:");
     thread::scope(|scope| {
@@ -52,7 +54,10 @@ fn most_of_it_leaves_the_process() -> Result<(), Refused> {
     })?;
     let left = kilobytes("VmRSS:") - base;
     assert_eq!(store.len() as u64, THREADS * VALUES / 20);
-    assert!(left < full / 3, "of {full} KB {left} are left, and {gone} pages went");
+    assert!(
+        left < full / 3,
+        "of {full} KB {left} are left, and {gone} pages went"
+    );
     Ok(())
 }
 
@@ -66,7 +71,8 @@ fn take_all(blocks: &mut Vec<Vec<u8>>) {
     }
 }
 
-/// Inserts until memory is refused, and compacts where hardly any is left: each may be tried again, and no value is lost.
+/// Inserts until memory is refused, and compacts where hardly any is left: each may be tried again,
+/// and no value is lost.
 fn refused_where_there_is_none() -> Result<(), Refused> {
     let store = SharedStore::new()?;
     let mut keys = Vec::with_capacity(1 << 20);

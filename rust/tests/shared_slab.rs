@@ -1,4 +1,5 @@
-//! A slab that threads share: what is lent stays, each value is dropped once, and every key finds its own value.
+//! A slab that threads share: what is lent stays, each value is dropped once, and every key finds
+//! its own value.
 
 mod common;
 
@@ -94,7 +95,10 @@ impl<P: Default + Send + Sync> Expected<'_, P> {
 
     fn any(&mut self) -> Option<(Key, u64)> {
         let place = self.random.below(self.live.len().max(1));
-        self.live.iter().nth(place).map(|(key, number)| (*key, *number))
+        self.live
+            .iter()
+            .nth(place)
+            .map(|(key, number)| (*key, *number))
     }
 
     fn act(&mut self) -> Result<(), Refused> {
@@ -122,7 +126,11 @@ impl<P: Default + Send + Sync> Expected<'_, P> {
         let (key, number) = self.any().expect("there is one");
         self.live.remove(&key);
         self.stale.push(key);
-        let is_lent = self.guards.iter().map(|(guard, _)| guard.key()).any(|lent| lent == key)
+        let is_lent = self
+            .guards
+            .iter()
+            .map(|(guard, _)| guard.key())
+            .any(|lent| lent == key)
             || self.owned.iter().any(|(guard, _)| guard.key() == key);
         if !is_lent && number % 2 == 0 {
             assert!(self.slab.take(key).expect("it is live").is(number));
@@ -136,17 +144,23 @@ impl<P: Default + Send + Sync> Expected<'_, P> {
     }
 
     fn lend(&mut self) {
-        let Some((key, number)) = self.any() else { return };
+        let Some((key, number)) = self.any() else {
+            return;
+        };
         if number % 3 == 0 {
-            self.owned.push((self.slab.get_owned(key).expect("it is live"), number));
+            self.owned
+                .push((self.slab.get_owned(key).expect("it is live"), number));
         } else {
-            self.guards.push((self.slab.get(key).expect("it is live"), number));
+            self.guards
+                .push((self.slab.get(key).expect("it is live"), number));
         }
     }
 
     fn let_go(&mut self) {
         if self.guards.len() > self.random.below(30) {
-            let (guard, number) = self.guards.swap_remove(self.random.below(self.guards.len()));
+            let (guard, number) = self
+                .guards
+                .swap_remove(self.random.below(self.guards.len()));
             assert!(guard.is(number));
         }
         if self.owned.len() > self.random.below(30) {
@@ -240,7 +254,9 @@ fn as_a_map<P: Default + Send + Sync>(shards: u32, acts: usize, seed: u64) -> Re
 
 /// So much is done, or less if a variable says so.
 fn acts(most: usize) -> usize {
-    let asked = std::env::var("CALLS").ok().and_then(|calls| calls.parse().ok());
+    let asked = std::env::var("CALLS")
+        .ok()
+        .and_then(|calls| calls.parse().ok());
     asked.unwrap_or(most).min(most)
 }
 
@@ -266,7 +282,8 @@ fn by_threads(threads: usize, shards: u32, calls: usize) {
     type Value = Counted<Bytes<60>>;
     let slab = &SharedSlab::<Value>::with_limits(limits(shards)).unwrap();
     let gone = &Arc::new(AtomicUsize::new(0));
-    let shared: &[Mutex<Vec<(Key, u64)>>] = &(0..threads).map(|_| Mutex::default()).collect::<Vec<_>>();
+    let shared: &[Mutex<Vec<(Key, u64)>>] =
+        &(0..threads).map(|_| Mutex::default()).collect::<Vec<_>>();
     let is_over = &AtomicBool::new(false);
     let made: usize = thread::scope(|scope| {
         scope.spawn(|| {
@@ -278,7 +295,10 @@ fn by_threads(threads: usize, shards: u32, calls: usize) {
         let workers: Vec<_> = (0..threads)
             .map(|here| scope.spawn(move || work(slab, gone, shared, here, calls / threads)))
             .collect();
-        let made = workers.into_iter().map(|worker| worker.join().unwrap()).sum();
+        let made = workers
+            .into_iter()
+            .map(|worker| worker.join().unwrap())
+            .sum();
         is_over.store(true, Ordering::Relaxed);
         made
     });
@@ -325,8 +345,12 @@ fn work<P: Default + Send + Sync>(
                 grows = list.len() < 100;
                 drop(list);
                 if number % 5 == 0 {
-                    let_all_go(&mut guards); // each thread that waits for others has none of its own
-                    assert!(slab.take(key).expect("this thread alone takes it").is(number));
+                    // Each thread that waits for others has none of its own.
+                    let_all_go(&mut guards);
+                    assert!(slab
+                        .take(key)
+                        .expect("this thread alone takes it")
+                        .is(number));
                 } else {
                     assert!(slab.remove(key) && !slab.remove(key));
                 }
@@ -411,7 +435,10 @@ fn by_threads_at_few_values() {
             made
         };
         let workers: Vec<_> = (0..4).map(|here| scope.spawn(move || work(here))).collect();
-        workers.into_iter().map(|worker| worker.join().unwrap()).sum()
+        workers
+            .into_iter()
+            .map(|worker| worker.join().unwrap())
+            .sum()
     });
     assert_eq!(made, count(gone) + slab.len());
     assert!(slab.len() <= 4);
@@ -447,7 +474,11 @@ fn all_are_found(slab: &SharedSlab<Counted<()>>, keys: &[Key], one_in: usize) ->
 #[test]
 fn what_is_lent_does_not_move() {
     let (slab, keys, _) = sparse(50 * 256, 23);
-    let guards: Vec<_> = keys.iter().step_by(5).map(|key| slab.get(*key).unwrap()).collect();
+    let guards: Vec<_> = keys
+        .iter()
+        .step_by(5)
+        .map(|key| slab.get(*key).unwrap())
+        .collect();
     let at = |guard: &Entry<'_, Counted<()>>| {
         let value: *const Counted<()> = &**guard;
         value as usize
@@ -460,7 +491,11 @@ fn what_is_lent_does_not_move() {
     drop(guards);
     slab.compact().unwrap();
     assert_eq!(slab.value_pages(), slab.pages());
-    let now: Vec<_> = keys.iter().step_by(5).map(|key| at(&slab.get(*key).unwrap())).collect();
+    let now: Vec<_> = keys
+        .iter()
+        .step_by(5)
+        .map(|key| at(&slab.get(*key).unwrap()))
+        .collect();
     assert_ne!(now, before); // what stayed behind has moved
     assert!(all_are_found(&slab, &keys, 23) && slab.len() == keys.len());
 }
@@ -491,8 +526,14 @@ fn what_stayed_behind_follows_its_group() {
         drop(guard);
         slab.compact().unwrap();
         assert_eq!((slab.value_pages(), slab.pages(), slab.len()), (1, 1, 3));
-        let is_there = |number: usize| slab.get(keys[number]).is_some_and(|value| value.is(number as u64));
-        assert_eq!((0..keys.len()).filter(|number| is_there(*number)).count(), 3);
+        let is_there = |number: usize| {
+            slab.get(keys[number])
+                .is_some_and(|value| value.is(number as u64))
+        };
+        assert_eq!(
+            (0..keys.len()).filter(|number| is_there(*number)).count(),
+            3
+        );
     }
 }
 
@@ -507,7 +548,10 @@ fn what_stayed_behind_goes_without_a_move() {
     }
     assert_eq!((slab.len(), count(&gone)), (0, before));
     slab.compact().unwrap();
-    assert!(guards.iter().zip(0..).all(|(guard, place)| guard.is(place * 23)));
+    assert!(guards
+        .iter()
+        .zip(0..)
+        .all(|(guard, place)| guard.is(place * 23)));
     drop(guards);
     assert_eq!(count(&gone), 50 * 256);
     slab.trim();
@@ -659,7 +703,9 @@ fn values_that_are_cleared_come_again() {
         .unwrap();
     assert!(again != key && slab.clear(again));
     slab.trim(); // drops it
-    let other = slab.create_with(|text| assert_eq!(text.capacity(), 0)).unwrap();
+    let other = slab
+        .create_with(|text| assert_eq!(text.capacity(), 0))
+        .unwrap();
     assert!(slab.remove(other));
 }
 
@@ -706,10 +752,15 @@ fn what_is_refused() {
         ..Limits::default()
     };
     for wrong in [of(0, 1), of(65, 1), of(1, 0), of(1, (1 << 20) + 1)] {
-        assert!(matches!(SharedSlab::<u8>::with_limits(wrong), Err(Refused::Config)));
+        assert!(matches!(
+            SharedSlab::<u8>::with_limits(wrong),
+            Err(Refused::Config)
+        ));
     }
     let slab = SharedSlab::with_limits(of(3, 1)).unwrap();
-    let keys: Vec<_> = (0..768).map(|n| slab.insert(n.to_string()).unwrap()).collect();
+    let keys: Vec<_> = (0..768)
+        .map(|n| slab.insert(n.to_string()).unwrap())
+        .collect();
     let refused = slab.try_insert("one more".to_string()).unwrap_err();
     assert_eq!(
         (refused.refused, refused.value.as_str()),
@@ -720,9 +771,19 @@ fn what_is_refused() {
         .zip(&keys)
         .all(|(n, key)| slab.get(*key).unwrap().as_str() == n.to_string()));
     // A key of a shard or a slot that there is not.
-    for text in ["3.0/0/1", "0.9/0/1", "0.0/0/2", "255.4294967295/255/4294967295"] {
+    for text in [
+        "3.0/0/1",
+        "0.9/0/1",
+        "0.0/0/2",
+        "255.4294967295/255/4294967295",
+    ] {
         let key = text.parse().unwrap();
-        assert!(slab.get(key).is_none() && !slab.remove(key) && slab.take(key).is_none() && !slab.clear(key));
+        assert!(
+            slab.get(key).is_none()
+                && !slab.remove(key)
+                && slab.take(key).is_none()
+                && !slab.clear(key)
+        );
     }
     let large = SharedSlab::new().unwrap();
     let key = large.insert([0_u64; 30]).unwrap();

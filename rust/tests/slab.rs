@@ -1,9 +1,10 @@
 //! The tests of the crate `slab` 0.4 (MIT), where the two agree.
 //!
-//! Left out, since there is nothing to stand beside them: `key_of`, `compact` (which gives values other keys there), `from_iter`
-//! with keys of the caller's, `clone`, what is allocated when (pages come and go by themselves), reversed iterators, iteration
-//! in the order of keys, and that a key is an index that another slab may share. Where `slab` panics at a key that is not live,
-//! or gives another value, this crate answers `None`; `slab[key]` panics in both.
+//! Left out, since there is nothing to stand beside them: `key_of`, `compact` (which gives values
+//! other keys there), `from_iter` with keys of the caller's, `clone`, what is allocated when (pages
+//! come and go by themselves), reversed iterators, iteration in the order of keys, and that a key
+//! is an index that another slab may share. Where `slab` panics at a key that is not live, or gives
+//! another value, this crate answers `None`; `slab[key]` panics in both.
 
 use teurlaks::{Key, Limits, Refused, Slab};
 
@@ -46,7 +47,9 @@ fn insert_get_remove_many() -> Result<(), Refused> {
             keys.push((key, i * 10 + j));
             assert_eq!(slab[key], i * 10 + j);
         }
-        assert!(keys.iter().all(|(key, value)| slab.remove(*key) == Some(*value)));
+        assert!(keys
+            .iter()
+            .all(|(key, value)| slab.remove(*key) == Some(*value)));
     }
     // No slot beyond the first ten was used.
     assert_eq!(slab.pages(), 1);
@@ -96,7 +99,8 @@ fn invalid_index_panics() {
     let _ = slab[key];
 }
 
-/// `slab` panics here (`double_remove_panics`), and where the slot was taken again it removes the new value.
+/// `slab` panics here (`double_remove_panics`), and where the slot was taken again it removes the
+/// new value.
 #[test]
 fn double_remove_finds_nothing() -> Result<(), Refused> {
     let mut slab = Slab::new()?;
@@ -123,7 +127,9 @@ fn invalid_key_finds_nothing() -> Result<(), Refused> {
 #[test]
 fn retain() -> Result<(), Refused> {
     let mut slab = Slab::new()?;
-    let keys = (0..4).map(|i| slab.insert(i)).collect::<Result<Vec<_>, _>>()?;
+    let keys = (0..4)
+        .map(|i| slab.insert(i))
+        .collect::<Result<Vec<_>, _>>()?;
     slab.retain(|_, value| *value % 2 == 0);
     assert_eq!(slab.len(), 2);
     assert_eq!(
@@ -140,7 +146,9 @@ fn retain() -> Result<(), Refused> {
 #[test]
 fn iter_and_iter_mut() -> Result<(), Refused> {
     let mut slab = Slab::new()?;
-    let keys = (0..4).map(|i| slab.insert(i)).collect::<Result<Vec<_>, _>>()?;
+    let keys = (0..4)
+        .map(|i| slab.insert(i))
+        .collect::<Result<Vec<_>, _>>()?;
     assert!(slab.iter().eq(keys.iter().copied().zip(&[0, 1, 2, 3])));
     for (_, value) in slab.iter_mut() {
         *value += 1;
@@ -155,7 +163,9 @@ fn iter_and_iter_mut() -> Result<(), Refused> {
 #[test]
 fn into_iter() -> Result<(), Refused> {
     let mut slab = Slab::new()?;
-    let keys = (0..8).map(|i| slab.insert(i)).collect::<Result<Vec<_>, _>>()?;
+    let keys = (0..8)
+        .map(|i| slab.insert(i))
+        .collect::<Result<Vec<_>, _>>()?;
     for place in [0, 4, 5, 7] {
         slab.remove(keys[place]);
     }
@@ -188,7 +198,9 @@ fn clear() -> Result<(), Refused> {
 #[test]
 fn drain() -> Result<(), Refused> {
     let mut slab = Slab::new()?;
-    let keys = (0..3).map(|i| slab.insert(i)).collect::<Result<Vec<_>, _>>()?;
+    let keys = (0..3)
+        .map(|i| slab.insert(i))
+        .collect::<Result<Vec<_>, _>>()?;
     assert!(slab.drain().eq(keys.iter().copied().zip(0..3)));
     assert!(slab.is_empty() && keys.iter().all(|key| slab.get(*key).is_none()));
     for i in 0..3 {

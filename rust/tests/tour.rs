@@ -18,7 +18,10 @@ fn core(shards: u32, pages: u32, generations: u32) -> Core {
 fn a_shard() -> Result<(), Refused> {
     let mut core = core(1, 16, 2);
     let key = core.insert(0, 7)?;
-    assert_eq!((key.to_string(), core.get(key)), ("0.0/0/1".into(), Some(7)));
+    assert_eq!(
+        (key.to_string(), core.get(key)),
+        ("0.0/0/1".into(), Some(7))
+    );
     assert!(core.free(key));
     let again = core.insert(0, 8)?;
     assert_eq!(again.to_string(), "0.0/0/2");
@@ -59,7 +62,12 @@ fn the_core_folds() -> Result<(), Refused> {
 
     let marked = core.mark()?;
     assert_eq!(
-        (marked.abandoned, marked.owned, marked.folds, marked.short_set),
+        (
+            marked.abandoned,
+            marked.owned,
+            marked.folds,
+            marked.short_set
+        ),
         (1, 1, 1, 0)
     );
     let refused = (core.mark().err(), core.adopt(1).err(), core.end(1).err());
@@ -74,7 +82,10 @@ fn the_core_folds() -> Result<(), Refused> {
     let Stepped::Folded(abandoned, owned) = core.step()? else {
         panic!("nothing was folded")
     };
-    assert_eq!((abandoned.to_string(), owned.to_string()), ("0.0".into(), "1.0".into()));
+    assert_eq!(
+        (abandoned.to_string(), owned.to_string()),
+        ("0.0".into(), "1.0".into())
+    );
     assert_eq!(core.step(), Ok(Stepped::NoPairLeft));
     core.close()?;
     assert_eq!(
@@ -100,14 +111,18 @@ fn the_certificate_is_the_text_of_the_format() -> Result<(), Refused> {
     core.free(slot_0);
     core.mark()?;
     // The first of the 64 digits' bytes has the slots 0 to 7.
-    let (slot_0, slot_1) = (format!("01{}", "0".repeat(62)), format!("02{}", "0".repeat(62)));
+    let (slot_0, slot_1) = (
+        format!("01{}", "0".repeat(62)),
+        format!("02{}", "0".repeat(62)),
+    );
     let text =
         format!("meshcert 2\nabandoned 1\n0.0 16 {slot_0}\nowned 1\n1.0 16 {slot_1}\nfolds 1\n0.0 1.0\nshort 0\nend\n");
     assert_eq!(core.certificate()?, Some(text));
     Ok(())
 }
 
-/// As in `examples/cache_closes_down.trace`: eight workers keep two values each, which come to one page.
+/// As in `examples/cache_closes_down.trace`: eight workers keep two values each, which come to one
+/// page.
 #[test]
 fn a_cache_closes_down() -> Result<(), Refused> {
     let mut cache = Slab::with_limits(Limits {
@@ -124,7 +139,9 @@ fn a_cache_closes_down() -> Result<(), Refused> {
         }
         let dropped = keys.len() - 2;
         kept.extend(keys.split_off(dropped));
-        assert!(keys.iter().all(|(key, value)| cache.remove(*key) == Some(*value)));
+        assert!(keys
+            .iter()
+            .all(|(key, value)| cache.remove(*key) == Some(*value)));
     }
     assert_eq!((cache.pages(), cache.len()), (8, 16));
     for (ended, pages) in [(4..8, 4), (2..4, 2), (1..2, 1)] {
@@ -133,14 +150,22 @@ fn a_cache_closes_down() -> Result<(), Refused> {
         }
         cache.mesh()?;
         assert_eq!((cache.pages(), cache.len()), (pages, 16));
-        assert!(kept.iter().all(|(key, value)| cache.get(*key) == Some(value)));
+        assert!(kept
+            .iter()
+            .all(|(key, value)| cache.get(*key) == Some(value)));
     }
     Ok(())
 }
 
 #[test]
 fn refused_where_out_of_range() -> Result<(), Refused> {
-    for (shards, pages, generations) in [(0, 1, 1), (65, 1, 1), (1, 0, 1), (1, 1_048_577, 1), (1, 1, 0)] {
+    for (shards, pages, generations) in [
+        (0, 1, 1),
+        (65, 1, 1),
+        (1, 0, 1),
+        (1, 1_048_577, 1),
+        (1, 1, 0),
+    ] {
         let limits = Limits {
             shards,
             pages,
@@ -165,19 +190,34 @@ fn refused_where_out_of_range() -> Result<(), Refused> {
 fn between_threads_behind_a_lock() -> Result<(), Refused> {
     let shared = Mutex::new(core(4, 16, 9));
     let fill = |worker: u32| -> Result<Vec<_>, Refused> {
-        let put = |word| Ok((shared.lock().expect("no thread panicked").insert(worker, word)?, word));
+        let put = |word| {
+            Ok((
+                shared
+                    .lock()
+                    .expect("no thread panicked")
+                    .insert(worker, word)?,
+                word,
+            ))
+        };
         (0..500).map(put).collect()
     };
     let kept = thread::scope(|scope| {
-        let threads: Vec<_> = (0..4).map(|worker| scope.spawn(move || fill(worker))).collect();
+        let threads: Vec<_> = (0..4)
+            .map(|worker| scope.spawn(move || fill(worker)))
+            .collect();
         threads
             .into_iter()
             .map(|thread| thread.join().expect("no thread panicked"))
             .collect::<Result<Vec<_>, _>>()
     })?;
     let core = shared.into_inner().expect("no thread panicked");
-    let all_found =
-        move || core.len() == 2000 && kept.iter().flatten().all(|(key, word)| core.get(*key) == Some(*word));
+    let all_found = move || {
+        core.len() == 2000
+            && kept
+                .iter()
+                .flatten()
+                .all(|(key, word)| core.get(*key) == Some(*word))
+    };
     assert!(thread::spawn(all_found).join().expect("no thread panicked"));
     Ok(())
 }

@@ -64,8 +64,14 @@ fn no_value_takes_no_memory() {
     let before = bytes_taken();
     let key = "0.0/0/1".parse().unwrap();
     assert!(slab.get(key).is_none() && slab.remove(key).is_none() && slab.iter().next().is_none());
-    assert_eq!((slab.compact(), slab.shrink_to_fit(), slab.forget()), (Ok(0), 0, Ok(0)));
-    assert_eq!((core.compact(), core.get(key), core.free(key)), (Ok(0), None, false));
+    assert_eq!(
+        (slab.compact(), slab.shrink_to_fit(), slab.forget()),
+        (Ok(0), 0, Ok(0))
+    );
+    assert_eq!(
+        (core.compact(), core.get(key), core.free(key)),
+        (Ok(0), None, false)
+    );
     // A core takes more, and the harness of tests less.
     assert!(bytes_taken() < before + 1000);
 }
@@ -74,26 +80,53 @@ fn no_value_takes_no_memory() {
 fn answers(core: &mut Core) -> Vec<String> {
     let key: Key = "0.0/7/9".parse().unwrap();
     let mut said = vec![
-        format!("{:?} {:?} {}", core.get(key), core.get_words(key), core.contains(key)),
-        format!("{:?} {:?} {}", core.set(key, 7), core.replace(key, 7), core.free(key)),
-        format!("{:?} {:?}", core.set_words(key, &[0; 4]), core.set_words(key, &[0; 2])),
+        format!(
+            "{:?} {:?} {}",
+            core.get(key),
+            core.get_words(key),
+            core.contains(key)
+        ),
+        format!(
+            "{:?} {:?} {}",
+            core.set(key, 7),
+            core.replace(key, 7),
+            core.free(key)
+        ),
+        format!(
+            "{:?} {:?}",
+            core.set_words(key, &[0; 4]),
+            core.set_words(key, &[0; 2])
+        ),
         format!(
             "{:?} {:?} {:?}",
             core.remove(key),
             core.next_live(None),
             core.next_live(Some(key))
         ),
-        format!("{:?} {:?} {:?}", core.len(), core.pages(), core.iter().next()),
+        format!(
+            "{:?} {:?} {:?}",
+            core.len(),
+            core.pages(),
+            core.iter().next()
+        ),
         format!("{:?}", core.drain().next()),
         format!("{:?}", core.certificate()),
-        format!("{:?} {:?}", core.insert_words(0, &[]), core.insert_words(2, &[0; 4])),
+        format!(
+            "{:?} {:?}",
+            core.insert_words(0, &[]),
+            core.insert_words(2, &[0; 4])
+        ),
         format!("{:?} {:?}", core.insert(2, 7), core.insert_bytes(2, b"a")),
         format!("{:?} {:?}", core.step(), core.close()),
         format!("{:?} {:?}", core.forget(), core.compact()),
     ];
     for shard in [0, 2] {
         said.push(format!("{:?} {:?}", core.begin(shard), core.trim(shard)));
-        said.push(format!("{:?} {:?}", core.retire(shard, 3), core.adopt(shard)));
+        said.push(format!(
+            "{:?} {:?}",
+            core.retire(shard, 3),
+            core.adopt(shard)
+        ));
     }
     said
 }
@@ -129,7 +162,10 @@ fn an_arena_without_seats_answers() -> Result<(), Refused> {
         ..Limits::default()
     };
     let mut arena = Arena::<u64>::open(limits)?;
-    assert_eq!((arena.limits(), arena.totals()), (limits, Totals::default()));
+    assert_eq!(
+        (arena.limits(), arena.totals()),
+        (limits, Totals::default())
+    );
     assert_eq!(
         (arena.mesh(), arena.forget(), arena.close()),
         (Ok(0), Ok(0), Err(Refused::NoPlan))
@@ -144,12 +180,18 @@ fn an_arena_without_seats_answers() -> Result<(), Refused> {
         folds: 0,
         short_set: 0,
     };
-    assert_eq!((arena.mark()?, arena.forget()), (nothing, Err(Refused::PlanOpen)));
+    assert_eq!(
+        (arena.mark()?, arena.forget()),
+        (nothing, Err(Refused::PlanOpen))
+    );
     arena.close()?;
     assert!((0..4).all(|_| arena.seat().is_ok()));
     assert!(matches!(arena.seat(), Err(Refused::NoSeatLeft)));
     let mut recorded = Arena::<u64>::open_recorded(limits)?;
-    assert_eq!((recorded.forget(), recorded.audit()), (Err(Refused::Recorded), Ok(())));
+    assert_eq!(
+        (recorded.forget(), recorded.audit()),
+        (Err(Refused::Recorded), Ok(()))
+    );
     assert_eq!(recorded.mark(), Err(Refused::Over));
     for (keys, lanes) in [(0, 1), (1025, 1), (1, 0), (1, 17), (1, 1 << 30)] {
         assert!(matches!(

@@ -1,4 +1,5 @@
-//! Panics in whatever a slab runs of its user's, at random: it holds exactly the values that live, each under the key that it was given.
+//! Panics in whatever a slab runs of its user's, at random: it holds exactly the values that live,
+//! each under the key that it was given.
 
 mod common;
 
@@ -86,7 +87,10 @@ impl<const BYTES: usize> Run<BYTES> {
     /// One call, in which something of the user's may panic.
     fn call(&mut self) {
         let Run {
-            slab, world, random, ..
+            slab,
+            world,
+            random,
+            ..
         } = self;
         let number = random.next();
         let key = self.keys.get(random.below(self.keys.len().max(1))).copied();
@@ -113,7 +117,12 @@ impl<const BYTES: usize> Run<BYTES> {
                 world.burn();
                 value.number() % 3 != 0
             }),
-            (21, _) => drop(slab.drain().take(random.below(40)).map(|_| world.burn()).count()),
+            (21, _) => drop(
+                slab.drain()
+                    .take(random.below(40))
+                    .map(|_| world.burn())
+                    .count(),
+            ),
             (22, _) if number % 4 == 0 => slab.clear(),
             _ => drop(slab.compact()),
         }
@@ -122,14 +131,20 @@ impl<const BYTES: usize> Run<BYTES> {
     /// The slab has the values that live, under the keys that they were given.
     fn check(&mut self) {
         let live = self.world.live.borrow();
-        assert_eq!((self.slab.len(), self.slab.iter().len()), (live.len(), live.len()));
+        assert_eq!(
+            (self.slab.len(), self.slab.iter().len()),
+            (live.len(), live.len())
+        );
         let mut found = HashSet::new();
         for (key, value) in &self.slab {
             assert!(found.insert(value.number()) && live.contains(&value.number()));
             if self.names.insert(key, value.number()).is_none() {
                 self.keys.push(key);
             }
-            assert_eq!(self.slab.get(key).map(|value| value.number), Some(value.number));
+            assert_eq!(
+                self.slab.get(key).map(|value| value.number),
+                Some(value.number)
+            );
         }
         assert_eq!(found.len(), live.len());
     }
@@ -139,7 +154,11 @@ impl<const BYTES: usize> Run<BYTES> {
         let live = self.world.live.borrow();
         for (key, number) in &self.names {
             let wanted = live.contains(number).then_some(*number);
-            assert_eq!(self.slab.get(*key).map(|value| value.number), wanted, "{key}");
+            assert_eq!(
+                self.slab.get(*key).map(|value| value.number),
+                wanted,
+                "{key}"
+            );
         }
     }
 

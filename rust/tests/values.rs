@@ -8,7 +8,8 @@ use std::collections::{HashMap, HashSet};
 use std::rc::Rc;
 use teurlaks::{Key, Limits, Refused, Slab, Stepped};
 
-/// A number, and as many bytes beside it as are asked for, which tell it. How many such values there are is counted.
+/// A number, and as many bytes beside it as are asked for, which tell it. How many such values
+/// there are is counted.
 struct Value<const BYTES: usize> {
     number: u64,
     bytes: [u8; BYTES],
@@ -37,7 +38,11 @@ impl<const BYTES: usize> Made for Value<BYTES> {
         live.set(live.get() + 1);
         let bytes = [number as u8; BYTES];
         let live = live.clone();
-        Value { number, bytes, live }
+        Value {
+            number,
+            bytes,
+            live,
+        }
     }
 
     fn set(&mut self, number: u64) {
@@ -186,7 +191,10 @@ impl<T: Made> Pair<T> {
     fn look_up(&mut self) {
         let key = self.key();
         assert_eq!(self.slab.contains(key), self.map.contains_key(&key));
-        assert_eq!(self.slab.get(key).map(T::number), self.map.get(&key).copied());
+        assert_eq!(
+            self.slab.get(key).map(T::number),
+            self.map.get(&key).copied()
+        );
         if let Some(value) = self.slab.get_mut(key) {
             let number = value.number() + 1;
             value.set(number);
@@ -277,7 +285,11 @@ impl<T: Made> Pair<T> {
 
     fn fold_all(&mut self, meshes: bool) {
         let pages = self.slab.pages();
-        let folded = if meshes { self.slab.mesh() } else { self.slab.compact() };
+        let folded = if meshes {
+            self.slab.mesh()
+        } else {
+            self.slab.compact()
+        };
         match folded {
             Ok(regained) => {
                 assert_eq!(self.slab.pages() + regained, pages);
@@ -299,7 +311,10 @@ impl<T: Made> Pair<T> {
     fn check(&mut self) {
         let len = self.map.len();
         assert_eq!((self.slab.len(), self.live.get()), (len, len as i64));
-        assert_eq!((self.slab.iter().len(), self.slab.iter_mut().len()), (len, len));
+        assert_eq!(
+            (self.slab.iter().len(), self.slab.iter_mut().len()),
+            (len, len)
+        );
         assert!(self.slab.iter().count() == len && self.slab.keys().count() == len);
         for (key, value) in &self.slab {
             assert_eq!(self.map.get(&key), Some(&value.number()));
@@ -390,19 +405,28 @@ fn values_that_take_no_bytes() -> Result<(), Refused> {
     #[repr(align(4096))]
     struct Nothing;
     let mut slab = Slab::new()?;
-    let keys = (0..600).map(|_| slab.insert(Nothing)).collect::<Result<Vec<_>, _>>()?;
+    let keys = (0..600)
+        .map(|_| slab.insert(Nothing))
+        .collect::<Result<Vec<_>, _>>()?;
     // One value on each of three pages, at slots 0, 1 and 2.
     slab.retain(|key, _| key == keys[0] || key == keys[257] || key == keys[514]);
     assert_eq!((slab.compact()?, slab.pages(), slab.len()), (2, 1, 3));
-    assert_eq!((slab.get(keys[257]), slab.get(keys[256])), (Some(&Nothing), None));
+    assert_eq!(
+        (slab.get(keys[257]), slab.get(keys[256])),
+        (Some(&Nothing), None)
+    );
     assert_eq!(slab.drain().count(), 3);
     Ok(())
 }
 
-/// The least of all keys finds nothing where no value was yet or where one is gone; there is none of zeros.
+/// The least of all keys finds nothing where no value was yet or where one is gone; there is none
+/// of zeros.
 #[test]
 fn the_least_key_finds_nothing() -> Result<(), Refused> {
-    assert_eq!((Key::from_bits(0), Key::from_bits(u128::MAX << 32)), (None, None));
+    assert_eq!(
+        (Key::from_bits(0), Key::from_bits(u128::MAX << 32)),
+        (None, None)
+    );
     let least = made_up(1);
     let mut slab = Slab::new()?;
     assert!(slab.get(least).is_none() && slab.remove(least).is_none());
@@ -423,7 +447,9 @@ fn an_insert_goes_where_there_is_room() -> Result<(), Refused> {
         pages: 1,
         ..Limits::default()
     })?;
-    let keys = (0..768).map(|n| slab.insert(n)).collect::<Result<Vec<_>, _>>()?;
+    let keys = (0..768)
+        .map(|n| slab.insert(n))
+        .collect::<Result<Vec<_>, _>>()?;
     assert_eq!(slab.insert(768), Err(Refused::PagesSpent));
     for key in [keys[300], keys[7]] {
         slab.remove(key);
@@ -449,16 +475,20 @@ fn a_slab_may_go_to_another_thread() {
     assert_eq!(taken.expect("no thread panicked"), Some(vec![1, 2, 3]));
 }
 
-/// On a page that spans share, a key that was removed does not find the value of another span at its
-/// slot, whose key has the same generation.
+/// On a page that spans share, a key that was removed does not find the value of another span at
+/// its slot, whose key has the same generation.
 #[test]
 fn a_stale_key_of_a_folded_page() -> Result<(), Refused> {
     let mut slab = Slab::with_limits(Limits {
         shards: 2,
         ..Limits::default()
     })?;
-    let folded: Vec<_> = (0..20).map(|n| slab.insert_in(0, n)).collect::<Result<_, _>>()?;
-    let own: Vec<_> = (100..110).map(|n| slab.insert_in(1, n)).collect::<Result<_, _>>()?;
+    let folded: Vec<_> = (0..20)
+        .map(|n| slab.insert_in(0, n))
+        .collect::<Result<_, _>>()?;
+    let own: Vec<_> = (100..110)
+        .map(|n| slab.insert_in(1, n))
+        .collect::<Result<_, _>>()?;
     assert!(folded[..10].iter().all(|key| slab.remove(*key).is_some()));
     slab.end(0)?;
     assert_eq!((slab.mesh()?, slab.pages()), (1, 1));
@@ -472,7 +502,10 @@ fn a_stale_key_of_a_folded_page() -> Result<(), Refused> {
     assert_eq!(slab.remove(folded[10]), None);
     assert_eq!((slab[key], slab[folded[11]], slab[own[9]]), (200, 11, 109));
     assert_eq!(slab.iter().filter(|(other, _)| *other == key).count(), 1);
-    assert_eq!((slab.iter().count(), slab.key_of(&slab[key])), (20, Some(key)));
+    assert_eq!(
+        (slab.iter().count(), slab.key_of(&slab[key])),
+        (20, Some(key))
+    );
     Ok(())
 }
 
@@ -481,7 +514,9 @@ fn a_stale_key_of_a_folded_page() -> Result<(), Refused> {
 fn slots_that_no_page_has() -> Result<(), Refused> {
     let mut slab = Slab::new()?;
     let first = slab.insert([0x0000_0001_0000_0001_u64; 30])?;
-    let others: Vec<_> = (1..64).map(|_| slab.insert(slab[first])).collect::<Result<_, _>>()?;
+    let others: Vec<_> = (1..64)
+        .map(|_| slab.insert(slab[first]))
+        .collect::<Result<_, _>>()?;
     assert_eq!((slab.pages(), others[62].slot()), (1, 63));
     for slot in 64..256 {
         let forged: Key = format!("0.0/{slot}/1").parse().expect("its numbers fit");

@@ -14,7 +14,10 @@ fn few(pages: u32, generations: u32) -> Limits {
 }
 
 /// Keeps and takes out one value at a time.
-fn one_at_a_time(times: u32, mut turn: impl FnMut(u32) -> Result<Key, Refused>) -> Result<(), Refused> {
+fn one_at_a_time(
+    times: u32,
+    mut turn: impl FnMut(u32) -> Result<Key, Refused>,
+) -> Result<(), Refused> {
     let mut last = None;
     for time in 0..times {
         let key = turn(time)?;
@@ -75,7 +78,10 @@ fn many_by_one_call() -> Result<(), Refused> {
         assert_eq!(core.free_many(&keys), 300);
         keys.clear();
     }
-    assert_eq!(core.insert_many(0, &[7; 800], &mut keys), Err(Refused::PagesSpent));
+    assert_eq!(
+        core.insert_many(0, &[7; 800], &mut keys),
+        Err(Refused::PagesSpent)
+    );
     assert!(keys.len() > 512 && core.len() == keys.len());
     Ok(())
 }
@@ -143,10 +149,12 @@ fn spans_are_counted() -> Result<(), Refused> {
     };
     let bits = limits.key_bits().expect("they are short");
     let mut slab = Slab::with_limits(limits)?;
-    let keys: Vec<_> = (0..3 * 256).map(|value| slab.insert(value)).collect::<Result<_, _>>()?;
-    assert!(keys
-        .iter()
-        .all(|key| key.to_u64(bits).is_some_and(|number| number.get() < 1 << 11)));
+    let keys: Vec<_> = (0..3 * 256)
+        .map(|value| slab.insert(value))
+        .collect::<Result<_, _>>()?;
+    assert!(keys.iter().all(|key| key
+        .to_u64(bits)
+        .is_some_and(|number| number.get() < 1 << 11)));
     for _ in 0..3 {
         assert_eq!(
             (slab.insert(7), slab.len(), slab.pages()),
@@ -160,10 +168,16 @@ fn spans_are_counted() -> Result<(), Refused> {
     );
     let mut core = Core::new(limits)?;
     let mut keys = Vec::new();
-    assert_eq!(core.insert_many(0, &[7; 800], &mut keys), Err(Refused::PagesSpent));
+    assert_eq!(
+        core.insert_many(0, &[7; 800], &mut keys),
+        Err(Refused::PagesSpent)
+    );
     assert_eq!((keys.len(), core.len(), core.pages()), (768, 768, 3));
     let shared = SharedSlab::with_limits(Limits { spans: 1, ..limits })?;
-    let taken = (0..300).map(|value| shared.insert(value)).filter(Result::is_ok).count();
+    let taken = (0..300)
+        .map(|value| shared.insert(value))
+        .filter(Result::is_ok)
+        .count();
     assert_eq!((taken, shared.len()), (256, 256));
     assert_eq!(
         Slab::<u8>::with_limits(Limits { spans: 0, ..limits }).err(),
@@ -196,7 +210,10 @@ fn as_a_map() -> Result<(), Refused> {
             gone.push(key);
         }
         if value % 500 == 0 {
-            assert!(slab.len() == map.len() && map.iter().all(|(key, value)| slab.get(*key) == Some(value)));
+            assert!(
+                slab.len() == map.len()
+                    && map.iter().all(|(key, value)| slab.get(*key) == Some(value))
+            );
             assert!(gone.iter().all(|key| !slab.contains(*key)));
         }
     }

@@ -1,5 +1,6 @@
-//! `library WHO KIND LIVE CALLS [BYTES]`: nanoseconds a call of one store, in a process of its own; `library WHO memory LIVE 0`: resident bytes a
-//! live value. A value is a word of 128 bits, or has 16, 64 or 240 bytes where that is said.
+//! `library WHO KIND LIVE CALLS [BYTES]`: nanoseconds a call of one store, in a process of its own;
+//! `library WHO memory LIVE 0`: resident bytes a live value. A value is a word of 128 bits, or has
+//! 16, 64 or 240 bytes where that is said.
 
 mod reference;
 mod wide;
@@ -177,7 +178,12 @@ fn asked(words: &[String]) -> Option<f64> {
         [_, _, _, calls, bytes] => (calls, Some(bytes.parse().ok()?)),
         _ => return None,
     };
-    let (who, kind, live, calls) = (&words[0], &words[1], words[2].parse().ok()?, calls.parse().ok()?);
+    let (who, kind, live, calls) = (
+        &words[0],
+        &words[1],
+        words[2].parse().ok()?,
+        calls.parse().ok()?,
+    );
     match bytes {
         Some(bytes) => of_wide(who, kind, live, calls, bytes),
         None => of(who, kind, live, calls),

@@ -1,4 +1,5 @@
-//! Values of many bytes, in stores beside each other. Each has all of a value written by a put, and two bytes of it read by a look-up.
+//! Values of many bytes, in stores beside each other. Each has all of a value written by a put, and
+//! two bytes of it read by a look-up.
 
 use beside::clock;
 use beside::random::Random;
@@ -111,7 +112,9 @@ impl<const N: usize> Values<N> for Boxes<N> {
 
 /// So many values, a part of them in each shard.
 fn fill<const N: usize, S: Values<N>>(store: &mut S, live: usize) -> Vec<S::Key> {
-    (0..live).map(|at| store.put(part(at, live), [at as u8; N])).collect()
+    (0..live)
+        .map(|at| store.put(part(at, live), [at as u8; N]))
+        .collect()
 }
 
 fn part(at: usize, live: usize) -> u32 {
@@ -153,7 +156,12 @@ fn memory<const N: usize, S: Values<N>>(mut store: S, live: usize) -> f64 {
     taken / live as f64
 }
 
-fn measure<const N: usize, S: Values<N>>(store: S, kind: &str, live: usize, calls: usize) -> Option<f64> {
+fn measure<const N: usize, S: Values<N>>(
+    store: S,
+    kind: &str,
+    live: usize,
+    calls: usize,
+) -> Option<f64> {
     match kind {
         "put+free" => Some(time(store, true, live, calls)),
         "get" => Some(time(store, false, live, calls)),
@@ -165,8 +173,18 @@ fn measure<const N: usize, S: Values<N>>(store: S, kind: &str, live: usize, call
 /// What the store of that name costs with values of `N` bytes.
 pub fn of<const N: usize>(who: &str, kind: &str, live: usize, calls: usize) -> Option<f64> {
     match who {
-        "teurlaks-store" => measure::<N, _>(Pages(teurlaks::Store::with_limits(limits()).ok()?), kind, live, calls),
-        "teurlaks-slab" => measure::<N, _>(Owner(teurlaks::Slab::with_limits(limits()).ok()?), kind, live, calls),
+        "teurlaks-store" => measure::<N, _>(
+            Pages(teurlaks::Store::with_limits(limits()).ok()?),
+            kind,
+            live,
+            calls,
+        ),
+        "teurlaks-slab" => measure::<N, _>(
+            Owner(teurlaks::Slab::with_limits(limits()).ok()?),
+            kind,
+            live,
+            calls,
+        ),
         "slab" => measure::<N, _>(Slab(slab::Slab::new()), kind, live, calls),
         "sharded-slab" => measure::<N, _>(Sharded(sharded_slab::Slab::new()), kind, live, calls),
         "boxes" => {

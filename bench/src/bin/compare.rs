@@ -1,10 +1,12 @@
-//! `compare MESHRUN EXAMPLES COUNT SCRATCH`: the plain program and `meshrun` against the worked examples, and against each other on
-//! COUNT random texts. Of these the first 300 are also run by threads.
+//! `compare MESHRUN EXAMPLES COUNT SCRATCH`: the plain program and `meshrun` against the worked
+//! examples, and against each other on COUNT random texts. Of these the first 300 are also run by
+//! threads.
 //!
-//! Where there are several largest plans, `meshrun` may choose any: the plain program is given its folds, and says whether they are a
-//! largest plan. All else must be the same byte for byte: the report, the last line of standard error, and the status. A run by threads must end with
-//! `audit ok`, and with the serial numbers of live keys and of calls; where a call was refused a page or a group, or a ring was full, which
-//! another thread's free or `tend` can decide, with that of calls.
+//! Where there are several largest plans, `meshrun` may choose any: the plain program is given its
+//! folds, and says whether they are a largest plan. All else must be the same byte for byte: the
+//! report, the last line of standard error, and the status. A run by threads must end with `audit
+//! ok`, and with the serial numbers of live keys and of calls; where a call was refused a page or a
+//! group, or a ring was full, which another thread's free or `tend` can decide, with that of calls.
 
 use beside::drawn;
 use beside::programs::{Programs, Who};
@@ -24,7 +26,8 @@ const BY_THREADS: u64 = 300;
 
 type Answer = (Option<i32>, String, String);
 
-/// The numbers of live keys and of calls that a report ends with; of calls alone, where other threads may decide what is live.
+/// The numbers of live keys and of calls that a report ends with; of calls alone, where other
+/// threads may decide what is live.
 fn totals(report: &str, decided: bool) -> Option<Vec<&str>> {
     let end = report.lines().rev().find(|line| line.starts_with("end "))?;
     let words: Vec<&str> = end.split(' ').collect();
@@ -57,7 +60,11 @@ impl Compare {
 
     /// Whether both programs answer the same; else the two answers are told.
     fn agree(&self, trace: &Path, replies: bool) -> io::Result<bool> {
-        let theirs = answer(self.programs.command(Who::Meshrun, trace, replies).output()?);
+        let theirs = answer(
+            self.programs
+                .command(Who::Meshrun, trace, replies)
+                .output()?,
+        );
         let report = self.keep("report", theirs.1.as_bytes())?;
         let ours = self.of_plain(trace, replies, &report)?;
         if theirs != ours {
@@ -72,7 +79,8 @@ impl Compare {
         Ok(theirs == ours)
     }
 
-    /// Whether a run by threads comes to what the serial run comes to, and is audited; a text that is refused is refused so too.
+    /// Whether a run by threads comes to what the serial run comes to, and is audited; a text that
+    /// is refused is refused so too.
     fn agrees_by_threads(&self, trace: &Path) -> io::Result<bool> {
         let serial = answer(self.programs.command(Who::Meshrun, trace, true).output()?);
         let threads = answer(self.programs.by_threads(trace).output()?);

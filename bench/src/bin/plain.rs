@@ -1,7 +1,8 @@
 //! `plain run [TRACE] [--serial] [--replies] ..`: what `meshrun run` does, in plain Rust.
 //!
-//! `--plans-of REPORT` takes the folds of each mark from a report that another program wrote, and refuses them where they are no
-//! largest plan. `--barriers` has a mark plan nothing. `--phases` says on standard error how long each part took.
+//! `--plans-of REPORT` takes the folds of each mark from a report that another program wrote, and
+//! refuses them where they are no largest plan. `--barriers` has a mark plan nothing. `--phases`
+//! says on standard error how long each part took.
 
 use beside::replay::{self, How};
 use beside::{report, trace};
@@ -29,7 +30,8 @@ fn words() -> Result<Words, Stop> {
     let usage = || {
         Stop(
             2,
-            "plain run [TRACE] [--serial] [--replies] [--barriers] [--phases] [--plans-of REPORT]".into(),
+            "plain run [TRACE] [--serial] [--replies] [--barriers] [--phases] [--plans-of REPORT]"
+                .into(),
         )
     };
     if given.next().as_deref() != Some("run") {
@@ -43,7 +45,8 @@ fn words() -> Result<Words, Stop> {
             "--phases" => words.phases = true,
             "--plans-of" => {
                 let text = std::fs::read_to_string(given.next().ok_or_else(usage)?).map_err(io)?;
-                words.how.plans = Some(report::plans_of(&text).ok_or_else(|| Stop(5, "io".into()))?);
+                words.how.plans =
+                    Some(report::plans_of(&text).ok_or_else(|| Stop(5, "io".into()))?);
             }
             _ if word.starts_with('-') || words.trace.is_some() => return Err(usage()),
             _ => words.trace = Some(word),

@@ -1,7 +1,7 @@
 //! `replays MESHRUN SCRATCH ROUNDS`: a replay by threads beside the serial one. It prints the least
 //! time of several rounds by the clock, of four threads with 500,000 calls each, without the time
-//! that a text takes whose last line is malformed, so that it is read and not run. And it prints the
-//! greatest resident size, of 64 threads that fill all pages which a trace may have.
+//! that a text takes whose last line is malformed, so that it is read and not run. And it prints
+//! the greatest resident size, of 64 threads that fill all pages which a trace may have.
 
 use beside::child;
 use beside::written::side_by_side;
@@ -43,7 +43,11 @@ fn times(meshrun: &str, scratch: &Path, rounds: usize) -> io::Result<[f64; 3]> {
         serial = serial.min(taken(meshrun, &["--serial"], &trace, 0)?);
         threads = threads.min(taken(meshrun, &[], &trace, 0)?);
     }
-    let beyond = [read, serial.saturating_sub(read), threads.saturating_sub(read)];
+    let beyond = [
+        read,
+        serial.saturating_sub(read),
+        threads.saturating_sub(read),
+    ];
     Ok(beyond.map(|time| time.as_secs_f64() * 1e3))
 }
 
@@ -74,7 +78,8 @@ fn work() -> io::Result<()> {
         return Err(io::Error::other("replays MESHRUN SCRATCH ROUNDS"));
     };
     let scratch = Path::new(scratch);
-    let [read, serial, threads] = times(meshrun, scratch, rounds.parse().map_err(io::Error::other)?)?;
+    let [read, serial, threads] =
+        times(meshrun, scratch, rounds.parse().map_err(io::Error::other)?)?;
     println!("read {read:.0}\nserial {serial:.0}\nthreads {threads:.0}");
     let [serial, threads] = sizes(meshrun, scratch)?;
     println!("serial-KB {serial}\nthreads-KB {threads}");

@@ -1,4 +1,5 @@
-//! `slabs time MIX WHO` and `slabs memory WHO`: stores that do less than Teurlaks, on the same calls.
+//! `slabs time MIX WHO` and `slabs memory WHO`: stores that do less than Teurlaks, on the same
+//! calls.
 
 use beside::class::Class;
 use beside::clock;
@@ -41,7 +42,9 @@ struct Sharded(sharded_slab::Slab<u128>);
 impl Store for Sharded {
     type Key = usize;
     fn put(&mut self, value: u128) -> usize {
-        self.0.insert(value).expect("its limit is far above these mixes")
+        self.0
+            .insert(value)
+            .expect("its limit is far above these mixes")
     }
     fn get(&mut self, key: usize) -> Option<u128> {
         self.0.get(key).map(|entry| *entry)
@@ -51,7 +54,8 @@ impl Store for Sharded {
     }
 }
 
-/// `malloc` and `free` of whatever allocator the process was started with. A stale key would be undefined behaviour here.
+/// `malloc` and `free` of whatever allocator the process was started with. A stale key would be
+/// undefined behaviour here.
 struct Malloc;
 impl Store for Malloc {
     type Key = *mut u128;
@@ -74,7 +78,9 @@ struct Plain<const LOG: bool>(Core<LOG>);
 impl<const LOG: bool> Store for Plain<LOG> {
     type Key = Key;
     fn put(&mut self, value: u128) -> Key {
-        self.0.put(0, Class::C16, value).expect("the mixes fit a shard")
+        self.0
+            .put(0, Class::C16, value)
+            .expect("the mixes fit a shard")
     }
     fn get(&mut self, key: Key) -> Option<u128> {
         self.0.get(key).map(|words| words[0])
@@ -112,7 +118,8 @@ fn most_resident() -> u64 {
         .unwrap_or(0)
 }
 
-/// Bytes a live value after a fill, and bytes a change after as many frees and puts again, without the keys.
+/// Bytes a live value after a fill, and bytes a change after as many frees and puts again, without
+/// the keys.
 fn memory<S: Store>(mut store: S) -> (f64, f64) {
     let count = 262_144;
     let mut keys = Vec::with_capacity(count);

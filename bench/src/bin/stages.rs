@@ -1,5 +1,5 @@
-//! What a plan of the plain program costs: `stages SHARDS SLOTS STAGE`, over the same groups and by the same stages as
-//! `plans/main.rt.txt`.
+//! What a plan of the plain program costs: `stages SHARDS SLOTS STAGE`, over the same groups and by
+//! the same stages as `plans/main.rt.txt`.
 
 use beside::class::Class;
 use beside::plan::{largest, short, Graph};
@@ -26,7 +26,10 @@ fn side(shards: usize, slots: usize, mut state: u64) -> Vec<(Class, Slots)> {
 }
 
 fn main() {
-    let numbers: Vec<usize> = std::env::args().skip(1).map(|word| word.parse().unwrap_or(0)).collect();
+    let numbers: Vec<usize> = std::env::args()
+        .skip(1)
+        .map(|word| word.parse().unwrap_or(0))
+        .collect();
     let [shards, slots, stage] = numbers[..] else {
         println!("stages SHARDS SLOTS STAGE");
         return;

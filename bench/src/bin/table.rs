@@ -1,5 +1,6 @@
-//! `table MESHRUN TRACES ROUNDS [NAME=LIBRARY ..]`: runs everything in turn ROUNDS times, and prints the least of each as tables of
-//! ratios. The libraries are allocators to measure `malloc` and `free` of.
+//! `table MESHRUN TRACES ROUNDS [NAME=LIBRARY ..]`: runs everything in turn ROUNDS times, and
+//! prints the least of each as tables of ratios. The libraries are allocators to measure `malloc`
+//! and `free` of.
 
 use beside::child;
 use beside::mixes::MIXES;
@@ -39,7 +40,9 @@ impl Bench {
     /// Milliseconds and kilobytes of both programs on a trace.
     fn run_trace(&mut self, name: &str, replies: bool) -> io::Result<()> {
         for (who, called) in BOTH {
-            let used = self.programs.run(who, &self.trace(name), replies, &self.report)?;
+            let used = self
+                .programs
+                .run(who, &self.trace(name), replies, &self.report)?;
             self.keep(format!("{called} {name}"), used.time.as_secs_f64() * 1e3);
             self.keep(format!("{called} {name} kB"), used.kilobytes as f64);
         }
@@ -82,7 +85,12 @@ impl Bench {
             self.run_trace(&format!("mix-{}", mix.name), false)?;
             self.run_trace(&format!("before-{}", mix.name), false)?;
         }
-        for name in ["memory-none", "memory-fill", "memory-bursts-2", "memory-bursts-10"] {
+        for name in [
+            "memory-none",
+            "memory-fill",
+            "memory-bursts-2",
+            "memory-bursts-10",
+        ] {
             self.run_trace(name, false)?;
         }
         for who in SLABS {
@@ -104,9 +112,13 @@ impl Bench {
             .collect()
     }
 
-    /// Whether both programs give the same report on a trace, with all replies, where the plain one takes the other's folds.
+    /// Whether both programs give the same report on a trace, with all replies, where the plain one
+    /// takes the other's folds.
     fn agree(&self, trace: &Written) -> io::Result<bool> {
-        let (path, theirs) = (self.trace(trace.name), self.report.with_extension("meshrun"));
+        let (path, theirs) = (
+            self.trace(trace.name),
+            self.report.with_extension("meshrun"),
+        );
         self.programs.run(Who::Meshrun, &path, true, &theirs)?;
         let mut plain = self.programs.command(Who::Plain, &path, true);
         if self.programs.plans {
@@ -142,7 +154,11 @@ impl Bench {
     }
 
     fn print_mixes(&self) {
-        let names: Vec<&str> = self.allocators.iter().map(|(name, _)| name.as_str()).collect();
+        let names: Vec<&str> = self
+            .allocators
+            .iter()
+            .map(|(name, _)| name.as_str())
+            .collect();
         let stores = [&SLABS[1..], &names, &["core plain-no-log", "core plain"]].concat();
         println!(
             "| mix | slab, ns | {} | plain, trace | meshrun, trace | meshrun / plain |",
@@ -151,15 +167,22 @@ impl Bench {
         println!("|---|---|{}---|---|---|", "---|".repeat(stores.len()));
         for mix in &MIXES {
             let slab = self.get(&format!("slab {}", mix.name));
-            let ratios = stores.iter().map(|who| self.get(&format!("{who} {}", mix.name)) / slab);
+            let ratios = stores
+                .iter()
+                .map(|who| self.get(&format!("{who} {}", mix.name)) / slab);
             let (name, before) = (format!("mix-{}", mix.name), format!("before-{}", mix.name));
-            let traced = |who: &str| self.above(who, &name, &before) * 1e6 / mix.calls as f64 / slab;
+            let traced =
+                |who: &str| self.above(who, &name, &before) * 1e6 / mix.calls as f64 / slab;
             let (plain, meshrun) = (traced("plain"), traced("meshrun"));
             let cells: String = ratios
                 .chain([plain, meshrun])
                 .map(|ratio| format!(" {ratio:.1} |"))
                 .collect();
-            println!("| {} | {slab:.2} |{cells} {:.2} |", mix.name, meshrun / plain);
+            println!(
+                "| {} | {slab:.2} |{cells} {:.2} |",
+                mix.name,
+                meshrun / plain
+            );
         }
     }
 
@@ -167,7 +190,12 @@ impl Bench {
         println!("| store | bytes a live value | bytes a change |\n|---|---|---|");
         let names = self.allocators.iter().map(|(name, _)| name.clone());
         let cores = CORES.iter().map(|who| format!("core {who}"));
-        for who in SLABS.iter().map(|who| who.to_string()).chain(names).chain(cores) {
+        for who in SLABS
+            .iter()
+            .map(|who| who.to_string())
+            .chain(names)
+            .chain(cores)
+        {
             println!(
                 "| {who} | {:.0} | {:.0} |",
                 self.get(&format!("{who} a value")),
@@ -176,7 +204,9 @@ impl Bench {
         }
         let (values, changes) = (8.0 * 262_144.0, 8.0 * 2.0 * 262_144.0);
         for (_, who) in BOTH {
-            let kilobytes = |more: &str, less: &str| self.above(who, &format!("{more} kB"), &format!("{less} kB"));
+            let kilobytes = |more: &str, less: &str| {
+                self.above(who, &format!("{more} kB"), &format!("{less} kB"))
+            };
             let value = kilobytes("memory-fill", "memory-none") * 1024.0 / values;
             let change = kilobytes("memory-bursts-10", "memory-bursts-2") * 1024.0 / changes;
             println!("| {who}, trace | {value:.0} | {change:.0} |");
@@ -184,13 +214,17 @@ impl Bench {
     }
 }
 
-/// Whether two files are the same, without either being held whole: what this process holds would count for its children.
+/// Whether two files are the same, without either being held whole: what this process holds would
+/// count for its children.
 fn same(one: &Path, other: &Path) -> io::Result<bool> {
     let (one, other) = (File::open(one)?, File::open(other)?);
     if one.metadata()?.len() != other.metadata()?.len() {
         return Ok(false);
     }
-    for (a, b) in BufReader::new(one).bytes().zip(BufReader::new(other).bytes()) {
+    for (a, b) in BufReader::new(one)
+        .bytes()
+        .zip(BufReader::new(other).bytes())
+    {
         if a? != b? {
             return Ok(false);
         }
@@ -200,11 +234,15 @@ fn same(one: &Path, other: &Path) -> io::Result<bool> {
 
 fn bench(words: &[String]) -> io::Result<(Bench, usize)> {
     let [meshrun, traces, rounds, libraries @ ..] = words else {
-        return Err(io::Error::other("table MESHRUN TRACES ROUNDS [NAME=LIBRARY ..]"));
+        return Err(io::Error::other(
+            "table MESHRUN TRACES ROUNDS [NAME=LIBRARY ..]",
+        ));
     };
     let mut allocators = vec![("glibc".to_string(), None)];
     for library in libraries {
-        let (name, path) = library.split_once('=').ok_or(io::Error::other("NAME=LIBRARY"))?;
+        let (name, path) = library
+            .split_once('=')
+            .ok_or(io::Error::other("NAME=LIBRARY"))?;
         allocators.push((name.into(), Some(path.into())));
     }
     let traces = PathBuf::from(traces);
@@ -225,7 +263,10 @@ fn work() -> io::Result<bool> {
     let mut all_same = true;
     for trace in bench.measured() {
         if !bench.agree(trace)? {
-            println!("The reports on {} differ.", bench.trace(trace.name).display());
+            println!(
+                "The reports on {} differ.",
+                bench.trace(trace.name).display()
+            );
             all_same = false;
         }
     }
@@ -239,7 +280,9 @@ fn work() -> io::Result<bool> {
     println!("\n### Resident memory\n");
     bench.print_memory();
     if !bench.programs.plans {
-        println!("\nThe marks of this meshrun plan nothing yet, so traces that fold were left out.");
+        println!(
+            "\nThe marks of this meshrun plan nothing yet, so traces that fold were left out."
+        );
     }
     Ok(all_same)
 }

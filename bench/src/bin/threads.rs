@@ -1,6 +1,7 @@
-//! `threads WORK THREADS CALLS`: a slab that threads share, under so many of them. Each has 1,000 values of its own; WORK is `churn` (each
-//! call frees one and puts another) or `look-ups`; or each has as many as it has calls, and WORK is `later`: it frees those of the next thread.
-//! It tells nanoseconds a call of one thread, the least of several rounds.
+//! `threads WORK THREADS CALLS`: a slab that threads share, under so many of them. Each has 1,000
+//! values of its own; WORK is `churn` (each call frees one and puts another) or `look-ups`; or each
+//! has as many as it has calls, and WORK is `later`: it frees those of the next thread. It tells
+//! nanoseconds a call of one thread, the least of several rounds.
 
 use sharded_slab::Slab;
 use std::process::ExitCode;
@@ -44,7 +45,9 @@ fn round_of_remote_frees(threads: usize, calls: usize) -> f64 {
     let work = |thread: usize| {
         let _ = all[thread].set((0..calls).map(|value| put(&slab, value)).collect());
         start.wait();
-        let keys = all[(thread + 1) % threads].get().map_or(&[][..], Vec::as_slice);
+        let keys = all[(thread + 1) % threads]
+            .get()
+            .map_or(&[][..], Vec::as_slice);
         let begun = Instant::now();
         free_all(&slab, keys);
         let took = begun.elapsed().as_nanos() as f64 / calls as f64;
@@ -54,7 +57,9 @@ fn round_of_remote_frees(threads: usize, calls: usize) -> f64 {
     };
     std::thread::scope(|scope| {
         let work = &work;
-        let all: Vec<_> = (0..threads).map(|it| scope.spawn(move || work(it))).collect();
+        let all: Vec<_> = (0..threads)
+            .map(|it| scope.spawn(move || work(it)))
+            .collect();
         let took = all.into_iter().map(|one| one.join().unwrap_or(f64::NAN));
         took.fold(0.0, f64::max)
     })

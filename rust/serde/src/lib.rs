@@ -1,9 +1,9 @@
-//! Keys of a slab in texts and files, by `serde`. It is a crate of its own, so that `teurlaks` has no
-//! dependencies.
+//! Keys of a slab in texts and files, by `serde`. It is a crate of its own, so that `teurlaks` has
+//! no dependencies.
 //!
 //! In a format for people a key is its text, `shard.serial/slot/generation`, and in others two
-//! numbers: the upper 16 and the lower 64 of the 80 bits of [`Key::to_bits`]. Either way the key that
-//! is read is the one that was written, also one of a type by `new_key_type!`.
+//! numbers: the upper 16 and the lower 64 of the 80 bits of [`Key::to_bits`]. Either way the key
+//! that is read is the one that was written, also one of a type by `new_key_type!`.
 //!
 //! ```text
 //! #[derive(serde::Serialize, serde::Deserialize)]
@@ -16,8 +16,8 @@
 //! }
 //! ```
 //!
-//! A slab itself is neither written nor read: a slab gives out its keys by itself, each once, so what
-//! is read could not have the keys that it had.
+//! A slab itself is neither written nor read: a slab gives out its keys by itself, each once, so
+//! what is read could not have the keys that it had.
 #![warn(missing_docs, missing_debug_implementations)]
 #![forbid(unsafe_code)]
 
@@ -102,7 +102,8 @@ pub mod key {
     }
 }
 
-/// How a field that may have a key is written and read: `#[serde(with = "teurlaks_serde::option")]`.
+/// How a field that may have a key is written and read: `#[serde(with =
+/// "teurlaks_serde::option")]`.
 pub mod option {
     use super::SerdeKey;
     use serde::{Deserialize, Deserializer, Serialize, Serializer};
@@ -113,7 +114,10 @@ pub mod option {
     /// # Errors
     ///
     /// Those of the format.
-    pub fn serialize<K: TypedKey, S: Serializer>(key: &Option<K>, to: S) -> Result<S::Ok, S::Error> {
+    pub fn serialize<K: TypedKey, S: Serializer>(
+        key: &Option<K>,
+        to: S,
+    ) -> Result<S::Ok, S::Error> {
         key.map(SerdeKey).serialize(to)
     }
 
@@ -122,7 +126,9 @@ pub mod option {
     /// # Errors
     ///
     /// As of [`key::deserialize`](super::key::deserialize).
-    pub fn deserialize<'de, K: TypedKey, D: Deserializer<'de>>(from: D) -> Result<Option<K>, D::Error> {
+    pub fn deserialize<'de, K: TypedKey, D: Deserializer<'de>>(
+        from: D,
+    ) -> Result<Option<K>, D::Error> {
         let key = Option::<SerdeKey<K>>::deserialize(from)?;
         Ok(key.map(|SerdeKey(key)| key))
     }

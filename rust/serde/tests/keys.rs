@@ -31,7 +31,10 @@ fn as_numbers() {
         ]
     };
     assert_tokens(&key("0.0/0/1").compact(), &tokens(0, 1));
-    assert_tokens(&key("2.3/17/9").compact(), &tokens(2 << 8, 3 << 40 | 17 << 32 | 9));
+    assert_tokens(
+        &key("2.3/17/9").compact(),
+        &tokens(2 << 8, 3 << 40 | 17 << 32 | 9),
+    );
     assert_tokens(
         &key("255.4294967295/255/4294967295").compact(),
         &tokens(u16::MAX, u64::MAX),

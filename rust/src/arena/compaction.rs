@@ -132,7 +132,9 @@ impl<T> Arena<T> {
 
     /// How many seats have done what was asked last.
     fn helpers(&self) -> u32 {
-        self.standing.get().map_or(0, |standing| standing.turn.helpers())
+        self.standing
+            .get()
+            .map_or(0, |standing| standing.turn.helpers())
     }
 
     /// Whether it has asked for something that no seat has done.
@@ -191,7 +193,10 @@ impl<T: Copy + Send + 'static> Arena<T> {
     /// assert_eq!(seat.get(keys[46]), Some(46));
     /// # Ok::<(), Box<dyn std::error::Error>>(())
     /// ```
-    pub fn compact_in_background(arena: &Arc<Mutex<Arena<T>>>, policy: Policy) -> io::Result<Background> {
+    pub fn compact_in_background(
+        arena: &Arc<Mutex<Arena<T>>>,
+        policy: Policy,
+    ) -> io::Result<Background> {
         let steward = Steward {
             arena: Arc::clone(arena),
             helpers: AtomicU32::new(0),
@@ -286,7 +291,9 @@ impl<T> Seat<T> {
         while self.retired > 0 {
             match self.adopt() {
                 Ok(_) => self.retired -= 1,
-                Err(Refused::NothingToAdopt | Refused::PagesSpent | Refused::Ended) => self.retired = 0,
+                Err(Refused::NothingToAdopt | Refused::PagesSpent | Refused::Ended) => {
+                    self.retired = 0
+                }
                 Err(Refused::PlanOpen) => return Ok(0),
                 Err(refused) => return Err(refused),
             }

@@ -1,9 +1,11 @@
-//! An asymmetric fence. A thread that passes often has a light one, which costs it nothing; one that passes seldom has a heavy one, by which the
-//! system fences every thread of the process that runs, also those that had the light one. So of two threads that each store, have their fence and
-//! load what the other has stored, one sees the other's store at least, as if both had a full fence.
+//! An asymmetric fence. A thread that passes often has a light one, which costs it nothing; one
+//! that passes seldom has a heavy one, by which the system fences every thread of the process that
+//! runs, also those that had the light one. So of two threads that each store, have their fence and
+//! load what the other has stored, one sees the other's store at least, as if both had a full
+//! fence.
 //!
-//! The heavy one is Linux's `membarrier`, here on x86-64 alone. Elsewhere, and where the system refuses it, there is none, and nobody may rest on a
-//! light one.
+//! The heavy one is Linux's `membarrier`, here on x86-64 alone. Elsewhere, and where the system
+//! refuses it, there is none, and nobody may rest on a light one.
 
 use std::io::Write;
 use std::sync::atomic::{compiler_fence, Ordering};
@@ -24,19 +26,20 @@ pub(super) fn is_there() -> bool {
     asked() != Fence::Missing
 }
 
-/// What comes before it in this thread's code is done before what comes after it, as far as the compiler goes; and for the processor too, where
-/// another thread has a heavy fence.
+/// What comes before it in this thread's code is done before what comes after it, as far as the
+/// compiler goes; and for the processor too, where another thread has a heavy fence.
 #[inline(always)]
 #[allow(clippy::inline_always)] // It is no instruction.
 pub(super) fn light() {
     compiler_fence(Ordering::SeqCst);
 }
 
-/// Has each thread of the process, this one too, do what comes before its fence, light or heavy, before what comes after. Only where there are such
-/// fences.
+/// Has each thread of the process, this one too, do what comes before its fence, light or heavy,
+/// before what comes after. Only where there are such fences.
 ///
-/// Where the system refuses one to which it had agreed, as it may once a filter of calls was set up, the process ends: what a seat keeps can't be
-/// taken back from it any more, and who wants it would wait for ever.
+/// Where the system refuses one to which it had agreed, as it may once a filter of calls was set
+/// up, the process ends: what a seat keeps can't be taken back from it any more, and who wants it
+/// would wait for ever.
 pub(super) fn heavy() {
     let is_had = || system::fence() || (system::register() && system::fence());
     if asked() == Fence::Refused || !is_had() {
@@ -93,7 +96,8 @@ mod system {
 
     fn membarrier(command: c_int) -> bool {
         let (flags, processor): (c_uint, c_int) = (0, 0);
-        // SAFETY: the call takes these three numbers, and reads and writes no memory of the process.
+        // SAFETY: the call takes these three numbers, and reads and writes no memory of the
+        // process.
         let is_done = unsafe { syscall(MEMBARRIER, command, flags, processor) == 0 };
         #[cfg(test)]
         super::tests::count(is_done && command == PRIVATE_EXPEDITED);

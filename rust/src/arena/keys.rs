@@ -7,7 +7,8 @@ use crate::names::Key;
 use crate::raw;
 use std::fmt;
 
-/// The live keys of an arena, while its threads go on: of [`Arena::keys`](super::Arena::keys) and [`Seat::keys`](super::Seat::keys).
+/// The live keys of an arena, while its threads go on: of [`Arena::keys`](super::Arena::keys) and
+/// [`Seat::keys`](super::Seat::keys).
 ///
 /// Its `next` panics when it would wait for a session of its own thread
 /// ([`Seat::session`](super::Seat::session)).
@@ -67,7 +68,9 @@ impl Iterator for Keys<'_> {
         if next.status == raw::BUSY {
             no_wait_in_a_session();
         }
-        (next.status == raw::OK).then(|| Key::of(next.key)).flatten()
+        (next.status == raw::OK)
+            .then(|| Key::of(next.key))
+            .flatten()
     }
 }
 

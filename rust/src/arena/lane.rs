@@ -1,17 +1,22 @@
-//! The proved seat of one shard, which may keep that shard between calls until somebody else wants it.
+//! The proved seat of one shard, which may keep that shard between calls until somebody else wants
+//! it.
 //!
-//! A call that takes the shard's lock and gives it back pays for two atomic exchanges. A seat that has made some calls on its own shard therefore
-//! keeps it out of its lock, as a session does, and whoever else needs the shard takes it back: this is biased locking. Neither side may use the
-//! handle while the other does, and the owner, who makes all the calls, has to pay next to nothing for that. So the owner's half of the agreement
-//! is two plain stores and a load around each call, and the taker pays for both by a heavy fence ([`fence`]).
+//! A call that takes the shard's lock and gives it back pays for two atomic exchanges. A seat that
+//! has made some calls on its own shard therefore keeps it out of its lock, as a session does, and
+//! whoever else needs the shard takes it back: this is biased locking. Neither side may use the
+//! handle while the other does, and the owner, who makes all the calls, has to pay next to nothing
+//! for that. So the owner's half of the agreement is two plain stores and a load around each call,
+//! and the taker pays for both by a heavy fence ([`fence`]).
 //!
 //! The rules:
 //!
-//! - The door changes under the lock `taking` alone. It is open, or the owner keeps the shard (`KEPT`), or keeps it and somebody wants it (`WANTED`).
-//!   Only the owner closes it. Each time begins a new keeping, which has a number.
+//! - The door changes under the lock `taking` alone. It is open, or the owner keeps the shard
+//!   (`KEPT`), or keeps it and somebody wants it (`WANTED`). Only the owner closes it. Each time
+//!   begins a new keeping, which has a number.
 //! - While the door is open, the handle is the owner's alone.
-//! - While it is not, the owner uses the handle under `taking`, or else it says that it is in a call, has a light fence, sees that nobody wants the
-//!   shard, makes the call, and says that it is out of it.
+//! - While it is not, the owner uses the handle under `taking`, or else it says that it is in a
+//!   call, has a light fence, sees that nobody wants the shard, makes the call, and says that it is
+//!   out of it.
 //! - An owner that sees its shard wanted opens the door itself, under `taking` and in no call.
 //! - A taker says under `taking` that the shard is wanted, and notes the keeping. It gives `taking`
 //!   back and has a heavy fence. Then it has `taking` again and looks once more. When the door is
@@ -60,8 +65,9 @@ const WANTED: u8 = 2;
 /// How many calls on its own shard a lane makes before it keeps that.
 const FIRST: u32 = 64;
 
-/// How many it makes after the shard was taken back. It is twice as many each further time that a seat takes it, up to the most of these: a taker
-/// waits for some microseconds, and the owner soon has won more.
+/// How many it makes after the shard was taken back. It is twice as many each further time that a
+/// seat takes it, up to the most of these: a taker waits for some microseconds, and the owner soon
+/// has won more.
 const AFTER_TAKEN: u32 = 1 << 12;
 const MOST_AFTER_TAKEN: u32 = 1 << 18;
 
@@ -92,7 +98,8 @@ pub(super) struct Lane {
 /// What the owner writes at each call.
 struct OwnerSide {
     in_call: AtomicBool,
-    // How many calls of its own shard are left before it keeps that. Only who may use the handle writes it.
+    // How many calls of its own shard are left before it keeps that. Only who may use the handle
+    // writes it.
     left: AtomicU32,
     handle: UnsafeCell<raw::ShareHandle>,
 }
@@ -139,8 +146,9 @@ impl Terms {
     }
 }
 
-// SAFETY: that a handle may be used by another thread, one at a time, is proved in `crates/teurlaks_c` (`unsafe impl Send for ShareHandle`, with its
-// proof). That no two use it at once, and that the uses are ordered, is what the rules at the head of this module are for.
+// SAFETY: that a handle may be used by another thread, one at a time, is proved in
+// `crates/teurlaks_c` (`unsafe impl Send for ShareHandle`, with its proof). That no two use it at
+// once, and that the uses are ordered, is what the rules at the head of this module are for.
 unsafe impl Send for Lane {}
 // SAFETY: as above.
 unsafe impl Sync for Lane {}
@@ -151,7 +159,9 @@ impl Lane {
             owner: Apart(OwnerSide {
                 in_call: AtomicBool::new(false),
                 left: AtomicU32::new(FIRST),
-                handle: UnsafeCell::new(raw::ShareHandle { at: ptr::null_mut() }),
+                handle: UnsafeCell::new(raw::ShareHandle {
+                    at: ptr::null_mut(),
+                }),
             }),
             door: Apart(Door {
                 state: AtomicU8::new(OPEN),
@@ -173,7 +183,11 @@ impl Lane {
     }
 
     fn lock(&self) -> MutexGuard<'_, Terms> {
-        self.door.0.taking.lock().unwrap_or_else(PoisonError::into_inner)
+        self.door
+            .0
+            .taking
+            .lock()
+            .unwrap_or_else(PoisonError::into_inner)
     }
 
     /// Says that its shard is wanted, if it is kept, and gives the number of this keeping.
@@ -215,11 +229,13 @@ impl Lane {
         self.door.0.session.load(Ordering::Relaxed)
     }
 
-    /// Gives the shard back to its lock, and has the owner make so many calls before it keeps it again.
+    /// Gives the shard back to its lock, and has the owner make so many calls before it keeps it
+    /// again.
     ///
     /// # Safety
     ///
-    /// The caller has the lock `taking`, and the owner is in no call and in none before it has seen that the door is open.
+    /// The caller has the lock `taking`, and the owner is in no call and in none before it has seen
+    /// that the door is open.
     unsafe fn open(&self, left: u32) {
         // SAFETY: the handle is the caller's, and has a seat, since its shard is kept.
         let status = unsafe { raw::teurlaks_seat_pause(self.owner.0.handle.get()) };
@@ -270,7 +286,10 @@ impl AllLanes {
     /// So many lanes, and for each its owner, which has no seat yet.
     pub fn new(shards: u32) -> (AllLanes, Vec<Owner>) {
         let lanes: Box<[_]> = (0..shards).map(|_| Arc::new(Lane::new())).collect();
-        let owners = lanes.iter().zip(0..).map(|(lane, shard)| Owner::new(lane, shard));
+        let owners = lanes
+            .iter()
+            .zip(0..)
+            .map(|(lane, shard)| Owner::new(lane, shard));
         let owners = owners.collect();
         (AllLanes(lanes), owners)
     }
@@ -292,7 +311,9 @@ impl AllLanes {
     /// Whether this thread has the shard of this number in a session.
     pub fn is_in_session_here(&self, shard: u32) -> bool {
         let thread = inside::this_thread();
-        self.0.get(shard as usize).is_some_and(|lane| lane.session() == thread)
+        self.0
+            .get(shard as usize)
+            .is_some_and(|lane| lane.session() == thread)
     }
 
     /// Whether this thread has any shard in a session.
@@ -303,7 +324,9 @@ impl AllLanes {
 
     /// Whether any shard is in a session, of whichever thread.
     pub fn any_in_session(&self) -> bool {
-        self.0.iter().any(|lane| lane.session() != inside::NO_THREAD)
+        self.0
+            .iter()
+            .any(|lane| lane.session() != inside::NO_THREAD)
     }
 }
 
@@ -370,7 +393,8 @@ impl Owner {
         }
     }
 
-    /// Which shard it is most probably of: the one that its steward hands out then. What is called rests on no such number.
+    /// Which shard it is most probably of: the one that its steward hands out then. What is called
+    /// rests on no such number.
     #[inline]
     pub fn shard(&self) -> u32 {
         self.shard.into()
@@ -396,7 +420,8 @@ impl Owner {
         (state & WANTED == 0).then_some(in_call)
     }
 
-    /// The handle, while it has a session that the seat began: the lane does not keep its shard then, the door is open, and nobody takes it.
+    /// The handle, while it has a session that the seat began: the lane does not keep its shard
+    /// then, the door is open, and nobody takes it.
     #[inline]
     pub fn handle_in_session(&self) -> *mut raw::ShareHandle {
         debug_assert_eq!(self.lane.door.0.state.load(Ordering::Relaxed), OPEN);
@@ -415,7 +440,8 @@ impl Owner {
         }
     }
 
-    /// Makes a call on the handle once the shard is not kept any more, and nobody is about to take it.
+    /// Makes a call on the handle once the shard is not kept any more, and nobody is about to take
+    /// it.
     #[inline]
     pub fn alone<A>(&self, call: impl FnOnce(*mut raw::ShareHandle) -> A) -> A {
         self.let_go();
@@ -443,7 +469,8 @@ impl Owner {
         kept
     }
 
-    /// Whether the door is open, and so the handle the owner's alone until it closes that: only the owner does, and this sees what a taker did before.
+    /// Whether the door is open, and so the handle the owner's alone until it closes that: only the
+    /// owner does, and this sees what a taker did before.
     #[inline]
     fn is_open(&self) -> bool {
         self.lane.door.0.state.load(Ordering::Acquire) == OPEN
@@ -470,10 +497,17 @@ impl Owner {
         self.lane.door.0.session.store(thread, Ordering::Relaxed);
     }
 
-    /// Counts a call of its own shard that was made while the door was open, and says whether it may keep that now.
+    /// Counts a call of its own shard that was made while the door was open, and says whether it
+    /// may keep that now.
     #[inline]
     pub fn count(&self) -> bool {
-        let left = self.lane.owner.0.left.load(Ordering::Relaxed).wrapping_sub(1);
+        let left = self
+            .lane
+            .owner
+            .0
+            .left
+            .load(Ordering::Relaxed)
+            .wrapping_sub(1);
         self.lane.owner.0.left.store(left, Ordering::Relaxed);
         left == 0
     }
@@ -483,7 +517,8 @@ impl Owner {
         self.lane.owner.0.left.store(FIRST, Ordering::Relaxed);
     }
 
-    /// Keeps the shard from now on, where it can: no other thread has it, it may be taken back, and the arena is not recorded.
+    /// Keeps the shard from now on, where it can: no other thread has it, it may be taken back, and
+    /// the arena is not recorded.
     #[cold]
     pub fn keep(&self) {
         if !fence::is_there() {
@@ -509,7 +544,8 @@ impl Owner {
         self.lane.is_kept()
     }
 
-    /// Has the call leave a seat to the handle, which has nothing, or gives the status where that is not `OK`.
+    /// Has the call leave a seat to the handle, which has nothing, or gives the status where that
+    /// is not `OK`.
     pub fn sit(&self, leave: impl FnOnce(*mut raw::ShareHandle) -> u32) -> Result<(), u32> {
         self.count_anew();
         match self.alone(leave) {
@@ -521,7 +557,8 @@ impl Owner {
 
 impl Drop for Owner {
     fn drop(&mut self) {
-        // SAFETY: the handle has what the library left there, or nothing, and nobody uses it after: no taker does while the door is open.
+        // SAFETY: the handle has what the library left there, or nothing, and nobody uses it after:
+        // no taker does while the door is open.
         self.alone(|handle| unsafe { raw::teurlaks_share_drop(handle) });
         // A session that was forgotten is over.
         self.note_session(inside::NO_THREAD);

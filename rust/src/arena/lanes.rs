@@ -6,13 +6,15 @@ use crate::raw;
 use std::iter;
 use std::mem;
 
-/// How many values a shard takes before it is the next one's turn: a seat of few values is so on one page, and one of many behind all locks.
+/// How many values a shard takes before it is the next one's turn: a seat of few values is so on
+/// one page, and one of many behind all locks.
 const RUN: u32 = 64;
 
 /// No place among the others.
 const NOT_HERE: u8 = u8::MAX;
 
-/// The shards of a seat. A value goes to the one whose turn it is, and what a key of another one asks goes by that, which may keep its shard.
+/// The shards of a seat. A value goes to the one whose turn it is, and what a key of another one
+/// asks goes by that, which may keep its shard.
 pub(super) struct Lanes {
     here: Owner,
     others: Vec<Owner>,
@@ -84,9 +86,14 @@ impl Lanes {
         &self.others
     }
 
-    /// Has each of them go back by this call, until it answers another status than `OK`, and leaves those but the last to `back`. Those that are left
-    /// then go on, and the last that is left is there in any case.
-    pub fn leave(&mut self, back: &mut Vec<Owner>, mut call: impl FnMut(*mut raw::ShareHandle) -> u32) -> u32 {
+    /// Has each of them go back by this call, until it answers another status than `OK`, and leaves
+    /// those but the last to `back`. Those that are left then go on, and the last that is left is
+    /// there in any case.
+    pub fn leave(
+        &mut self,
+        back: &mut Vec<Owner>,
+        mut call: impl FnMut(*mut raw::ShareHandle) -> u32,
+    ) -> u32 {
         while let Some(other) = self.others.pop() {
             let status = other.alone(&mut call);
             if status != raw::OK {
@@ -116,8 +123,9 @@ impl Lanes {
         self.taken >= RUN
     }
 
-    /// From now on it is the turn of the next one. This one may go on to keep its shard, for calls on what is there. What was left to others here is
-    /// handed over, since no further call counts for it.
+    /// From now on it is the turn of the next one. This one may go on to keep its shard, for calls
+    /// on what is there. What was left to others here is handed over, since no further call counts
+    /// for it.
     #[cold]
     pub fn turn(&mut self) {
         self.taken = 0;
@@ -128,7 +136,8 @@ impl Lanes {
         self.here
             .at_once(|handle| unsafe { raw::teurlaks_seat_hand_over(handle) });
         let next = &mut self.others[self.next];
-        self.places.swap(self.here.shard() as usize, next.shard() as usize);
+        self.places
+            .swap(self.here.shard() as usize, next.shard() as usize);
         mem::swap(&mut self.here, next);
         self.next = (self.next + 1) % self.others.len();
     }

@@ -8,7 +8,8 @@ use crate::refused::Refused;
 use std::error::Error;
 use std::fmt;
 
-/// The part of the agreement between what seats were told and what stands in the logs that fails first. They are looked at in this order.
+/// The part of the agreement between what seats were told and what stands in the logs that fails
+/// first. They are looked at in this order.
 #[derive(Clone, Copy, Debug, PartialEq, Eq, Hash)]
 pub enum AuditCause {
     /// A log is not legal, or a span has two.
@@ -39,16 +40,18 @@ impl fmt::Display for AuditCause {
 #[derive(Clone, Copy, Debug, PartialEq, Eq, Hash)]
 #[non_exhaustive]
 pub enum AuditError {
-    /// The receipts of the seats do not agree with the logs of the spans: the first part that fails.
+    /// The receipts of the seats do not agree with the logs of the spans: the first part that
+    /// fails.
     Fault(AuditCause),
-    /// A seat is not back with the arena ([`Arena::take_back`]). Nothing has changed. A seat that was dropped took its receipts along and
-    /// never comes back, so its arena is never audited.
+    /// A seat is not back with the arena ([`Arena::take_back`]). Nothing has changed. A seat that
+    /// was dropped took its receipts along and never comes back, so its arena is never audited.
     Unfinished,
     /// The run of the arena is not recorded ([`Arena::open_recorded`]). Nothing has changed.
     NotRecorded,
     /// Memory ran out: the audit may be asked for again.
     OutOfMemory,
-    /// A status that no contract allows here: the archive is not the one that this crate is written for.
+    /// A status that no contract allows here: the archive is not the one that this crate is written
+    /// for.
     Unknown(u32),
 }
 
@@ -72,11 +75,16 @@ impl fmt::Display for AuditError {
     fn fmt(&self, f: &mut fmt::Formatter<'_>) -> fmt::Result {
         match self {
             AuditError::Fault(cause) => write!(f, "audit: {cause}"),
-            AuditError::Unfinished => f.write_str("a seat is not back: have the arena take it back first"),
+            AuditError::Unfinished => {
+                f.write_str("a seat is not back: have the arena take it back first")
+            }
             AuditError::NotRecorded => f.write_str("the run is not recorded: open such an arena"),
             AuditError::OutOfMemory => f.write_str("out of memory: free some and try again"),
             AuditError::Unknown(status) => {
-                write!(f, "the archive answered {status}, which this crate does not know")
+                write!(
+                    f,
+                    "the archive answered {status}, which this crate does not know"
+                )
             }
         }
     }
@@ -86,9 +94,11 @@ impl Error for AuditError {}
 
 /// A seat that an arena did not take back, and why.
 pub struct NotTaken<T> {
-    /// The seat, as it was; or, where memory was refused for one of several shards, with those that were not taken back.
+    /// The seat, as it was; or, where memory was refused for one of several shards, with those that
+    /// were not taken back.
     pub seat: Seat<T>,
-    /// [`Refused::Config`] where it is of another arena, and [`Refused::OutOfMemory`] where memory was refused.
+    /// [`Refused::Config`] where it is of another arena, and [`Refused::OutOfMemory`] where memory
+    /// was refused.
     pub refused: Refused,
 }
 
@@ -109,12 +119,14 @@ impl<T> fmt::Debug for NotTaken<T> {
 impl<T> Error for NotTaken<T> {}
 
 impl<T: Copy> Arena<T> {
-    /// As [`Arena::open`], an arena whose run is recorded: each span keeps the log of its changes, and each seat a receipt of each call on a key,
-    /// until [`Arena::audit`] holds these against the logs. Arena and seats have the calls of any other; a [`Session`](super::Session) keeps no
-    /// shard, and a walk ([`Arena::keys`]) makes no receipt.
+    /// As [`Arena::open`], an arena whose run is recorded: each span keeps the log of its changes,
+    /// and each seat a receipt of each call on a key, until [`Arena::audit`] holds these against
+    /// the logs. Arena and seats have the calls of any other; a [`Session`](super::Session) keeps
+    /// no shard, and a walk ([`Arena::keys`]) makes no receipt.
     ///
-    /// A receipt takes 48 bytes and those of the value. Where memory is refused for one, a call that can answer so answers
-    /// [`Refused::OutOfMemory`], and the others (a look-up, a free) end the process, as [`std::alloc::handle_alloc_error`] does.
+    /// A receipt takes 48 bytes and those of the value. Where memory is refused for one, a call
+    /// that can answer so answers [`Refused::OutOfMemory`], and the others (a look-up, a free) end
+    /// the process, as [`std::alloc::handle_alloc_error`] does.
     ///
     /// ```
     /// use teurlaks::{Arena, Limits};
@@ -130,7 +142,7 @@ impl<T: Copy> Arena<T> {
     /// assert_eq!((here.get(key), here.free(mine)), (Some(7), true));
     /// arena.take_back(here)?;
     /// arena.take_back(there)?;
-    /// arena.audit()?; // what both were told is what one thread at a plain map could have been told
+    /// arena.audit()?; // both got replies that one thread could get from a plain map
     /// # Ok::<(), Box<dyn std::error::Error>>(())
     /// ```
     ///
@@ -149,8 +161,9 @@ impl<T: Copy> Arena<T> {
 }
 
 impl<T> Arena<T> {
-    /// Takes a seat back, to hand it out again ([`Arena::seat`]): mostly to another thread than the one that had it. What waits there for others
-    /// is handed over, and its shard, or all that it has, stays as it is, running or ended.
+    /// Takes a seat back, to hand it out again ([`Arena::seat`]): mostly to another thread than the
+    /// one that had it. What waits there for others is handed over, and its shard, or all that it
+    /// has, stays as it is, running or ended.
     ///
     /// # Errors
     ///
@@ -178,12 +191,14 @@ impl<T> Arena<T> {
         }
     }
 
-    /// Ends a recorded arena, whose seats are all back, and holds the receipts of all seats against the logs of all spans. `Ok` says that they
-    /// agree, which the library is proved to say only then: each span has one history, in which every call was answered as by a plain map that
-    /// one thread uses, and which respects the order of each seat's calls.
+    /// Ends a recorded arena, whose seats are all back, and holds the receipts of all seats against
+    /// the logs of all spans. `Ok` says that they agree, which the library is proved to say only
+    /// then: each span has one history, in which every call was answered as by a plain map that one
+    /// thread uses, and which respects the order of each seat's calls.
     ///
-    /// Once it has ended, the arena has no page and no seat, and its other calls are refused with [`Refused::Over`]; the audit is made anew
-    /// whenever it is asked for. A key that was left to a seat ([`Seat::free_later`]) and that it has not tended is not freed any more.
+    /// Once it has ended, the arena has no page and no seat, and its other calls are refused with
+    /// [`Refused::Over`]; the audit is made anew whenever it is asked for. A key that was left to a
+    /// seat ([`Seat::free_later`]) and that it has not tended is not freed any more.
     ///
     /// # Errors
     ///

@@ -19,23 +19,29 @@ use std::marker::PhantomData;
 use std::mem::MaybeUninit;
 use std::ptr::NonNull;
 
-/// A thread's place at an [`Arena`](super::Arena): it keeps values in the shard of the seat, or in several in turn, and reads, sets and frees those of
-/// all shards.
+/// A thread's place at an [`Arena`](super::Arena): it keeps values in the shard of the seat, or in
+/// several in turn, and reads, sets and frees those of all shards.
 ///
-/// It may go to another thread (`Send`), and is of one thread at a time (not `Sync`). A call that needs a lock which another thread has waits for
-/// it: it pauses, lets others run, and then sleeps for 20 microseconds at a time. Most calls hold a lock for well below a microsecond; a mark holds
-/// all of them for as long as it plans. While the steward waits for a lock, each call of a seat lets others run before it begins, up to 32 times.
-/// A call whose thread is in a session waits for no session ([`Seat::session`]).
+/// It may go to another thread (`Send`), and is of one thread at a time (not `Sync`). A call that
+/// needs a lock which another thread has waits for it: it pauses, lets others run, and then sleeps
+/// for 20 microseconds at a time. Most calls hold a lock for well below a microsecond; a mark holds
+/// all of them for as long as it plans. While the steward waits for a lock, each call of a seat
+/// lets others run before it begins, up to 32 times. A call whose thread is in a session waits for
+/// no session ([`Seat::session`]).
 ///
-/// A seat that has made 64 calls on its own shard keeps that until somebody else asks for it, so that calls on what is there take no lock. Whoever does
-/// ask takes the shard back, in some microseconds and also while the seat's thread sleeps; the seat then keeps it again after 4,096 calls, and after
-/// twice as many each time, up to 262,144. Nobody sees anything of that but by the clock. It needs a system that can fence all threads of a
-/// process, which is Linux on x86-64 (`membarrier`); elsewhere, and in a recorded arena, a seat keeps no shard, and each call takes the lock.
+/// A seat that has made 64 calls on its own shard keeps that until somebody else asks for it, so
+/// that calls on what is there take no lock. Whoever does ask takes the shard back, in some
+/// microseconds and also while the seat's thread sleeps; the seat then keeps it again after 4,096
+/// calls, and after twice as many each time, up to 262,144. Nobody sees anything of that but by the
+/// clock. It needs a system that can fence all threads of a process, which is Linux on x86-64
+/// (`membarrier`); elsewhere, and in a recorded arena, a seat keeps no shard, and each call takes
+/// the lock.
 ///
-/// A seat that its thread is done with goes back by [`Arena::take_back`](super::Arena::take_back). One that is dropped is not handed out again. Its
-/// shard takes no further value then, and its values stay, under keys that each other seat finds. Their pages stay too, until they are empty, so
-/// [`Seat::end`] leaves them to the pool before, from where they are folded onto others. What other threads have left to it ([`Seat::free_later`])
-/// nobody frees any more once it is gone.
+/// A seat that its thread is done with goes back by [`Arena::take_back`](super::Arena::take_back).
+/// One that is dropped is not handed out again. Its shard takes no further value then, and its
+/// values stay, under keys that each other seat finds. Their pages stay too, until they are empty,
+/// so [`Seat::end`] leaves them to the pool before, from where they are folded onto others. What
+/// other threads have left to it ([`Seat::free_later`]) nobody frees any more once it is gone.
 pub struct Seat<T> {
     lanes: Lanes,
     turn: Turn,
@@ -44,7 +50,8 @@ pub struct Seat<T> {
     // The round of the last help with a compaction, and how many groups it left to the pool.
     pub(super) helped: u32,
     pub(super) retired: usize,
-    // A value of any other type is none of this arena, whatever its lifetime: it is read at all seats.
+    // A value of any other type is none of this arena, whatever its lifetime: it is read at all
+    // seats.
     values: PhantomData<Cell<T>>,
 }
 
@@ -66,10 +73,11 @@ impl<T> Seat<T> {
     /// on and on each system. It waits until no other thread has the shard. The session is of this
     /// thread: it is not `Send`.
     ///
-    /// Whoever else wants the shard waits meanwhile: those who look up, set or free a value there, and the steward, whose mark, close, forgetting
-    /// and totals want all shards. So a session is for a burst of calls and is not kept while its thread does something else. A session lets go of
-    /// its shard for a moment where the steward waits, and where a call needs a lock that another thread has, so that two sessions never wait for
-    /// each other.
+    /// Whoever else wants the shard waits meanwhile: those who look up, set or free a value there,
+    /// and the steward, whose mark, close, forgetting and totals want all shards. So a session is
+    /// for a burst of calls and is not kept while its thread does something else. A session lets go
+    /// of its shard for a moment where the steward waits, and where a call needs a lock that
+    /// another thread has, so that two sessions never wait for each other.
     ///
     /// While a thread is in a session of an arena, it makes its calls on that arena by the session.
     /// Another one may need the shard of the session, and it does not wait for that:
@@ -88,8 +96,8 @@ impl<T> Seat<T> {
     /// A session that is forgotten ([`std::mem::forget`]) goes on until its seat is dropped, as one
     /// of the thread that began it.
     ///
-    /// In a recorded arena ([`Arena::open_recorded`](super::Arena::open_recorded)) a session keeps no shard, and makes its calls as the seat does,
-    /// each with its receipt.
+    /// In a recorded arena ([`Arena::open_recorded`](super::Arena::open_recorded)) a session keeps
+    /// no shard, and makes its calls as the seat does, each with its receipt.
     ///
     /// ```
     /// use teurlaks::arena::Arena;
@@ -126,13 +134,17 @@ impl<T> Seat<T> {
         self.inside.end();
     }
 
-    /// Has the lane whose turn it is begin a session, once no other thread has the shard. A recorded seat has none.
+    /// Has the lane whose turn it is begin a session, once no other thread has the shard. A
+    /// recorded seat has none.
     fn hold(&self) {
         let status = self.turn.at_seat(self.lanes.here(), Place::Here, |handle| {
             // SAFETY: the handle has a seat, and no other call runs on it.
             unsafe { raw::teurlaks_seat_session(handle) }
         });
-        debug_assert!(matches!(status, raw::OK | raw::CONFIG), "the handle has a seat");
+        debug_assert!(
+            matches!(status, raw::OK | raw::CONFIG),
+            "the handle has a seat"
+        );
         if status == raw::OK {
             self.begin_inside();
         }
@@ -154,7 +166,8 @@ impl<T> Seat<T> {
     }
 
     /// Makes a call on what is in the shard whose turn it is.
-    // Inlined, its answer stays in registers: a free with a put takes 40 instructions less of some 400.
+    // Inlined, its answer stays in registers: a free with a put takes 40 instructions less of some
+    // 400.
     #[allow(clippy::inline_always)]
     #[inline(always)]
     fn ask_here<A: Answer>(&self, call: impl FnMut(*mut raw::ShareHandle) -> A) -> A {
@@ -181,11 +194,17 @@ impl<T> Seat<T> {
         self.ask(lane, place, call)
     }
 
-    /// Makes a call that takes no lock where it is on the lane's own shard and the lane keeps that. There is no session.
+    /// Makes a call that takes no lock where it is on the lane's own shard and the lane keeps that.
+    /// There is no session.
     // Inlined, as `ask_here` is.
     #[allow(clippy::inline_always)]
     #[inline(always)]
-    fn ask<A: Answer>(&self, lane: &Owner, place: Place, mut call: impl FnMut(*mut raw::ShareHandle) -> A) -> A {
+    fn ask<A: Answer>(
+        &self,
+        lane: &Owner,
+        place: Place,
+        mut call: impl FnMut(*mut raw::ShareHandle) -> A,
+    ) -> A {
         if let Some(in_call) = lane.enter() {
             if in_call.keeps || !self.turn.steward_waits() {
                 let answer = call(in_call.handle());
@@ -206,7 +225,11 @@ impl<T> Seat<T> {
     // Inlined, as `ask_here` is.
     #[allow(clippy::inline_always)]
     #[inline(always)]
-    fn ask_in_session<A: Answer>(&self, place: Place, mut call: impl FnMut(*mut raw::ShareHandle) -> A) -> A {
+    fn ask_in_session<A: Answer>(
+        &self,
+        place: Place,
+        mut call: impl FnMut(*mut raw::ShareHandle) -> A,
+    ) -> A {
         let lane = self.lanes.here();
         if !self.turn.steward_waits() {
             let answer = call(lane.handle_in_session());
@@ -229,16 +252,27 @@ impl<T> Seat<T> {
 
     /// Makes a call for which the library ends the session, where there is one, and begins another.
     #[inline]
-    fn ask_seat<A: Answer>(&self, lane: &Owner, place: Place, call: impl FnMut(*mut raw::ShareHandle) -> A) -> A {
+    fn ask_seat<A: Answer>(
+        &self,
+        lane: &Owner,
+        place: Place,
+        call: impl FnMut(*mut raw::ShareHandle) -> A,
+    ) -> A {
         if self.inside.is_in_session() {
             return self.ask_paused(lane, place, call);
         }
         self.turn.at_seat(lane, place, call)
     }
 
-    /// Lets go of the shard, makes the call as a seat does, and goes on with the session, where there is one.
+    /// Lets go of the shard, makes the call as a seat does, and goes on with the session, where
+    /// there is one.
     #[cold]
-    fn ask_paused<A: Answer>(&self, lane: &Owner, place: Place, call: impl FnMut(*mut raw::ShareHandle) -> A) -> A {
+    fn ask_paused<A: Answer>(
+        &self,
+        lane: &Owner,
+        place: Place,
+        call: impl FnMut(*mut raw::ShareHandle) -> A,
+    ) -> A {
         let in_session = self.inside.is_in_session();
         if in_session {
             self.pause();
@@ -316,8 +350,8 @@ impl<T: Copy> Seat<T> {
     ///
     /// # Errors
     ///
-    /// - [`Refused::PagesSpent`]: no page of the shard, or of any that the seat has, has a usable slot, and it may have no further one, or has opened
-    ///   4,294,967,295 in its life;
+    /// - [`Refused::PagesSpent`]: no page of the shard, or of any that the seat has, has a usable
+    ///   slot, and it may have no further one, or has opened 4,294,967,295 in its life;
     /// - [`Refused::Ended`]: the shard has ended;
     /// - [`Refused::OutOfMemory`]: none of these holds, and memory was refused.
     // Inlined, as `ask` is.
@@ -346,7 +380,11 @@ impl<T: Copy> Seat<T> {
         let len = write_words(&mut words, value);
         let first = words.as_ptr().cast();
         // SAFETY: the handle has a seat, no other call runs on it, and so many words stand there.
-        was_put(self.ask_here(move |handle| unsafe { raw::teurlaks_seat_put_words(handle, first, len) }))
+        was_put(
+            self.ask_here(move |handle| unsafe {
+                raw::teurlaks_seat_put_words(handle, first, len)
+            }),
+        )
     }
 
     /// Keeps a value in the next of the seat's other shards that has room, whose turn it is then.
@@ -376,11 +414,13 @@ impl<T: Copy> Seat<T> {
         let got = self.ask_of(key, move |handle| unsafe {
             raw::teurlaks_seat_get_words(handle, key.raw(), first, MOST_WORDS)
         });
-        // SAFETY: the library is proved to find what was put or set, and at all seats only values of this type were.
+        // SAFETY: the library is proved to find what was put or set, and at all seats only values
+        // of this type were.
         was_live(got.status).then(|| unsafe { words.as_ptr().cast::<T>().read_unaligned() })
     }
 
-    /// Sets the key to the value in place, and says whether it did: where it is live. It takes no memory.
+    /// Sets the key to the value in place, and says whether it did: where it is live. It takes no
+    /// memory.
     ///
     /// # Errors
     ///
@@ -398,8 +438,8 @@ impl<T: Copy> Seat<T> {
         }))
     }
 
-    /// Frees the key, and gives its value, where it was live: that of a moment before, which another thread may have set since. Of threads that take
-    /// out one key, one gets a value.
+    /// Frees the key, and gives its value, where it was live: that of a moment before, which
+    /// another thread may have set since. Of threads that take out one key, one gets a value.
     ///
     /// # Panics
     ///
@@ -435,7 +475,8 @@ impl<T> Seat<T> {
         Keys::of_seat(self.lanes.here(), &self.turn)
     }
 
-    /// Frees the key, and says whether it was live. The key finds nothing from then on, at any seat. It takes no memory.
+    /// Frees the key, and says whether it was live. The key finds nothing from then on, at any
+    /// seat. It takes no memory.
     ///
     /// # Panics
     ///
@@ -443,20 +484,24 @@ impl<T> Seat<T> {
     #[inline]
     pub fn free(&mut self, key: Key) -> bool {
         // SAFETY: as in `insert_here`.
-        let status = self.ask_of(key, move |handle| unsafe { raw::teurlaks_seat_free(handle, key.raw()) });
+        let status = self.ask_of(key, move |handle| unsafe {
+            raw::teurlaks_seat_free(handle, key.raw())
+        });
         was_live(status)
     }
 
-    /// Leaves the key to the seat of the shard that gave it out, which frees it when it next tends ([`Seat::tend`]); until then it is live. It
-    /// takes no lock of the arena and no memory, and waits for nobody but one who is just taking this seat's shard back.
+    /// Leaves the key to the seat of the shard that gave it out, which frees it when it next tends
+    /// ([`Seat::tend`]); until then it is live. It takes no lock of the arena and no memory, and
+    /// waits for nobody but one who is just taking this seat's shard back.
     ///
-    /// Keys go in blocks: one is seen there at the latest with the 64th further call of this seat, with a [`Seat::hand_over`], or when this seat
-    /// tends, ends or is dropped.
+    /// Keys go in blocks: one is seen there at the latest with the 64th further call of this seat,
+    /// with a [`Seat::hand_over`], or when this seat tends, ends or is dropped.
     ///
     /// # Errors
     ///
-    /// - [`Refused::RingFull`]: the ring to that seat took none, and the key is still the caller's, who may free it or try again once that seat has
-    ///   tended. What was left before is handed over.
+    /// - [`Refused::RingFull`]: the ring to that seat took none, and the key is still the caller's,
+    ///   who may free it or try again once that seat has tended. What was left before is handed
+    ///   over.
     /// - [`Refused::Config`]: the arena has no shard of this number.
     #[inline]
     pub fn free_later(&mut self, key: Key) -> Result<(), Refused> {
@@ -469,7 +514,8 @@ impl<T> Seat<T> {
         }
     }
 
-    /// Hands over the keys that were left to others and wait for their block to be full. It takes no lock and no memory.
+    /// Hands over the keys that were left to others and wait for their block to be full. It takes
+    /// no lock and no memory.
     pub fn hand_over(&mut self) {
         // SAFETY: as in `insert_here`.
         let hand_over = |handle| unsafe { raw::teurlaks_seat_hand_over(handle) };
@@ -477,8 +523,9 @@ impl<T> Seat<T> {
         debug_assert_eq!(status, raw::OK, "the handle has a seat");
     }
 
-    /// Hands over as [`Seat::hand_over`] does, takes the keys that others have left to the seat's shards, as many as are seen, frees each, and says
-    /// how many there were, with those that were not live any more.
+    /// Hands over as [`Seat::hand_over`] does, takes the keys that others have left to the seat's
+    /// shards, as many as are seen, frees each, and says how many there were, with those that were
+    /// not live any more.
     ///
     /// # Errors
     ///
@@ -501,9 +548,11 @@ impl<T> Seat<T> {
         Ok(taken)
     }
 
-    /// Ends the seat's shard: its groups go to the pool, with their pages, from where they are folded or adopted, and it takes no value until it
-    /// [begins](Seat::begin) again. All keys stay what they are, and the seat goes on to read, set and free. Of several shards all end or none:
-    /// where one is refused, the groups of those before it are in the pool, and all take values.
+    /// Ends the seat's shard: its groups go to the pool, with their pages, from where they are
+    /// folded or adopted, and it takes no value until it [begins](Seat::begin) again. All keys stay
+    /// what they are, and the seat goes on to read, set and free. Of several shards all end or
+    /// none: where one is refused, the groups of those before it are in the pool, and all take
+    /// values.
     ///
     /// # Errors
     ///
@@ -513,7 +562,9 @@ impl<T> Seat<T> {
     pub fn end(&mut self) -> Result<(), Refused> {
         for (ended, lane) in self.lanes.all().enumerate() {
             // SAFETY: as in `insert_here`.
-            let refused = done(self.ask_seat(lane, Place::Here, |handle| unsafe { raw::teurlaks_seat_end(handle) }));
+            let refused = done(self.ask_seat(lane, Place::Here, |handle| unsafe {
+                raw::teurlaks_seat_end(handle)
+            }));
             if refused.is_err() {
                 self.begin_first(ended)?;
                 return refused;
@@ -522,8 +573,9 @@ impl<T> Seat<T> {
         Ok(())
     }
 
-    /// Lets the seat's shard run again after its end, mostly in another thread, which the seat was sent to: it takes values as before, and
-    /// no key that it gives out was given out before. What others left to the seat meanwhile waits for [`Seat::tend`]. It takes no memory.
+    /// Lets the seat's shard run again after its end, mostly in another thread, which the seat was
+    /// sent to: it takes values as before, and no key that it gives out was given out before. What
+    /// others left to the seat meanwhile waits for [`Seat::tend`]. It takes no memory.
     ///
     /// # Errors
     ///
@@ -536,12 +588,15 @@ impl<T> Seat<T> {
     fn begin_first(&self, count: usize) -> Result<(), Refused> {
         self.lanes.all().take(count).try_for_each(|lane| {
             // SAFETY: as in `insert_here`.
-            done(self.ask_seat(lane, Place::Here, |handle| unsafe { raw::teurlaks_seat_begin(handle) }))
+            done(self.ask_seat(lane, Place::Here, |handle| unsafe {
+                raw::teurlaks_seat_begin(handle)
+            }))
         })
     }
 
-    /// Moves up to `most` groups of the seat's shard to the pool, with their pages, and says how many went: those with the fewest live keys, of
-    /// those that have one. The shard goes on. Of several shards each moves up to its part of that number, and a refusal of one is told where
+    /// Moves up to `most` groups of the seat's shard to the pool, with their pages, and says how
+    /// many went: those with the fewest live keys, of those that have one. The shard goes on. Of
+    /// several shards each moves up to its part of that number, and a refusal of one is told where
     /// none has moved any before it.
     ///
     /// # Errors
@@ -567,20 +622,22 @@ impl<T> Seat<T> {
         Ok(gone)
     }
 
-    /// Gives back the pages of the seat's shard, or of all that it has, on which nothing is live, and says how many went. A group of the open plan
-    /// keeps its page. It takes no memory.
+    /// Gives back the pages of the seat's shard, or of all that it has, on which nothing is live,
+    /// and says how many went. A group of the open plan keeps its page. It takes no memory.
     pub fn trim(&mut self) -> usize {
         let trim = |lane: &Owner| {
             // SAFETY: as in `insert_here`.
-            let trimmed = self.ask_seat(lane, Place::Here, |handle| unsafe { raw::teurlaks_seat_trim(handle) });
+            let trimmed = self.ask_seat(lane, Place::Here, |handle| unsafe {
+                raw::teurlaks_seat_trim(handle)
+            });
             debug_assert_eq!(trimmed.status, raw::OK, "a trim is not refused");
             trimmed.count
         };
         self.lanes.all().map(trim).sum()
     }
 
-    /// Moves the pool's group of lowest head that has a page to the seat's shard, or to the next of several that may have a further page, and
-    /// gives its name.
+    /// Moves the pool's group of lowest head that has a page to the seat's shard, or to the next of
+    /// several that may have a further page, and gives its name.
     ///
     /// # Errors
     ///
@@ -610,7 +667,8 @@ impl<T> fmt::Debug for Seat<T> {
     }
 }
 
-/// A seat of values with a longer life is none of values with a shorter one: else what is kept at one seat would be read at another after its end.
+/// A seat of values with a longer life is none of values with a shorter one: else what is kept at
+/// one seat would be read at another after its end.
 ///
 /// ```compile_fail
 /// use teurlaks::arena::Seat;

@@ -10,12 +10,14 @@ use std::marker::PhantomData;
 /// says what it is for, who waits for it, and which calls its thread can't make meanwhile. A shard
 /// that the seat keeps of itself is taken back by whoever asks for it; that of a session is not.
 ///
-/// Its calls are those of the seat. A call on what is in the shard takes no lock; one on what is elsewhere tries the lock of that place, and where
-/// another thread has it the session lets go of its own shard until the call is made, as it does for [`Session::tend`], [`Session::end`],
+/// Its calls are those of the seat. A call on what is in the shard takes no lock; one on what is
+/// elsewhere tries the lock of that place, and where another thread has it the session lets go of
+/// its own shard until the call is made, as it does for [`Session::tend`], [`Session::end`],
 /// [`Session::begin`], [`Session::retire`], [`Session::trim`] and [`Session::adopt`].
 ///
-/// Of the calls on what is in the shard it is proved that each does there exactly what the shard's own call does: an insert keeps the value under
-/// a key that was never given out, and a look-up finds what the shard shows of the key.
+/// Of the calls on what is in the shard it is proved that each does there exactly what the shard's
+/// own call does: an insert keeps the value under a key that was never given out, and a look-up
+/// finds what the shard shows of the key.
 ///
 /// A session is of the thread that began it, which other calls of that thread rest on, so it is not
 /// `Send`:

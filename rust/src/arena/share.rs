@@ -11,8 +11,9 @@ use std::{hint, mem, ptr, thread};
 
 /// A handle to the steward of an arena.
 pub(super) struct Share {
-    // SAFETY: only this module has it, so it is what the library left there until `drop`. A call through `&self` writes to it, and none runs
-    // beside another, since the type is not `Sync` and no call calls back.
+    // SAFETY: only this module has it, so it is what the library left there until `drop`. A call
+    // through `&self` writes to it, and none runs beside another, since the type is not `Sync` and
+    // no call calls back.
     handle: UnsafeCell<raw::ShareHandle>,
 }
 
@@ -20,7 +21,9 @@ impl Share {
     /// A handle of nothing, which is dropped as any other.
     fn nothing() -> Share {
         Share {
-            handle: UnsafeCell::new(raw::ShareHandle { at: ptr::null_mut() }),
+            handle: UnsafeCell::new(raw::ShareHandle {
+                at: ptr::null_mut(),
+            }),
         }
     }
 
@@ -45,13 +48,14 @@ impl Share {
     }
 }
 
-// SAFETY: that a handle may go to another thread is proved in `crates/teurlaks_c` (`unsafe impl Send for ShareHandle`, with its proof), and
-// moves of the share order the calls.
+// SAFETY: that a handle may go to another thread is proved in `crates/teurlaks_c` (`unsafe impl
+// Send for ShareHandle`, with its proof), and moves of the share order the calls.
 unsafe impl Send for Share {}
 
 impl Drop for Share {
     fn drop(&mut self) {
-        // SAFETY: the handle has what the library left there, or nothing, and nothing uses it after.
+        // SAFETY: the handle has what the library left there, or nothing, and nothing uses it
+        // after.
         unsafe { raw::teurlaks_share_drop(self.handle.get()) }
     }
 }
@@ -115,10 +119,11 @@ impl Place {
     }
 }
 
-/// What the steward of an arena and its seats tell each other: whether the steward waits, and which lanes keep their shards.
+/// What the steward of an arena and its seats tell each other: whether the steward waits, and which
+/// lanes keep their shards.
 ///
-/// The steward needs all locks at once, which threads that call without a pause hardly ever leave, so these let it go first. It is a hint: who
-/// finds what rests on the locks alone.
+/// The steward needs all locks at once, which threads that call without a pause hardly ever leave,
+/// so these let it go first. It is a hint: who finds what rests on the locks alone.
 #[derive(Clone)]
 pub(super) struct Turn {
     shared: Arc<Shared>,
@@ -168,8 +173,9 @@ impl Turn {
         Arc::ptr_eq(&self.shared, &other.shared)
     }
 
-    /// Makes the call of a seat that keeps no shard, again and again while another thread has a lock that it needs: it has changed nothing then.
-    /// It is `BUSY` after all when it would wait for a session, and its thread is in one.
+    /// Makes the call of a seat that keeps no shard, again and again while another thread has a
+    /// lock that it needs: it has changed nothing then. It is `BUSY` after all when it would wait
+    /// for a session, and its thread is in one.
     #[inline]
     pub fn at_seat<A: Answer>(
         &self,
@@ -238,7 +244,11 @@ impl Turn {
 
     /// Leaves the steward with its open plan to whoever next leaves a session.
     pub fn leave_plan(&self, steward: Share) {
-        *self.shared.left.lock().unwrap_or_else(PoisonError::into_inner) = Some(steward);
+        *self
+            .shared
+            .left
+            .lock()
+            .unwrap_or_else(PoisonError::into_inner) = Some(steward);
         self.shared.has_left.store(true, Ordering::Relaxed);
     }
 
@@ -259,7 +269,8 @@ impl Turn {
         };
         if let Some(steward) = left.take() {
             // SAFETY: the handle has a steward, and who has the lock alone calls it.
-            let status = self.at_steward(|| unsafe { raw::teurlaks_steward_close(steward.handle()) });
+            let status =
+                self.at_steward(|| unsafe { raw::teurlaks_steward_close(steward.handle()) });
             if status == raw::BUSY {
                 *left = Some(steward);
             } else {
@@ -268,7 +279,8 @@ impl Turn {
         }
     }
 
-    /// Lets others run while the steward waits, for a while at most: it may wait for a processor too.
+    /// Lets others run while the steward waits, for a while at most: it may wait for a processor
+    /// too.
     #[cold]
     fn let_steward(&self) {
         for _ in 0..MOST_YIELDS {
@@ -279,7 +291,8 @@ impl Turn {
         }
     }
 
-    /// Makes the call that met a lock until it has it. What lanes keep is taken back before: a lock that is met may be that of a kept shard.
+    /// Makes the call that met a lock until it has it. What lanes keep is taken back before: a lock
+    /// that is met may be that of a kept shard.
     #[cold]
     fn insist<A: Answer>(&self, by: Taker, place: Place, mut call: impl FnMut() -> A) -> A {
         let mut patience = Patience::new();
@@ -311,13 +324,16 @@ impl Turn {
         is_own && patience.is_worn() || patience.is_spent() && lanes.any_in_session()
     }
 
-    /// Takes back what lanes keep of what the call may need, and says whether there was any. Where the key's shard is not kept, mostly a thread has
-    /// its lock for a moment: that what the key names is in another lane's shard is thought of later.
+    /// Takes back what lanes keep of what the call may need, and says whether there was any. Where
+    /// the key's shard is not kept, mostly a thread has its lock for a moment: that what the key
+    /// names is in another lane's shard is thought of later.
     fn take_back(&self, by: Taker, place: Place, patience: &Patience) -> bool {
         let lanes = &self.shared.lanes;
         match place {
             Place::Here => false,
-            Place::Named(shard) => lanes.take_back(by, shard) || patience.is_tried() && lanes.take_all_back(by),
+            Place::Named(shard) => {
+                lanes.take_back(by, shard) || patience.is_tried() && lanes.take_all_back(by)
+            }
             Place::Anywhere => lanes.take_all_back(by),
         }
     }
@@ -346,7 +362,8 @@ const MOST_WAITS: u32 = 32;
 const MOST_SLEEPS: u32 = 1 << 9;
 const LONGEST: Duration = Duration::from_millis(300);
 
-/// Waits longer and longer. The library itself looks at a lock 50 times before it answers that another thread has it.
+/// Waits longer and longer. The library itself looks at a lock 50 times before it answers that
+/// another thread has it.
 struct Patience {
     times: u32,
     // When it first slept.
@@ -355,7 +372,10 @@ struct Patience {
 
 impl Patience {
     fn new() -> Patience {
-        Patience { times: 0, asleep: None }
+        Patience {
+            times: 0,
+            asleep: None,
+        }
     }
 
     /// Whether it has waited for longer than most locks are held.

@@ -53,14 +53,18 @@ impl Numbers {
 
     /// A steward of shards of these numbers.
     pub fn open(self) -> Result<Standing, Refused> {
-        let Limits { pages, generations, .. } = self.limits;
+        let Limits {
+            pages, generations, ..
+        } = self.limits;
         let open = if self.is_recorded {
             raw::teurlaks_arena_open_recorded
         } else {
             raw::teurlaks_arena_open
         };
         // SAFETY: the handle has nothing yet.
-        let share = Share::new(|out| unsafe { open(out, self.shards(), pages, self.ring_keys, generations) });
+        let share = Share::new(|out| unsafe {
+            open(out, self.shards(), pages, self.ring_keys, generations)
+        });
         let share = share.map_err(Refused::of)?;
         let (turn, vacant) = Turn::new(self.shards());
         Ok(Standing {

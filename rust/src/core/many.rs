@@ -15,12 +15,13 @@ const NOTHING: GetReply = GetReply {
 };
 
 impl Core {
-    /// Keeps an object of one word for each of the words in the shard, in their order, and appends their keys in the same order: as so
-    /// many calls of [`Core::insert`] do, in less time.
+    /// Keeps an object of one word for each of the words in the shard, in their order, and appends
+    /// their keys in the same order: as so many calls of [`Core::insert`] do, in less time.
     ///
     /// # Errors
     ///
-    /// As of [`Core::insert`], for the first word that is refused: those before it are kept, and their keys appended.
+    /// As of [`Core::insert`], for the first word that is refused: those before it are kept, and
+    /// their keys appended.
     ///
     /// ```
     /// # use teurlaks::{Core, Limits};
@@ -32,7 +33,12 @@ impl Core {
     /// assert_eq!(core.free_many(&keys), 2);
     /// # Ok::<(), teurlaks::Refused>(())
     /// ```
-    pub fn insert_many(&mut self, shard: u32, words: &[u128], keys: &mut Vec<Key>) -> Result<(), Refused> {
+    pub fn insert_many(
+        &mut self,
+        shard: u32,
+        words: &[u128],
+        keys: &mut Vec<Key>,
+    ) -> Result<(), Refused> {
         if keys.try_reserve(words.len()).is_err() {
             return Err(Refused::OutOfMemory);
         }
@@ -48,19 +54,31 @@ impl Core {
         Ok(())
     }
 
-    /// Keeps objects for a block of words until one is refused, and gives how many were kept, and the
-    /// status; or says that the shard may open no further page.
-    fn insert_some(&mut self, shard: u32, words: &[u128], keys: &mut Vec<Key>) -> Result<(usize, u32), Refused> {
+    /// Keeps objects for a block of words until one is refused, and gives how many were kept, and
+    /// the status; or says that the shard may open no further page.
+    fn insert_some(
+        &mut self,
+        shard: u32,
+        words: &[u128],
+        keys: &mut Vec<Key>,
+    ) -> Result<(usize, u32), Refused> {
         let mut room = [NO_KEY; BLOCK];
         let (first, len) = (words.as_ptr().cast(), words.len());
-        // SAFETY: no other call runs, a word is its two halves, the lower one first, and so many words and places are there.
-        let reply = unsafe { raw::teurlaks_put_many(&mut self.handle, shard, first, len, room.as_mut_ptr(), len) };
+        // SAFETY: no other call runs, a word is its two halves, the lower one first, and so many
+        // words and places are there.
+        let reply = unsafe {
+            raw::teurlaks_put_many(&mut self.handle, shard, first, len, room.as_mut_ptr(), len)
+        };
         self.live += reply.count;
         if reply.count > 0 {
             self.least_words = 1;
         }
         let mut refused = None;
-        for key in room.iter().take(reply.count).filter_map(|key| Key::of(*key)) {
+        for key in room
+            .iter()
+            .take(reply.count)
+            .filter_map(|key| Key::of(*key))
+        {
             match self.note_put(key) {
                 Ok(()) => keys.push(key),
                 Err(spent) => refused = Some(spent),
@@ -69,14 +87,16 @@ impl Core {
         refused.map_or(Ok((reply.count, reply.status)), Err)
     }
 
-    /// Frees each of the keys that is live, in their order, and counts these: as so many calls of [`Core::free`] do. It takes no
-    /// memory.
+    /// Frees each of the keys that is live, in their order, and counts these: as so many calls of
+    /// [`Core::free`] do. It takes no memory.
     pub fn free_many(&mut self, keys: &[Key]) -> usize {
         let mut count = 0;
         for keys in keys.chunks(BLOCK) {
             let room = raws(keys);
             // SAFETY: as in `insert_many`.
-            count += unsafe { raw::teurlaks_free_many(&mut self.handle, room.as_ptr(), keys.len()).count };
+            count += unsafe {
+                raw::teurlaks_free_many(&mut self.handle, room.as_ptr(), keys.len()).count
+            };
         }
         self.live -= count;
         count
@@ -88,13 +108,19 @@ impl Core {
             let room = raws(keys);
             let mut replies = [NOTHING; BLOCK];
             let len = keys.len();
-            // SAFETY: no call that writes runs beside this one, and so many keys and places are there.
-            unsafe { raw::teurlaks_get_many(&self.handle, room.as_ptr(), len, replies.as_mut_ptr(), len) };
+            // SAFETY: no call that writes runs beside this one, and so many keys and places are
+            // there.
+            unsafe {
+                raw::teurlaks_get_many(&self.handle, room.as_ptr(), len, replies.as_mut_ptr(), len)
+            };
             let mut place = 0;
             iter::from_fn(move || {
                 let GetReply { value, status } = (place < len).then(|| replies[place])?;
                 place += 1;
-                Some((status == raw::OK).then(|| u128::from(value.high) << 64 | u128::from(value.low)))
+                Some(
+                    (status == raw::OK)
+                        .then(|| u128::from(value.high) << 64 | u128::from(value.low)),
+                )
             })
         })
     }

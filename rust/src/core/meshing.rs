@@ -1,4 +1,5 @@
-//! What a core does with whole groups: ends, begins, retirements, trims and adoptions, marks and their steps.
+//! What a core does with whole groups: ends, begins, retirements, trims and adoptions, marks and
+//! their steps.
 
 use super::{Core, Plan};
 use crate::compact::{Advanced, Compacted};
@@ -24,8 +25,8 @@ pub struct Marked {
 }
 
 impl Marked {
-    /// Whether another mark is worth its time: this one may not have seen all groups, and folds at least a sixteenth of those that it saw of the
-    /// pool, and at least one.
+    /// Whether another mark is worth its time: this one may not have seen all groups, and folds at
+    /// least a sixteenth of those that it saw of the pool, and at least one.
     pub(crate) fn wants_another(&self) -> bool {
         let sees_all = self.abandoned.max(self.owned) < MOST_GROUPS;
         !sees_all && self.folds > 0 && self.folds * 16 >= self.abandoned
@@ -70,8 +71,9 @@ impl Core {
         Ok(())
     }
 
-    /// Lets a shard that has ended run again, for a new thread: it takes objects and groups as before. All keys stay what they are, and
-    /// none that it gives out was given out before. It takes no memory.
+    /// Lets a shard that has ended run again, for a new thread: it takes objects and groups as
+    /// before. All keys stay what they are, and none that it gives out was given out before. It
+    /// takes no memory.
     ///
     /// # Errors
     ///
@@ -100,9 +102,11 @@ impl Core {
         Ok(())
     }
 
-    /// Moves up to `most` groups of a shard to the pool, with their pages, and says how many went: those with the fewest live keys, of
-    /// those that have one. The shard goes on, so a program of one shard folds too: the pool's pages are folded onto those that stay.
-    /// Fewer than `most` go only where no group with a live key is left. Groups with no live key stay: [`Core::trim`] gives their pages back.
+    /// Moves up to `most` groups of a shard to the pool, with their pages, and says how many went:
+    /// those with the fewest live keys, of those that have one. The shard goes on, so a program of
+    /// one shard folds too: the pool's pages are folded onto those that stay. Fewer than `most` go
+    /// only where no group with a live key is left. Groups with no live key stay: [`Core::trim`]
+    /// gives their pages back.
     ///
     /// # Errors
     ///
@@ -130,13 +134,15 @@ impl Core {
             return self.has_shard(shard).map(|()| 0);
         }
         // SAFETY: as in `insert`.
-        let raw::RetireReply { status, count } = unsafe { raw::teurlaks_retire(&mut self.handle, shard, most) };
+        let raw::RetireReply { status, count } =
+            unsafe { raw::teurlaks_retire(&mut self.handle, shard, most) };
         self.pool |= count > 0;
         done(status).map(|()| count)
     }
 
-    /// Gives back the pages of a shard's groups in which nothing is live, and says how many went. The groups stay, and with them the
-    /// generations of their keys: a later insert takes a slot of one again, on a new page. A group of the open plan keeps its page.
+    /// Gives back the pages of a shard's groups in which nothing is live, and says how many went.
+    /// The groups stay, and with them the generations of their keys: a later insert takes a slot of
+    /// one again, on a new page. A group of the open plan keeps its page.
     ///
     /// # Errors
     ///
@@ -159,15 +165,18 @@ impl Core {
             return self.has_shard(shard).map(|()| 0);
         }
         // SAFETY: as in `insert`.
-        let raw::TrimReply { status, count } = unsafe { raw::teurlaks_trim(&mut self.handle, shard) };
+        let raw::TrimReply { status, count } =
+            unsafe { raw::teurlaks_trim(&mut self.handle, shard) };
         done(status)?;
         self.emptied |= u64::from(count > 0) << shard;
         Ok(count)
     }
 
-    /// Forgets the pages whose keys are all gone and that were folded onto others, or left to the pool, with the generations that are kept
-    /// of them, and says how many. A page that its shard has opened stays known there, since it takes values again. Nothing else changes: keys
-    /// of what was forgotten find nothing, as before, and are never given out again. [`Core::compact`] does so at its end.
+    /// Forgets the pages whose keys are all gone and that were folded onto others, or left to the
+    /// pool, with the generations that are kept of them, and says how many. A page that its shard
+    /// has opened stays known there, since it takes values again. Nothing else changes: keys of
+    /// what was forgotten find nothing, as before, and are never given out again. [`Core::compact`]
+    /// does so at its end.
     ///
     /// # Errors
     ///
@@ -176,7 +185,8 @@ impl Core {
     /// ```
     /// # use teurlaks::{Core, Limits};
     /// let mut core = Core::new(Limits { shards: 2, ..Limits::default() })?;
-    /// let keys: Vec<_> = (0..512).map(|i| core.insert(i % 2, i.into())).collect::<Result<_, _>>()?;
+    /// let keys = (0..512).map(|i| core.insert(i % 2, i.into()));
+    /// let keys = keys.collect::<Result<Vec<_>, _>>()?;
     /// for (i, key) in keys.iter().enumerate().filter(|(i, _)| i % 23 != 0) {
     ///     core.free(*key);
     /// }
@@ -224,7 +234,8 @@ impl Core {
         done(adopted.status).map(|()| Group(adopted.head))
     }
 
-    /// Plans as many folds as can be, and opens the plan. Until it is closed, the groups that it folds onto take no object.
+    /// Plans as many folds as can be, and opens the plan. Until it is closed, the groups that it
+    /// folds onto take no object.
     ///
     /// # Errors
     ///
@@ -239,8 +250,9 @@ impl Core {
         Ok(marked)
     }
 
-    /// Marks as [`Core::mark`] does, but sees of each side the 4,096 groups with the fewest live keys, or all where there are no more. So
-    /// its plan and its certificate are of what it saw, and a further mark may find more.
+    /// Marks as [`Core::mark`] does, but sees of each side the 4,096 groups with the fewest live
+    /// keys, or all where there are no more. So its plan and its certificate are of what it saw,
+    /// and a further mark may find more.
     ///
     /// # Errors
     ///
@@ -296,13 +308,15 @@ impl Core {
         closed
     }
 
-    /// Marks, takes all steps and closes, and says how many pages came back. The mark is that of [`Core::mark_some`]; where it may not have
-    /// seen all groups, and folds at least a sixteenth of those that it saw of the pool, there is another.
+    /// Marks, takes all steps and closes, and says how many pages came back. The mark is that of
+    /// [`Core::mark_some`]; where it may not have seen all groups, and folds at least a sixteenth
+    /// of those that it saw of the pool, there is another.
     ///
     /// # Errors
     ///
     /// - [`Refused::PlanOpen`]: a plan is open;
-    /// - [`Refused::OutOfMemory`]: memory was refused to a mark or to a step; what was folded before stays so, and no plan is open.
+    /// - [`Refused::OutOfMemory`]: memory was refused to a mark or to a step; what was folded
+    ///   before stays so, and no plan is open.
     pub fn mesh(&mut self) -> Result<usize, Refused> {
         self.mesh_with(Core::step)
     }
@@ -338,7 +352,8 @@ impl Core {
     /// ```
     /// # use teurlaks::{Core, Limits};
     /// let mut core = Core::new(Limits { shards: 2, ..Limits::default() })?;
-    /// let keys: Vec<_> = (0..1024).map(|i| core.insert(i % 2, i.into())).collect::<Result<_, _>>()?;
+    /// let keys = (0..1024).map(|i| core.insert(i % 2, i.into()));
+    /// let keys = keys.collect::<Result<Vec<_>, _>>()?;
     /// for (i, key) in keys.iter().enumerate().filter(|(i, _)| i % 23 != 0) {
     ///     core.free(*key);
     /// }
@@ -406,8 +421,11 @@ impl Core {
             return Ok(Compacted::default());
         }
         // SAFETY: as in `insert`.
-        let raw::CompactReply { status, more, pages } =
-            unsafe { raw::teurlaks_compact_within(&mut self.handle, budget) };
+        let raw::CompactReply {
+            status,
+            more,
+            pages,
+        } = unsafe { raw::teurlaks_compact_within(&mut self.handle, budget) };
         self.gone += pages;
         self.counted(done(status).map(|()| more == 1))
     }
@@ -447,7 +465,11 @@ impl Core {
     }
 
     /// Ends a part that began with so many pages, after which there is more to do or not.
-    pub(crate) fn end_part(&mut self, before: usize, more: Result<bool, Refused>) -> Result<Compacted, Refused> {
+    pub(crate) fn end_part(
+        &mut self,
+        before: usize,
+        more: Result<bool, Refused>,
+    ) -> Result<Compacted, Refused> {
         self.gone += before - self.pages();
         self.counted(more)
     }
@@ -503,7 +525,9 @@ impl Core {
     /// Trims each shard, and says how many pages went.
     pub(crate) fn trim_all(&mut self) -> usize {
         // A shard that there is may be trimmed.
-        (0..self.shards()).filter_map(|shard| self.trim(shard).ok()).sum()
+        (0..self.shards())
+            .filter_map(|shard| self.trim(shard).ok())
+            .sum()
     }
 
     /// As `mesh`, by that step.
@@ -523,13 +547,16 @@ impl Core {
         }
     }
 
-    fn take_steps(&mut self, step: &mut impl FnMut(&mut Core) -> Result<Stepped, Refused>) -> Result<(), Refused> {
+    fn take_steps(
+        &mut self,
+        step: &mut impl FnMut(&mut Core) -> Result<Stepped, Refused>,
+    ) -> Result<(), Refused> {
         while step(self)? != Stepped::NoPairLeft {}
         Ok(())
     }
 
-    /// The text of the last mark's certificate, which shows that no plan has more folds, or `None` before the first mark. `meshrun check`
-    /// checks such a text without trusting who made it.
+    /// The text of the last mark's certificate, which shows that no plan has more folds, or `None`
+    /// before the first mark. `meshrun check` checks such a text without trusting who made it.
     ///
     /// # Errors
     ///
@@ -543,7 +570,8 @@ impl Core {
     }
 }
 
-/// The text that the call writes where there is room for so many bytes; it tells how many there are where there is not.
+/// The text that the call writes where there is room for so many bytes; it tells how many there are
+/// where there is not.
 pub(crate) fn certificate_text(
     mut write: impl FnMut(*mut u8, usize) -> raw::CertificateReply,
 ) -> Result<Option<String>, Refused> {
@@ -554,7 +582,8 @@ pub(crate) fn certificate_text(
             raw::OK => return Ok(Some(String::from_utf8_lossy(&text).into_owned())),
             raw::NONE => return Ok(None),
             raw::TOO_SMALL => {
-                text.try_reserve_exact(told.len).map_err(|_| Refused::OutOfMemory)?;
+                text.try_reserve_exact(told.len)
+                    .map_err(|_| Refused::OutOfMemory)?;
                 text.resize(told.len, 0);
             }
             other => return Err(Refused::of(other)),
@@ -602,7 +631,8 @@ pub(crate) fn done(status: u32) -> Result<(), Refused> {
     }
 }
 
-/// The calls of a type with a core that are the core's and do not move a value: its ends, begins, retirements and trims, and its marks.
+/// The calls of a type with a core that are the core's and do not move a value: its ends, begins,
+/// retirements and trims, and its marks.
 macro_rules! letting_go {
     () => {
         /// The numbers with which it was made.
@@ -635,7 +665,8 @@ macro_rules! letting_go {
             self.core.begin(shard)
         }
 
-        /// Moves the sparsest groups of a shard to the pool, as [`Core::retire`](crate::Core::retire), whose shard goes on.
+        /// Moves the sparsest groups of a shard to the pool, as
+        /// [`Core::retire`](crate::Core::retire), whose shard goes on.
         ///
         /// # Errors
         ///
@@ -644,11 +675,13 @@ macro_rules! letting_go {
             self.core.retire(shard, most)
         }
 
-        /// Gives back the pages of a shard on which nothing is live, as [`Core::trim`](crate::Core::trim).
+        /// Gives back the pages of a shard on which nothing is live, as
+        /// [`Core::trim`](crate::Core::trim).
         ///
         /// # Errors
         ///
-        /// [`Refused::Config`](crate::Refused::Config) alone, where there is no such shard. It takes no memory.
+        /// [`Refused::Config`](crate::Refused::Config) alone, where there is no such shard. It
+        /// takes no memory.
         pub fn trim(&mut self, shard: u32) -> Result<usize, crate::Refused> {
             self.core.trim(shard)
         }
@@ -687,7 +720,8 @@ macro_rules! letting_go {
 }
 pub(crate) use letting_go;
 
-/// The other calls of a type whose values are all in its core, and which asks the shards for room from its first one on.
+/// The other calls of a type whose values are all in its core, and which asks the shards for room
+/// from its first one on.
 macro_rules! meshing {
     () => {
         crate::core::letting_go!();
@@ -702,7 +736,8 @@ macro_rules! meshing {
         ///
         /// # Errors
         ///
-        /// [`Refused::OutOfMemory`](crate::Refused::OutOfMemory) where memory was refused for the text.
+        /// [`Refused::OutOfMemory`](crate::Refused::OutOfMemory) where memory was refused for the
+        /// text.
         pub fn certificate(&self) -> Result<Option<String>, crate::Refused> {
             self.core.certificate()
         }
@@ -746,7 +781,8 @@ macro_rules! meshing {
             self.core.mesh()
         }
 
-        /// Folds sparse pages onto others until that hardly gives any back, as [`Core::compact`](crate::Core::compact).
+        /// Folds sparse pages onto others until that hardly gives any back, as
+        /// [`Core::compact`](crate::Core::compact).
         ///
         /// # Errors
         ///
@@ -762,7 +798,10 @@ macro_rules! meshing {
         /// # Errors
         ///
         /// As of [`Core::compact_within`](crate::Core::compact_within).
-        pub fn compact_within(&mut self, budget: usize) -> Result<crate::Compacted, crate::Refused> {
+        pub fn compact_within(
+            &mut self,
+            budget: usize,
+        ) -> Result<crate::Compacted, crate::Refused> {
             self.first = 0;
             self.core.compact_within(budget)
         }

@@ -5,8 +5,8 @@ use crate::raw;
 use crate::refused::Refused;
 
 impl Core {
-    /// Does what lets a put of so many words be made again that got this status: `OK`, or the status
-    /// of why that is in vain.
+    /// Does what lets a put of so many words be made again that got this status: `OK`, or the
+    /// status of why that is in vain.
     #[cold]
     pub(super) fn make_way(&mut self, status: u32, shard: u32, len: usize) -> u32 {
         match status {
@@ -35,8 +35,8 @@ impl Core {
         count
     }
 
-    /// Gives up the groups of a running shard on which nothing is live, and says how many went: none
-    /// while a plan is open or the pool has groups. All keys stay what they are.
+    /// Gives up the groups of a running shard on which nothing is live, and says how many went:
+    /// none while a plan is open or the pool has groups. All keys stay what they are.
     ///
     /// The shard ends, so that the pool has its groups and can forget those that are empty; and
     /// begins again, and adopts the others.

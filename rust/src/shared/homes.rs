@@ -5,7 +5,8 @@ use std::cell::Cell;
 use std::sync::atomic::{AtomicU8, AtomicUsize, Ordering};
 use std::thread;
 
-/// How many homes a thread has at most. Its values go to these in turn, so that those who look up what it keeps hardly meet at one lock.
+/// How many homes a thread has at most. Its values go to these in turn, so that those who look up
+/// what it keeps hardly meet at one lock.
 const TURNS: usize = 4;
 
 /// How many threads have homes of their own. One beyond that has those of an earlier one too.
@@ -28,7 +29,8 @@ pub(crate) struct Home<'h> {
 }
 
 impl Homes {
-    /// Homes in so many shards, 1 to 64: as far apart as they can be where as many threads as twice the processors have some of their own.
+    /// Homes in so many shards, 1 to 64: as far apart as they can be where as many threads as twice
+    /// the processors have some of their own.
     pub fn new(shards: usize) -> Homes {
         let threads = 2 * thread::available_parallelism().map_or(1, usize::from);
         let turns = (shards / threads).clamp(1, TURNS);
@@ -77,7 +79,8 @@ impl Home<'_> {
         self.move_to(next.unwrap_or(self.shard()));
     }
 
-    /// The shards from this one up to the next home, which come before all others where this one is full, from the one after this on.
+    /// The shards from this one up to the next home, which come before all others where this one is
+    /// full, from the one after this on.
     pub fn beside(self) -> impl Iterator<Item = u8> + Clone {
         let (here, apart) = (usize::from(self.shard()), self.homes.apart);
         let first = here / apart * apart;

@@ -33,7 +33,9 @@ impl<'s, T: Copy> Iter<'s, T> {
     /// Copies the next values of the shard that it is in, and says whether there was any.
     fn copy_some(&mut self, shard: &Shard<T>) -> bool {
         let held = shard.lock();
-        let Some(store) = held.as_ref() else { return false };
+        let Some(store) = held.as_ref() else {
+            return false;
+        };
         while self.piece.len() < PIECE {
             self.after = match store.next_live(self.after) {
                 Some(key) => Some(key),

@@ -17,8 +17,8 @@ use std::sync::{Condvar, Mutex, MutexGuard, PoisonError};
 use std::thread;
 use std::time::Duration;
 
-/// How often a lock is asked for again, after 1, 2, 4 and so on pauses, before a thread sleeps. Most
-/// calls have it for some 20 ns.
+/// How often a lock is asked for again, after 1, 2, 4 and so on pauses, before a thread sleeps.
+/// Most calls have it for some 20 ns.
 const MOST_PAUSES: u32 = 6;
 
 /// How long a thread sleeps at most before it asks again.
@@ -189,7 +189,10 @@ mod tests {
             }
         };
         thread::scope(|scope| (0..4).for_each(|_| drop(scope.spawn(work))));
-        assert_eq!((*lock.lock(), lock.waiting.load(Ordering::Relaxed)), (20_000, 0));
+        assert_eq!(
+            (*lock.lock(), lock.waiting.load(Ordering::Relaxed)),
+            (20_000, 0)
+        );
     }
 
     #[test]

@@ -1,4 +1,5 @@
-//! One shard of a store that threads share: a store behind a lock, and its compaction in pieces, between which others have the lock.
+//! One shard of a store that threads share: a store behind a lock, and its compaction in pieces,
+//! between which others have the lock.
 
 use super::lock::{self, Lock};
 use crate::compact::Compacted;
@@ -14,7 +15,8 @@ const PIECE: usize = 16;
 /// The fewest pages for which a core gets a pool, which takes some memory of its own.
 const FEWEST_PAGES: usize = 4;
 
-/// A store behind a lock. It has two lines of a cache to itself, since processors fetch these in pairs.
+/// A store behind a lock. It has two lines of a cache to itself, since processors fetch these in
+/// pairs.
 #[repr(align(128))]
 pub(super) struct Shard<T> {
     // There is none until the first insert.
@@ -45,8 +47,8 @@ impl<T> Shard<T> {
         }
     }
 
-    /// The store, for which it waits. A thread that panicked while it had it was between two calls of
-    /// the store, which is sound.
+    /// The store, for which it waits. A thread that panicked while it had it was between two calls
+    /// of the store, which is sound.
     #[inline]
     pub fn lock(&self) -> Held<'_, T> {
         self.store.lock()
@@ -113,7 +115,9 @@ impl<T> Shard<T> {
         while pool.is_under_way && *left > 0 {
             let piece = PIECE.min(*left);
             *left -= piece;
-            let done = self.piece(|store| store.compact_within(piece)).transpose()?;
+            let done = self
+                .piece(|store| store.compact_within(piece))
+                .transpose()?;
             pool.pages += done.map_or(0, |done| done.pages);
             pool.is_under_way = done.is_some_and(|done| done.more);
         }
@@ -141,7 +145,9 @@ impl<T> Shard<T> {
 
     /// How many pages it has, and how many of them can go at most.
     pub fn pages_and_most_folds(&self) -> (usize, usize) {
-        self.lock().as_ref().map_or((0, 0), Store::pages_and_most_folds)
+        self.lock()
+            .as_ref()
+            .map_or((0, 0), Store::pages_and_most_folds)
     }
 }
 

@@ -5,8 +5,8 @@ use std::hash::{BuildHasher, Hash};
 use std::sync::{Mutex, PoisonError, RwLock};
 
 /// What can be cleared in place and keeps the memory that it has, to be used again:
-/// [`SharedSlab::clear`](crate::SharedSlab::clear) does so with a value that is removed. It is after
-/// the trait of this name in `sharded-slab`.
+/// [`SharedSlab::clear`](crate::SharedSlab::clear) does so with a value that is removed. It is
+/// after the trait of this name in `sharded-slab`.
 ///
 /// ```
 /// use teurlaks::Clear;
@@ -65,12 +65,16 @@ by_their_own! {
 
 impl<T: Clear> Clear for Mutex<T> {
     fn clear(&mut self) {
-        self.get_mut().unwrap_or_else(PoisonError::into_inner).clear();
+        self.get_mut()
+            .unwrap_or_else(PoisonError::into_inner)
+            .clear();
     }
 }
 
 impl<T: Clear> Clear for RwLock<T> {
     fn clear(&mut self) {
-        self.get_mut().unwrap_or_else(PoisonError::into_inner).clear();
+        self.get_mut()
+            .unwrap_or_else(PoisonError::into_inner)
+            .clear();
     }
 }

@@ -201,9 +201,19 @@ unsafe impl<T: Send + Sync> Sync for VacantEntry<'_, T> {}
 impl<'s, T> VacantEntry<'s, T> {
     /// The entry of a key of the slab, whose slot is closed and has no value.
     #[inline]
-    pub(super) fn new(slab: &'s SharedSlab<T>, page: Page<T>, key: Key, room: Room<T>) -> VacantEntry<'s, T> {
+    pub(super) fn new(
+        slab: &'s SharedSlab<T>,
+        page: Page<T>,
+        key: Key,
+        room: Room<T>,
+    ) -> VacantEntry<'s, T> {
         let room = ManuallyDrop::new(room);
-        VacantEntry { slab, page, key, room }
+        VacantEntry {
+            slab,
+            page,
+            key,
+            room,
+        }
     }
 
     /// The key that the value will have.
@@ -212,8 +222,8 @@ impl<'s, T> VacantEntry<'s, T> {
         self.key
     }
 
-    /// A value that was [cleared](SharedSlab::clear) before or, where there is none, a default one: to
-    /// become the value of this entry.
+    /// A value that was [cleared](SharedSlab::clear) before or, where there is none, a default one:
+    /// to become the value of this entry.
     pub fn spare_or_default(&self) -> T
     where
         T: Default,

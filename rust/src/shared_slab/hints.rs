@@ -94,7 +94,12 @@ impl<T> Hints<T> {
         }
         let older = self.last.load(Ordering::Relaxed);
         // SAFETY: nobody else has the table yet.
-        unsafe { table.write(Table { older, mask: len - 1 }) }
+        unsafe {
+            table.write(Table {
+                older,
+                mask: len - 1,
+            })
+        }
         self.last.store(table, Ordering::Release);
         true
     }

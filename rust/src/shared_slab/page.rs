@@ -1,4 +1,5 @@
-//! Pages of a shared slab: their slots, which stay for as long as there is the slab, and where the values of these are.
+//! Pages of a shared slab: their slots, which stay for as long as there is the slab, and where the
+//! values of these are.
 
 use super::slot::Slot;
 use crate::boxed;
@@ -148,7 +149,9 @@ impl<T> Page<T> {
     pub unsafe fn copy_value(self, number: usize, to: Page<T>) {
         let bytes = Values::<T>::STORED.size();
         let from = self.stored(number).as_ptr();
-        to.stored(number).as_ptr().copy_from_nonoverlapping(from, bytes);
+        to.stored(number)
+            .as_ptr()
+            .copy_from_nonoverlapping(from, bytes);
     }
 }
 
@@ -159,7 +162,8 @@ impl<T> OwnedPage<T> {
     /// A page whose slots have no value, and whose values are nowhere yet.
     pub fn new() -> Result<OwnedPage<T>, Refused> {
         // SAFETY: the layout has bytes.
-        let at = NonNull::new(unsafe { alloc_zeroed(Page::<T>::LAYOUT) }).ok_or(Refused::OutOfMemory)?;
+        let at =
+            NonNull::new(unsafe { alloc_zeroed(Page::<T>::LAYOUT) }).ok_or(Refused::OutOfMemory)?;
         Ok(OwnedPage(Page::of(at)))
     }
 

@@ -76,7 +76,8 @@ impl Slot {
         if self.close_from(OPEN | REMOVED) {
             return Some(Claim::Drop);
         }
-        self.close_from(OPEN | REMOVED | CLEARED).then_some(Claim::Clear)
+        self.close_from(OPEN | REMOVED | CLEARED)
+            .then_some(Claim::Clear)
     }
 
     /// Claims a removed value for the thread that waits for it, if nobody pins it.

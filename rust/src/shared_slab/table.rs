@@ -1,4 +1,5 @@
-//! What a shard of a shared slab has behind its lock: its core, and which page has the values of a span.
+//! What a shard of a shared slab has behind its lock: its core, and which page has the values of a
+//! span.
 
 use super::hints::Hints;
 use super::page::{Owned, OwnedPage, Page};
@@ -107,7 +108,9 @@ impl<T> Table<T> {
     fn make_ready(&mut self) -> Result<(), Refused> {
         self.blocks.reserve()?;
         let more = self.blocks.len() - self.pages.len();
-        self.pages.try_reserve(more).map_err(|_| Refused::OutOfMemory)?;
+        self.pages
+            .try_reserve(more)
+            .map_err(|_| Refused::OutOfMemory)?;
         self.pages.resize_with(self.blocks.len(), || Sheet::NONE);
         self.spans.reserve(1)?;
         if self.fresh.is_none() {
@@ -132,7 +135,8 @@ impl<T> Table<T> {
         self.grow_hints();
         self.set_hint(key.span(), number);
         let page = self.page(number as usize);
-        self.spans.insert(key.span(), number, Block::at(page.address()))
+        self.spans
+            .insert(key.span(), number, Block::at(page.address()))
     }
 
     /// Makes a larger table of hints, with all that there are, if that has become small.
@@ -218,7 +222,10 @@ impl<T> Table<T> {
 
     /// Frees the key of a closed slot that has no value, or none any more. It takes no memory.
     pub fn vacate(&mut self, key: Key) {
-        let home = self.spans.find_mut(key.span()).expect("a live key has a home");
+        let home = self
+            .spans
+            .find_mut(key.span())
+            .expect("a live key has a home");
         let emptied = take_name::<T>(home, key);
         self.free(key, emptied);
     }
@@ -251,7 +258,11 @@ impl<T> Table<T> {
     /// Gives the memory of a page back, which has no value.
     fn give_back(&mut self, number: u32) {
         let head = self.pages[number as usize].head;
-        if self.spans.find(head).is_some_and(|home| home.page == number) {
+        if self
+            .spans
+            .find(head)
+            .is_some_and(|home| home.page == number)
+        {
             self.spans.remove(head);
         }
         self.behind.retain(|behind| *behind != number);
@@ -327,7 +338,8 @@ impl<T> Table<T> {
         self.set_hint(span, to);
     }
 
-    /// Takes so many steps of a compaction at most, which begins with what stayed behind earlier ones.
+    /// Takes so many steps of a compaction at most, which begins with what stayed behind earlier
+    /// ones.
     pub fn compact_within(&mut self, budget: usize) -> Result<Compacted, Refused> {
         if !self.is_compacting {
             self.catch_up()?;
@@ -535,7 +547,10 @@ pub(super) fn slot_of(key: Key) -> usize {
 fn close_all<T>(page: Page<T>) -> bool {
     let named = |number: &usize| page.slot(*number).name() != NO_NAME;
     let is_pinned = |number: usize| !page.slot(number).close();
-    let Some(pinned) = (0..Page::<T>::SLOTS).filter(named).find(|number| is_pinned(*number)) else {
+    let Some(pinned) = (0..Page::<T>::SLOTS)
+        .filter(named)
+        .find(|number| is_pinned(*number))
+    else {
         return true;
     };
     for number in (0..pinned).filter(named) {

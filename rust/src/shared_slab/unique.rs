@@ -41,14 +41,16 @@ impl<'s, T> Iterator for UniqueIter<'s, T> {
                 self.page += 1;
                 continue;
             };
-            let Some(slot) = (self.slot..Page::<T>::SLOTS).find(|slot| page.slot(*slot).is_live()) else {
+            let Some(slot) = (self.slot..Page::<T>::SLOTS).find(|slot| page.slot(*slot).is_live())
+            else {
                 (self.page, self.slot) = (self.page + 1, 0);
                 continue;
             };
             self.slot = slot + 1;
             let key = key_of(page.slot(slot).name(), slot)?;
-            // SAFETY: an open slot has a value. Nobody has a pin of it, since the slab is borrowed to
-            // be changed; one that was forgotten lends nothing any more. A walk comes to it once.
+            // SAFETY: an open slot has a value. Nobody has a pin of it, since the slab is borrowed
+            // to be changed; one that was forgotten lends nothing any more. A walk comes to it
+            // once.
             let value = unsafe { page.value(slot).as_mut() };
             return Some((key.with_shard(self.shard as u8), value));
         }

@@ -200,7 +200,8 @@ impl<T: fmt::Debug> fmt::Debug for ValuesMut<'_, T> {
     }
 }
 
-/// Each key with its value, of a slab that is no more: of [`IntoIterator`] for `Slab<T>`. Values that are not asked for are dropped with it.
+/// Each key with its value, of a slab that is no more: of [`IntoIterator`] for `Slab<T>`. Values
+/// that are not asked for are dropped with it.
 #[must_use = "the values are dropped where they are not asked for"]
 pub struct IntoIter<T> {
     // Whose values are taken out, and whose keys are left as they are.
@@ -243,8 +244,8 @@ impl<T: fmt::Debug> fmt::Debug for IntoIter<T> {
     }
 }
 
-/// Takes the values out of a slab, and gives each with the key that it had: of [`Slab::drain`]. Values that are not asked for are dropped with it,
-/// and where it is forgotten, they stay.
+/// Takes the values out of a slab, and gives each with the key that it had: of [`Slab::drain`].
+/// Values that are not asked for are dropped with it, and where it is forgotten, they stay.
 pub struct Drain<'s, T> {
     slab: &'s mut Slab<T>,
     walk: Walk,
@@ -391,7 +392,8 @@ impl<T> Extend<T> for Slab<T> {
     ///
     /// If a value is refused.
     fn extend<I: IntoIterator<Item = T>>(&mut self, values: I) {
-        self.try_extend(values).expect("there is room for each value");
+        self.try_extend(values)
+            .expect("there is room for each value");
     }
 }
 

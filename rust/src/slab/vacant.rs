@@ -14,7 +14,8 @@ pub struct VacantEntry<'s, T> {
 }
 
 impl<'s, T> VacantEntry<'s, T> {
-    /// The entry of a key of the shard, which the slab has noted as vacant. There is room for the value.
+    /// The entry of a key of the shard, which the slab has noted as vacant. There is room for the
+    /// value.
     pub(super) fn new(slab: &'s mut Slab<T>, shard: u32, key: Key) -> VacantEntry<'s, T> {
         let slab = Some(slab);
         VacantEntry { slab, shard, key }

@@ -121,8 +121,8 @@ impl<T: Copy + fmt::Debug> fmt::Debug for Values<'_, T> {
     }
 }
 
-/// Takes the values out of a store, and gives each with the key that it had: of [`Store::drain`]. Those that are not asked for go with it, and
-/// where it is forgotten, they stay.
+/// Takes the values out of a store, and gives each with the key that it had: of [`Store::drain`].
+/// Those that are not asked for go with it, and where it is forgotten, they stay.
 pub struct Drain<'s, T> {
     store: &'s mut Store<T>,
     place: Place,

@@ -50,7 +50,8 @@ impl Piece {
 
     /// The same slots, none of them apart from the others.
     fn whole(mut self) -> Piece {
-        self.others.give_back(mem::replace(&mut self.word, Word::NONE));
+        self.others
+            .give_back(mem::replace(&mut self.word, Word::NONE));
         self
     }
 }

@@ -15,7 +15,8 @@ impl Random {
         self.0
     }
 
-    /// A number that some key may have, or one without a generation, with half of its bits 0 at least.
+    /// A number that some key may have, or one without a generation, with half of its bits 0 at
+    /// least.
     pub fn bits(&mut self) -> u128 {
         let mut wide = || u128::from(self.next()) << 64 | u128::from(self.next());
         wide() & wide() >> 48
@@ -45,7 +46,8 @@ struct Limit {
     hard: u64,
 }
 
-/// What Linux limits for a process: its number there, and the line that tells how much the process has.
+/// What Linux limits for a process: its number there, and the line that tells how much the process
+/// has.
 struct Resource {
     number: i32,
     line: &'static str,
@@ -95,7 +97,16 @@ fn with_limit<R>(resource: &Resource, soft: u64, call: impl FnOnce() -> R) -> R 
     // SAFETY: all calls are given a limit that is there.
     unsafe {
         assert_eq!(getrlimit(resource.number, &mut old), 0);
-        assert_eq!(setrlimit(resource.number, &Limit { soft, hard: old.hard }), 0);
+        assert_eq!(
+            setrlimit(
+                resource.number,
+                &Limit {
+                    soft,
+                    hard: old.hard
+                }
+            ),
+            0
+        );
     }
     let done = call();
     // SAFETY: as above.

@@ -1,7 +1,9 @@
-//! `lent WHO WORK THREADS CALLS`: values of 104 bytes with a `Drop` that so many threads share by reference, in a process of its own. WHO is
-//! `shared-slab` (`teurlaks::SharedSlab`) or `sharded-slab`. Each thread has 1,000 values of its own, and WORK is `churn` (each call removes one
-//! and puts another), `own` (each looks one up) or `other` (each looks up one of another thread's, of all others in turn). It tells nanoseconds a
-//! call of the slowest thread, by the clock, the least of 10 rounds in which all threads began at once.
+//! `lent WHO WORK THREADS CALLS`: values of 104 bytes with a `Drop` that so many threads share by
+//! reference, in a process of its own. WHO is `shared-slab` (`teurlaks::SharedSlab`) or
+//! `sharded-slab`. Each thread has 1,000 values of its own, and WORK is `churn` (each call removes
+//! one and puts another), `own` (each looks one up) or `other` (each looks up one of another
+//! thread's, of all others in turn). It tells nanoseconds a call of the slowest thread, by the
+//! clock, the least of 10 rounds in which all threads began at once.
 
 use beside::random::Random;
 use std::env;
@@ -77,7 +79,14 @@ enum Work {
 }
 
 /// The calls of one thread in one round, in nanoseconds each.
-fn calls<S: Store>(store: &S, work: Work, all: &[Vec<S::Key>], own: &mut [S::Key], thread: usize, count: usize) -> f64 {
+fn calls<S: Store>(
+    store: &S,
+    work: Work,
+    all: &[Vec<S::Key>],
+    own: &mut [S::Key],
+    thread: usize,
+    count: usize,
+) -> f64 {
     let mut random = Random::new(thread as u64 + 1);
     let began = Instant::now();
     for call in 0..count {
@@ -100,7 +109,11 @@ fn calls<S: Store>(store: &S, work: Work, all: &[Vec<S::Key>], own: &mut [S::Key
 /// The least over rounds of what the slowest thread takes.
 fn measure<S: Store>(store: &S, work: Work, threads: usize, count: usize) -> f64 {
     // Each thread's, by itself: a thread keeps its values where it is.
-    let put_all = |_| -> Vec<S::Key> { (0..VALUES).map(|number| store.put(Wide::new(number as u64))).collect() };
+    let put_all = |_| -> Vec<S::Key> {
+        (0..VALUES)
+            .map(|number| store.put(Wide::new(number as u64)))
+            .collect()
+    };
     let begin = Barrier::new(threads);
     let (begin, store) = (&begin, &store);
     thread::scope(|scope| {
@@ -108,7 +121,10 @@ fn measure<S: Store>(store: &S, work: Work, threads: usize, count: usize) -> f64
             let putting: Vec<_> = (0..threads)
                 .map(|thread| putters.spawn(move || put_all(thread)))
                 .collect();
-            putting.into_iter().map(|keys| keys.join().expect("it puts")).collect()
+            putting
+                .into_iter()
+                .map(|keys| keys.join().expect("it puts"))
+                .collect()
         });
         let all = std::sync::Arc::new(all);
         let working: Vec<_> = (0..threads)
@@ -116,7 +132,9 @@ fn measure<S: Store>(store: &S, work: Work, threads: usize, count: usize) -> f64
                 let all = std::sync::Arc::clone(&all);
                 scope.spawn(move || {
                     let mut own: Vec<S::Key> = match work {
-                        Work::Churn => (0..VALUES).map(|number| store.put(Wide::new(number as u64))).collect(),
+                        Work::Churn => (0..VALUES)
+                            .map(|number| store.put(Wide::new(number as u64)))
+                            .collect(),
                         _ => all[thread].clone(),
                     };
                     (0..ROUNDS)
@@ -133,7 +151,12 @@ fn measure<S: Store>(store: &S, work: Work, threads: usize, count: usize) -> f64
             .map(|times| times.join().expect("it works"))
             .collect();
         (0..ROUNDS)
-            .map(|round| times.iter().map(|of_thread| of_thread[round]).fold(0.0, f64::max))
+            .map(|round| {
+                times
+                    .iter()
+                    .map(|of_thread| of_thread[round])
+                    .fold(0.0, f64::max)
+            })
             .fold(f64::INFINITY, f64::min)
     })
 }
@@ -151,7 +174,12 @@ fn main() -> ExitCode {
     };
     let (threads, count) = (threads.parse().unwrap_or(1), count.parse().unwrap_or(1000));
     let nanoseconds = match who.as_str() {
-        "shared-slab" => measure(&teurlaks::SharedSlab::<Wide>::default(), work, threads, count),
+        "shared-slab" => measure(
+            &teurlaks::SharedSlab::<Wide>::default(),
+            work,
+            threads,
+            count,
+        ),
         _ => measure(&sharded_slab::Slab::<Wide>::new(), work, threads, count),
     };
     println!("{nanoseconds:.1}");

@@ -1,5 +1,6 @@
-//! `many_slabs WHO VALUES`: how many bytes each of 10,000 slabs keeps resident that has so many values of 16 bytes, in a process of its own.
-//! WHO is `teurlaks-slab`, `teurlaks-store`, `stand-in` (rust/compat/slab) or `slab`.
+//! `many_slabs WHO VALUES`: how many bytes each of 10,000 slabs keeps resident that has so many
+//! values of 16 bytes, in a process of its own. WHO is `teurlaks-slab`, `teurlaks-store`,
+//! `stand-in` (rust/compat/slab) or `slab`.
 
 use std::env;
 use std::fs;

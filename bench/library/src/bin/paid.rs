@@ -22,7 +22,9 @@ impl Filled {
     fn new(pages: usize) -> Result<Filled, Refused> {
         let limits = Limits {
             shards: SHARDS as u32,
-            pages: u32::try_from(pages).unwrap_or(u32::MAX).clamp(1024, 1 << 20),
+            pages: u32::try_from(pages)
+                .unwrap_or(u32::MAX)
+                .clamp(1024, 1 << 20),
             ..Limits::default()
         };
         Ok(Filled {
@@ -66,7 +68,11 @@ impl Filled {
         self.core.compact()?;
         let second = used() - start;
         let millis = |time: std::time::Duration| time.as_secs_f64() * 1e3;
-        println!("{before} {after} {:.2} {:.2}", millis(first), millis(second));
+        println!(
+            "{before} {after} {:.2} {:.2}",
+            millis(first),
+            millis(second)
+        );
         Ok(())
     }
 }

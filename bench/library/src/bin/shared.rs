@@ -1,10 +1,14 @@
-//! `shared WHO WORK THREADS CALLS`: a store that so many threads share, in a process of its own. WHO is `shared` (`teurlaks::SharedStore`), `arena`
-//! (a seat of a `teurlaks::Arena` for each thread), `arena-N` (the same, where each seat has N shards), `session` (a seat of one shard, with the
-//! calls of a round in one session of each), `mutex` (a `teurlaks::Store` behind one mutex) or `sharded-slab`. Each thread has 1,000 words of 128
-//! bits of its own, and WORK is `churn` (each call frees one and puts another), `own` (each reads one) or `other` (each reads one of another
-//! thread's, of all others in turn); or each has as many as it has calls, and WORK is `later`: it frees those of the next thread, by `free_later`
-//! at a seat, which tends after each 64 calls, and then goes on to tend until all threads have called and what they left to it is freed. It tells
-//! nanoseconds a call of the slowest thread, by the clock, the least of 10 rounds in which all threads began at once.
+//! `shared WHO WORK THREADS CALLS`: a store that so many threads share, in a process of its own.
+//! WHO is `shared` (`teurlaks::SharedStore`), `arena` (a seat of a `teurlaks::Arena` for each
+//! thread), `arena-N` (the same, where each seat has N shards), `session` (a seat of one shard,
+//! with the calls of a round in one session of each), `mutex` (a `teurlaks::Store` behind one
+//! mutex) or `sharded-slab`. Each thread has 1,000 words of 128 bits of its own, and WORK is
+//! `churn` (each call frees one and puts another), `own` (each reads one) or `other` (each reads
+//! one of another thread's, of all others in turn); or each has as many as it has calls, and WORK
+//! is `later`: it frees those of the next thread, by `free_later` at a seat, which tends after each
+//! 64 calls, and then goes on to tend until all threads have called and what they left to it is
+//! freed. It tells nanoseconds a call of the slowest thread, by the clock, the least of 10 rounds
+//! in which all threads began at once.
 
 use beside::random::Random;
 use std::hint;
@@ -78,14 +82,20 @@ impl Seats {
             shards: u32::try_from(seats).ok()?,
             ..teurlaks::Limits::default()
         };
-        Some(Seats(Mutex::new(teurlaks::Arena::with_lanes(limits, 256, lanes).ok()?)))
+        Some(Seats(Mutex::new(
+            teurlaks::Arena::with_lanes(limits, 256, lanes).ok()?,
+        )))
     }
 }
 impl Store for Seats {
     type Key = teurlaks::Key;
     type Place<'s> = teurlaks::arena::Seat<u128>;
     fn place(&self) -> Self::Place<'_> {
-        self.0.lock().unwrap().seat().expect("there is one for each thread")
+        self.0
+            .lock()
+            .unwrap()
+            .seat()
+            .expect("there is one for each thread")
     }
 }
 
@@ -186,7 +196,11 @@ impl Store for Locked {
 impl Place for &Locked {
     type Key = teurlaks::Key;
     fn put(&mut self, value: u128) -> Self::Key {
-        self.0.lock().unwrap().insert(value).expect("it fits the shards")
+        self.0
+            .lock()
+            .unwrap()
+            .insert(value)
+            .expect("it fits the shards")
     }
     fn get(&self, key: Self::Key) -> Option<u128> {
         self.0.lock().unwrap().get(key)
@@ -244,7 +258,8 @@ impl Countdown {
     }
 }
 
-/// What the threads of a round wait for: that all have come. Nobody sleeps, and hardly anybody lets another program run, so that all begin at once.
+/// What the threads of a round wait for: that all have come. Nobody sleeps, and hardly anybody lets
+/// another program run, so that all begin at once.
 struct Gate {
     come: AtomicUsize,
     threads: usize,
@@ -271,7 +286,11 @@ fn calls<P: Place>(place: &mut P, work: Work, thread: usize, calls: usize, round
     let threads = round.keys.len();
     let others = threads - 1;
     let mut random = Random::new(thread as u64 + 1);
-    let of = |thread: usize| round.keys[thread % threads].get().map_or(&[][..], Vec::as_slice);
+    let of = |thread: usize| {
+        round.keys[thread % threads]
+            .get()
+            .map_or(&[][..], Vec::as_slice)
+    };
     match work {
         Work::Churn => {
             let mut own = of(thread).to_vec();
@@ -303,8 +322,9 @@ fn calls<P: Place>(place: &mut P, work: Work, thread: usize, calls: usize, round
     }
 }
 
-/// Nanoseconds a call that the slowest thread takes, where all began at about the same time: on a machine that others use a thread may wait for a
-/// processor at first, and nobody is beside the others then.
+/// Nanoseconds a call that the slowest thread takes, where all began at about the same time: on a
+/// machine that others use a thread may wait for a processor at first, and nobody is beside the
+/// others then.
 fn round<S: Store>(store: S, work: Work, threads: usize, count: usize) -> Option<f64> {
     let gate = Gate {
         come: AtomicUsize::new(0),
@@ -328,7 +348,9 @@ fn round<S: Store>(store: S, work: Work, threads: usize, count: usize) -> Option
     };
     let all: Option<Vec<(Instant, Duration)>> = thread::scope(|scope| {
         let one = &one;
-        let all: Vec<_> = (0..threads).map(|thread| scope.spawn(move || one(thread))).collect();
+        let all: Vec<_> = (0..threads)
+            .map(|thread| scope.spawn(move || one(thread)))
+            .collect();
         all.into_iter().map(|one| one.join().ok()).collect()
     });
     let all = all?;
@@ -343,7 +365,12 @@ fn of(who: &str, work: Work, threads: usize, calls: usize) -> Option<f64> {
         "shared" => round(teurlaks::SharedStore::new().ok()?, work, threads, calls),
         "arena" => round(Seats::new(threads, 1)?, work, threads, calls),
         "session" => round(Sessions(Seats::new(threads, 1)?), work, threads, calls),
-        "mutex" => round(Locked(Mutex::new(teurlaks::Store::new().ok()?)), work, threads, calls),
+        "mutex" => round(
+            Locked(Mutex::new(teurlaks::Store::new().ok()?)),
+            work,
+            threads,
+            calls,
+        ),
         "sharded-slab" => round(sharded_slab::Slab::new(), work, threads, calls),
         _ => {
             let lanes = who.strip_prefix("arena-")?.parse().ok()?;

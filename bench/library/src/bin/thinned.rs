@@ -1,9 +1,11 @@
-//! `thinned WHO BYTES FREED`: what a store of 1,000,000 values of 16, 48, 64, 96 or 240 bytes keeps resident, in a process of its own. So many of 100
-//! values are freed at random, and the store gives back what it can: by folds, or by `shrink_to_fit`, where it has either.
+//! `thinned WHO BYTES FREED`: what a store of 1,000,000 values of 16, 48, 64, 96 or 240 bytes keeps
+//! resident, in a process of its own. So many of 100 values are freed at random, and the store
+//! gives back what it can: by folds, or by `shrink_to_fit`, where it has either.
 //!
-//! It prints the kilobytes that the system tells (`VmRSS`), beyond what the process took before: full, freed, and given back; and how many pages
-//! of Teurlaks there were, and are left. Before each look but that at freed values the allocator is asked to hand back what it keeps free. At the
-//! end each value that was kept is found by its key.
+//! It prints the kilobytes that the system tells (`VmRSS`), beyond what the process took before:
+//! full, freed, and given back; and how many pages of Teurlaks there were, and are left. Before
+//! each look but that at freed values the allocator is asked to hand back what it keeps free. At
+//! the end each value that was kept is found by its key.
 
 use beside::random::Random;
 use std::hint::black_box;
@@ -102,7 +104,8 @@ impl<const N: usize> Values<N> for Store<N> {
     }
 }
 
-/// `REKEYS`: by `Slab::compact`, which moves values and so changes keys, and otherwise by `Slab::shrink_to_fit`, which cuts off a free end.
+/// `REKEYS`: by `Slab::compact`, which moves values and so changes keys, and otherwise by
+/// `Slab::shrink_to_fit`, which cuts off a free end.
 struct Plain<const N: usize, const REKEYS: bool>(slab::Slab<[u8; N]>);
 impl<const N: usize, const REKEYS: bool> Values<N> for Plain<N, REKEYS> {
     type Key = usize;
@@ -184,7 +187,8 @@ mod allocator {
     }
 
     type Collect = unsafe extern "C" fn(bool);
-    type Control = unsafe extern "C" fn(*const c_char, *mut c_void, *mut usize, *mut c_void, usize) -> c_int;
+    type Control =
+        unsafe extern "C" fn(*const c_char, *mut c_void, *mut usize, *mut c_void, usize) -> c_int;
 
     fn text(bytes: &'static [u8]) -> *const c_char {
         CStr::from_bytes_with_nul(bytes)
@@ -192,9 +196,11 @@ mod allocator {
             .as_ptr()
     }
 
-    /// Asks the allocator that the process was started with to hand what it keeps free to the system: mimalloc, jemalloc, or else glibc's.
+    /// Asks the allocator that the process was started with to hand what it keeps free to the
+    /// system: mimalloc, jemalloc, or else glibc's.
     pub fn give_back() {
-        // SAFETY: each function is called as its library declares it, and none touches a block that is in use.
+        // SAFETY: each function is called as its library declares it, and none touches a block that
+        // is in use.
         unsafe {
             let collect = dlsym(null_mut(), text(b"mi_collect\0"));
             let control = dlsym(null_mut(), text(b"mallctl\0"));
@@ -204,7 +210,10 @@ mod allocator {
                 let control = transmute::<*mut c_void, Control>(control);
                 // Those of all arenas, which have this number.
                 for name in [&b"thread.tcache.flush\0"[..], b"arena.4096.purge\0"] {
-                    assert_eq!(control(text(name), null_mut(), null_mut(), null_mut(), 0), 0);
+                    assert_eq!(
+                        control(text(name), null_mut(), null_mut(), null_mut(), 0),
+                        0
+                    );
                 }
             } else {
                 malloc_trim(0);
@@ -247,7 +256,10 @@ fn measure<const N: usize, S: Values<N>>(mut store: S, percent: usize) -> String
     let after = settled() - base;
     for (number, key) in keys.iter().enumerate() {
         if let Some(key) = *key {
-            assert!(store.get(number, key) == Some(value(number)), "a value is lost");
+            assert!(
+                store.get(number, key) == Some(value(number)),
+                "a value is lost"
+            );
         }
     }
     format!("{full} {freed} {after} {pages} {}", store.pages())
@@ -268,7 +280,9 @@ fn measure_of<const N: usize>(who: &str, percent: usize) -> Option<String> {
 }
 
 fn answer(words: &[String]) -> Option<String> {
-    let [who, bytes, percent] = words else { return None };
+    let [who, bytes, percent] = words else {
+        return None;
+    };
     let percent = percent.parse().ok().filter(|percent| *percent <= 100)?;
     match bytes.as_str() {
         "16" => measure_of::<16>(who, percent),

@@ -1,6 +1,7 @@
-//! `waits shared|mutex`: how long a look-up waits beside a compaction. A store that threads share, or a store of four shards behind one mutex, has 64,000 values of
-//! 240 bytes on 4,000 pages, of which one in ten stays at random. One thread compacts, and one looks up what stays. It tells the medians of 15 rounds: milliseconds of
-//! the compaction, and of the longest look-up.
+//! `waits shared|mutex`: how long a look-up waits beside a compaction. A store that threads share,
+//! or a store of four shards behind one mutex, has 64,000 values of 240 bytes on 4,000 pages, of
+//! which one in ten stays at random. One thread compacts, and one looks up what stays. It tells the
+//! medians of 15 rounds: milliseconds of the compaction, and of the longest look-up.
 
 use beside::random::Random;
 use std::process::ExitCode;
@@ -58,7 +59,11 @@ impl Shared for Locked {
         self.store.lock().unwrap().free(key)
     }
     fn compact(&self) -> usize {
-        self.store.lock().unwrap().compact().expect("there is memory")
+        self.store
+            .lock()
+            .unwrap()
+            .compact()
+            .expect("there is memory")
     }
 }
 
@@ -79,7 +84,11 @@ fn round(store: &dyn Shared) -> (Duration, Duration) {
         let (stay, compacting) = (&stay, &compacting);
         let looks_up = scope.spawn(move || {
             let mut longest = Duration::ZERO;
-            for key in stay.iter().cycle().take_while(|_| compacting.load(Ordering::Relaxed)) {
+            for key in stay
+                .iter()
+                .cycle()
+                .take_while(|_| compacting.load(Ordering::Relaxed))
+            {
                 let begun = Instant::now();
                 assert!(store.get(*key).is_some());
                 longest = longest.max(begun.elapsed());
@@ -118,7 +127,9 @@ fn median(mut times: Vec<Duration>) -> f64 {
 
 fn main() -> ExitCode {
     let who = std::env::args().nth(1).unwrap_or_default();
-    let rounds: Option<Vec<_>> = (0..ROUNDS).map(|_| of(&who).map(|store| round(&*store))).collect();
+    let rounds: Option<Vec<_>> = (0..ROUNDS)
+        .map(|_| of(&who).map(|store| round(&*store)))
+        .collect();
     let Some(rounds) = rounds else {
         eprintln!("waits shared|mutex");
         return ExitCode::from(2);

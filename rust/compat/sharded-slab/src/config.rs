@@ -4,8 +4,8 @@ use teurlaks::{Key, KeyBits, Limits};
 
 /// What a slab is to be like.
 ///
-/// Of this only [`Config::RESERVED_BITS`] changes anything here: a slab has 64 shards, which threads
-/// share beyond that, and as many pages as memory allows, each of one size.
+/// Of this only [`Config::RESERVED_BITS`] changes anything here: a slab has 64 shards, which
+/// threads share beyond that, and as many pages as memory allows, each of one size.
 pub trait Config: Sized {
     /// How many threads may have the slab in `sharded-slab`. Here any number may.
     const MAX_THREADS: usize = DefaultConfig::MAX_THREADS;

@@ -1,7 +1,7 @@
 //! The interface of `sharded-slab` 0.1 over a [`teurlaks::SharedSlab`], which another program takes
-//! in place of `sharded-slab` by `[patch]`. A look-up takes no lock if it finds its value; an insert
-//! and a removal take that of one shard. The pages of a slab leave the process when its values are
-//! gone, and [`Slab::compact`] folds those that are sparse.
+//! in place of `sharded-slab` by `[patch]`. A look-up takes no lock if it finds its value; an
+//! insert and a removal take that of one shard. The pages of a slab leave the process when its
+//! values are gone, and [`Slab::compact`] folds those that are sparse.
 //!
 //! ```
 //! use sharded_slab::Slab;
@@ -73,7 +73,9 @@ impl<T> Slab<T> {
     #[must_use]
     pub fn new_with_config<C: Config>() -> Slab<T, C> {
         Slab {
-            values: Arc::new(SharedSlab::with_limits(C::limits()).expect("the limits are in range")),
+            values: Arc::new(
+                SharedSlab::with_limits(C::limits()).expect("the limits are in range"),
+            ),
             config: PhantomData,
         }
     }
@@ -136,7 +138,8 @@ impl<T, C: Config> Slab<T, C> {
     ///
     /// Never: who has the slab alone has its values alone.
     pub fn unique_iter(&mut self) -> UniqueIter<'_, T> {
-        let values = Arc::get_mut(&mut self.values).expect("an owned entry has a share of the slab");
+        let values =
+            Arc::get_mut(&mut self.values).expect("an owned entry has a share of the slab");
         UniqueIter(values.unique_iter())
     }
 
@@ -244,6 +247,8 @@ impl<T> Default for Slab<T> {
 
 impl<T: fmt::Debug, C: Config> fmt::Debug for Slab<T, C> {
     fn fmt(&self, f: &mut fmt::Formatter<'_>) -> fmt::Result {
-        f.debug_struct("Slab").field("values", &self.values).finish()
+        f.debug_struct("Slab")
+            .field("values", &self.values)
+            .finish()
     }
 }

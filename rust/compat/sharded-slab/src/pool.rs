@@ -63,7 +63,9 @@ impl<T: Clear + Default> Pool<T> {
     #[must_use]
     pub fn new_with_config<C: Config>() -> Pool<T, C> {
         Pool {
-            values: Arc::new(SharedSlab::with_limits(C::limits()).expect("the limits are in range")),
+            values: Arc::new(
+                SharedSlab::with_limits(C::limits()).expect("the limits are in range"),
+            ),
             config: PhantomData,
         }
     }
@@ -94,7 +96,8 @@ impl<T: Clear + Default, C: Config> Pool<T, C> {
         C: 'static,
     {
         let created = self.create()?;
-        // SAFETY: it borrows what the `Arc` has, which it is dropped before, and which does not move.
+        // SAFETY: it borrows what the `Arc` has, which it is dropped before, and which does not
+        // move.
         let created = unsafe { mem::transmute::<RefMut<'_, T, C>, RefMut<'static, T, C>>(created) };
         Some(OwnedRefMut {
             created: ManuallyDrop::new(created),
@@ -157,7 +160,12 @@ impl<'a, T: Clear + Default, C: Config> RefMut<'a, T, C> {
 impl<T: Clear + Default, C: Config> Drop for RefMut<'_, T, C> {
     fn drop(&mut self) {
         // SAFETY: both are taken once, since nobody has this any more.
-        let (entry, value) = unsafe { (ManuallyDrop::take(&mut self.entry), ManuallyDrop::take(&mut self.value)) };
+        let (entry, value) = unsafe {
+            (
+                ManuallyDrop::take(&mut self.entry),
+                ManuallyDrop::take(&mut self.value),
+            )
+        };
         entry.insert(value);
     }
 }
@@ -171,8 +179,8 @@ impl<T: Clear + Default, C: Config> OwnedRefMut<T, C> {
     /// Lets others find the value, and lends it.
     pub fn downgrade(self) -> OwnedRef<T, C> {
         let mut owned = ManuallyDrop::new(self);
-        // SAFETY: its drop does not run, so both are taken once; and what borrows the pool is dropped
-        // before it.
+        // SAFETY: its drop does not run, so both are taken once; and what borrows the pool is
+        // dropped before it.
         let (created, pool) = unsafe {
             (
                 ManuallyDrop::take(&mut owned.created),
@@ -265,6 +273,8 @@ impl<T: Clear + Default> Default for Pool<T> {
 
 impl<T: Clear + Default + fmt::Debug, C: Config> fmt::Debug for Pool<T, C> {
     fn fmt(&self, f: &mut fmt::Formatter<'_>) -> fmt::Result {
-        f.debug_struct("Pool").field("values", &self.values).finish()
+        f.debug_struct("Pool")
+            .field("values", &self.values)
+            .finish()
     }
 }

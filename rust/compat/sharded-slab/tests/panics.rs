@@ -1,5 +1,5 @@
-//! A panic in the drop of a value, in a `Clear`, or in a closure, loses no other value, and no later
-//! call panics because of it.
+//! A panic in the drop of a value, in a `Clear`, or in a closure, loses no other value, and no
+//! later call panics because of it.
 
 #[path = "../../../tests/common/panicking.rs"]
 mod panicking;
@@ -99,13 +99,19 @@ fn in_the_making_of_a_value() {
         panic!("as it should");
     }));
     // Others find it once its guard is dropped, as in `sharded-slab`.
-    assert_eq!(pool.get(key.expect("it has one")).as_deref(), Some(&"a".to_string()));
+    assert_eq!(
+        pool.get(key.expect("it has one")).as_deref(),
+        Some(&"a".to_string())
+    );
     assert!(panics(|| {
         let mut made = pool.clone().create_owned().expect("there is room");
         key = Some(made.key());
         made.push('b');
         panic!("as it should");
     }));
-    assert_eq!(pool.get(key.expect("it has one")).as_deref(), Some(&"b".to_string()));
+    assert_eq!(
+        pool.get(key.expect("it has one")).as_deref(),
+        Some(&"b".to_string())
+    );
     assert_eq!(Arc::strong_count(&pool), 1);
 }

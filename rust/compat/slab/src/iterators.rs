@@ -88,17 +88,21 @@ impl<T> Drop for Drain<'_, T> {
     }
 }
 
-/// From both ends: of the values in a vector what comes next, and of those in pages what is found of
-/// that.
+/// From both ends: of the values in a vector what comes next, and of those in pages what is found
+/// of that.
 macro_rules! from_both_ends {
-    ($($name:ident<$($lifetime:lifetime)?>, $of:ident, $item:ty, $in_vector:expr, $in_pages:expr;)*) => {$(
+    ($(
+        $name:ident<$($lifetime:lifetime)?>, $of:ident, $item:ty, $in_vector:expr, $in_pages:expr;
+    )*) => {$(
         impl<$($lifetime,)? T> Iterator for $name<$($lifetime,)? T> {
             type Item = $item;
 
             fn next(&mut self) -> Option<$item> {
                 match &mut self.0 {
                     $of::InVector(values) => values.next().map($in_vector),
-                    $of::InPages(names, values) => names.next().and_then(|entry| $in_pages(values, entry)),
+                    $of::InPages(names, values) => {
+                        names.next().and_then(|entry| $in_pages(values, entry))
+                    }
                 }
             }
 
@@ -114,7 +118,9 @@ macro_rules! from_both_ends {
             fn next_back(&mut self) -> Option<$item> {
                 match &mut self.0 {
                     $of::InVector(values) => values.next_back().map($in_vector),
-                    $of::InPages(names, values) => names.next_back().and_then(|entry| $in_pages(values, entry)),
+                    $of::InPages(names, values) => {
+                        names.next_back().and_then(|entry| $in_pages(values, entry))
+                    }
                 }
             }
         }
@@ -125,7 +131,10 @@ macro_rules! from_both_ends {
 }
 
 /// The value of a name, under its key.
-fn found<'a, T>(values: &mut &'a teurlaks::Slab<Node<T>>, (key, name): (usize, &Key)) -> Option<(usize, &'a T)> {
+fn found<'a, T>(
+    values: &mut &'a teurlaks::Slab<Node<T>>,
+    (key, name): (usize, &Key),
+) -> Option<(usize, &'a T)> {
     Some((key, &values.get(*name)?.value))
 }
 
@@ -199,10 +208,14 @@ impl<T> IntoIterator for Slab<T> {
     type IntoIter = IntoIter<T>;
 
     fn into_iter(mut self) -> IntoIter<T> {
-        IntoIter(match mem::replace(&mut self.0, Values::InVector(Plain::new())) {
-            Values::InVector(values) => Owned::InVector(values.into_entries()),
-            Values::InPages(paged) => Owned::InPages(paged.names.into_entries(), Box::new(paged.values)),
-        })
+        IntoIter(
+            match mem::replace(&mut self.0, Values::InVector(Plain::new())) {
+                Values::InVector(values) => Owned::InVector(values.into_entries()),
+                Values::InPages(paged) => {
+                    Owned::InPages(paged.names.into_entries(), Box::new(paged.values))
+                }
+            },
+        )
     }
 }
 

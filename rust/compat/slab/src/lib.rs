@@ -32,9 +32,13 @@ const PART: usize = 16;
 /// Fewer values than this are not worth a compaction.
 const FEW: usize = 4096;
 
-/// Up to so many keys stand with their values in one vector, as in `slab`: hardly a page could be given
-/// back of them.
-const IN_VECTOR: usize = if cfg!(feature = "always-in-pages") { 0 } else { 256 };
+/// Up to so many keys stand with their values in one vector, as in `slab`: hardly a page could be
+/// given back of them.
+const IN_VECTOR: usize = if cfg!(feature = "always-in-pages") {
+    0
+} else {
+    256
+};
 
 /// Values of one type under keys that are numbers, the lowest first.
 pub struct Slab<T>(Values<T>);
@@ -113,7 +117,10 @@ impl<T> Paged<T> {
     fn compact(&mut self, mut rekey: impl FnMut(&mut T, usize, usize) -> bool) {
         let values = &mut self.values;
         self.names.compact(|name, from, to| {
-            let lost = Lost { values, name: *name };
+            let lost = Lost {
+                values,
+                name: *name,
+            };
             let node = lost.values.get_mut(*name).expect("the key has a value");
             let agrees = rekey(&mut node.value, from, to);
             node.key = if agrees { to } else { from };
@@ -127,7 +134,10 @@ impl<T> Paged<T> {
         self.removed += 1;
         if self.removed >= self.names.len().max(FEW) && self.removed % BETWEEN_PARTS == 0 {
             // If memory is refused, it goes on later.
-            let is_done = self.values.compact_within(PART).is_ok_and(|done| !done.more);
+            let is_done = self
+                .values
+                .compact_within(PART)
+                .is_ok_and(|done| !done.more);
             if is_done {
                 self.removed = 0;
             }
@@ -151,7 +161,9 @@ impl<T> Paged<T> {
 
 /// Keeps a value, and gives its name.
 fn keep<T>(values: &mut teurlaks::Slab<Node<T>>, key: usize, value: T) -> Key {
-    values.insert(Node { value, key }).expect("there is memory for a value")
+    values
+        .insert(Node { value, key })
+        .expect("there is memory for a value")
 }
 
 /// Drops all values, also if the drop of one panics: none has a name any more.
@@ -200,7 +212,8 @@ impl<T> Slab<T> {
         Slab(Values::InVector(Plain::new()))
     }
 
-    /// A slab with room for so many keys. If these are more than 256, values have memory as they come.
+    /// A slab with room for so many keys. If these are more than 256, values have memory as they
+    /// come.
     #[must_use]
     pub fn with_capacity(capacity: usize) -> Slab<T> {
         if capacity <= IN_VECTOR {
@@ -284,7 +297,9 @@ impl<T> Slab<T> {
         if let Values::InPages(paged) = &mut self.0 {
             if paged.names.keys() > IN_VECTOR / 2 {
                 paged.give_back();
-            } else if let Values::InPages(few) = mem::replace(&mut self.0, Values::InVector(Plain::new())) {
+            } else if let Values::InPages(few) =
+                mem::replace(&mut self.0, Values::InVector(Plain::new()))
+            {
                 let mut values = few.into_vector();
                 values.shrink();
                 self.0 = Values::InVector(values);

@@ -1,4 +1,5 @@
-//! Entries under keys that are numbers, as `slab` has them: in one vector, with a list of the vacant ones.
+//! Entries under keys that are numbers, as `slab` has them: in one vector, with a list of the
+//! vacant ones.
 
 use std::iter::{Enumerate, FusedIterator};
 use std::mem;

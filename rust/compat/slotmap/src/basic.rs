@@ -73,7 +73,10 @@ impl<K: Key, V> SlotMap<K, V> {
     ///
     /// If that are more than a `usize` counts.
     pub fn reserve(&mut self, additional: usize) {
-        let needed = self.len().checked_add(additional).expect("capacity overflow");
+        let needed = self
+            .len()
+            .checked_add(additional)
+            .expect("capacity overflow");
         self.capacity = self.capacity.max(needed);
     }
 
@@ -168,7 +171,8 @@ impl<K: Key, V> SlotMap<K, V> {
         if keys.contains(&None) {
             return None;
         }
-        self.values.get_disjoint_mut(keys.map(|key| key.expect("each is one")))
+        self.values
+            .get_disjoint_mut(keys.map(|key| key.expect("each is one")))
     }
 
     /// The values of the keys, to be changed.
@@ -176,7 +180,10 @@ impl<K: Key, V> SlotMap<K, V> {
     /// # Safety
     ///
     /// None is asked: it panics if one has no value, or two are the same.
-    pub unsafe fn get_disjoint_unchecked_mut<const N: usize>(&mut self, keys: [K; N]) -> [&mut V; N] {
+    pub unsafe fn get_disjoint_unchecked_mut<const N: usize>(
+        &mut self,
+        keys: [K; N],
+    ) -> [&mut V; N] {
         self.get_disjoint_mut(keys)
             .expect("the keys have values, and no two are the same")
     }
@@ -228,7 +235,10 @@ fn outer<K: Key>(key: teurlaks::Key) -> K {
 
 /// The iterators: what each is over in a slab, and what it gives.
 macro_rules! iterators {
-    ($($(#[$doc:meta])* $name:ident, [$($life:lifetime)?], $inner:ty, $item:ty, $next:ident => $gives:expr;)*) => {$(
+    ($(
+        $(#[$doc:meta])* $name:ident, [$($life:lifetime)?], $inner:ty, $item:ty,
+        $next:ident => $gives:expr;
+    )*) => {$(
         $(#[$doc])*
         #[must_use = "iterators are lazy and do nothing unless consumed"]
         pub struct $name<$($life,)? K: Key, V>($inner, PhantomData<fn(K) -> K>);

@@ -24,7 +24,8 @@ impl KeyData {
 
     /// The number of a key of a slab, if it has one.
     pub(crate) fn of(key: teurlaks::Key) -> Option<KeyData> {
-        key.to_u64(Self::BITS).map(|number| KeyData::from_ffi(number.get()))
+        key.to_u64(Self::BITS)
+            .map(|number| KeyData::from_ffi(number.get()))
     }
 
     /// The key of a slab with this number, if there is one.
@@ -38,7 +39,8 @@ impl KeyData {
         u64::from(self.high.get()) << 32 | u64::from(self.low)
     }
 
-    /// What has this number by [`KeyData::as_ffi`]. A number that no key has is that of the null key.
+    /// What has this number by [`KeyData::as_ffi`]. A number that no key has is that of the null
+    /// key.
     #[must_use]
     pub fn from_ffi(value: u64) -> KeyData {
         match NonZeroU32::new((value >> 32) as u32) {

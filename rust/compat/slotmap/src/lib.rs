@@ -1,6 +1,6 @@
-//! The interface of `slotmap` 1's [`SlotMap`] over a [`teurlaks::Slab`], which another program takes
-//! in place of `slotmap` by `[patch]`. No key is ever given out twice, and the pages of a map leave
-//! the process when its values are gone. There is no other map here: no `SecondaryMap`,
+//! The interface of `slotmap` 1's [`SlotMap`] over a [`teurlaks::Slab`], which another program
+//! takes in place of `slotmap` by `[patch]`. No key is ever given out twice, and the pages of a map
+//! leave the process when its values are gone. There is no other map here: no `SecondaryMap`,
 //! `HopSlotMap` or `DenseSlotMap`.
 //!
 //! ```

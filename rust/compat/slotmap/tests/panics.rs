@@ -32,7 +32,11 @@ fn as_all_is_dropped() {
 fn as_all_is_taken_out() {
     for drains in [false, true] {
         let (mut map, keys, dropped) = with_one_that_panics();
-        assert!(panics(|| if drains { drop(map.drain()) } else { map.clear() }));
+        assert!(panics(|| if drains {
+            drop(map.drain())
+        } else {
+            map.clear()
+        }));
         // Those after it stay, under their keys.
         assert_eq!((dropped.get(), map.len()), (51, 949));
         assert!(map.get(keys[50]).is_none() && map.get(keys[51]).is_some());

@@ -55,7 +55,10 @@ fn who_waits_for_a_call_sleeps() {
             lane.await_call();
         }
     });
-    let sleeps_soon = told.recv().unwrap().map_or(true, |taker| sleeps_soon(&taker));
+    let sleeps_soon = told
+        .recv()
+        .unwrap()
+        .map_or(true, |taker| sleeps_soon(&taker));
     lane.owner.0.in_call.store(false, Ordering::Release);
     taker.join().unwrap();
     assert!(sleeps_soon);
