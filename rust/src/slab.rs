@@ -223,7 +223,7 @@ impl<T> Slab<T> {
     /// ```
     /// # use teurlaks::{Limits, Refused, Slab};
     /// let mut slab = Slab::with_limits(Limits { pages: 1, ..Limits::default() })?;
-    /// slab.try_extend((0..256).map(|i| i.to_string()))?;
+    /// slab.try_extend((0..128).map(|i| i.to_string()))?;
     /// let refused = slab.try_insert("one more".to_string()).unwrap_err();
     /// assert_eq!((refused.refused, refused.value.as_str()), (Refused::PagesSpent, "one more"));
     /// # Ok::<(), Refused>(())
