@@ -101,7 +101,10 @@ SOURCES = {
             "self.compact_some(budget)?",
             "self.is_compacting = done.more",
         ],
-        "pub fn give_up_compaction(": ["take(&mut self.is_compacting)", "self.give_up()"],
+        "pub fn give_up_compaction(": [
+            "take(&mut self.is_compacting)",
+            "self.core.give_up_compaction()",
+        ],
     },
 }
 

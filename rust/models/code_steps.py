@@ -14,11 +14,16 @@ def body_of(source, head):
     return "\n".join(line for line in lines[:end] if not line.strip().startswith("//"))
 
 
+def on_one_line(code):
+    """The code without white space, so that it does not depend on where its lines end."""
+    return re.sub(r",(?=[)\]}])", "", re.sub(r"\s+", "", code))
+
+
 def missing_in(source, functions):
     """The heads of functions in which the words do not stand in their order."""
     for head, words in functions.items():
-        pattern = ".*".join(re.escape(word) for word in words)
-        if head not in source or not re.search(pattern, body_of(source, head), re.DOTALL):
+        pattern = ".*".join(re.escape(on_one_line(word)) for word in words)
+        if head not in source or not re.search(pattern, on_one_line(body_of(source, head))):
             yield head
 
 
@@ -32,8 +37,10 @@ def stands_as_modelled(folder, sources, counted, changes):
     for name, functions in sources.items():
         source = (folder / name).read_text()
         wrong += [f"{name}: {head}" for head in missing_in(source, functions)]
-    source = (folder / counted).read_text()
-    wrong += [f"{counted}: {words}" for words, count in changes.items() if source.count(words) != count]
+    source = on_one_line((folder / counted).read_text())
+    for words, count in changes.items():
+        if source.count(on_one_line(words)) != count:
+            wrong.append(f"{counted}: {words}")
     for place in wrong:
         print(f"the code is not as it is modelled: {place}: look at the model anew")
     return not wrong
