@@ -758,7 +758,7 @@ fn what_is_refused() {
         ));
     }
     let slab = SharedSlab::with_limits(of(3, 1)).unwrap();
-    let keys: Vec<_> = (0..768)
+    let keys: Vec<_> = (0..384)
         .map(|n| slab.insert(n.to_string()).unwrap())
         .collect();
     let refused = slab.try_insert("one more".to_string()).unwrap_err();
@@ -767,7 +767,7 @@ fn what_is_refused() {
         (Refused::PagesSpent, "one more")
     );
     assert!(slab.vacant_entry().is_err() && slab.create_with(|_| unreachable!()).is_err());
-    assert!((0..768)
+    assert!((0..384)
         .zip(&keys)
         .all(|(n, key)| slab.get(*key).unwrap().as_str() == n.to_string()));
     // A key of a shard or a slot that there is not.
