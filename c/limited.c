@@ -18,7 +18,7 @@ static long resident(void) {
 }
 
 static void put_all(struct teurlaks_handle *core) {
-    uint8_t object[256] = {0};
+    uint8_t object[256] = {1}; /* a page of zeros would take no memory */
     for (int i = 0; i < OBJECTS; i++) {
         struct teurlaks_put_reply put = teurlaks_put_bytes(core, 0, object, sizeof object);
         WANT(put.status == TEURLAKS_OK);

@@ -263,7 +263,7 @@ static void core_forgets(void) {
     WANT(forgotten.status == TEURLAKS_OK && forgotten.count == MANY - STAY && bytes < before);
     forgotten = teurlaks_forget(&many);
     WANT(forgotten.status == TEURLAKS_OK && forgotten.count == 0);
-    WANT(bytes <= before - 240 * (MANY - STAY));
+    WANT(bytes <= before - 200 * (MANY - STAY));
     free_firsts(&many, 0, STAY);
     forgotten = teurlaks_forget(&many);
     WANT(forgotten.status == TEURLAKS_OK && forgotten.count == STAY);

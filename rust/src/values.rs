@@ -705,7 +705,7 @@ impl Block {
                 .as_ptr()
                 .cast::<u32>()
                 .add(slot.into())
-                .write(generation)
+                .write(generation);
         }
     }
 

@@ -292,7 +292,7 @@ impl<T> Seat<T> {
             match self.adopt() {
                 Ok(_) => self.retired -= 1,
                 Err(Refused::NothingToAdopt | Refused::PagesSpent | Refused::Ended) => {
-                    self.retired = 0
+                    self.retired = 0;
                 }
                 Err(Refused::PlanOpen) => return Ok(0),
                 Err(refused) => return Err(refused),

@@ -98,7 +98,7 @@ impl<T> Hints<T> {
             table.write(Table {
                 older,
                 mask: len - 1,
-            })
+            });
         }
         self.last.store(table, Ordering::Release);
         true
