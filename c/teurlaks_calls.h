@@ -215,7 +215,7 @@ teurlaks_tested_compaction_step(struct teurlaks_handle *handle, size_t left, siz
 }
 
 TEURLAKS_INLINE uint32_t teurlaks_tested_compaction_give_up(struct teurlaks_handle *handle) {
-    return handle ? teurlaks_compaction_give_up(handle) : TEURLAKS_NO_CORE;
+    return handle ? teurlaks_compaction_give_up(handle) : (uint32_t)TEURLAKS_NO_CORE;
 }
 
 TEURLAKS_INLINE struct teurlaks_adopt_reply teurlaks_tested_adopt(struct teurlaks_handle *handle,
