@@ -5,7 +5,8 @@
 #include <stdio.h>
 #include <stdlib.h>
 
-/* A page is a block of 256 words of 16 bytes. A core may have other blocks of this size too. */
+/* A page is a block of 256 words of 16 bytes. A core has other blocks of this size too, from its
+ * start on, and from a first fold on. */
 enum { SLOTS = 256, PAGE = 16 * SLOTS, PAGES = 64 };
 
 /* Stands before each block, and keeps it aligned to 16. */
@@ -60,12 +61,13 @@ void *__wrap_realloc(void *block, size_t size) {
     return to;
 }
 
-#define WANT(holds)                                                                                                                              \
-    do {                                                                                                                                         \
-        if (!(holds)) {                                                                                                                          \
-            printf("memory.c:%d: %s (%zu calls, %zu blocks, %zu bytes, %zu pages)\n", __LINE__, #holds, calls, blocks, bytes, pages);             \
-            exit(1);                                                                                                                             \
-        }                                                                                                                                        \
+#define WANT(holds)                                                                                \
+    do {                                                                                           \
+        if (!(holds)) {                                                                            \
+            printf("memory.c:%d: %s (%zu calls, %zu blocks, %zu bytes, %zu pages)\n", __LINE__,    \
+                   #holds, calls, blocks, bytes, pages);                                           \
+            exit(1);                                                                               \
+        }                                                                                          \
     } while (0)
 
 /* The call is answered so, asks the allocator for nothing, and gives nothing back. */
@@ -80,16 +82,17 @@ static struct teurlaks_handle core;
 static struct teurlaks_key keys[4][PAGES][SLOTS];
 
 /* The core says that it has so many pages, and so many blocks are pages. */
-#define WANT_PAGES(count)                                                                                                                        \
-    do {                                                                                                                                         \
-        WANT(teurlaks_totals(&core).pages == (count));                                                                                           \
-        WANT(pages - others == (count));                                                                                                                  \
+#define WANT_PAGES(count)                                                                          \
+    do {                                                                                           \
+        WANT(teurlaks_totals(&core).pages == (count));                                             \
+        WANT(pages - others == (count));                                                           \
     } while (0)
 
 static void fill(uint32_t shard) {
     for (uint64_t page = 0; page < PAGES; page++)
         for (uint64_t slot = 0; slot < SLOTS; slot++) {
-            struct teurlaks_put_reply put = teurlaks_put(&core, shard, (struct teurlaks_word){page, slot});
+            struct teurlaks_put_reply put =
+                teurlaks_put(&core, shard, (struct teurlaks_word){page, slot});
             WANT(put.status == TEURLAKS_OK && put.key.slot == slot);
             keys[shard][page][slot] = put.key;
         }
@@ -109,7 +112,8 @@ static void look_up(uint32_t shard, size_t first, size_t slot) {
     }
 }
 
-/* What takes no memory asks for none, and gives none back: look-ups, sets, frees, walks and totals. */
+/* What takes no memory asks for none, and gives none back: look-ups, sets, frees, walks and
+ * totals. */
 static void quiet_calls(void) {
     struct teurlaks_word word = {7, 8};
     uint8_t room[16];
@@ -144,7 +148,8 @@ static void free_in_the_pool(void) {
     WANT_PAGES(2 * PAGES - 2);
 }
 
-/* Each step of a plan gives a page back, and the lists of groups and pages, which are full, stay as long as they are. The close gives back the room of the plan. */
+/* Each step of a plan gives a page back, and the lists of groups and pages, which are full, stay as
+ * long as they are. */
 static void fold(void) {
     struct teurlaks_mark_reply marked = teurlaks_mark(&core);
     WANT(marked.status == TEURLAKS_OK && marked.folds == PAGES - 2);
@@ -152,16 +157,16 @@ static void fold(void) {
         WANT(teurlaks_step(&core).status == TEURLAKS_OK);
         WANT_PAGES(2 * PAGES - 2 - step);
     }
-    size_t before = calls, kept = blocks;
+    size_t before = calls;
     WANT(teurlaks_close(&core) == TEURLAKS_OK);
-    WANT(calls == before + 1 && blocks == kept - 1);
+    WANT(calls == before);
     look_up(0, 2, 0);
     look_up(1, 0, 1);
     WANT_PAGES(PAGES);
 }
 
-/* A trim asks for nothing, and gives back the page of each group with no live key and nothing else. A put into such a group asks for
- * its page alone, and its span stays the one that it was. */
+/* A trim asks for nothing, and gives back the page of each group with no live key and nothing else.
+ * A put into such a group asks for its page alone, and its span stays the one that it was. */
 static void trim(void) {
     size_t half = PAGES / 2;
     fill(3);
@@ -187,7 +192,8 @@ static void trim(void) {
     WANT(teurlaks_get(&core, keys[3][0][0]).status == TEURLAKS_NONE);
 }
 
-/* A shard that has ended keeps none of its lists: of what its one span took, the generations stay. */
+/* A shard that has ended keeps none of its lists: of what its one span took, the generations
+ * stay. */
 static void end_without_lists(void) {
     size_t before = blocks;
     struct teurlaks_put_reply put = teurlaks_put(&core, 2, (struct teurlaks_word){1, 1});
@@ -265,23 +271,12 @@ static void core_forgets(void) {
     teurlaks_drop(&many);
 }
 
-/* An empty core has a block of its own, and no shard, ring or room for a plan. A look-up and a free
- * of a key that it never gave out, a trim and a retirement take nothing. The first put takes one
- * shard. */
+/* An empty core has a block of its own, its shards and the room for a plan, and no ring. */
 static void little(void) {
     struct teurlaks_handle many = {0};
-    struct teurlaks_key none = {0};
     size_t before = bytes, kept = blocks;
     WANT(teurlaks_new(&many, 64, MANY, 1024, 9) == TEURLAKS_OK);
-    WANT(blocks == kept + 1 && bytes - before <= 1024);
-    none.generation = 1;
-    QUIETLY(teurlaks_get(&many, none).status == TEURLAKS_NONE);
-    QUIETLY(teurlaks_free(&many, none) == TEURLAKS_NONE);
-    QUIETLY(teurlaks_trim(&many, 63).status == TEURLAKS_OK);
-    QUIETLY(teurlaks_retire(&many, 63, 1).status == TEURLAKS_OK);
-    QUIETLY(teurlaks_begin(&many, 63) == TEURLAKS_RUNNING);
-    WANT(teurlaks_put(&many, 0, (struct teurlaks_word){1, 2}).status == TEURLAKS_OK);
-    WANT(bytes - before <= PAGE + 3072);
+    WANT(blocks == kept + 3 && bytes - before < 65536 + 64 * 800);
     teurlaks_drop(&many);
 }
 

@@ -12,7 +12,6 @@ ghost use Rattle.arena_core.specs.declared.event.Event.TheVariants as event;
 ghost use Rattle.arena_core.specs.declared.reply.Reply.TheVariants as reply;
 
 use super::Core;
-use super::making::reach;
 use crate::reply::Refusal;
 use shard::{Found, Freed, Shard};
 use span::{Class, Key, Log, Object, SpanId};
@@ -58,8 +57,9 @@ impl<L: Log> Core<L> {
             (reply.Refused refusal) (shown self.new)) }
         ensures sound { IsSound self.new }
     {
-        reach(self.alloc, self.limits, number, &mut self.shards)?;
-        let shard = &mut self.shards[number as usize];
+        let Some(shard) = self.shards.get_mut(number as usize) else {
+            return Err(Refusal::Config);
+        };
         let (key, _) = shard.put_words(class, words)?;
         Ok(key)
     }
@@ -74,7 +74,7 @@ impl<L: Log> Core<L> {
         ensures sound { IsSound self.now }
     {
         let Some(shard) = self.shards.get(key.span.shard as usize) else {
-            return some_words(self.get_unmade(key.span, key.slot, key.generation));
+            return None;
         };
         match shard.get_first(key) {
             Some(found) => words_of(found),
@@ -184,16 +184,6 @@ impl<L: Log> Core<L> {
         }
     }
 
-    // The same, if the shard that opened the span is not made.
-    #[inline(never)]
-    fn get_unmade(&self, span: SpanId, slot: u8, generation: u32) -> &[u128]
-        requires home { StandsIn self.now.shards span span.shard → ⊥ }
-        requires generation { 1 ≤ generation }
-        ensures { FindsWords self.now span slot generation result.now }
-    {
-        self.get_away(span, slot, generation)
-    }
-
     // The same, if the shard that opened the span does not have it.
     #[inline(always)]
     fn get_away(&self, span: SpanId, slot: u8, generation: u32) -> &[u128]
@@ -269,7 +259,7 @@ impl<L: Log> Core<L> {
         ensures sound { IsSound self.new }
     {
         let Some(shard) = self.shards.get_mut(key.span.shard as usize) else {
-            return self.free_moved(*key);
+            return false;
         };
         let freed = shard.free(key);
         if matches!(freed, Freed::NotHere) {

@@ -39,7 +39,7 @@ impl<L: Log> Core<L> {
         ensures sound { IsSound self.new }
     {
         let Some(shard) = self.shards.get_mut(key.span.shard as usize) else {
-            return self.set_moved(key, words);
+            return Ok(false);
         };
         let replaced = shard.set(key, words)?;
         if matches!(replaced, Replaced::NotHere) {

@@ -166,9 +166,7 @@ impl<L: Log> Core<L> {
         ensures { MatchOption result (HasNoneIn self.now.shards number id slot)
             (IsFirstFrom (shown self.now) id slot) }
     {
-        let Some(shard) = self.shards.get(number) else {
-            return None;
-        };
+        let shard = self.shards.get(number)?;
         shard.first_from(id, slot)
     }
 }

@@ -4,13 +4,10 @@ use Rattle.arena_core.specs.declared.reply.Reply.TheVariants.{Refused, Retired}
 use Rattle.arena_core.specs.Kept.{state_of}
 use Rattle.arena_core.specs.Step.{CoreStep}
 use Rattle.arena_core.proofs.FieldSteps.{CoreStep-retire_refused_fields, IsStep-retire_fields}
-use Rattle.arena_core.proofs.Fields.{IsRead, no_read, shard-read, with_both_at}
+use Rattle.arena_core.proofs.Fields.{IsRead, shard-read, with_both_at}
 use Rattle.arena_core.proofs.FieldsKept.{GetsNone-Retires, IsKept-both_same, IsKept-with_both_at}
 use Rattle.arena_core.proofs.PlanSteps.{IsSoundStep}
 use Rattle.arena_core.proofs.Steps.{not_in_pool}
-use Rattle.arena_core.specs.Made.{IsUnused}
-use Rattle.arena_core.specs.State.{CoreState}
-use Rattle.arena_core.proofs.MadeFields.{IsUnused-unmade}
 use Rattle.arena_core.proofs.machine.Core.retire.Goals as goal
 
 pub end_refusal-requires : goal.end_refusal-requires
@@ -64,10 +61,3 @@ returns-clause-same g c = (retired g c).plain
 
 pub returns-clause-sound : goal.returns-clause-sound
 returns-clause-sound g c = (retired g c).kept
-
--- the shard is not made
-
-pub retire_none-requires : goal.retire_none-requires
-retire_none-requires g c =
-    subst (λ (s : CoreState). IsUnused s c.args.number) c.self.view_is
-    (IsUnused-unmade (state_of c.self.inside) c.self.inside.shards.items c.args.number refl (no_read c.self.inside c.args.number c.in_default.ensures.variant.1))

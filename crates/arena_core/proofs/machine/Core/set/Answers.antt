@@ -1,4 +1,5 @@
 use Rattle.std.proofs.Common.{◌≡◌, true, false, ap, refl, subst, sym, ◌∙◌}
+use Rattle.std.proofs.lemmas.Option.{slice_get_past}
 use Rattle.std.proofs.lemmas.Result.{err_from_is_err_and}
 use Rattle.span.specs.PlainMap.{has_as_many}
 use Rattle.shard.specs.Calls.{Sets}
@@ -11,18 +12,25 @@ use Rattle.arena_core.specs.State.{CoreState, shown}
 use Rattle.arena_core.proofs.FieldSteps.{IsStep-set_home, IsStep-set_refused_home, state_of-same}
 use Rattle.arena_core.proofs.Fields.{IsRead, no_read, shard-read, with_shard_at}
 use Rattle.arena_core.proofs.FieldsKept.{IsKept-same, IsKept-set}
-use Rattle.arena_core.proofs.Made.{unmade-standing}
 use Rattle.arena_core.proofs.Moved.{not-standing}
 use Rattle.arena_core.proofs.PlanSteps.{IsSoundStep, IsSoundStep-unset}
+use Rattle.arena_core.proofs.Steps.{value-no_home}
 use Rattle.arena_core.proofs.machine.Core.set.Goals as goal
 use Rattle.arena_core.proofs.machine.Core.set.Goals.{in-NotHere, in_default-matches}
 
--- the shard is not made
+nowhere : (g : _) (c : goal.After-self-in_default-2-1 g) → IsSoundStep c.args.self.now (Set c.args.key.now c.args.words.now) (Replaced false) c.args.self.now
+nowhere g c =
+    subst (λ old. IsSoundStep old (Set c.args.key.now c.args.words.now) (Replaced false) old) c.self.view_is
+    (IsSoundStep-unset (state_of c.self.inside) c.args.key.now c.args.words.now c.self.invariant.sound
+    (ap (has_as_many c.args.words.now)
+    (value-no_home (state_of c.self.inside) c.self.invariant.sound.groups c.args.key.now
+    (slice_get_past c.self.inside.shards.items c.args.key.now.span.shard (no_read c.self.inside c.args.key.now.span.shard c.in_default.ensures.variant.1)))))
 
-pub set_moved-requires : goal.set_moved-requires
-set_moved-requires g c =
-    unmade-standing c.self.inside.limits c.self.inside.shards.items c.args.key.now.span c.args.key.now.span.shard
-    (no_read c.self.inside c.args.key.now.span.shard c.in_default.ensures.variant.1)
+pub returns-in_default-clause-exact : goal.returns-in_default-clause-exact
+returns-in_default-clause-exact g c = ((nowhere g c).exact.0, c.self.view_is)
+
+pub returns-in_default-clause-plain : goal.returns-in_default-clause-plain
+returns-in_default-clause-plain g c = ((nowhere g c).plain.0, ap shown c.self.view_is)
 
 -- the shard refuses
 
@@ -89,8 +97,8 @@ away g c = elim c.match-matches.branch [
   | in_default-matches w ↦ absurd (let both : false ≡ true = sym w.matches-is ∙ c.if-matches.true in cc)
 ]
 
-pub set_moved-requires-2 : goal.set_moved-requires-2
-set_moved-requires-2 g c =
+pub set_moved-requires : goal.set_moved-requires
+set_moved-requires g c =
     let read : IsRead c.self.inside c.args.key.now.span.shard c.in-Some.shard.now = record { within = c.in-Some.ensures.variant.0 refl; value = c.in-Some.ensures.value } in
     subst (λ (s : CoreState). StandsIn s.shards c.args.key.now.span c.args.key.now.span.shard
     → ⊥) (sym (state_of-same c.self.inside c.args.key.now.span.shard c.in-Some.shard.now c.set.new.self read (away g c).1))
