@@ -1,6 +1,7 @@
 -- What calls on keys are told, by what is known of the keys that puts gave.
-use Rattle.std.proofs.Common.{◌≡◌, ◌∙◌, ℕ, Bool, false, true, List, [], ◌∷◌, Option, None, Some, ap, refl, subst, sym}
+use Rattle.std.proofs.Common.{◌≡◌, ◌∙◌, ◌++◌, ℕ, Bool, false, true, List, [], ◌∷◌, Option, None, Some, ap, refl, subst, sym}
 use Rattle.span.specs.Log.{Value}
+use Rattle.std.specs.List.{AllByRecursion}
 use Rattle.arena.specs.Receipts.{free_receipt, get_receipt, put_receipt, set_receipt}
 use Rattle.span.specs.Receipts.{look_up, set as set_call}
 use Rattle.span.specs.declared.key.Key.{Key}
@@ -27,6 +28,11 @@ IsKeptBack-none key none = subst (λ k. IsKeptBack k other.Unbound) (sym none) r
 
 pub IsKeptBack-some : (key : Option Key) (one : Key) → key ≡ Some one → IsKeptBack key other.RingFull
 IsKeptBack-some key one some = subst (λ k. IsKeptBack k other.RingFull) (sym some) refl
+
+-- of two lists in a row, what holds of each holds in both
+pub each-parts : {X : Type 0} (P : X → Type 0) (xs ys : List X) → AllByRecursion P (xs ++ ys) → AllByRecursion P xs × AllByRecursion P ys
+each-parts P [] ys each = (tt, each)
+each-parts P (x ∷ xs) ys each = let (left, right) = each-parts P xs ys each.1 in ((each.0, left), right)
 
 -- one thing was asked that changes nothing of what is known of keys
 pub Tells-still : (section thread number : ℕ) (asked : Asked) (outcome : Outcome) (kept : List Given) (fresh later : List Given) (old new : Diary) (before after : Carried) → later ≡ fresh

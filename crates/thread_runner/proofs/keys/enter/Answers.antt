@@ -3,7 +3,7 @@ use Rattle.std.proofs.lemmas.Option.{slice_get_read}
 use Rattle.thread_runner.specs.Known.{AreFresh, IsGiven}
 use Rattle.thread_runner.specs.declared.keys.Given.{Given}
 use Rattle.thread_runner.proofs.Keeping.{AreFresh-more, IsGiven-one}
-use Rattle.trace_runner.proofs.Homes.{each-parts}
+use Rattle.thread_runner.proofs.Knowing.{each-parts}
 use Rattle.thread_runner.proofs.keys.enter.Goals as goal
 
 pub returns-then-goes_on : goal.returns-then-goes_on

@@ -1,6 +1,6 @@
 use Rattle.std.proofs.Common.{◌∙◌, ◌++◌, ap, subst}
 use Rattle.thread_runner.specs.Known.{AreFresh, IsGiven}
-use Rattle.trace_runner.proofs.Homes.{each-parts}
+use Rattle.thread_runner.proofs.Knowing.{each-parts}
 use Rattle.thread_runner.proofs.caller.Caller.go_on.Goals as goal
 
 pub returns-clause-before : goal.returns-clause-before

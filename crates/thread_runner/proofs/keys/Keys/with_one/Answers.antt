@@ -1,7 +1,7 @@
 use Rattle.std.proofs.Common.{◌≡◌, ◌+◌, ◌++◌, ◌∷◌, [], rules, subst, sym}
 use Rattle.thread_runner.specs.Known.{AreApart, AreKept, IsGiven}
 use Rattle.thread_runner.proofs.Keeping.{AreApart-push}
-use Rattle.trace_runner.proofs.Homes.{each-parts}
+use Rattle.thread_runner.proofs.Knowing.{each-parts}
 use Rattle.thread_runner.proofs.keys.Keys.with_one.Goals as goal
 
 pub invariant_of-result : goal.invariant_of-result
