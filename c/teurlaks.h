@@ -334,15 +334,6 @@ struct teurlaks_many_reply teurlaks_get_many(const struct teurlaks_handle *handl
 struct teurlaks_next_reply teurlaks_next(const struct teurlaks_handle *handle,
                                          struct teurlaks_key after);
 
-/* Whether the key is live: TEURLAKS_OK, or TEURLAKS_NONE. No word of its object is read. */
-uint32_t teurlaks_contains(const struct teurlaks_handle *handle, struct teurlaks_key key);
-
-/* The key of the span's lowest live slot from this one on; TEURLAKS_NONE where no such slot is live,
- * as where no span has these numbers. A caller that keeps something beside each live slot has the
- * slot's key from here. Takes no memory. */
-struct teurlaks_next_reply teurlaks_next_in_span(const struct teurlaks_handle *handle,
-                                                 struct teurlaks_span span, uint32_t slot);
-
 /* How much is kept. */
 struct teurlaks_totals_reply teurlaks_totals(const struct teurlaks_handle *handle);
 

@@ -1,10 +1,9 @@
 -- What the calls do.
 use Rattle.std.specs.Prelude.{◌≡◌, ◌⊎◌, ◌<◌, ◌≤◌, ◌++◌, ◌∷◌, [], ℕ, List, Option, Some, None, MatchOption, MatchResult, Result, Ok, Err, true, false, drop, length}
-use Rattle.span.specs.declared.id.SpanId.{SpanId}
 use Rattle.span.specs.declared.key.Key.{Key}
 use Rattle.span.specs.Classes.{IsObject}
 use Rattle.span.specs.Log.{Value}
-use Rattle.span.specs.Order.{HasNoneBeyond, HasNoneFrom, IsFirstFrom, IsNextLive}
+use Rattle.span.specs.Order.{HasNoneBeyond, IsNextLive}
 use Rattle.certificate.specs.declared.certificate.Certificate.{Certificate}
 use Rattle.certificate.specs.Text.{IsWritable, certificate_text}
 use Rattle.fold.specs.declared.step.Step.TheVariants.{Folded, Emptied}
@@ -23,7 +22,6 @@ use Rattle.arena_core.specs.Step.{CoreStep, HasPlan}
 use Rattle.teurlaks_c.specs.declared.held.Held.{Held}
 use Rattle.teurlaks_c.specs.declared.held.Witness.{Witness}
 use Rattle.teurlaks_c.specs.declared.replies.RawKey.{RawKey}
-use Rattle.teurlaks_c.specs.declared.replies.RawSpan.{RawSpan}
 use Rattle.teurlaks_c.specs.declared.replies.RawWord.{RawWord}
 use Rattle.teurlaks_c.specs.declared.replies.PutReply.{PutReply}
 use Rattle.teurlaks_c.specs.declared.replies.GetReply.{GetReply}
@@ -37,7 +35,7 @@ use Rattle.teurlaks_c.specs.declared.replies.MarkReply.{MarkReply}
 use Rattle.teurlaks_c.specs.declared.replies.StepReply.{StepReply}
 use Rattle.teurlaks_c.specs.declared.replies.CertificateReply.{CertificateReply}
 use Rattle.teurlaks_c.specs.declared.replies.TotalsReply.{TotalsReply}
-use Rattle.teurlaks_c.specs.Keys.{IsKeyOf, IsNoKey, IsIdOf, IsNoId}
+use Rattle.teurlaks_c.specs.Keys.{IsKeyOf, IsNoKey, IsIdOf}
 use Rattle.teurlaks_c.specs.Status.{done, none, out_of_memory, config, emptied, no_pair_left, no_plan, too_small, refusal_status}
 use Rattle.teurlaks_c.specs.Words.{word_of, words_of}
 
@@ -121,16 +119,6 @@ GetsWords old raw room says room_new new = (IsNoKey raw × SaysWords room says r
     × (new ≡ old))
     ⊎ ((key : Key) × IsKeyOf raw key × GetsKey old key (SaysWords room says room_new) new)
 
--- what C reads of whether a key has a value
-abbrev pub SaysLive : ℕ → Option Value → Type 0
-SaysLive says (Some value) = says ≡ done
-SaysLive says None = says ≡ none
-
--- whether the key with these numbers is live; nothing changes
-abbrev pub Contains : Option Held → RawKey → ℕ → Option Held → Type 0
-Contains old raw says new = (IsNoKey raw × (says ≡ none) × (new ≡ old))
-    ⊎ ((key : Key) × IsKeyOf raw key × GetsKey old key (SaysLive says) new)
-
 -- what C reads of a step of a walk
 abbrev pub SaysNext : NextReply → Option Key → Type 0
 SaysNext says (Some key) = (says.status ≡ done) × IsKeyOf says.key key
@@ -150,23 +138,6 @@ pub record NextsKey (old : Option Held) (after found : Option Key) (new : Option
 abbrev pub Nexts : Option Held → RawKey → NextReply → Option Held → Type 0
 Nexts old raw says new = (after found : Option Key) × MatchOption after (IsNoKey raw) (IsKeyOf raw)
     × NextsKey old after found new × SaysNext says found
-
--- of the map that the core shows, the key of the span's lowest live slot from this one on; nothing
--- changes
-pub record FindsInSpan (old : Option Held) (id : SpanId) (slot : ℕ) (found : Option Key)
-    (new : Option Held) : Type 0 where
-  pub held : Held
-  pub is : old ≡ Some held
-  pub same : new ≡ old
-  pub first : MatchOption found (HasNoneFrom (shown held.core) id slot)
-      (IsFirstFrom (shown held.core) id slot)
-
--- the key of the lowest live slot from this one on of the span with these numbers, if there is one;
--- nothing changes
-abbrev pub NextsInSpan : Option Held → RawSpan → ℕ → NextReply → Option Held → Type 0
-NextsInSpan old raw slot says new = (IsNoId raw × (says.status ≡ none) × (new ≡ old))
-    ⊎ ((id : SpanId) × (found : Option Key) × IsIdOf raw id × FindsInSpan old id slot found new
-    × SaysNext says found)
 
 -- what C reads of the reply to a set; no other reply comes
 abbrev pub SaysSet : ℕ → Reply → Type 0

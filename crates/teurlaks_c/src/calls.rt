@@ -317,7 +317,7 @@ fn free(handle: &mut Handle, key: &Key) -> u32
 }
 
 // The status of a call that needs no core for its answer, or `NO_CORE`.
-pub(crate) fn or_no_core(status: u32, handle: &mut Handle) -> u32
+fn or_no_core(status: u32, handle: &mut Handle) -> u32
     ensures same { handle.new.held ≡ handle.old.held }
     ensures live { IsSome handle.old.held → result ≡ status }
     ensures none { handle.old.held ≡ None → result ≡ no_core }
@@ -326,7 +326,7 @@ pub(crate) fn or_no_core(status: u32, handle: &mut Handle) -> u32
 }
 
 // The key that comes next, as C has it.
-pub(crate) fn next_reply(found: Option<Key>) -> NextReply
+fn next_reply(found: Option<Key>) -> NextReply
     ensures { SaysNext result found }
 {
     let Some(key) = found else {

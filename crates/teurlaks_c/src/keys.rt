@@ -1,6 +1,6 @@
 // Keys and spans as C has them.
 ghost use Rattle.std.specs.Prelude.{◌≡◌, MatchOption};
-ghost use Rattle.teurlaks_c.specs.Keys.{IsKeyOf, IsNoKey, IsIdOf, IsNoId};
+ghost use Rattle.teurlaks_c.specs.Keys.{IsKeyOf, IsNoKey, IsIdOf};
 
 use crate::replies::{RawKey, RawSpan};
 use span::{Key, SpanId};
@@ -54,12 +54,4 @@ pub(crate) fn raw_span(id: SpanId) -> RawSpan
 {
     let SpanId { shard, serial } = id;
     RawSpan { shard, serial }
-}
-
-/// The span of these numbers, or `None` where no span has them.
-pub(crate) fn id_of(raw: RawSpan) -> Option<SpanId>
-    ensures { MatchOption result (IsNoId raw) (IsIdOf raw) }
-{
-    let RawSpan { shard, serial } = raw;
-    SpanId::new(shard, serial)
 }

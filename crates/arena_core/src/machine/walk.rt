@@ -126,12 +126,8 @@ impl<L: Log> Core<L> {
         }
     }
 
-    /// The key of the span's lowest live slot from this one on, wherever the span is by now. `None`
-    /// says that no such slot of the span is live, as of a span that was never opened.
-    ///
-    /// So a caller that keeps something beside each live slot has the slot's key from here. It
-    /// takes no memory, and asks for the span as a look-up does.
-    pub fn first_in_span(&self, id: SpanId, slot: u32) -> Option<Key>
+    // The first live key of the span at a slot from this one on, wherever the span is.
+    fn first_in_span(&self, id: SpanId, slot: u32) -> Option<Key>
         ensures { MatchOption result (HasNoneFrom (shown self.now) id slot)
             (IsFirstFrom (shown self.now) id slot) }
     {
