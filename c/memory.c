@@ -1,6 +1,7 @@
 /* What a core and an arena take from the allocator and give back, counted block by block: each call
- * of which teurlaks.h says that it takes no memory, what goes with pages, and what goes with spans
- * that are forgotten. Link it with -Wl,--wrap=malloc,--wrap=realloc,--wrap=free. */
+ * of which teurlaks.h says that it takes no memory, what goes with pages, that pages of zeros take
+ * none, and what goes with spans that are forgotten. Link it with
+ * -Wl,--wrap=malloc,--wrap=realloc,--wrap=free. */
 #include "teurlaks.h"
 #include <stdio.h>
 #include <stdlib.h>
@@ -280,6 +281,101 @@ static void little(void) {
     teurlaks_drop(&many);
 }
 
+static const struct teurlaks_word zero;
+static struct teurlaks_handle of_zeros;
+
+/* The key finds the word in a core in which zeros are put. */
+static void find_beside_zeros(struct teurlaks_key key, struct teurlaks_word word) {
+    struct teurlaks_get_reply got = teurlaks_get(&of_zeros, key);
+    WANT(got.status == TEURLAKS_OK && got.value.low == word.low && got.value.high == word.high);
+}
+
+/* Keeps a word in the shard, at this slot of its one page, for which it asks for so many pages. */
+static struct teurlaks_key put_beside_zeros(uint32_t shard, struct teurlaks_word word, uint8_t slot,
+                                            size_t asked) {
+    size_t before = pages;
+    struct teurlaks_put_reply put = teurlaks_put(&of_zeros, shard, word);
+    WANT(put.status == TEURLAKS_OK && put.key.slot == slot && put.key.serial == 0);
+    WANT(pages == before + asked);
+    find_beside_zeros(put.key, word);
+    return put.key;
+}
+
+/* Frees the key, and gives back the page of its shard, which was asked for or was one of zeros. */
+static void trim_zeros(struct teurlaks_key key, size_t given) {
+    size_t before = pages;
+    QUIETLY(teurlaks_free(&of_zeros, key) == TEURLAKS_OK);
+    WANT(teurlaks_trim(&of_zeros, key.shard).count == 1);
+    WANT(teurlaks_totals(&of_zeros).pages == 0 && pages == before - given);
+}
+
+/* A page of zeros counts as a page and takes no memory. It takes it with the first object that is
+ * put or set there and has a bit. */
+static void zeros_take_no_page(void) {
+    const struct teurlaks_word bit = {0, (uint64_t)1 << 63};
+    struct teurlaks_key first = put_beside_zeros(0, zero, 0, 0), second;
+    WANT(teurlaks_totals(&of_zeros).pages == 1);
+    size_t before = calls;
+    second = put_beside_zeros(0, zero, 1, 0);
+    QUIETLY(teurlaks_set(&of_zeros, first, zero) == TEURLAKS_OK);
+    QUIETLY(teurlaks_free(&of_zeros, second) == TEURLAKS_OK);
+    trim_zeros(first, 0);
+    first = put_beside_zeros(0, zero, 0, 0);
+    WANT(calls == before && teurlaks_totals(&of_zeros).pages == 1);
+    WANT(teurlaks_set(&of_zeros, first, bit) == TEURLAKS_OK);
+    WANT(calls == before + 1);
+    second = put_beside_zeros(0, zero, 1, 0);
+    find_beside_zeros(first, bit);
+    QUIETLY(teurlaks_free(&of_zeros, second) == TEURLAKS_OK);
+    trim_zeros(first, 1);
+    first = put_beside_zeros(0, zero, 0, 0);
+    second = put_beside_zeros(0, bit, 1, 1);
+    find_beside_zeros(first, zero);
+    QUIETLY(teurlaks_free(&of_zeros, first) == TEURLAKS_OK);
+    trim_zeros(second, 1);
+}
+
+/* Folds the page of shard 0 onto that of shard 1, and gives so many pages back. */
+static void fold_zeros(size_t given) {
+    size_t before = pages;
+    WANT(teurlaks_retire(&of_zeros, 0, 1).count == 1);
+    WANT(teurlaks_mark(&of_zeros).folds == 1);
+    WANT(teurlaks_step(&of_zeros).status == TEURLAKS_OK);
+    WANT(teurlaks_close(&of_zeros) == TEURLAKS_OK);
+    WANT(teurlaks_totals(&of_zeros).pages == 1 && pages == before - given);
+}
+
+/* A fold of pages of which one, both or none is of zeros: an object stays what it is, whatever was
+ * freed at its slot on the other page. */
+static void zeros_are_folded(int is_from_zeros, int is_onto_zeros) {
+    const struct teurlaks_word from = {is_from_zeros ? 0 : 5, 0}, onto = {is_onto_zeros ? 0 : 6, 0};
+    struct teurlaks_key low, high, freed;
+    WANT(teurlaks_new(&of_zeros, 2, 4, 1, 9) == TEURLAKS_OK);
+    low = put_beside_zeros(0, from, 0, !is_from_zeros);
+    freed = put_beside_zeros(1, onto, 0, !is_onto_zeros);
+    high = put_beside_zeros(1, onto, 1, 0);
+    QUIETLY(teurlaks_free(&of_zeros, freed) == TEURLAKS_OK);
+    fold_zeros(!is_from_zeros && !is_onto_zeros);
+    find_beside_zeros(low, from);
+    find_beside_zeros(high, onto);
+    size_t before = pages;
+    WANT(teurlaks_set(&of_zeros, low, (struct teurlaks_word){7, 7}) == TEURLAKS_OK);
+    WANT(pages == before + (is_from_zeros && is_onto_zeros));
+    find_beside_zeros(low, (struct teurlaks_word){7, 7});
+    find_beside_zeros(high, onto);
+    QUIETLY(teurlaks_free(&of_zeros, low) == TEURLAKS_OK);
+    trim_zeros(high, 1);
+    teurlaks_drop(&of_zeros);
+}
+
+static void zeros(void) {
+    WANT(teurlaks_new(&of_zeros, 2, 4, 1, 9) == TEURLAKS_OK);
+    zeros_take_no_page();
+    teurlaks_drop(&of_zeros);
+    for (int of_zeros_are = 0; of_zeros_are < 4; of_zeros_are++)
+        zeros_are_folded(of_zeros_are & 1, of_zeros_are >> 1);
+}
+
 static struct teurlaks_share_handle steward, seat, other;
 
 /* Keys of objects of one word, put at a seat. */
@@ -404,6 +500,7 @@ int main(void) {
     teurlaks_drop(&core);
     core_forgets();
     little();
+    zeros();
     arena();
     WANT(blocks == 0 && bytes == 0);
     printf("each page that a fold, an end, a free or a trim regained was given back,\n"
