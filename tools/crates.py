@@ -1,5 +1,6 @@
-"""What tools/edits, tools/prove, tools/record and tools/tried share: the crates of crates.txt, and
-the words by which the kit's tools are called for one. Nothing here is meant to be called alone."""
+"""What tools/edits, tools/prove, tools/record, tools/tried and tools/unproved share: the crates of
+crates.txt, and the words by which the kit's tools are called for one. Nothing here is meant to be
+called alone."""
 
 import importlib.machinery
 import importlib.util
@@ -28,12 +29,17 @@ KIT = kit()
 RATTLE = f"{KIT}/bin/rattle"
 
 
-def load_rt():
-    """The kit's rt as a module."""
-    loader = importlib.machinery.SourceFileLoader("rt", f"{KIT}/bin/rt")
-    made = importlib.util.module_from_spec(importlib.util.spec_from_loader("rt", loader))
+def load(path):
+    """A program in Python as a module, by its path."""
+    loader = importlib.machinery.SourceFileLoader(os.path.basename(path), path)
+    made = importlib.util.module_from_spec(importlib.util.spec_from_loader(loader.name, loader))
     loader.exec_module(made)
     return made
+
+
+def load_rt():
+    """The kit's rt as a module."""
+    return load(f"{KIT}/bin/rt")
 
 
 def text_of(path):
