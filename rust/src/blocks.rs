@@ -151,6 +151,12 @@ impl Blocks {
         self.size % SYSTEM_PAGE != 0
     }
 
+    /// Whether a free block lies before a taken one.
+    pub fn has_gaps(&self) -> bool {
+        let free = self.taken.iter().position(|taken| !taken);
+        free.is_some_and(|free| self.taken[free..].contains(&true))
+    }
+
     /// Takes the lowest free block of the range for the highest taken one, which is free from now
     /// on, if that is the higher one: both numbers. The range is then what lies between.
     // A number has 32 bits.
@@ -162,17 +168,17 @@ impl Blocks {
         Some((high as u32, low as u32))
     }
 
-    /// Hands all memory behind the last taken block to the system, once no free block lies before
-    /// it.
+    /// Hands all memory behind the last taken block to the system, after blocks were swapped.
     // A number has 32 bits.
     #[allow(clippy::cast_possible_truncation)]
     pub fn release_rest(&mut self) {
-        let count = self.taken.partition_point(|taken| *taken);
+        let last = self.taken.iter().rposition(|taken| *taken);
+        let count = last.map_or(0, |last| last + 1);
         self.warm.clear();
         self.cold.clear();
+        let free = (0..self.taken.len()).filter(|number| !self.taken[*number]);
         // The lowest is taken first.
-        self.cold
-            .extend((count..self.taken.len()).rev().map(|number| number as u32));
+        self.cold.extend(free.rev().map(|number| number as u32));
         for (number, segment) in self.segments.iter().enumerate() {
             let used = count.saturating_sub(number * self.per).min(self.per) * self.size;
             let first = (used + SYSTEM_PAGE - 1) / SYSTEM_PAGE * SYSTEM_PAGE;
@@ -409,6 +415,7 @@ mod tests {
         (0..100)
             .filter(|number| number % 10 != 3)
             .for_each(|number| blocks.give(number));
+        assert!(blocks.has_gaps());
         let mut within = blocks.numbers();
         let from: Vec<_> = std::iter::from_fn(|| blocks.swap_ends(&mut within)).collect();
         let low = [0, 1, 2, 4, 5, 6, 7, 8, 9];
@@ -416,6 +423,7 @@ mod tests {
             .into_iter()
             .eq((1..10).rev().map(|n| 10 * n + 3).zip(low)));
         blocks.release_rest();
+        assert!(!blocks.has_gaps());
         assert_eq!((blocks.take().0, blocks.take().0), (10, 11));
         Ok(())
     }

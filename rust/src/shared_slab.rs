@@ -182,7 +182,7 @@ impl<T> DerefMut for Shard<T> {
 
 impl<T> SharedSlab<T> {
     /// A slab of 64 shards with no value, whose limits are those of memory: each shard has as many
-    /// pages as one may have. So it may hold 17,179,869,184 values of fewer than 80 bytes, or
+    /// pages as one may have. So it may hold 17,179,869,184 values of fewer than 16 bytes, or
     /// 1,073,741,824 of 4,096.
     ///
     /// # Errors

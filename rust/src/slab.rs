@@ -19,10 +19,10 @@ use std::ptr::NonNull;
 /// The values stand in pages of their own, one beside each page of the core, and move with its
 /// folds: so any type will do, what is found is a reference, each value is dropped once, and a fold
 /// gives the memory of a page of values back to the system. [`Slab::compact`] folds as much as can
-/// be. Beside a value there are 4 bytes of its key, and the core's object of one word of zeros or,
-/// from 80 bytes on, of more. For then a page has fewer slots, and more pages fit each other: 256,
-/// or 64 of 240 bytes, or 16 of 4,096. A value of more bytes stands in a block of the global
-/// allocator.
+/// be. Beside a value there are 4 bytes of its key, and the core's object of zeros, which take no
+/// memory: one word or, from 16 bytes on, more. For then a page has fewer slots, and more pages fit
+/// each other: 256, or 128 of 16 bytes, or 64 of 240, or 16 of 4,096. A value of more bytes stands
+/// in a block of the global allocator.
 ///
 /// A look-up compares the key's generation with the one beside the value, and does not ask the
 /// core, which is proved never to give a key out twice; with debug assertions it asks, and panics
@@ -63,11 +63,13 @@ pub struct Slab<T> {
     takes_turns: bool,
     // The key of a vacant entry, which has no value yet. It stays where such an entry is forgotten.
     vacant: Option<Key>,
+    // Whether a compaction in parts has taken its steps and has pages of values to move.
+    is_packing: bool,
 }
 
 impl<T> Slab<T> {
     /// A slab with no value, whose limits are those of memory: of 16 shards, each of as many pages
-    /// as a shard may have. So it may hold 4,294,967,296 values of fewer than 80 bytes at once, or
+    /// as a shard may have. So it may hold 4,294,967,296 values of fewer than 16 bytes at once, or
     /// 268,435,456 of 4,096. Pages come as they are filled. It asks for nothing but a
     /// [`Slab::compact`] now and then, if most of what it held is gone and the memory is wanted
     /// back.
@@ -99,6 +101,7 @@ impl<T> Slab<T> {
             first: 0,
             takes_turns: false,
             vacant: None,
+            is_packing: false,
         })
     }
 
@@ -728,7 +731,7 @@ impl<T> Slab<T> {
     /// each side, those with the fewest values. A page that is folded takes no value of its own any
     /// more, so each fold uses up one of the 4,294,967,295 pages that a shard may open in its life;
     /// what can never have a value again is forgotten. [`Slab::compact_within`] does the same in
-    /// parts. At the end here pages of values move together, each once at most, so that the memory
+    /// parts. At the end pages of values move together, each once at most, so that the memory
     /// between them goes to the system too.
     ///
     /// # Errors
@@ -750,13 +753,14 @@ impl<T> Slab<T> {
         self.give_up_vacant();
         let went = self.compact_all();
         self.first = 0;
-        self.values.pack();
+        self.is_packing = self.values.pack(usize::MAX);
         went
     }
 
     /// Takes at most so many steps of a [compaction](Slab::compact), at least one, and says how
     /// many pages went and whether there is more to do. The next call goes on where this one
-    /// stopped.
+    /// stopped. After the last step each call moves at most so many pages of values together,
+    /// until none is left to move.
     ///
     /// What a step is, what a plan looks at, and which calls may be refused with
     /// [`Refused::PlanOpen`] between two calls, is as of [`Core::compact_within`].
@@ -782,10 +786,19 @@ impl<T> Slab<T> {
     /// ```
     pub fn compact_within(&mut self, budget: usize) -> Result<Compacted, Refused> {
         self.give_up_vacant();
-        let done = self.compact_some(budget);
+        let done = if self.is_packing {
+            Ok(Compacted::default())
+        } else {
+            self.compact_some(budget)
+        };
         self.first = 0;
         self.values.cool();
-        done
+        let mut done = done?;
+        if !done.more {
+            self.is_packing = self.values.pack(budget.max(1));
+            done.more = self.is_packing;
+        }
+        Ok(done)
     }
 }
 

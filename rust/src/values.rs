@@ -539,21 +539,27 @@ impl<T> Values<T> {
         }
     }
 
-    /// Moves pages of values to blocks of lower numbers until no free block lies before a taken
-    /// one, and hands the memory behind them to the system. Where blocks are not whole system
-    /// pages, a free block would keep what it shares with a taken one.
-    pub fn pack(&mut self) {
+    /// Moves at most so many pages of values to blocks of lower numbers, and hands the memory of
+    /// free blocks to the system. Says whether a free block lies before a taken one then. If blocks
+    /// are not whole system pages, such a block would keep what it shares with a taken one; if they
+    /// are, no page moves.
+    pub fn pack(&mut self, most: usize) -> bool {
         let Some(paged) = self.paged.get_mut() else {
-            return;
+            return false;
         };
+        paged.blocks.cool();
         if !paged.blocks.share_pages() {
-            return paged.blocks.cool();
+            return false;
         }
         let mut within = paged.blocks.numbers();
-        while let Some((from, to)) = self.paged.blocks.swap_ends(&mut within) {
+        for _ in 0..most {
+            let Some((from, to)) = self.paged.blocks.swap_ends(&mut within) else {
+                break;
+            };
             self.move_page(from, to);
         }
         self.paged.blocks.release_rest();
+        self.paged.blocks.has_gaps()
     }
 
     /// Moves the values of a page to the block of the other number, on which no value is.

@@ -289,6 +289,33 @@ fn one_call_ends_parts() -> Result<(), Refused> {
     Ok(())
 }
 
+/// After the last step pages of values move together, at most so many a call, and where they end no
+/// call moves any further.
+#[test]
+fn parts_move_values_together() -> Result<(), Refused> {
+    let (mut slab, stay) = sparse::<Slab<[u64; 7]>>(10_000, 15)?;
+    let places = |slab: &Slab<[u64; 7]>| -> Vec<_> {
+        stay.iter()
+            .map(|(key, _)| slab.get(*key).map(|value| value.as_ptr()))
+            .collect()
+    };
+    let (mut at, mut moves) = (places(&slab), 0);
+    loop {
+        let done = slab.compact_within(1)?;
+        finds_all(&slab, &stay);
+        let now = places(&slab);
+        moves += usize::from(done.pages == 0 && now != at);
+        at = now;
+        if !done.more {
+            break;
+        }
+    }
+    assert!(moves > 1);
+    assert_eq!((slab.compact()?, places(&slab)), (0, at));
+    finds_all(&slab, &stay);
+    Ok(())
+}
+
 /// Where no two pages fit by their numbers, nothing is retired: the pool stays empty.
 #[test]
 fn full_pages_stay() -> Result<(), Refused> {
