@@ -41,6 +41,7 @@ static void each_call(struct teurlaks_handle *none, struct teurlaks_key key) {
     many = teurlaks_get_many(none, keys, 1, &got, 1);
     WANT(many.status == TEURLAKS_NO_CORE && many.count == 0 && got.status == TEURLAKS_NO_CORE);
     WANT(teurlaks_next(none, key).status == TEURLAKS_NO_CORE);
+    WANT(teurlaks_contains(none, key) == TEURLAKS_NO_CORE);
     WANT(teurlaks_totals(none).pages == 0 && teurlaks_totals(none).live == 0);
     WANT(teurlaks_end(none, 0) == TEURLAKS_NO_CORE);
     WANT(teurlaks_begin(none, 0) == TEURLAKS_NO_CORE);
@@ -362,6 +363,7 @@ static void numbers(struct teurlaks_handle *core, struct teurlaks_key key) {
         WANT(teurlaks_set_words(core, wrong[i], words, 1) == TEURLAKS_NONE);
         WANT(teurlaks_set_bytes(core, wrong[i], words, 1) == TEURLAKS_NONE);
         WANT(teurlaks_free(core, wrong[i]) == TEURLAKS_NONE);
+        WANT(teurlaks_contains(core, wrong[i]) == TEURLAKS_NONE);
     }
     /* What is no key at all begins a walk, as a key of zeros does. */
     WANT(teurlaks_next(core, wrong[0]).status == TEURLAKS_OK);

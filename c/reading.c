@@ -79,6 +79,7 @@ static void read_large(const struct teurlaks_handle *core) {
     char bytes[200];
     want(teurlaks_get_bytes(core, large, bytes, sizeof bytes) == TEURLAKS_OK, "its bytes");
     want(teurlaks_get(core, large).status == TEURLAKS_TOO_SMALL, "it has more words than one");
+    want(teurlaks_contains(core, large) == TEURLAKS_OK, "its key is live");
 }
 
 static void read_certificate(const struct teurlaks_handle *core) {
@@ -101,6 +102,7 @@ static void *read_all(void *with) {
             struct teurlaks_words_reply words = teurlaks_get_words(core, keys[at], &word, 1);
             uint32_t status = at % 3 ? TEURLAKS_OK : TEURLAKS_NONE;
             want(got.status == status && words.status == status, "a look-up is as the key is");
+            want(teurlaks_contains(core, keys[at]) == status, "a key is live or not");
             int finds = got.value.low == (uint64_t)at && word.low == (uint64_t)at;
             want(!(at % 3) || finds, "a look-up finds its own word");
         }

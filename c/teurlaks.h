@@ -334,6 +334,9 @@ struct teurlaks_many_reply teurlaks_get_many(const struct teurlaks_handle *handl
 struct teurlaks_next_reply teurlaks_next(const struct teurlaks_handle *handle,
                                          struct teurlaks_key after);
 
+/* Whether the key is live: TEURLAKS_OK, or TEURLAKS_NONE. No word of its object is read. */
+uint32_t teurlaks_contains(const struct teurlaks_handle *handle, struct teurlaks_key key);
+
 /* How much is kept. */
 struct teurlaks_totals_reply teurlaks_totals(const struct teurlaks_handle *handle);
 

@@ -170,6 +170,11 @@ teurlaks_tested_next(const struct teurlaks_handle *handle, struct teurlaks_key a
     return handle ? teurlaks_next(handle, after) : none;
 }
 
+TEURLAKS_INLINE uint32_t teurlaks_tested_contains(const struct teurlaks_handle *handle,
+                                                  struct teurlaks_key key) {
+    return handle ? teurlaks_contains(handle, key) : (uint32_t)TEURLAKS_NO_CORE;
+}
+
 TEURLAKS_INLINE struct teurlaks_totals_reply
 teurlaks_tested_totals(const struct teurlaks_handle *handle) {
     struct teurlaks_totals_reply none = {0, 0};
@@ -458,6 +463,7 @@ teurlaks_tested_steward_totals(struct teurlaks_share_handle *handle) {
 #define teurlaks_free_many teurlaks_tested_free_many
 #define teurlaks_get_many teurlaks_tested_get_many
 #define teurlaks_next teurlaks_tested_next
+#define teurlaks_contains teurlaks_tested_contains
 #define teurlaks_totals teurlaks_tested_totals
 #define teurlaks_end teurlaks_tested_end
 #define teurlaks_begin teurlaks_tested_begin

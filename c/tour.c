@@ -42,7 +42,8 @@ static void each_bit(struct teurlaks_handle *core, struct teurlaks_key key) {
         memcpy(&other, bytes, sizeof key);
         WANT(teurlaks_get(core, other).status == TEURLAKS_NONE &&
              teurlaks_free(core, other) == TEURLAKS_NONE);
-        WANT(teurlaks_set(core, other, word(1)) == TEURLAKS_NONE);
+        WANT(teurlaks_set(core, other, word(1)) == TEURLAKS_NONE &&
+             teurlaks_contains(core, other) == TEURLAKS_NONE);
     }
 }
 
@@ -198,6 +199,8 @@ static void tour(void) {
     struct teurlaks_get_reply got = teurlaks_get(&core, put.key);
     WANT(got.status == TEURLAKS_OK && got.value.low == 11 && got.value.high == ~11ull);
     WANT(teurlaks_get(&core, first.key).status == TEURLAKS_NONE);
+    WANT(teurlaks_contains(&core, put.key) == TEURLAKS_OK);
+    WANT(teurlaks_contains(&core, first.key) == TEURLAKS_NONE);
     WANT(teurlaks_totals(&core).pages == 1 && teurlaks_totals(&core).live == 2);
     if (!has_failed) forged_keys(&core), each_bit(&core, put.key);
     /* The first live key is that of the group that was folded, at its own slot. */

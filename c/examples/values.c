@@ -18,7 +18,9 @@
  * the one to the same slots of the other. (Of slots that are whole pages of the system, each could
  * also be given back by madvise when its value is erased.)
  *
- * Build it: cc -Ic c/examples/values.c c/pages.c libteurlaks_c.a -pthread */
+ * Build it, at the top of the repository, once `rt lib` has made the archive:
+ *
+ *   cc -Ic c/examples/values.c c/pages.c crates/teurlaks_c/out/libteurlaks_c.a -pthread */
 #define _GNU_SOURCE
 #include "teurlaks.h"
 #include <stdio.h>
@@ -120,9 +122,7 @@ static uint32_t store_put(struct store *store, const void *bytes, size_t len,
 /* The value of the key, and how many bytes it has; NULL if the key is not live. It stays there
  * until the next compaction. */
 static void *store_get(struct store *store, struct teurlaks_key key, size_t *len) {
-    /* With no room for words, this asks only whether the key is live. */
-    uint32_t status = teurlaks_get_words(&store->core, key, NULL, 0).status;
-    if (status != TEURLAKS_TOO_SMALL) return NULL;
+    if (teurlaks_contains(&store->core, key) != TEURLAKS_OK) return NULL;
     struct page *page = store->spans[key.serial].page;
     *len = page->used[key.slot];
     return bytes_at(page, key.slot);

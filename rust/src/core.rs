@@ -530,8 +530,7 @@ impl Core {
     pub fn contains(&self, key: Key) -> bool {
         let (low, high) = key.numbers();
         // SAFETY: as in `get`.
-        let status = unsafe { raw::teurlaks_get(&self.handle, low, high).status };
-        status != raw::NONE && status != raw::NO_CORE
+        unsafe { raw::teurlaks_contains(&self.handle, low, high) == raw::OK }
     }
 
     /// The key of this slot of the span, if one is live: no other key stands between it and the

@@ -276,6 +276,7 @@ extern "C" {
         replies_len: usize,
     ) -> ManyReply;
     pub fn teurlaks_next(handle: *const Handle, after: RawKey) -> NextReply;
+    pub fn teurlaks_contains(handle: *const Handle, key: u64, key_high: u32) -> u32;
     pub fn teurlaks_totals(handle: *const Handle) -> TotalsReply;
     pub fn teurlaks_key_bits(shards: u32, spans: u32, generations: u32) -> KeyBitsReply;
     pub fn teurlaks_key_to_u64(bits: RawKeyBits, key: RawKey) -> NumberReply;

@@ -229,6 +229,7 @@ fn exported() -> Declarations {
         "status",
         "calls",
         "compacting",
+        "live_keys",
         "meshing",
         "seats",
         "sessions",
@@ -246,7 +247,7 @@ fn exported() -> Declarations {
             &mut declarations,
         );
     }
-    assert_eq!(declarations.functions.len(), 62);
+    assert_eq!(declarations.functions.len(), 63);
     assert_eq!(declarations.structs.len(), 28);
     for name in READING {
         let (params, _) = declarations.functions.get_mut(name).expect("an export");
@@ -257,7 +258,8 @@ fn exported() -> Declarations {
 
 /// The calls that only read a core. The exports of Rattle declare `&mut Handle` for each; Rust and
 /// C declare it as a pointer through which nothing is written.
-const READING: [&str; 6] = [
+const READING: [&str; 7] = [
+    "teurlaks_contains",
     "teurlaks_get",
     "teurlaks_get_words",
     "teurlaks_get_many",
@@ -267,7 +269,8 @@ const READING: [&str; 6] = [
 ];
 
 /// The calls that Rust declares with numbers in place of keys and words.
-const BY_NUMBERS: [&str; 6] = [
+const BY_NUMBERS: [&str; 7] = [
+    "teurlaks_contains",
     "teurlaks_put",
     "teurlaks_get",
     "teurlaks_get_words",

@@ -119,6 +119,16 @@ GetsWords old raw room says room_new new = (IsNoKey raw × SaysWords room says r
     × (new ≡ old))
     ⊎ ((key : Key) × IsKeyOf raw key × GetsKey old key (SaysWords room says room_new) new)
 
+-- what C reads of whether a key has a value
+abbrev pub SaysLive : ℕ → Option Value → Type 0
+SaysLive says (Some value) = says ≡ done
+SaysLive says None = says ≡ none
+
+-- whether the key with these numbers is live; nothing changes
+abbrev pub Contains : Option Held → RawKey → ℕ → Option Held → Type 0
+Contains old raw says new = (IsNoKey raw × (says ≡ none) × (new ≡ old))
+    ⊎ ((key : Key) × IsKeyOf raw key × GetsKey old key (SaysLive says) new)
+
 -- what C reads of a step of a walk
 abbrev pub SaysNext : NextReply → Option Key → Type 0
 SaysNext says (Some key) = (says.status ≡ done) × IsKeyOf says.key key

@@ -317,7 +317,7 @@ fn free(handle: &mut Handle, key: &Key) -> u32
 }
 
 // The status of a call that needs no core for its answer, or `NO_CORE`.
-fn or_no_core(status: u32, handle: &mut Handle) -> u32
+pub(crate) fn or_no_core(status: u32, handle: &mut Handle) -> u32
     ensures same { handle.new.held ≡ handle.old.held }
     ensures live { IsSome handle.old.held → result ≡ status }
     ensures none { handle.old.held ≡ None → result ≡ no_core }

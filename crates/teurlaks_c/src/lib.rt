@@ -57,6 +57,7 @@ mod held;
 mod key_numbers;
 mod keys;
 mod leaving;
+mod live_keys;
 mod many;
 mod meshing;
 mod places;
@@ -85,6 +86,7 @@ pub use compacting::{
 };
 pub use key_numbers::{teurlaks_key_bits, teurlaks_key_from_u64, teurlaks_key_to_u64};
 pub use leaving::teurlaks_seat_leave;
+pub use live_keys::teurlaks_contains;
 pub use many::{teurlaks_free_many, teurlaks_get_many, teurlaks_put_many};
 pub use meshing::{
     teurlaks_adopt, teurlaks_begin, teurlaks_certificate, teurlaks_close, teurlaks_end,
