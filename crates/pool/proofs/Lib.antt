@@ -25,6 +25,7 @@ pub mod Searches
 pub mod SetPlace
 pub mod ShownLogs
 pub mod SortedLists
+pub mod SparseGroups
 pub mod Started
 pub mod TakenIn
 pub mod Together

@@ -9,6 +9,7 @@ pub mod RanksKept
 pub mod Retires
 pub mod Shown
 pub mod Sound
+pub mod Sparse
 pub mod State
 pub mod TableKept
 pub mod Tabled

@@ -19,6 +19,7 @@ ghost use Rattle.pool.specs.Forgets.{left_in};
 ghost use Rattle.pool.specs.Groups.{FreesIn, HasHeadAt, Removes};
 ghost use Rattle.pool.specs.Noted.{AreNoted, HasNoPageAt, IsHeadOfFirstPaged, IsPagedHead};
 ghost use Rattle.pool.specs.Ranked.{AreFound, HaveGuestsOnce, HaveOwnHeads, KeepsPaged, LetsGo, head_rank, in_order};
+ghost use Rattle.pool.specs.Sparse.{HaveSparsest};
 ghost use Rattle.pool.specs.State.{PooledState};
 ghost use Rattle.pool.specs.Tabled.{AreKept};
 ghost use Rattle.span.specs.declared.limits.TheConstants.{ALL_IDS};
@@ -26,6 +27,7 @@ ghost use Rattle.bitmap.specs.declared.bits.TheConstants.{SLOTS};
 
 use crate::pooled::Pooled;
 use crate::ranks::Ranks;
+use crate::sparse::sparse;
 use crate::walks;
 use groups::Directory;
 use span::{Counted, Entry, Kept, Key, Log, SpanId, SpanLog};
@@ -261,6 +263,19 @@ impl<L: Log> GroupTable<L> {
         let mut list = walks::summaries(self.row.as_slice(), alloc)?;
         list.sort_unstable_by_key(|entry| entry.id.rank());
         Ok(list)
+    }
+
+    /// At least `most` of the groups that have a page, or all if there are no more, in no order.
+    /// None has more live slots than one that is left out.
+    ///
+    /// # Errors
+    ///
+    /// `AllocError` if the list could not grow.
+    pub(crate) fn sparse(&self, alloc: Global, most: usize) -> Result<Vec<Entry>, AllocError>
+        ensures { IfOk result (λ list.
+            HaveSparsest most (map summary (paged_in self.now.groups)) list.items) }
+    {
+        sparse(self.row.as_slice(), alloc, most)
     }
 }
 

@@ -52,7 +52,9 @@ mod group_table;
 mod pool;
 mod pooled;
 mod ranks;
+mod sparse;
 mod walks;
 
 pub use error::{AdoptError, ReceiveError};
 pub use pool::Pool;
+pub use sparse::{likely_bound, push_below, sample_step};

@@ -10,6 +10,7 @@ ghost use Rattle.shard.specs.Calls.{FindsObject, value_found, was_freed};
 ghost use Rattle.pool.specs.Calls.{Frees, Gets};
 ghost use Rattle.pool.specs.Shown.{shown};
 ghost use Rattle.pool.specs.Sound.{IsSound};
+ghost use Rattle.pool.specs.Sparse.{HaveSparsest};
 ghost use Rattle.pool.specs.State.{paged_groups};
 ghost use Rattle.groups.specs.Group.{HasNoHead, IsElsewhere, IsHere, live_in, summary};
 ghost use Rattle.span.specs.declared.limits.TheConstants.{ALL_IDS};
@@ -155,6 +156,22 @@ impl<L: Log> Pool<L> {
         ensures sound { IsSound self.now }
     {
         self.groups.summaries(self.alloc)
+    }
+
+    /// At least `most` of the groups that have a page, or all if there are no more, in no order.
+    /// None has more live slots than one that is left out. It makes entries of few others.
+    ///
+    /// # Errors
+    ///
+    /// `AllocError` if the list could not grow.
+    pub fn sparse_groups(&self, most: usize) -> Result<Vec<Entry>, AllocError>
+        ensures sparsest { IfOk result (λ groups.
+            HaveSparsest most (map summary (paged_groups self.now)) groups.items) }
+        ensures ascending { IsStrictlyIncreasing (map (λ group. rank group.head.id)
+            (paged_groups self.now)) }
+        ensures sound { IsSound self.now }
+    {
+        self.groups.sparse(self.alloc, most)
     }
 
     /// Whether it has a span of this id.

@@ -1,14 +1,16 @@
 // What is counted and told of groups, one after another.
-ghost use Rattle.std.specs.Prelude.{◌≡◌, ◌≤◌, ◌+◌, ◌++◌, ◌*◌, IfOk, length, map};
+ghost use Rattle.std.specs.Prelude.{◌≡◌, ◌≤◌, ◌+◌, ◌++◌, ◌*◌, IfOk, filter, length, map};
 ghost use Rattle.span.specs.SpanLogs.{AreLegal, room_for_logs, span_of_log};
 ghost use Rattle.span.specs.Ids.{rank};
 ghost use Rattle.groups.specs.FirstLive.{IsFirstAmong};
 ghost use Rattle.groups.specs.Group.{paged_in, spans_in, summary};
 ghost use Rattle.groups.specs.Spans.{live_count};
+ghost use Rattle.pool.specs.Sparse.{has_fewer};
 ghost use Rattle.span.specs.declared.limits.TheConstants.{ALL_IDS};
 ghost use Rattle.bitmap.specs.declared.bits.TheConstants.{SLOTS};
 
 use crate::pooled::Pooled;
+use crate::sparse::push_below;
 use groups::earlier;
 use span::{Entry, Kept, Key, Log, SpanId, SpanLog};
 use std::alloc::{AllocError, Global};
@@ -68,6 +70,28 @@ pub(crate) fn summaries<L: Log>(
     for group in groups {
         if group.is_paged() {
             list.push(group.entry())?;
+        }
+    }
+    Ok(list)
+}
+
+/// Each that has a page and fewer live slots than the bound, told as by [`summaries`].
+///
+/// # Errors
+///
+/// `AllocError` if the list could not grow.
+pub(crate) fn summaries_below<L: Log>(
+    groups: &[Pooled<L>],
+    alloc: Global,
+    bound: usize,
+) -> Result<Vec<Entry>, AllocError>
+    ensures { IfOk result (λ list. list.items
+        ≡ filter (has_fewer bound) (map summary (paged_in groups.now))) }
+{
+    let mut list = Vec::new(alloc);
+    for group in groups {
+        if group.is_paged() {
+            push_below(&mut list, group.entry(), bound)?;
         }
     }
     Ok(list)
