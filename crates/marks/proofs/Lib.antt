@@ -6,3 +6,5 @@ pub mod Few
 pub mod Fitting
 pub mod InPart
 pub mod OneShard
+pub mod Apart
+pub mod SparseSeen

@@ -1,3 +1,4 @@
+pub mod Apart
 pub mod Closings
 pub mod Numbers
 pub mod OneShard

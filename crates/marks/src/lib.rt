@@ -40,6 +40,7 @@ mod error;
 mod lends_shard;
 mod limits;
 mod marking;
+mod sparse;
 mod totals;
 
 pub use closing::reopen_all;

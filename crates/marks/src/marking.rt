@@ -14,6 +14,7 @@ ghost use Rattle.mesh_graph.specs.declared.build.TheConstants.{MOST_GROUPS};
 use crate::closing::close_planned;
 use crate::error::MarkError;
 use crate::lends_shard::LendsShard;
+use crate::sparse::sparse_snapshot_of;
 use augment::plan;
 use certificate::{Certificate, Plan, Short};
 use mesh_graph::{BuildError, Doubled, Entry, Graph, MOST_GROUPS, Runner, Snapshot};
@@ -103,11 +104,11 @@ pub fn mark_some_in<R: Runner, H: LendsShard>(
     if pool.has_plan() {
         return Err(MarkError::PlanOpen);
     }
-    let Ok(snapshot) = snapshot_of(alloc, pool, shards)? else {
+    let Ok(snapshot) = sparse_snapshot_of(alloc, pool, shards)? else {
         return Err(MarkError::Doubled);
     };
     let pieces = shards.len().max(1);
-    let found = largest_plan(runner, alloc, snapshot.sparsest(MOST_GROUPS), pieces)?;
+    let found = largest_plan(runner, alloc, snapshot, pieces)?;
     close_planned(shards, found.plan.pairs());
     pool.plan_opened();
     Ok(found)

@@ -1,0 +1,219 @@
+// The groups that a mark of some sees, without an entry of each other group.
+ghost use Rattle.std.specs.Prelude.{◌≡◌, ◌≤◌, ◌++◌, IfOk, IfSome, IsTrue, OnErr, OnOk, filter, map};
+ghost use Rattle.std.specs.List.{IsDistinct};
+ghost use Rattle.groups.specs.Group.{paged_in, summary};
+ghost use Rattle.marks.specs.Apart.{AreWithin};
+ghost use Rattle.marks.specs.Seen.{AreDistinct, AreSound, IsSeenInPart, owned_entries};
+ghost use Rattle.mesh_graph.specs.Groups.{ids};
+ghost use Rattle.mesh_graph.specs.declared.build.TheConstants.{MOST_GROUPS};
+ghost use Rattle.pool.specs.Sound.{IsSound as IsSoundPool};
+ghost use Rattle.pool.specs.Sparse.{HaveSparsest, has_fewer};
+ghost use Rattle.shard.specs.Sound.{IsSound as IsSoundShard};
+ghost use Rattle.span.specs.Ids.{same_span};
+
+use crate::lends_shard::LendsShard;
+use crate::marking::{list_owned, snapshot_of};
+use mesh_graph::{Doubled, Entry, MOST_GROUPS, Snapshot};
+use pool::{Pool, likely_bound, push_below, sample_step};
+use std::alloc::{AllocError, Global};
+
+/// Of each side the 4,096 groups that have a page and the fewest live slots, or all if there are no
+/// more, unless two of a side have one head. If no two can have one, few other groups get an entry.
+/// Else each gets one, and the heads are compared.
+///
+/// # Errors
+///
+/// `AllocError` if a list could not grow.
+pub(crate) fn sparse_snapshot_of<H: LendsShard>(
+    alloc: Global,
+    pool: &Pool<H::Log>,
+    shards: &[H],
+) -> Result<Result<Snapshot, Doubled>, AllocError>
+    ensures seen { IfOk result
+        (λ told. IfOk told (IsSeenInPart pool.now (map H.lent shards.now))) }
+    ensures distinct { IfOk result
+        (λ told. OnOk told (AreDistinct pool.now (map H.lent shards.now))) }
+    ensures doubled { IfOk result
+        (λ told. OnErr told (AreDistinct pool.now (map H.lent shards.now) → ⊥)) }
+    ensures sound { OnOk result (AreSound (map H.lent shards.now)) }
+    ensures sound_pool { OnOk result (IsSoundPool pool.now) }
+{
+    if !are_apart(shards) {
+        return sparsest_of_all(alloc, pool, shards);
+    }
+    let snapshot = sparsest_of_few(alloc, pool, shards)?;
+    Ok(Ok(snapshot))
+}
+
+// Does the same by an entry of each group.
+fn sparsest_of_all<H: LendsShard>(
+    alloc: Global,
+    pool: &Pool<H::Log>,
+    shards: &[H],
+) -> Result<Result<Snapshot, Doubled>, AllocError>
+    ensures seen { IfOk result
+        (λ told. IfOk told (IsSeenInPart pool.now (map H.lent shards.now))) }
+    ensures distinct { IfOk result
+        (λ told. OnOk told (AreDistinct pool.now (map H.lent shards.now))) }
+    ensures doubled { IfOk result
+        (λ told. OnErr told (AreDistinct pool.now (map H.lent shards.now) → ⊥)) }
+    ensures sound { OnOk result (AreSound (map H.lent shards.now)) }
+    ensures sound_pool { OnOk result (IsSoundPool pool.now) }
+{
+    let Ok(snapshot) = snapshot_of(alloc, pool, shards)? else {
+        return Ok(Err(Doubled));
+    };
+    Ok(Ok(snapshot.sparsest(MOST_GROUPS)))
+}
+
+// Does the same by entries of few groups, since no two owned groups have one head.
+fn sparsest_of_few<H: LendsShard>(
+    alloc: Global,
+    pool: &Pool<H::Log>,
+    shards: &[H],
+) -> Result<Snapshot, AllocError>
+    requires { IsDistinct same_span (ids (owned_entries (map H.lent shards.now))) }
+    ensures seen { IfOk result (IsSeenInPart pool.now (map H.lent shards.now)) }
+    ensures distinct { OnOk result (AreDistinct pool.now (map H.lent shards.now)) }
+    ensures sound { OnOk result (AreSound (map H.lent shards.now)) }
+    ensures sound_pool { OnOk result (IsSoundPool pool.now) }
+{
+    let abandoned = pool.sparse_groups(MOST_GROUPS)?;
+    let owned = list_sparse(alloc, shards)?;
+    let Ok(snapshot) = Snapshot::new(abandoned, owned) else {
+        unreachable!();
+    };
+    Ok(snapshot.sparsest(MOST_GROUPS))
+}
+
+// Whether the heads of each shard come after those of the shards before it.
+fn are_apart<H: LendsShard>(shards: &[H]) -> bool
+    ensures { IsTrue result
+        → IsDistinct same_span (ids (owned_entries (map H.lent shards.now))) }
+{
+    let mut next: u64 = 0;
+    for shard in shards {
+        let Some(past) = past_heads(shard, next) else {
+            return false;
+        };
+        next = past;
+    }
+    true
+}
+
+// The number past the ranks of the shard's heads, if none of these is below the next.
+fn past_heads<H: LendsShard>(lender: &H, next: u64) -> Option<u64>
+    ensures within { IfSome result
+        (λ past. AreWithin next past (map summary (paged_in (H.lent lender.now).groups))) }
+    ensures up { IfSome result (λ past. next ≤ past) }
+    ensures sound { IsSoundShard (H.lent lender.now) }
+{
+    let shard = lender.shard();
+    if shard.ended() {
+        return Some(next);
+    }
+    let count = shard.len();
+    if count == 0 {
+        return Some(next);
+    }
+    let first = shard.spans_at(0).head_id().rank();
+    if first < next {
+        return None;
+    }
+    let last = shard.spans_at(count - 1).head_id().rank();
+    Some(last + 1)
+}
+
+// At least 4,096 of the groups of all shards that have a page, or all if there are no more, in no
+// order. None has more live slots than one that is left out.
+fn list_sparse<H: LendsShard>(alloc: Global, shards: &[H]) -> Result<Vec<Entry>, AllocError>
+    ensures sparsest { IfOk result (λ list.
+        HaveSparsest MOST_GROUPS (owned_entries (map H.lent shards.now)) list.items) }
+    ensures sound { OnOk result (AreSound (map H.lent shards.now)) }
+{
+    let step = sample_step(group_count(shards));
+    let Some(bound) = likely_bound(sample(alloc, shards, step)?, step, MOST_GROUPS) else {
+        return list_owned(alloc, shards);
+    };
+    let list = list_below(alloc, shards, bound)?;
+    if list.len() < MOST_GROUPS {
+        return list_owned(alloc, shards);
+    }
+    Ok(list)
+}
+
+// How many groups the shards have.
+fn group_count<H: LendsShard>(shards: &[H]) -> usize {
+    let mut groups: usize = 0;
+    for shard in shards {
+        groups = groups.saturating_add(shard.shard().len());
+    }
+    groups
+}
+
+// How many slots are live in one group of each `step`, in every shard.
+fn sample<H: LendsShard>(alloc: Global, shards: &[H], step: usize) -> Result<Vec<usize>, AllocError>
+    requires { 1 ≤ step }
+{
+    let mut sample = Vec::new(alloc);
+    for shard in shards {
+        push_sample(&mut sample, shard, step)?;
+    }
+    Ok(sample)
+}
+
+// Appends those of one shard.
+fn push_sample<H: LendsShard>(
+    sample: &mut Vec<usize>,
+    lender: &H,
+    step: usize,
+) -> Result<(), AllocError>
+    requires { 1 ≤ step }
+{
+    let shard = lender.shard();
+    let mut index = 0;
+    while index < shard.len() {
+        sample.push(shard.spans_at(index).live())?;
+        index = index.saturating_add(step);
+    }
+    Ok(())
+}
+
+// The groups of all shards that have a page and fewer live slots than the bound.
+fn list_below<H: LendsShard>(
+    alloc: Global,
+    shards: &[H],
+    bound: usize,
+) -> Result<Vec<Entry>, AllocError>
+    ensures items { IfOk result (λ entries.
+        entries.items ≡ filter (has_fewer bound) (owned_entries (map H.lent shards.now))) }
+    ensures sound { OnOk result (AreSound (map H.lent shards.now)) }
+{
+    let mut entries = Vec::new(alloc);
+    for shard in shards {
+        push_groups_below(&mut entries, shard, bound)?;
+    }
+    Ok(entries)
+}
+
+// Appends those of one shard.
+fn push_groups_below<H: LendsShard>(
+    entries: &mut Vec<Entry>,
+    lender: &H,
+    bound: usize,
+) -> Result<(), AllocError>
+    ensures items { IfOk result (λ _. entries.new.items ≡ entries.old.items
+        ++ filter (has_fewer bound) (map summary (paged_in (H.lent lender.now).groups))) }
+    ensures sound { IsSoundShard (H.lent lender.now) }
+{
+    let shard = lender.shard();
+    if shard.ended() {
+        return Ok(());
+    }
+    for at in 0..shard.len() {
+        if shard.is_paged(at) {
+            push_below(entries, shard.spans_at(at).entry(), bound)?;
+        }
+    }
+    Ok(())
+}
