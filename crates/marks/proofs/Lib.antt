@@ -7,4 +7,5 @@ pub mod Fitting
 pub mod InPart
 pub mod OneShard
 pub mod Apart
+pub mod Ranks
 pub mod SparseSeen

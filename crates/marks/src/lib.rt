@@ -40,6 +40,7 @@ mod error;
 mod lends_shard;
 mod limits;
 mod marking;
+mod own_heads;
 mod sparse;
 mod totals;
 

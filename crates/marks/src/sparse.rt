@@ -2,7 +2,6 @@
 ghost use Rattle.std.specs.Prelude.{◌≡◌, ◌≤◌, ◌++◌, IfOk, IfSome, IsTrue, OnErr, OnOk, filter, map};
 ghost use Rattle.std.specs.List.{IsDistinct};
 ghost use Rattle.groups.specs.Group.{paged_in, summary};
-ghost use Rattle.marks.specs.Apart.{AreWithin};
 ghost use Rattle.marks.specs.Seen.{AreDistinct, AreSound, IsSeenInPart, owned_entries};
 ghost use Rattle.mesh_graph.specs.Groups.{ids};
 ghost use Rattle.mesh_graph.specs.declared.build.TheConstants.{MOST_GROUPS};
@@ -13,13 +12,13 @@ ghost use Rattle.span.specs.Ids.{same_span};
 
 use crate::lends_shard::LendsShard;
 use crate::marking::{list_owned, snapshot_of};
+use crate::own_heads::have_own_heads;
 use mesh_graph::{Doubled, Entry, MOST_GROUPS, Snapshot};
 use pool::{Pool, likely_bound, push_below, sample_step};
 use std::alloc::{AllocError, Global};
 
 /// Of each side the 4,096 groups that have a page and the fewest live slots, or all if there are no
-/// more, unless two of a side have one head. If no two can have one, few other groups get an entry.
-/// Else each gets one, and the heads are compared.
+/// more, unless two of a side have one head. Few other groups get an entry.
 ///
 /// # Errors
 ///
@@ -38,14 +37,14 @@ pub(crate) fn sparse_snapshot_of<H: LendsShard>(
     ensures sound { OnOk result (AreSound (map H.lent shards.now)) }
     ensures sound_pool { OnOk result (IsSoundPool pool.now) }
 {
-    if !are_apart(shards) {
+    if !have_own_heads(alloc, shards)? {
         return sparsest_of_all(alloc, pool, shards);
     }
     let snapshot = sparsest_of_few(alloc, pool, shards)?;
     Ok(Ok(snapshot))
 }
 
-// Does the same by an entry of each group.
+// Does the same by an entry of each group, and looks whether two of a side have one head.
 fn sparsest_of_all<H: LendsShard>(
     alloc: Global,
     pool: &Pool<H::Log>,
@@ -84,44 +83,6 @@ fn sparsest_of_few<H: LendsShard>(
         unreachable!();
     };
     Ok(snapshot.sparsest(MOST_GROUPS))
-}
-
-// Whether the heads of each shard come after those of the shards before it.
-fn are_apart<H: LendsShard>(shards: &[H]) -> bool
-    ensures { IsTrue result
-        → IsDistinct same_span (ids (owned_entries (map H.lent shards.now))) }
-{
-    let mut next: u64 = 0;
-    for shard in shards {
-        let Some(past) = past_heads(shard, next) else {
-            return false;
-        };
-        next = past;
-    }
-    true
-}
-
-// The number past the ranks of the shard's heads, if none of these is below the next.
-fn past_heads<H: LendsShard>(lender: &H, next: u64) -> Option<u64>
-    ensures within { IfSome result
-        (λ past. AreWithin next past (map summary (paged_in (H.lent lender.now).groups))) }
-    ensures up { IfSome result (λ past. next ≤ past) }
-    ensures sound { IsSoundShard (H.lent lender.now) }
-{
-    let shard = lender.shard();
-    if shard.ended() {
-        return Some(next);
-    }
-    let count = shard.len();
-    if count == 0 {
-        return Some(next);
-    }
-    let first = shard.spans_at(0).head_id().rank();
-    if first < next {
-        return None;
-    }
-    let last = shard.spans_at(count - 1).head_id().rank();
-    Some(last + 1)
 }
 
 // At least 4,096 of the groups of all shards that have a page, or all if there are no more, in no

@@ -8,7 +8,7 @@ use Rattle.marks.specs.Apart.{AreWithin}
 use Rattle.marks.specs.Seen.{owned_entries}
 use Rattle.marks.proofs.Apart.{AreWithin-append, within-start}
 use Rattle.marks.proofs.Entries.{owned-more}
-use Rattle.marks.proofs.sparse.are_apart.Goals as goal
+use Rattle.marks.proofs.own_heads.are_apart.Goals as goal
 
 pub loop-shard-init : goal.loop-shard-init
 loop-shard-init g c = within-start g.H.LendsShard.lent c.args.shards.now

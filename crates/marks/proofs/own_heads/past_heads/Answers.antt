@@ -9,7 +9,7 @@ use Rattle.shard.specs.Group.{GroupState, spans_alone}
 use Rattle.shard.specs.State.{ShardState}
 use Rattle.marks.specs.Apart.{AreWithin}
 use Rattle.marks.proofs.Apart.{heads-order, within-empty, within-shard}
-use Rattle.marks.proofs.sparse.past_heads.Goals as goal
+use Rattle.marks.proofs.own_heads.past_heads.Goals as goal
 
 pub returns-then-ended-clause-within : goal.returns-then-ended-clause-within
 returns-then-ended-clause-within g c =
