@@ -1,23 +1,24 @@
 -- What a mark of some sees, if it makes entries of few groups.
-use Rattle.std.proofs.Common.{◌≡◌, ℕ, ◌+◌, ◌≤◌, List, [], ◌∷◌, ◌++◌, Some, length, take, sym, subst, ap, ◌∙◌, arith, get_or, slice_get, is_some, true, false, append_assoc}
-use Rattle.std.specs.Prelude.{filter}
+use Rattle.std.proofs.Common.{◌≡◌, ℕ, ◌≤◌, List, [], ◌∷◌, ◌++◌, length, map, take, sym, subst, arith, get_or, append_assoc}
 use Rattle.std.specs.List.{All, IsDistinct}
 use Rattle.std.specs.List.Sorted.{IsPermutation}
 use Rattle.std.proofs.Math.Seq.{take-append_seam}
-use Rattle.std.proofs.lemmas.List.{get_or_append_left, length-append}
-use Rattle.std.proofs.lemmas.List.Elements.{All-append, filter-append}
+use Rattle.std.proofs.lemmas.List.{append-nil, get_or_append_left, length-append}
+use Rattle.std.proofs.lemmas.List.Elements.{All-append}
 use Rattle.std.proofs.lemmas.List.Sorted.{All-permutation, IsPermutation-append_left, IsPermutation-trans, length_permutation}
-use Rattle.groups.specs.Group.{summary}
 use Rattle.mesh_graph.proofs.Sorting.{distinct-after, distinct-take}
 use Rattle.mesh_graph.proofs.Sparsest.{AreSparsest-permuted}
 use Rattle.mesh_graph.specs.Groups.{ids}
 use Rattle.mesh_graph.specs.Sparsest.{AreSparsest, occupied_count}
 use Rattle.mesh_graph.specs.declared.build.TheConstants.{MOST_GROUPS}
-use Rattle.pool.specs.Sparse.{HaveSparsest, has_fewer}
-use Rattle.shard.proofs.Entries.{entries-bare, entries-paged, entries_in}
+use Rattle.pool.proofs.SparseGroups.{AreParted-none}
+use Rattle.pool.specs.Sparse.{AreParted, HaveSparsest}
+use Rattle.shard.proofs.Entries.{entries_in}
 use Rattle.shard.specs.Group.{GroupState}
+use Rattle.shard.specs.State.{ShardState}
 use Rattle.span.specs.Ids.{same_span}
 use Rattle.span.specs.declared.entry.Entry.{Entry}
+use Rattle.marks.specs.Seen.{AreSound, owned_entries}
 
 -- the sparsest of those that have been found
 pub AreSparsest-found : (most : ℕ) (entries found chosen : List Entry) → HaveSparsest most entries found → AreSparsest most found chosen → AreSparsest most entries chosen
@@ -50,12 +51,23 @@ pub distinct-found : (entries found : List Entry) → HaveSparsest MOST_GROUPS e
 distinct-found entries found sparse once = subst (λ (list : List Entry). IsDistinct same_span (ids list)) (take-append_seam found sparse.left_out)
     (distinct-take (length found) (found ++ sparse.left_out) (omega (arith, length-append found sparse.left_out)) (distinct-after entries (found ++ sparse.left_out) sparse.each once))
 
--- one group more
-module _ (bound : ℕ) (groups : List GroupState) (at : ℕ) (group : GroupState) (here : slice_get groups at ≡ Some group) where
-  pub below-paged : is_some group.page ≡ true → filter (has_fewer bound) (entries_in (take at groups)) ++ filter (has_fewer bound) (summary group ∷ [])
-      ≡ filter (has_fewer bound) (entries_in (take (at + 1) groups))
-  below-paged paged = sym (filter-append (has_fewer bound) (entries_in (take at groups)) (summary group ∷ []))
-      ∙ ap (filter (has_fewer bound)) (entries-paged groups at group here paged)
+-- what is parted by a bound
+module _ (bound : ℕ) (items : List Entry) where
+  -- before the first group of a shard
+  pub parted-start : (groups : List GroupState) (before : List Entry) → AreParted bound before items → AreParted bound (before ++ entries_in (take 0 groups)) items
+  parted-start [] before parted = subst (λ (entries : List Entry). AreParted bound entries items) (sym (append-nil before)) parted
+  parted-start (group ∷ groups) before parted = subst (λ (entries : List Entry). AreParted bound entries items) (sym (append-nil before)) parted
 
-  pub below-bare : is_some group.page ≡ false → filter (has_fewer bound) (entries_in (take at groups)) ≡ filter (has_fewer bound) (entries_in (take (at + 1) groups))
-  below-bare bare = ap (filter (has_fewer bound)) (entries-bare groups at group here bare)
+  -- a shard without groups
+  pub parted-empty : (groups : List GroupState) (before : List Entry) → groups ≡ [] → AreParted bound before items → AreParted bound (before ++ entries_in groups) items
+  parted-empty groups before none parted = subst (λ (gs : List GroupState). AreParted bound (before ++ entries_in gs) items) (sym none)
+      (subst (λ (entries : List Entry). AreParted bound entries items) (sym (append-nil before)) parted)
+
+-- before the first shard
+pub parted-none : {H : Type 0} (lent : H → ShardState) (bound : ℕ) (shards : List H) → AreParted bound (owned_entries (map lent (take 0 shards))) []
+parted-none lent bound [] = AreParted-none bound
+parted-none lent bound (shard ∷ shards) = AreParted-none bound
+
+pub sound-none : {H : Type 0} (lent : H → ShardState) (shards : List H) → AreSound (map lent (take 0 shards))
+sound-none lent [] number shard at = absurd cc
+sound-none lent (first ∷ shards) number shard at = absurd cc

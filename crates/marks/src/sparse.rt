@@ -1,14 +1,15 @@
 // The groups that a mark of some sees, without an entry of each other group.
-ghost use Rattle.std.specs.Prelude.{◌≡◌, ◌≤◌, ◌++◌, IfOk, IfSome, IsTrue, OnErr, OnOk, filter, map};
+ghost use Rattle.std.specs.Prelude.{◌≤◌, ◌++◌, List, IfOk, OnErr, OnOk, map};
 ghost use Rattle.std.specs.List.{IsDistinct};
 ghost use Rattle.groups.specs.Group.{paged_in, summary};
 ghost use Rattle.marks.specs.Seen.{AreDistinct, AreSound, IsSeenInPart, owned_entries};
 ghost use Rattle.mesh_graph.specs.Groups.{ids};
 ghost use Rattle.mesh_graph.specs.declared.build.TheConstants.{MOST_GROUPS};
 ghost use Rattle.pool.specs.Sound.{IsSound as IsSoundPool};
-ghost use Rattle.pool.specs.Sparse.{HaveSparsest, has_fewer};
+ghost use Rattle.pool.specs.Sparse.{AreParted, HaveSparsest};
 ghost use Rattle.shard.specs.Sound.{IsSound as IsSoundShard};
 ghost use Rattle.span.specs.Ids.{same_span};
+ghost use Rattle.span.specs.declared.entry.Entry.{Entry};
 
 use crate::lends_shard::LendsShard;
 use crate::marking::{list_owned, snapshot_of};
@@ -140,14 +141,15 @@ fn push_sample<H: LendsShard>(
     Ok(())
 }
 
-// The groups of all shards that have a page and fewer live slots than the bound.
+// The groups of all shards that have a page and fewer live slots than the bound. Of those that have
+// one fewer it takes none once there are 4,096.
 fn list_below<H: LendsShard>(
     alloc: Global,
     shards: &[H],
     bound: usize,
 ) -> Result<Vec<Entry>, AllocError>
-    ensures items { IfOk result (λ entries.
-        entries.items ≡ filter (has_fewer bound) (owned_entries (map H.lent shards.now))) }
+    ensures parted { IfOk result (λ entries.
+        AreParted bound (owned_entries (map H.lent shards.now)) entries.items) }
     ensures sound { OnOk result (AreSound (map H.lent shards.now)) }
 {
     let mut entries = Vec::new(alloc);
@@ -163,8 +165,10 @@ fn push_groups_below<H: LendsShard>(
     lender: &H,
     bound: usize,
 ) -> Result<(), AllocError>
-    ensures items { IfOk result (λ _. entries.new.items ≡ entries.old.items
-        ++ filter (has_fewer bound) (map summary (paged_in (H.lent lender.now).groups))) }
+    ensures parted { IfOk result (λ _. (before : List Entry)
+        → AreParted bound before entries.old.items
+        → AreParted bound (before ++ map summary (paged_in (H.lent lender.now).groups))
+        entries.new.items) }
     ensures sound { IsSoundShard (H.lent lender.now) }
 {
     let shard = lender.shard();
@@ -173,7 +177,7 @@ fn push_groups_below<H: LendsShard>(
     }
     for at in 0..shard.len() {
         if shard.is_paged(at) {
-            push_below(entries, shard.spans_at(at).entry(), bound)?;
+            push_below(entries, shard.spans_at(at).entry(), bound, MOST_GROUPS)?;
         }
     }
     Ok(())

@@ -1,15 +1,15 @@
 -- Lists of the groups with few live slots.
-use Rattle.std.proofs.Common.{ℕ, ◌+◌, ◌≤◌, ◌<◌, ◌≡◌, ◌++◌, ◌∷◌, true, false, not, List, [], Some, length, map, take, slice_get, ap, arith, refl, subst, sym, get_or, ◌∙◌}
+use Rattle.std.proofs.Common.{zero, suc, ℕ, ◌+◌, ◌≤◌, ◌<◌, ◌≡◌, ◌++◌, ◌∷◌, true, false, List, [], Some, length, map, take, slice_get, append_assoc, ap, arith, subst, sym, ◌∙◌}
 use Rattle.std.specs.Prelude.{filter}
 use Rattle.std.specs.FinSet as set
+use Rattle.std.specs.List.{All}
 use Rattle.std.specs.List.Sorted.{IsPermutation}
-use Rattle.std.proofs.lemmas.Bool.{ltb-false, ltb-true, not-true}
 use Rattle.std.proofs.lemmas.List.{append-nil, map-append}
-use Rattle.std.proofs.lemmas.List.Elements.{filter-append, filter_passes}
-use Rattle.std.proofs.lemmas.List.Sorted.{IsPermutation-filter_both, IsPermutation-map, IsPermutation-refl, IsPermutation-sym, IsPermutation-trans, length_permutation}
+use Rattle.std.proofs.lemmas.List.Elements.{All-append}
+use Rattle.std.proofs.lemmas.List.Sorted.{IsPermutation-append_comm, IsPermutation-append_left, IsPermutation-append_right, IsPermutation-map, IsPermutation-refl, IsPermutation-sym, IsPermutation-trans, length_permutation}
 use Rattle.span.specs.declared.entry.Entry.{Entry}
 use Rattle.groups.specs.Group.{summary}
-use Rattle.pool.specs.Sparse.{HaveSparsest, has_fewer}
+use Rattle.pool.specs.Sparse.{AreParted, HaveSparsest}
 use Rattle.pool.specs.State.{PooledState}
 use Rattle.pool.specs.Ranked.{head_rank, in_order}
 use Rattle.pool.proofs.Walked.{filter-arranged, paged, paged-as_before, paged-more}
@@ -23,21 +23,14 @@ HaveSparsest-all most entries = record {
   fewest = λ i a low k b none. absurd (omega (arith, none));
 }
 
--- those with fewer live slots than a bound, if they are enough
-pub HaveSparsest-fewer : (most bound : ℕ) (entries : List Entry) → most ≤ length (filter (has_fewer bound) entries) → HaveSparsest most entries (filter (has_fewer bound) entries)
-HaveSparsest-fewer most bound entries enough =
-    let fewer = has_fewer bound in
-    let others = λ (entry : Entry). not (fewer entry) in
-    record {
-      left_out = filter others entries;
-      each = IsPermutation-filter_both fewer others (λ x. refl) entries;
-      enough = omega (arith, enough);
-      fewest = λ i a low k b high.
-          let few : set.len (get_or (filter fewer entries) i a).occupied < bound = ltb-true (set.len (get_or (filter fewer entries) i a).occupied) bound (filter_passes fewer entries i a low) in
-          let many : bound ≤ set.len (get_or (filter others entries) k b).occupied = ltb-false (set.len (get_or (filter others entries) k b).occupied) bound
-          (not-true (fewer (get_or (filter others entries) k b)) (filter_passes others entries k b high)) in
-          omega (arith, few, many);
-    }
+-- those that are parted off by a bound, if they are enough
+pub HaveSparsest-parted : (most bound : ℕ) (entries found : List Entry) → AreParted bound entries found → most ≤ length found → HaveSparsest most entries found
+HaveSparsest-parted most bound entries found parted enough = record {
+  left_out = parted.left_out;
+  each = parted.each;
+  enough = omega (arith, enough);
+  fewest = λ i a low k b high. omega (arith, parted.below i a low, parted.above k b high);
+}
 
 -- the same groups in another order
 pub HaveSparsest-permuted : (most : ℕ) (entries others found : List Entry) → IsPermutation entries others → HaveSparsest most others found → HaveSparsest most entries found
@@ -48,19 +41,55 @@ HaveSparsest-permuted most entries others found moved sparsest = record {
   fewest = sparsest.fewest;
 }
 
+all_one : (P : Entry → Type 0) (entry : Entry) → P entry → All P (entry ∷ [])
+all_one P entry its zero d low = its
+all_one P entry its (suc k) d low = absurd (omega (arith, low))
+
 -- one group more
-module _ (bound : ℕ) (groups : List PooledState) (at : ℕ) (group : PooledState) (here : slice_get groups at ≡ Some group) where
-  abbrev before : List PooledState
-  before = filter paged (take at groups)
+module _ (bound : ℕ) (entries found : List Entry) (entry : Entry) (parted : AreParted bound entries found) where
+  abbrev rest : List Entry
+  rest = parted.left_out
 
-  pub below-more : paged group ≡ true → filter (has_fewer bound) (map summary before) ++ filter (has_fewer bound) (summary group ∷ [])
-      ≡ filter (has_fewer bound) (map summary (filter paged (take (at + 1) groups)))
-  below-more on = sym (ap (λ (gs : List PooledState). filter (has_fewer bound) (map summary gs)) (paged-more groups at group here on)
-      ∙ ap (filter (has_fewer bound)) (map-append summary before (group ∷ []))
-      ∙ filter-append (has_fewer bound) (map summary before) (summary group ∷ []))
+  appended : IsPermutation (entries ++ entry ∷ []) (found ++ (rest ++ entry ∷ []))
+  appended = subst (IsPermutation (entries ++ entry ∷ [])) (append_assoc found rest (entry ∷ [])) (IsPermutation-append_left (entry ∷ []) entries (found ++ rest) parted.each)
 
-  pub below-as_before : paged group ≡ false → filter (has_fewer bound) (map summary before) ≡ filter (has_fewer bound) (map summary (filter paged (take (at + 1) groups)))
-  below-as_before off = sym (ap (λ (gs : List PooledState). filter (has_fewer bound) (map summary gs)) (paged-as_before groups at group here off))
+  pub AreParted-found : set.len entry.occupied < bound → AreParted bound (entries ++ entry ∷ []) (found ++ entry ∷ [])
+  AreParted-found few = record {
+    left_out = rest;
+    each = subst (IsPermutation (entries ++ entry ∷ [])) (sym (append_assoc found (entry ∷ []) rest))
+        (IsPermutation-trans (entries ++ entry ∷ []) (found ++ (rest ++ entry ∷ [])) (found ++ ((entry ∷ []) ++ rest)) appended
+        (IsPermutation-append_right found (rest ++ entry ∷ []) ((entry ∷ []) ++ rest) (IsPermutation-append_comm rest (entry ∷ []))));
+    below = All-append (λ (a : Entry). set.len a.occupied < bound) found (entry ∷ []) parted.below (all_one (λ (a : Entry). set.len a.occupied < bound) entry few);
+    above = parted.above;
+  }
+
+  pub AreParted-left : bound ≤ set.len entry.occupied + 1 → AreParted bound (entries ++ entry ∷ []) found
+  AreParted-left many = record {
+    left_out = rest ++ entry ∷ [];
+    each = appended;
+    below = parted.below;
+    above = All-append (λ (b : Entry). bound ≤ set.len b.occupied + 1) rest (entry ∷ []) parted.above (all_one (λ (b : Entry). bound ≤ set.len b.occupied + 1) entry many);
+  }
+
+-- none yet
+pub AreParted-none : (bound : ℕ) → AreParted bound [] []
+AreParted-none bound = record {
+  left_out = [];
+  each = IsPermutation-refl [];
+  below = λ i a low. absurd (omega (arith, low));
+  above = λ i a low. absurd (omega (arith, low));
+}
+
+pub AreParted-start : (bound : ℕ) (groups : List PooledState) → AreParted bound (map summary (filter paged (take 0 groups))) []
+AreParted-start bound [] = AreParted-none bound
+AreParted-start bound (group ∷ groups) = AreParted-none bound
+
+module _ (groups : List PooledState) (at : ℕ) (group : PooledState) (here : slice_get groups at ≡ Some group) where
+  pub summaries-more : paged group ≡ true → map summary (filter paged (take at groups)) ++ summary group ∷ [] ≡ map summary (filter paged (take (at + 1) groups))
+  summaries-more on = sym (ap (map summary) (paged-more groups at group here on) ∙ map-append summary (filter paged (take at groups)) (group ∷ []))
+
+  pub summaries-as_before : paged group ≡ false → map summary (filter paged (take at groups)) ≡ map summary (filter paged (take (at + 1) groups))
+  summaries-as_before off = sym (ap (map summary) (paged-as_before groups at group here off))
 
 -- those of a row are those in order
 pub HaveSparsest-in_order : (most : ℕ) (row : List PooledState) (found : List Entry) → HaveSparsest most (map summary (filter paged row)) found

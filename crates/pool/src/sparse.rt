@@ -1,7 +1,8 @@
 // The groups with the fewest live slots, of which a mark of some takes so many.
-ghost use Rattle.std.specs.Prelude.{◌≡◌, ◌≤◌, ◌++◌, ◌∷◌, [], IfOk, filter, map};
+ghost use Rattle.std.specs.Prelude.{◌≤◌, ◌++◌, ◌∷◌, [], List, IfOk, map};
 ghost use Rattle.groups.specs.Group.{paged_in, summary};
-ghost use Rattle.pool.specs.Sparse.{HaveSparsest, has_fewer};
+ghost use Rattle.pool.specs.Sparse.{AreParted, HaveSparsest};
+ghost use Rattle.span.specs.declared.entry.Entry.{Entry};
 
 use crate::pooled::Pooled;
 use crate::walks::{summaries, summaries_below};
@@ -30,7 +31,7 @@ pub(crate) fn sparse<L: Log>(
     let Some(bound) = likely_bound(sample(groups, alloc, step)?, step, most) else {
         return summaries(groups, alloc);
     };
-    let list = summaries_below(groups, alloc, bound)?;
+    let list = summaries_below(groups, alloc, bound, most)?;
     if list.len() < most {
         return summaries(groups, alloc);
     }
@@ -75,14 +76,28 @@ pub fn likely_bound(mut sample: Vec<usize>, step: usize, most: usize) -> Option<
     Some(live.saturating_add(1))
 }
 
-/// Appends the entry if fewer slots of the group are live than the bound.
+/// Appends the entry if fewer slots of the group are live than the bound. One that has a slot fewer
+/// is left out if the list has `most` entries already, since any of those will do.
 #[inline(always)]
-pub fn push_below(list: &mut Vec<Entry>, entry: Entry, bound: usize) -> Result<(), AllocError>
-    ensures { IfOk result (λ _. list.new.items
-        ≡ list.old.items ++ filter (has_fewer bound) (entry ∷ [])) }
+pub fn push_below(
+    list: &mut Vec<Entry>,
+    entry: Entry,
+    bound: usize,
+    most: usize,
+) -> Result<(), AllocError>
+    ensures { IfOk result (λ _. (entries : List Entry) → AreParted bound entries list.old.items
+        → AreParted bound (entries ++ entry ∷ []) list.new.items) }
 {
-    if (entry.occupied.count() as usize) < bound {
-        list.push(entry)?;
+    let live = entry.occupied.count() as usize;
+    if live >= bound {
+        return Ok(());
     }
+    if list.len() >= most {
+        let next = live + 1;
+        if next >= bound {
+            return Ok(());
+        }
+    }
+    list.push(entry)?;
     Ok(())
 }

@@ -1,11 +1,11 @@
 // What is counted and told of groups, one after another.
-ghost use Rattle.std.specs.Prelude.{◌≡◌, ◌≤◌, ◌+◌, ◌++◌, ◌*◌, IfOk, filter, length, map};
+ghost use Rattle.std.specs.Prelude.{◌≡◌, ◌≤◌, ◌+◌, ◌++◌, ◌*◌, IfOk, length, map};
 ghost use Rattle.span.specs.SpanLogs.{AreLegal, room_for_logs, span_of_log};
 ghost use Rattle.span.specs.Ids.{rank};
 ghost use Rattle.groups.specs.FirstLive.{IsFirstAmong};
 ghost use Rattle.groups.specs.Group.{paged_in, spans_in, summary};
 ghost use Rattle.groups.specs.Spans.{live_count};
-ghost use Rattle.pool.specs.Sparse.{has_fewer};
+ghost use Rattle.pool.specs.Sparse.{AreParted};
 ghost use Rattle.span.specs.declared.limits.TheConstants.{ALL_IDS};
 ghost use Rattle.bitmap.specs.declared.bits.TheConstants.{SLOTS};
 
@@ -75,7 +75,8 @@ pub(crate) fn summaries<L: Log>(
     Ok(list)
 }
 
-/// Each that has a page and fewer live slots than the bound, told as by [`summaries`].
+/// Those that have a page and fewer live slots than the bound, told as by [`summaries`]. Of those
+/// that have one fewer it takes none once there are `most`.
 ///
 /// # Errors
 ///
@@ -84,14 +85,15 @@ pub(crate) fn summaries_below<L: Log>(
     groups: &[Pooled<L>],
     alloc: Global,
     bound: usize,
+    most: usize,
 ) -> Result<Vec<Entry>, AllocError>
-    ensures { IfOk result (λ list. list.items
-        ≡ filter (has_fewer bound) (map summary (paged_in groups.now))) }
+    ensures { IfOk result (λ list.
+        AreParted bound (map summary (paged_in groups.now)) list.items) }
 {
     let mut list = Vec::new(alloc);
     for group in groups {
         if group.is_paged() {
-            push_below(&mut list, group.entry(), bound)?;
+            push_below(&mut list, group.entry(), bound, most)?;
         }
     }
     Ok(list)

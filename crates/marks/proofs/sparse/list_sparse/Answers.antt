@@ -1,9 +1,8 @@
-use Rattle.std.proofs.Common.{◌≡◌, Global, List, Vec, ap, arith, length, map, subst, sym}
-use Rattle.std.specs.Prelude.{filter}
+use Rattle.std.proofs.Common.{◌≡◌, Global, List, Vec, arith, map, subst, sym}
 use Rattle.std.proofs.lemmas.Result.{IfOk-weaker}
 use Rattle.mesh_graph.specs.declared.build.TheConstants.{MOST_GROUPS}
-use Rattle.pool.specs.Sparse.{HaveSparsest, has_fewer}
-use Rattle.pool.proofs.SparseGroups.{HaveSparsest-all, HaveSparsest-fewer}
+use Rattle.pool.specs.Sparse.{HaveSparsest}
+use Rattle.pool.proofs.SparseGroups.{HaveSparsest-all, HaveSparsest-parted}
 use Rattle.span.specs.declared.entry.Entry.{Entry}
 use Rattle.marks.specs.Seen.{owned_entries}
 use Rattle.marks.proofs.sparse.list_sparse.Goals as goal
@@ -25,7 +24,5 @@ returns-then-len-lt-MOST_GROUPS-clause-sparsest g c =
 
 pub returns-clause-sparsest : goal.returns-clause-sparsest
 returns-clause-sparsest g c =
-    let owned = owned_entries (map g.H.LendsShard.lent c.args.shards.now) in
-    let found : c.in_ok-list.list.items ≡ filter (has_fewer c.in-Some.bound) owned = (c.in_ok-list.ensures {u = tt}).items in
-    subst (HaveSparsest MOST_GROUPS owned) (sym found)
-    (HaveSparsest-fewer MOST_GROUPS c.in-Some.bound owned (omega (arith, c.if-len-lt-MOST_GROUPS.false, c.len.ensures, ap (λ (list : List Entry). length list) found)))
+    HaveSparsest-parted MOST_GROUPS c.in-Some.bound (owned_entries (map g.H.LendsShard.lent c.args.shards.now)) c.in_ok-list.list.items (c.in_ok-list.ensures {u = tt}).parted
+    (omega (arith, c.if-len-lt-MOST_GROUPS.false, c.len.ensures))

@@ -1,10 +1,9 @@
-use Rattle.std.proofs.Common.{◌≡◌, ℕ, Global, List, Vec, ap, arith, length, map, subst, sym}
-use Rattle.std.specs.Prelude.{filter}
+use Rattle.std.proofs.Common.{◌≡◌, ℕ, Global, List, Vec, arith, map, subst, sym}
 use Rattle.std.proofs.lemmas.Result.{IfOk-weaker}
 use Rattle.groups.specs.Group.{paged_in, summary}
 use Rattle.span.specs.declared.entry.Entry.{Entry}
-use Rattle.pool.specs.Sparse.{HaveSparsest, has_fewer}
-use Rattle.pool.proofs.SparseGroups.{HaveSparsest-all, HaveSparsest-fewer}
+use Rattle.pool.specs.Sparse.{HaveSparsest}
+use Rattle.pool.proofs.SparseGroups.{HaveSparsest-all, HaveSparsest-parted}
 use Rattle.pool.proofs.sparse.sparse.Goals as goal
 
 all_of : (most : ℕ) (entries : List Entry) (list : Vec Entry Global) → list.items ≡ entries → HaveSparsest most entries list.items
@@ -25,6 +24,4 @@ returns-then-len-most g c =
 pub returns : goal.returns
 returns g c =
     let entries = map summary (paged_in c.args.groups.now) in
-    let found : c.in_ok-list.list.items ≡ filter (has_fewer c.in-Some.bound) entries = c.in_ok-list.ensures {u = tt} in
-    subst (HaveSparsest c.args.most entries) (sym found)
-    (HaveSparsest-fewer c.args.most c.in-Some.bound entries (omega (arith, c.if-len-most.false, c.len.ensures, ap (λ (list : List Entry). length list) found)))
+    HaveSparsest-parted c.args.most c.in-Some.bound entries c.in_ok-list.list.items (c.in_ok-list.ensures {u = tt}) (omega (arith, c.if-len-most.false, c.len.ensures))

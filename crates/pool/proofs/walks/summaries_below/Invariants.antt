@@ -1,9 +1,9 @@
-use Rattle.std.proofs.Common.{◌≡◌, map, take}
+use Rattle.std.proofs.Common.{map, take}
 use Rattle.std.specs.Prelude.{filter}
 use Rattle.groups.specs.Group.{summary}
-use Rattle.pool.specs.Sparse.{has_fewer}
+use Rattle.pool.specs.Sparse.{AreParted}
 use Rattle.pool.proofs.Walked.{paged}
 use Rattle.pool.proofs.walks.summaries_below.Given as goal
 
 abbrev pub invariant-loop-group : goal.invariant-loop-group
-invariant-loop-group g l = l.list.items ≡ filter (has_fewer l.bound) (map summary (filter paged (take l.group-index l.groups)))
+invariant-loop-group g l = AreParted l.bound (map summary (filter paged (take l.group-index l.groups))) l.list.items
