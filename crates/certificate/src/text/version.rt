@@ -84,10 +84,10 @@ impl Version {
 fn needs_version_three(certificate: &Certificate) -> bool
     ensures { result ≡ needs_version_three (outline_of certificate.now) }
 {
-    if has_group_beyond_two(certificate.snapshot.abandoned()) {
+    if has_group_beyond_version_two(certificate.snapshot.abandoned()) {
         return true;
     }
-    if has_group_beyond_two(certificate.snapshot.owned()) {
+    if has_group_beyond_version_two(certificate.snapshot.owned()) {
         return true;
     }
     if has_large_pair(certificate.plan.pairs()) {
@@ -96,7 +96,7 @@ fn needs_version_three(certificate: &Certificate) -> bool
     has_large_id(certificate.short.ids())
 }
 
-fn has_group_beyond_two(groups: &[Entry]) -> bool
+fn has_group_beyond_version_two(groups: &[Entry]) -> bool
     ensures { result ≡ list_any (λ x. is_beyond_version_two (entry_parts x)) groups.now }
 {
     groups.iter().any(|group| is_large(group.id) || !Version::Two.names(group.class))
