@@ -1,5 +1,5 @@
 // Look-ups and frees, and where the span of a key stands.
-ghost use Rattle.std.specs.Prelude.{◌≡◌, ◌≢◌, ◌+◌, ◌<◌, ◌≤◌, ◌↔◌, ℕ, false, true, IfSome, IsSome, MatchOption, Some, if◌then◌else◌, is_some, length, slice_get};
+ghost use Rattle.std.specs.Prelude.{◌≡◌, ◌≢◌, ◌+◌, ◌<◌, ◌≤◌, ◌↔◌, ℕ, false, true, IfSome, IsSome, IsTrue, MatchOption, Some, if◌then◌else◌, is_some, length, slice_get};
 ghost use Rattle.span.specs.Order.{HasNoneFrom, IsFirstFrom};
 ghost use Rattle.span.specs.PlainMap as plain;
 ghost use Rattle.span.specs.State.{SpanState};
@@ -148,6 +148,46 @@ impl<L: Log> Shard<L> {
         let Some((index, place)) = self.find(key.span) else {
             return Freed::NotHere;
         };
+        self.free_at(index, place, key)
+    }
+
+    /// What [`Shard::free`] does, if the span of the key stands first
+    /// ([`Shard::stands_first`]). A caller that asks this first, and makes any other call in a
+    /// function that is not inlined, saves no registers for it on the way that mostly comes.
+    #[inline(always)]
+    pub fn free_first(&mut self, key: &Key) -> Freed
+        requires { StandsFirst self.old.groups key.now.span }
+        ensures step { Frees self.old key.now result self.new }
+        ensures here { result ≢ Freed.NotHere }
+        ensures found { was_freed result ≡ is_some ((shown self.old).value_of key.now) }
+        ensures plain { shown self.new ≡ (if was_freed result then plain.without
+            (shown self.old) key.now else shown self.old) }
+        ensures sound { IsSound self.new }
+    {
+        self.free_at(key.span.serial as usize, 0, key)
+    }
+
+    /// Whether the span is the head of the group at the index of its serial, as each head is while
+    /// the shard has all groups that it opened, and no other.
+    #[inline(always)]
+    pub fn stands_first(&self, id: SpanId) -> bool
+        ensures { IsTrue result ↔ StandsFirst self.now.groups id }
+    {
+        self.is_head(id.serial as usize, id)
+    }
+
+    // Frees the key in its span, which stands at the place of the group at the index.
+    #[inline(always)]
+    fn free_at(&mut self, index: usize, place: usize, key: &Key) -> Freed
+        requires { (group : GroupState) × (span : SpanState)
+            × IsHere self.old.groups key.now.span index place group span }
+        ensures step { Frees self.old key.now result self.new }
+        ensures here { result ≢ Freed.NotHere }
+        ensures found { was_freed result ≡ is_some ((shown self.old).value_of key.now) }
+        ensures plain { shown self.new ≡ (if was_freed result then plain.without
+            (shown self.old) key.now else shown self.old) }
+        ensures sound { IsSound self.new }
+    {
         let group = &mut self.groups[index];
         let at = group.span_at(place).changes();
         if !group.free(place, key.slot, key.generation) {

@@ -1,7 +1,10 @@
 // Sets in place.
-ghost use Rattle.std.specs.Prelude.{◌≡◌, IfOk, OnErr, if◌then◌else◌, true};
+ghost use Rattle.std.specs.Prelude.{◌≡◌, ◌≢◌, IfOk, OnErr, if◌then◌else◌, true};
 ghost use Rattle.span.specs.PlainMap as plain;
-ghost use Rattle.shard.specs.Calls.{Sets, was_replaced};
+ghost use Rattle.span.specs.State.{SpanState};
+ghost use Rattle.groups.specs.Group.{IsHere};
+ghost use Rattle.shard.specs.Calls.{Sets, StandsFirst, was_replaced};
+ghost use Rattle.shard.specs.Group.{GroupState};
 ghost use Rattle.shard.specs.Shown.{shown};
 ghost use Rattle.shard.specs.Sound.{IsSound};
 
@@ -44,6 +47,54 @@ impl<L: Log> Shard<L> {
         let Some((index, place)) = self.find(key.span) else {
             return Ok(Replaced::NotHere);
         };
+        self.set_at(index, place, key, words)
+    }
+
+    /// What [`Shard::set`] does, if the span of the key stands first ([`Shard::stands_first`]): as
+    /// [`Shard::free_first`] is beside [`Shard::free`].
+    ///
+    /// # Errors
+    ///
+    /// `AllocError` as from [`Shard::set`].
+    #[inline(always)]
+    pub fn set_first(&mut self, key: &Key, words: &[u128]) -> Result<Replaced, AllocError>
+        requires { StandsFirst self.old.groups key.now.span }
+        ensures step { IfOk result (λ answer. Sets self.old key.now words.now answer self.new) }
+        ensures here { IfOk result (λ answer. answer ≢ Replaced.NotHere) }
+        ensures found { IfOk result (λ answer. was_replaced answer
+            ≡ plain.may_set (shown self.old) key.now words.now) }
+        ensures plain { IfOk result (λ answer. shown self.new
+            ≡ (if was_replaced answer then plain.with_value (shown self.old) key.now words.now
+            else shown self.old)) }
+        ensures sound { IsSound self.new }
+        ensures refused { OnErr result (plain.may_set (shown self.old) key.now words.now ≡ true) }
+        ensures err { OnErr result (self.new ≡ self.old) }
+    {
+        self.set_at(key.span.serial as usize, 0, key, words)
+    }
+
+    // Sets the key's object in its span, which stands at the place of the group at the index.
+    #[inline(always)]
+    fn set_at(
+        &mut self,
+        index: usize,
+        place: usize,
+        key: &Key,
+        words: &[u128],
+    ) -> Result<Replaced, AllocError>
+        requires { (group : GroupState) × (span : SpanState)
+            × IsHere self.old.groups key.now.span index place group span }
+        ensures step { IfOk result (λ answer. Sets self.old key.now words.now answer self.new) }
+        ensures here { IfOk result (λ answer. answer ≢ Replaced.NotHere) }
+        ensures found { IfOk result (λ answer. was_replaced answer
+            ≡ plain.may_set (shown self.old) key.now words.now) }
+        ensures plain { IfOk result (λ answer. shown self.new
+            ≡ (if was_replaced answer then plain.with_value (shown self.old) key.now words.now
+            else shown self.old)) }
+        ensures sound { IsSound self.new }
+        ensures refused { OnErr result (plain.may_set (shown self.old) key.now words.now ≡ true) }
+        ensures err { OnErr result (self.new ≡ self.old) }
+    {
         let group = &mut self.groups[index];
         let at = group.span_at(place).changes();
         if !group.set(self.alloc, place, key.slot, key.generation, words)? {
