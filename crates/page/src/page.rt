@@ -44,6 +44,7 @@ impl Page {
     }
 
     /// The words of the object at the slot.
+    #[inline(always)]
     pub fn value_at(&self, class: Class, slot: u8) -> &[u128]
         requires { slot < slots_in class }
         ensures object { result.now ≡ object_in self.now class slot }
@@ -60,6 +61,7 @@ impl Page {
     }
 
     /// Writes an object at the slot, and no other. One word is by far the most frequent.
+    #[inline(always)]
     pub fn set_at(&mut self, class: Class, slot: u8, object: &[u128])
         requires on_page { slot < slots_in class }
         requires width { length object.now ≡ width_of class }
