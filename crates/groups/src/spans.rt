@@ -5,7 +5,7 @@ ghost use Rattle.std.specs.FinSet as set;
 ghost use Rattle.bitmap.specs.Slots.{AreDisjoint, HasAllBelow, HasWord, IsLowestOutside};
 ghost use Rattle.bitmap.specs.WordSets.{has_word};
 ghost use Rattle.span.specs.Classes.{slots_in, width_of};
-ghost use Rattle.span.specs.Log.{live_slots, puts_of, Holds};
+ghost use Rattle.span.specs.Log.{live_slots, puts_of, worn_slots, Holds};
 ghost use Rattle.span.specs.SpanLogs.{AreLegal, room_for_logs, span_of_log};
 ghost use Rattle.span.specs.State.{IsSettable, SpanState};
 ghost use Rattle.groups.specs.Dead.{live_among};
@@ -206,9 +206,7 @@ impl<L: Log> Spans<L> {
             (HasAllBelow (taken self.old) (slots_in self.old.head.class) → ⊥) }
         ensures err { OnErr result (self.new ≡ self.old) }
     {
-        let class = self.head.class();
-        let worn = self.head.worn();
-        let found = lowest_usable(&mut self.open_words, &self.occupied, &worn, class);
+        let found = lowest_usable(&mut self.open_words, &self.occupied, &self.head);
         let Some(Vacancy { slot, is_last }) = found else {
             return Ok(None);
         };
@@ -225,9 +223,7 @@ impl<L: Log> Spans<L> {
             ↔ (HasAllBelow (taken self.old) (slots_in self.old.head.class) → ⊥) }
         ensures same { self.new ≡ self.old }
     {
-        let class = self.head.class();
-        let worn = self.head.worn();
-        lowest_usable(&mut self.open_words, &self.occupied, &worn, class).is_some()
+        lowest_usable(&mut self.open_words, &self.occupied, &self.head).is_some()
     }
 
     /// Sets the object of the slot in the span at the place to these words, where the slot is live
@@ -238,6 +234,7 @@ impl<L: Log> Spans<L> {
     ///
     /// `AllocError` in place of `true`, where the span's log could not grow. The spans are then as
     /// they were.
+    #[inline(always)]
     pub fn set(
         &mut self,
         place: usize,
@@ -263,6 +260,7 @@ impl<L: Log> Spans<L> {
         }
     }
 
+    #[inline(always)]
     fn set_in_head(&mut self, slot: u8, generation: u32, words: &[u128]) -> Result<bool, AllocError>
         ensures found { IfOk result (λ done. IsTrue done
             ↔ IsSettable self.old.head slot generation words.now) }
@@ -278,6 +276,7 @@ impl<L: Log> Spans<L> {
         Ok(done)
     }
 
+    #[inline(never)]
     fn set_in_guest(
         &mut self,
         at: usize,
@@ -387,26 +386,31 @@ impl Spans<Counted> {
     }
 }
 
-// The lowest slot of the class that is in neither set; the words outside of `open_words` have none.
-// A word in which none is found leaves it, so that the next search does not look there.
+// The lowest slot of the head's class that is neither occupied nor worn in the head; the words
+// outside of `open_words` have none. A word in which none is found leaves it, so that the next
+// search does not look there.
 #[inline(always)]
-fn lowest_usable(
+fn lowest_usable<L: Log>(
     open_words: &mut WordSet,
     occupied: &Bits256,
-    worn: &Bits256,
-    class: Class,
+    head: &Span<L>,
 ) -> Option<Vacancy>
-    requires { IsFullOutside open_words.old (slots_in class) (set.union occupied.now worn.now) }
+    requires { IsFullOutside open_words.old (slots_in head.now.class)
+        (set.union occupied.now (worn_slots head.now.gens head.now.log)) }
     ensures lowest { MatchOption result
-        (HasAllBelow (set.union occupied.now worn.now) (slots_in class))
-        (λ found. (found.slot < slots_in class)
-        × IsLowestOutside (set.union occupied.now worn.now) found.slot) }
-    ensures last { IfSome result (λ found. IsTrue found.is_last
-        → HasWord (set.insert (set.union occupied.now worn.now) found.slot) (found.slot / 64)) }
-    ensures shut { IsFullOutside open_words.new (slots_in class) (set.union occupied.now worn.now) }
+        (HasAllBelow (set.union occupied.now (worn_slots head.now.gens head.now.log))
+        (slots_in head.now.class)) (λ found. (found.slot < slots_in head.now.class)
+        × IsLowestOutside (set.union occupied.now (worn_slots head.now.gens head.now.log))
+        found.slot) }
+    ensures last { IfSome result (λ found. IsTrue found.is_last → HasWord (set.insert
+        (set.union occupied.now (worn_slots head.now.gens head.now.log)) found.slot)
+        (found.slot / 64)) }
+    ensures shut { IsFullOutside open_words.new (slots_in head.now.class)
+        (set.union occupied.now (worn_slots head.now.gens head.now.log)) }
 {
+    let class = head.class();
     while let Some(word) = open_words.first() {
-        if let Some(found) = occupied.lowest_outside_both_in(worn, word) {
+        if let Some(found) = head.lowest_unused_in(occupied, word) {
             if u16::from(found.slot) < class.slots() {
                 return Some(found);
             }

@@ -240,10 +240,12 @@ impl Log for Counted {
         }
     }
 
+    #[inline(always)]
     fn reserve(&mut self, _more: usize, _words: usize) -> Result<(), AllocError> {
         Ok(())
     }
 
+    #[inline(always)]
     fn push_put(&mut self, slot: u8, generation: u32, class: Class, words: &[u128]) {
         let value = Object::of(class, words);
         let change = Change::Put {
@@ -255,6 +257,7 @@ impl Log for Counted {
         self.len += 1;
     }
 
+    #[inline(always)]
     fn reserve_set(&mut self, more: usize, _words: usize) -> Result<(), AllocError> {
         if self.len.saturating_add(more) <= 1 << 63 {
             Ok(())
@@ -263,6 +266,7 @@ impl Log for Counted {
         }
     }
 
+    #[inline(always)]
     fn push_set(&mut self, slot: u8, generation: u32, class: Class, words: &[u128]) {
         let value = Object::of(class, words);
         let change = Change::Set {
@@ -274,12 +278,14 @@ impl Log for Counted {
         self.len += 1;
     }
 
+    #[inline(always)]
     fn push_free(&mut self, slot: u8, generation: u32) {
         let change = Change::Free { slot, generation };
         self.history = History::with(&self.history, &change);
         self.len += 1;
     }
 
+    #[inline(always)]
     fn len(&self) -> usize {
         self.len
     }

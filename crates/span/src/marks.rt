@@ -176,6 +176,7 @@ impl Marks {
 
     /// Gives the slot, which is not live, its next generation, for which there is room, and makes
     /// it live. Takes no memory.
+    #[inline(always)]
     pub(crate) fn give_next(&mut self, slot: u8) -> u32
         requires room { HasRoom slot self.old }
         requires not_live { slice_index (marks_of self.old) slot % 2 ≡ 0 }

@@ -11,7 +11,7 @@ use crate::key::Key;
 use crate::log::{Kept, Log};
 use crate::marks::Marks;
 use crate::span_log::SpanLog;
-use bitmap::Bits256;
+use bitmap::{Bits256, Vacancy};
 use std::alloc::{AllocError, Global};
 use std::marker::Model;
 
@@ -54,6 +54,8 @@ impl<L: Log> Model for Span<L> {
 }
 
 impl<L: Log> Span<L> {
+    ghost use Rattle.bitmap.specs.Slots.{HasWord, IsLowestOutsideIn};
+    ghost use Rattle.bitmap.specs.declared.bits.TheConstants.{SLOTS};
     ghost use Rattle.span.specs.Classes.{slots_in, width_of};
     ghost use Rattle.span.specs.Log.{IsLegal, IsOfClass, live_slots, worn_slots, puts_of, Holds, was_issued};
     ghost use Rattle.span.specs.Order.{HoldsNoneFrom, IsFirstHeld};
@@ -245,6 +247,7 @@ impl<L: Log> Span<L> {
     }
 
     // Frees the slot, which is live at the generation.
+    #[inline(always)]
     fn free_at(&mut self, slot: u8, generation: u32)
         requires { Holds self.old.log slot generation }
         ensures freed { self.new ≡ record self.old {
@@ -284,6 +287,25 @@ impl<L: Log> Span<L> {
             return Bits256::empty();
         }
         self.marks.slots_at(self.gens)
+    }
+
+    /// The lowest slot of the word that is neither in the set nor worn, and whether it is the last
+    /// of the word, or `None` if there is none. Word k has the slots from 64 k on.
+    #[inline(always)]
+    pub fn lowest_unused_in(&self, used: &Bits256, word: usize) -> Option<Vacancy>
+        requires { word < 4 }
+        ensures lowest { MatchOption result
+            (HasWord (set.union used.now (worn_slots self.now.gens self.now.log)) word)
+            (λ found. IsLowestOutsideIn
+            (set.union used.now (worn_slots self.now.gens self.now.log)) word found.slot) }
+        ensures last { IfSome result (λ found. IsTrue found.is_last ↔ HasWord (set.insert
+            (set.union used.now (worn_slots self.now.gens self.now.log)) found.slot) word) }
+        ensures in_range { IfSome result (λ found. found.slot < SLOTS) }
+    {
+        if self.may_be_worn {
+            return used.lowest_outside_both_in(&self.worn(), word);
+        }
+        used.lowest_outside_both_in(used, word)
     }
 
     /// The class of its objects.

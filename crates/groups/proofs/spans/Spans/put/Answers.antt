@@ -1,8 +1,8 @@
-use Rattle.std.proofs.Common.{◌≡◌, ◌<◌, ◌/◌, ◌∙◌, ap, sym, subst, true, false}
+use Rattle.std.proofs.Common.{◌≡◌, ◌<◌, ◌/◌, ◌∙◌, ap, refl, sym, subst, true, false}
 use Rattle.std.specs.FinSet as set
 use Rattle.bitmap.specs.Slots.{AreDisjoint, HasAllBelow, HasWord, SlotSet}
 use Rattle.span.specs.Classes.{slots_in}
-use Rattle.span.specs.Log.{live_slots}
+use Rattle.span.specs.Log.{live_slots, worn_slots}
 use Rattle.span.specs.State.{SpanState}
 use Rattle.span.proofs.Slots.{live_slots-put}
 use Rattle.groups.specs.Spans.{SpansState, taken, union_of, with_put}
@@ -19,7 +19,7 @@ pub put_at-requires-clause-not_live : goal.put_at-requires-clause-not_live
 put_at-requires-clause-not_live g c =
     let spans : SpansState = record { head = c.self.inside.head; guests = c.self.inside.guests.items } in
     let slot = c.in-Some.field-0.slot in
-    let same = taken-is spans c.self.inside.occupied c.worn-worn.result c.self.invariant.occupied_is c.worn-worn.ensures in
+    let same = taken-is spans c.self.inside.occupied (worn_slots c.self.inside.head.gens c.self.inside.head.log) c.self.invariant.occupied_is refl in
     let free : set.contains (taken spans) slot ≡ false = ap (λ s. set.contains s slot) (sym same) ∙ c.in-Some.ensures.lowest.1.outside in
     outside_left _ _ slot (outside_left _ _ slot free)
 
@@ -27,7 +27,7 @@ pub put_at-requires-clause-not_worn : goal.put_at-requires-clause-not_worn
 put_at-requires-clause-not_worn g c =
     let spans : SpansState = record { head = c.self.inside.head; guests = c.self.inside.guests.items } in
     let slot = c.in-Some.field-0.slot in
-    let same = taken-is spans c.self.inside.occupied c.worn-worn.result c.self.invariant.occupied_is c.worn-worn.ensures in
+    let same = taken-is spans c.self.inside.occupied (worn_slots c.self.inside.head.gens c.self.inside.head.log) c.self.invariant.occupied_is refl in
     let free : set.contains (taken spans) slot ≡ false = ap (λ s. set.contains s slot) (sym same) ∙ c.in-Some.ensures.lowest.1.outside in
     outside_right _ _ slot free
 
@@ -35,9 +35,9 @@ pub returns-in_err-key-clause-room : goal.returns-in_err-key-clause-room
 returns-in_err-key-clause-room g c =
     let spans : SpansState = record { head = c.self.inside.head; guests = c.self.inside.guests.items } in
     let slot = c.in-Some.field-0.slot in
-    let same = taken-is spans c.self.inside.occupied c.worn-worn.result c.self.invariant.occupied_is c.worn-worn.ensures in
+    let same = taken-is spans c.self.inside.occupied (worn_slots c.self.inside.head.gens c.self.inside.head.log) c.self.invariant.occupied_is refl in
     let free : set.contains (taken spans) slot ≡ false = ap (λ s. set.contains s slot) (sym same) ∙ c.in-Some.ensures.lowest.1.outside in
-    let low : slot < slots_in spans.head.class = subst (λ k. slot < slots_in k) c.class-class.ensures.class c.in-Some.ensures.lowest.0 in
+    let low : slot < slots_in spans.head.class = c.in-Some.ensures.lowest.0 in
     at_err c.from_residual.result (λ full.
     let all : HasAllBelow (taken spans) (slots_in spans.head.class) = subst (λ (s : SpansState). HasAllBelow (taken s) (slots_in s.head.class)) (sym c.self.view_is) full in
     let both : false ≡ true = sym free ∙ all slot low in
@@ -49,7 +49,7 @@ invariant_of-self-2 g c =
     let spans : SpansState = record { head = inside.head; guests = inside.guests.items } in
     let slot = c.in-Some.field-0.slot in
     let words = c.args.words.now in
-    let same = taken-is spans inside.occupied c.worn-worn.result c.self.invariant.occupied_is c.worn-worn.ensures in
+    let same = taken-is spans inside.occupied (worn_slots c.self.inside.head.gens c.self.inside.head.log) c.self.invariant.occupied_is refl in
     let free : set.contains (taken spans) slot ≡ false = ap (λ s. set.contains s slot) (sym same) ∙ c.in-Some.ensures.lowest.1.outside in
     let put : c.put_at.new.self ≡ with_put inside.head slot words = c.in_ok-key.ensures.ok in
     let shown : live_slots c.put_at.new.self.log ≡ set.insert (live_slots inside.head.log) slot =
@@ -57,7 +57,7 @@ invariant_of-self-2 g c =
     let others : set.contains (union_of inside.guests.items) slot ≡ false = outside_right (live_slots inside.head.log) _ slot (outside_left _ _ slot free) in
     let shut : IsFullOutside c.lowest_usable-found.new.open_words (slots_in inside.head.class) (taken spans) =
     subst (λ s. IsFullOutside c.lowest_usable-found.new.open_words (slots_in inside.head.class) s) same
-    (subst (λ k. IsFullOutside c.lowest_usable-found.new.open_words (slots_in k) (set.union inside.occupied c.worn-worn.result)) c.class-class.ensures.class c.in-Some.ensures.shut) in
+    c.in-Some.ensures.shut in
     record {
       occupied_is = c.insert.ensures ∙ ap (λ s. set.insert s slot) c.self.invariant.occupied_is
           ∙ sym (ap (λ (s : SlotSet). set.union s (union_of inside.guests.items)) shown ∙ union-insert (live_slots inside.head.log) (union_of inside.guests.items) slot);
