@@ -1,4 +1,4 @@
--- What the parts of a look-up answer.
+-- What the parts of a call on a key answer.
 use Rattle.std.proofs.Common.{◌≡◌, ◌≤◌, ◌∙◌, ℕ, List, Some, ap, slice_get, sym}
 use Rattle.std.specs.Prelude.{IfSome}
 use Rattle.span.proofs.Next.{same_key-parts}
@@ -10,7 +10,7 @@ use Rattle.shard.specs.Shown.{shown as shown_by}
 use Rattle.shard.specs.State.{ShardState}
 use Rattle.shard.specs.declared.shard.Found.{Found}
 use Rattle.shard.specs.declared.shard.Found.TheVariants as found
-use Rattle.arena_core.specs.Lookups.{FindsWords, words_if}
+use Rattle.arena_core.specs.Lookups.{FindsWords, HasParts, words_if}
 use Rattle.arena_core.specs.Sound.{HasSoundGroups}
 use Rattle.arena_core.specs.State.{CoreState, shown}
 use Rattle.arena_core.proofs.Moved.{value-Gets}
@@ -18,6 +18,10 @@ use Rattle.arena_core.proofs.Moved.{value-Gets}
 -- the key of these parts
 abbrev pub key_of : SpanId → (slot generation : ℕ) → 1 ≤ generation → Key
 key_of span slot generation in_range = record { span = span; slot = slot; generation = generation; generation_in_range = in_range }
+
+-- a key with these parts is the key of them
+pub key_of-parts : (span : SpanId) (slot generation : ℕ) (in_range : 1 ≤ generation) (key : Key) → HasParts key span slot generation → key_of span slot generation in_range ≡ key
+key_of-parts span slot generation in_range key parts = same_key-parts _ key (sym parts.0) (sym parts.1) (sym parts.2)
 
 -- what was found of a key is found of its parts
 pub FindsWords-key : (core : CoreState) (key : Key) (words : List ℕ) → words_if words ≡ (shown core).value_of key → IfSome (words_if words) IsObject

@@ -1,4 +1,4 @@
--- What the parts of a look-up answer. No public clause cites this module.
+-- What the parts of a call on a key answer. No public clause cites this module.
 use Rattle.std.specs.Prelude.{◌≡◌, ◌∷◌, ℕ, List, [], IfSome, None, Option, Some}
 use Rattle.span.specs.Classes.{IsObject}
 use Rattle.span.specs.Log.{Value}
@@ -10,6 +10,11 @@ use Rattle.arena_core.specs.State.{CoreState, shown}
 abbrev pub words_if : List ℕ → Option Value
 words_if [] = None
 words_if (word ∷ words) = Some (word ∷ words)
+
+-- the key has these parts
+abbrev pub HasParts : Key → SpanId → (slot generation : ℕ) → Type 0
+HasParts key span slot generation = (key.span ≡ span) × (key.slot ≡ slot)
+    × (key.generation ≡ generation)
 
 -- these are the words of the object of the key with these parts; no word, if no such key is live
 pub record FindsWords (core : CoreState) (span : SpanId) (slot generation : ℕ) (words : List ℕ) :

@@ -2,7 +2,7 @@
 ghost use Rattle.std.specs.Prelude.{◌≡◌, ◌≢◌, ◌≤◌, IfSome, MatchResult, Some, length, option_map, slice_get};
 ghost use Rattle.span.specs.Classes.{IsObject, width_of};
 ghost use Rattle.shard.specs.Calls.{FindsObject, value_found, was_freed};
-ghost use Rattle.arena_core.specs.Lookups.{FindsWords, words_if};
+ghost use Rattle.arena_core.specs.Lookups.{FindsWords, HasParts, words_if};
 ghost use Rattle.arena_core.specs.Moved.{StandsIn, StandsInNoOther};
 ghost use Rattle.arena_core.specs.Plain.{PlainStep};
 ghost use Rattle.arena_core.specs.Sound.{IsSound};
@@ -253,6 +253,43 @@ impl<L: Log> Core<L> {
     /// [`Event::Free`]. It takes no memory.
     #[inline(always)]
     pub fn free(&mut self, key: &Key) -> bool
+        ensures exact { CoreStep self.old (event.Free key.now) (reply.Freed result) self.new }
+        ensures plain { PlainStep self.old.limits (shown self.old) (event.Free key.now)
+            (reply.Freed result) (shown self.new) }
+        ensures sound { IsSound self.new }
+    {
+        let Some(shard) = self.shards.get_mut(key.span.shard as usize) else {
+            return self.free_parts(key.span, key.slot, key.generation);
+        };
+        if !shard.stands_first(key.span) {
+            return self.free_parts(key.span, key.slot, key.generation);
+        }
+        was_done(shard.free_first(key))
+    }
+
+    // Frees the key of these parts, if it is live. It is not inlined, and parts of a key go in
+    // registers, so that a free which does not need it saves nothing.
+    #[inline(never)]
+    fn free_parts(&mut self, span: SpanId, slot: u8, generation: u32) -> bool
+        requires { 1 ≤ generation }
+        ensures exact { (key : Key) → HasParts key span slot generation
+            → CoreStep self.old (event.Free key) (reply.Freed result) self.new }
+        ensures plain { (key : Key) → HasParts key span slot generation
+            → PlainStep self.old.limits (shown self.old) (event.Free key)
+            (reply.Freed result) (shown self.new) }
+        ensures sound { IsSound self.new }
+    {
+        let key = Key {
+            span,
+            slot,
+            generation,
+        };
+        self.free_asked(&key)
+    }
+
+    // Frees the key, if it is live. The shard that opened its span is asked for it.
+    #[inline(always)]
+    fn free_asked(&mut self, key: &Key) -> bool
         ensures exact { CoreStep self.old (event.Free key.now) (reply.Freed result) self.new }
         ensures plain { PlainStep self.old.limits (shown self.old) (event.Free key.now)
             (reply.Freed result) (shown self.new) }

@@ -1,6 +1,7 @@
 // Sets in place, wherever the span of a key is.
-ghost use Rattle.std.specs.Prelude.{◌≡◌, ◌≢◌, IfOk, MatchResult};
+ghost use Rattle.std.specs.Prelude.{◌≡◌, ◌≢◌, ◌≤◌, IfOk, MatchResult, Err, Ok};
 ghost use Rattle.shard.specs.Calls.{was_replaced};
+ghost use Rattle.arena_core.specs.Lookups.{HasParts};
 ghost use Rattle.arena_core.specs.Moved.{StandsIn, StandsInNoOther};
 ghost use Rattle.arena_core.specs.Plain.{PlainStep};
 ghost use Rattle.arena_core.specs.Sound.{IsSound};
@@ -12,7 +13,8 @@ ghost use Rattle.arena_core.specs.declared.reply.Reply.TheVariants as reply;
 use super::Core;
 use crate::reply::Refusal;
 use shard::Replaced;
-use span::{Key, Log};
+use span::{Key, Log, SpanId};
+use std::alloc::AllocError;
 
 impl<L: Log> Core<L> {
     /// Sets the key to the object of these words, where it is live and its object has as many
@@ -27,6 +29,59 @@ impl<L: Log> Core<L> {
     /// [`Event::Set`]: crate::Event::Set
     #[inline(always)]
     pub fn set(&mut self, key: &Key, words: &[u128]) -> Result<bool, Refusal>
+        ensures exact { MatchResult result
+            (λ done. CoreStep self.old (event.Set key.now words.now) (reply.Replaced done) self.new)
+            (λ refusal. CoreStep self.old (event.Set key.now words.now)
+            (reply.Refused refusal) self.new) }
+        ensures plain { MatchResult result
+            (λ done. PlainStep self.old.limits (shown self.old) (event.Set key.now words.now)
+            (reply.Replaced done) (shown self.new))
+            (λ refusal. PlainStep self.old.limits (shown self.old) (event.Set key.now words.now)
+            (reply.Refused refusal) (shown self.new)) }
+        ensures sound { IsSound self.new }
+    {
+        let Some(shard) = self.shards.get_mut(key.span.shard as usize) else {
+            return self.set_parts(key.span, key.slot, key.generation, words);
+        };
+        if !shard.stands_first(key.span) {
+            return self.set_parts(key.span, key.slot, key.generation, words);
+        }
+        set_reply(shard.set_first(key, words))
+    }
+
+    // Sets the key of these parts, where it may be set. It is not inlined, and parts of a key go
+    // in registers, so that a set which does not need it saves little.
+    #[inline(never)]
+    fn set_parts(
+        &mut self,
+        span: SpanId,
+        slot: u8,
+        generation: u32,
+        words: &[u128],
+    ) -> Result<bool, Refusal>
+        requires { 1 ≤ generation }
+        ensures exact { (key : Key) → HasParts key span slot generation → MatchResult result
+            (λ done. CoreStep self.old (event.Set key words.now) (reply.Replaced done) self.new)
+            (λ refusal. CoreStep self.old (event.Set key words.now)
+            (reply.Refused refusal) self.new) }
+        ensures plain { (key : Key) → HasParts key span slot generation → MatchResult result
+            (λ done. PlainStep self.old.limits (shown self.old) (event.Set key words.now)
+            (reply.Replaced done) (shown self.new))
+            (λ refusal. PlainStep self.old.limits (shown self.old) (event.Set key words.now)
+            (reply.Refused refusal) (shown self.new)) }
+        ensures sound { IsSound self.new }
+    {
+        let key = Key {
+            span,
+            slot,
+            generation,
+        };
+        self.set_asked(&key, words)
+    }
+
+    // Sets the key, where it may be set. The shard that opened its span is asked for it.
+    #[inline(always)]
+    fn set_asked(&mut self, key: &Key, words: &[u128]) -> Result<bool, Refusal>
         ensures exact { MatchResult result
             (λ done. CoreStep self.old (event.Set key.now words.now) (reply.Replaced done) self.new)
             (λ refusal. CoreStep self.old (event.Set key.now words.now)
@@ -94,6 +149,18 @@ impl<L: Log> Core<L> {
         };
         let replaced = shard.set(key, words)?;
         Ok(replaced)
+    }
+}
+
+// What a set in a shard comes to: whether it was done, or why it was refused.
+#[inline(always)]
+fn set_reply(replaced: Result<Replaced, AllocError>) -> Result<bool, Refusal>
+    ensures { MatchResult replaced (λ answer. result ≡ Ok (was_replaced answer))
+        (λ error. result ≡ Err Refusal.OutOfMemory) }
+{
+    match replaced {
+        Ok(answer) => Ok(was_set(answer)),
+        Err(_) => Err(Refusal::OutOfMemory),
     }
 }
 

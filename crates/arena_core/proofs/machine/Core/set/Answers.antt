@@ -1,106 +1,121 @@
-use Rattle.std.proofs.Common.{◌≡◌, true, false, ap, refl, subst, sym, ◌∙◌}
-use Rattle.std.proofs.lemmas.Option.{slice_get_past}
-use Rattle.std.proofs.lemmas.Result.{err_from_is_err_and}
-use Rattle.span.specs.PlainMap.{has_as_many}
-use Rattle.shard.specs.Calls.{Sets}
-use Rattle.shard.specs.declared.shard.replacing.Replaced.TheVariants.{NotHere as not_here}
+use Rattle.std.proofs.Common.{◌≡◌, ◌≢◌, ◌∙◌, Bool, ℕ, Err, IfOk, MatchResult, Ok, OnErr, Result, cond, refl, subst, true}
+use Rattle.span.specs.Log.{Value}
+use Rattle.span.specs.PlainMap.{may_set, with_value}
+use Rattle.span.specs.declared.key.Key.{Key}
+use Rattle.shard.specs.Calls.{Sets, was_replaced}
+use Rattle.shard.specs.Shown.{shown as shown_by}
+use Rattle.shard.specs.Sound.{IsSound as IsSoundShard}
+use Rattle.shard.specs.State.{ShardState}
+use Rattle.shard.specs.declared.shard.replacing.Replaced.{Replaced as Answer}
+use Rattle.shard.specs.declared.shard.replacing.Replaced.TheVariants.{NotHere}
 use Rattle.arena_core.specs.declared.event.Event.TheVariants.{Set}
-use Rattle.arena_core.specs.declared.reply.Reply.TheVariants.{Replaced}
-use Rattle.arena_core.specs.Kept.{state_of}
-use Rattle.arena_core.specs.Moved.{StandsIn}
+use Rattle.arena_core.specs.declared.machine.Core.TheInside.{Inside}
+use Rattle.arena_core.specs.declared.reply.Refusal.{Refusal}
+use Rattle.arena_core.specs.declared.reply.Refusal.TheVariants.{OutOfMemory}
+use Rattle.arena_core.specs.declared.reply.Reply.TheVariants.{Refused, Replaced}
+use Rattle.arena_core.specs.Kept.{IsKept, state_of}
+use Rattle.arena_core.specs.Plain.{PlainStep}
+use Rattle.arena_core.specs.Sound.{IsSound}
 use Rattle.arena_core.specs.State.{CoreState, shown}
+use Rattle.arena_core.specs.Step.{CoreStep}
 use Rattle.arena_core.proofs.FieldSteps.{IsStep-set_home, IsStep-set_refused_home, state_of-same}
-use Rattle.arena_core.proofs.Fields.{IsRead, no_read, shard-read, with_shard_at}
+use Rattle.arena_core.proofs.Fields.{IsRead, with_shard_at}
 use Rattle.arena_core.proofs.FieldsKept.{IsKept-same, IsKept-set}
-use Rattle.arena_core.proofs.Moved.{not-standing}
-use Rattle.arena_core.proofs.PlanSteps.{IsSoundStep, IsSoundStep-unset}
-use Rattle.arena_core.proofs.Steps.{value-no_home}
+use Rattle.arena_core.proofs.PlanSteps.{IsSoundStep}
 use Rattle.arena_core.proofs.machine.Core.set.Goals as goal
-use Rattle.arena_core.proofs.machine.Core.set.Goals.{in-NotHere, in_default-matches}
 
-nowhere : (g : _) (c : goal.After-self-in_default-2-1 g) → IsSoundStep c.args.self.now (Set c.args.key.now c.args.words.now) (Replaced false) c.args.self.now
-nowhere g c =
-    subst (λ old. IsSoundStep old (Set c.args.key.now c.args.words.now) (Replaced false) old) c.self.view_is
-    (IsSoundStep-unset (state_of c.self.inside) c.args.key.now c.args.words.now c.self.invariant.sound
-    (ap (has_as_many c.args.words.now)
-    (value-no_home (state_of c.self.inside) c.self.invariant.sound.groups c.args.key.now
-    (slice_get_past c.self.inside.shards.items c.args.key.now.span.shard (no_read c.self.inside c.args.key.now.span.shard c.in_default.ensures.variant.1)))))
+-- a step with what was answered
+abbrev IsReply : CoreState → Key → Value → CoreState → Result Bool Refusal → Type 0
+IsReply old key value new reply = MatchResult reply (λ done. IsSoundStep old (Set key value) (Replaced done) new) (λ refusal. IsSoundStep old (Set key value) (Refused refusal) new)
 
-pub returns-in_default-clause-exact : goal.returns-in_default-clause-exact
-returns-in_default-clause-exact g c = ((nowhere g c).exact.0, c.self.view_is)
+exact_of : (old : CoreState) (key : Key) (value : Value) (new : CoreState) (reply : Result Bool Refusal) → IsReply old key value new reply
+    → MatchResult reply (λ done. CoreStep old (Set key value) (Replaced done) new) (λ refusal. CoreStep old (Set key value) (Refused refusal) new)
+exact_of old key value new (Ok done) step = step.exact
+exact_of old key value new (Err refusal) step = step.exact
 
-pub returns-in_default-clause-plain : goal.returns-in_default-clause-plain
-returns-in_default-clause-plain g c = ((nowhere g c).plain.0, ap shown c.self.view_is)
+plain_of : (old : CoreState) (key : Key) (value : Value) (new : CoreState) (reply : Result Bool Refusal) → IsReply old key value new reply
+    → MatchResult reply (λ done. PlainStep old.limits (shown old) (Set key value) (Replaced done) (shown new)) (λ refusal. PlainStep old.limits (shown old) (Set key value) (Refused refusal) (shown new))
+plain_of old key value new (Ok done) step = step.plain
+plain_of old key value new (Err refusal) step = step.plain
 
--- the shard refuses
+sound_of : (old : CoreState) (key : Key) (value : Value) (new : CoreState) (reply : Result Bool Refusal) → IsReply old key value new reply → IsSound new
+sound_of old key value new (Ok done) step = step.kept
+sound_of old key value new (Err refusal) step = step.kept
 
-pub invariant_of-self-in_err-replaced : goal.invariant_of-self-in_err-replaced
-invariant_of-self-in_err-replaced g c =
-    IsKept-same c.self.inside c.self.invariant c.args.key.now.span.shard c.in-Some.shard.now (record { within = c.in-Some.ensures.variant.0 refl; value = c.in-Some.ensures.value })
-    c.set.new.self c.in_err-replaced.ensures.err
+-- what the shard answers to the set, or refuses
+module _ {L E : Type 0} (c : Inside L) (kept : IsKept c) (number : ℕ) (key : Key) (value : Value) (before after : ShardState) (read : IsRead c number before) where
+  kept_set : (result : Result Answer E) → IfOk result (λ answer. Sets before key value answer after) → IfOk result (λ answer. was_replaced answer ≡ may_set (shown_by before) key value)
+      → IfOk result (λ answer. shown_by after ≡ cond (was_replaced answer) (with_value (shown_by before) key value) (shown_by before)) → IsSoundShard after
+      → OnErr result (after ≡ before) → IsKept (with_shard_at c number after)
+  kept_set (Ok answer) sets found plain sound same = IsKept-set c kept number before read key value answer after sets found plain sound
+  kept_set (Err error) sets found plain sound same = IsKept-same c kept number before read after same
 
-pub returns-in_err-replaced-clause-exact : goal.returns-in_err-replaced-clause-exact
-returns-in_err-replaced-clause-exact g c =
-    let refused = err_from_is_err_and c.from_residual.result c.from_residual.ensures.1 in
-    let step = IsStep-set_refused_home c.self.inside c.args.self.now c.args.key.now.span.shard c.args.key.now c.args.words.now c.in-Some.shard.now c.set.new.self c.self.view_is c.self.invariant.sound
-    (record { within = c.in-Some.ensures.variant.0 refl; value = c.in-Some.ensures.value }) c.in_err-replaced.ensures.refused c.in_err-replaced.ensures.err in
-    rw (refused.1, refused.2) step.exact
+  step_set : (now : CoreState) → state_of c ≡ now → (result : Result Answer E) (reply : Result Bool Refusal)
+      → MatchResult result (λ answer. reply ≡ Ok (was_replaced answer)) (λ error. reply ≡ Err OutOfMemory)
+      → IfOk result (λ answer. answer ≢ NotHere) → IfOk result (λ answer. Sets before key value answer after) → IfOk result (λ answer. was_replaced answer ≡ may_set (shown_by before) key value)
+      → IfOk result (λ answer. shown_by after ≡ cond (was_replaced answer) (with_value (shown_by before) key value) (shown_by before)) → IsSoundShard after
+      → OnErr result (may_set (shown_by before) key value ≡ true) → OnErr result (after ≡ before) → IsReply now key value (state_of (with_shard_at c number after)) reply
+  step_set now is (Ok answer) reply told here sets found plain sound may same = rw told
+      (IsStep-set_home c now number key value before after answer is kept.sound read here sets found plain sound)
+  step_set now is (Err error) reply told here sets found plain sound may same = rw told
+      (IsStep-set_refused_home c now number key value before after is kept.sound read may same)
 
-pub returns-in_err-replaced-clause-plain : goal.returns-in_err-replaced-clause-plain
-returns-in_err-replaced-clause-plain g c =
-    let refused = err_from_is_err_and c.from_residual.result c.from_residual.ensures.1 in
-    let step = IsStep-set_refused_home c.self.inside c.args.self.now c.args.key.now.span.shard c.args.key.now c.args.words.now c.in-Some.shard.now c.set.new.self c.self.view_is c.self.invariant.sound
-    (record { within = c.in-Some.ensures.variant.0 refl; value = c.in-Some.ensures.value }) c.in_err-replaced.ensures.refused c.in_err-replaced.ensures.err in
-    rw (refused.1, refused.2) step.plain
-
--- the shard answers
-
-pub invariant_of-self-else-matches : goal.invariant_of-self-else-matches
-invariant_of-self-else-matches g c =
-    IsKept-set c.self.inside c.self.invariant c.args.key.now.span.shard c.in-Some.shard.now (record { within = c.in-Some.ensures.variant.0 refl; value = c.in-Some.ensures.value })
-    c.args.key.now c.args.words.now c.in_ok-replaced.replaced c.set.new.self c.in_ok-replaced.ensures.step c.in_ok-replaced.ensures.found c.in_ok-replaced.ensures.plain c.set.ensures.sound
-
-done : (g : _) (c : goal.After-was_set g)
-    → IsSoundStep c.args.self.now (Set c.args.key.now c.args.words.now) (Replaced c.was_set.result)
-    (state_of (with_shard_at c.self.inside c.args.key.now.span.shard c.set.new.self))
-done g c =
-    subst (λ b. IsSoundStep c.args.self.now (Set c.args.key.now c.args.words.now) (Replaced b)
-    (state_of (with_shard_at c.self.inside c.args.key.now.span.shard c.set.new.self))) (sym c.was_set.ensures)
-    (IsStep-set_home c.self.inside c.args.self.now c.args.key.now.span.shard c.args.key.now c.args.words.now c.in-Some.shard.now c.set.new.self
-    c.in_ok-replaced.replaced c.self.view_is c.self.invariant.sound
+pub invariant_of-self-2 : goal.invariant_of-self-2
+invariant_of-self-2 g c =
+    let first = c.set_first.ensures in
+    kept_set c.self.inside c.self.invariant c.args.key.now.span.shard c.args.key.now c.args.words.now c.in-Some.shard.now c.set_first.new.self
     (record { within = c.in-Some.ensures.variant.0 refl; value = c.in-Some.ensures.value })
-    (elim c.match-matches.branch [
-      | in-NotHere w ↦ (λ e. let both : true ≡ false = sym w.matches-is ∙ c.if-matches.false in cc)
-      | in_default-matches w ↦ w.in_default-matches.not-NotHere
-    ])
-    c.in_ok-replaced.ensures.step c.in_ok-replaced.ensures.found c.in_ok-replaced.ensures.plain c.set.ensures.sound)
+    c.set_first.result first.step first.found first.plain first.sound first.err
+
+replied : (g : _) (c : goal.After-set_reply g)
+    → IsReply c.args.self.now c.args.key.now c.args.words.now (state_of (with_shard_at c.self.inside c.args.key.now.span.shard c.set_first.new.self)) c.set_reply.result
+replied g c =
+    let first = c.set_first.ensures in
+    step_set c.self.inside c.self.invariant c.args.key.now.span.shard c.args.key.now c.args.words.now c.in-Some.shard.now c.set_first.new.self
+    (record { within = c.in-Some.ensures.variant.0 refl; value = c.in-Some.ensures.value }) c.args.self.now c.self.view_is
+    c.set_first.result c.set_reply.result c.set_reply.ensures first.here first.step first.found first.plain first.sound first.refused first.err
 
 pub returns-clause-exact : goal.returns-clause-exact
-returns-clause-exact g c = (done g c).exact
+returns-clause-exact g c = exact_of _ _ _ _ c.set_reply.result (replied g c)
 
 pub returns-clause-plain : goal.returns-clause-plain
-returns-clause-plain g c = (done g c).plain
+returns-clause-plain g c = plain_of _ _ _ _ c.set_reply.result (replied g c)
 
 pub returns-clause-sound : goal.returns-clause-sound
-returns-clause-sound g c = (done g c).kept
+returns-clause-sound g c = sound_of _ _ _ _ c.set_reply.result (replied g c)
 
--- the shard was asked, and does not have the span
+pub set_first-requires : goal.set_first-requires
+set_first-requires g c = c.stands_first.ensures.0 c.if-not-stands_first.false
 
-pub invariant_of-self-then-matches : goal.invariant_of-self-then-matches
-invariant_of-self-then-matches g c =
-    IsKept-set c.self.inside c.self.invariant c.args.key.now.span.shard c.in-Some.shard.now (record { within = c.in-Some.ensures.variant.0 refl; value = c.in-Some.ensures.value })
-    c.args.key.now c.args.words.now c.in_ok-replaced.replaced c.set.new.self c.in_ok-replaced.ensures.step c.in_ok-replaced.ensures.found c.in_ok-replaced.ensures.plain c.set.ensures.sound
+-- there is no such shard
 
-away : (g : _) (c : goal.After-set_moved-arg-1 g) → Sets c.in-Some.shard.now c.args.key.now c.args.words.now not_here c.set.new.self
-away g c = elim c.match-matches.branch [
-  | in-NotHere w ↦ subst (λ answer. Sets c.in-Some.shard.now c.args.key.now c.args.words.now answer c.set.new.self) w.in-NotHere.is c.in_ok-replaced.ensures.step
-  | in_default-matches w ↦ absurd (let both : false ≡ true = sym w.matches-is ∙ c.if-matches.true in cc)
-]
+pub returns-in_default-clause-exact : goal.returns-in_default-clause-exact
+returns-in_default-clause-exact g c = subst (λ old. MatchResult c.set_parts.result (λ (done : Bool). CoreStep old (Set c.args.key.now c.args.words.now) (Replaced done) c.set_parts.new.self)
+    (λ (refusal : Refusal). CoreStep old (Set c.args.key.now c.args.words.now) (Refused refusal) c.set_parts.new.self)) c.self.view_is
+    (c.set_parts.ensures.exact c.args.key.now (refl, refl, refl))
 
-pub set_moved-requires : goal.set_moved-requires
-set_moved-requires g c =
-    let read : IsRead c.self.inside c.args.key.now.span.shard c.in-Some.shard.now = record { within = c.in-Some.ensures.variant.0 refl; value = c.in-Some.ensures.value } in
-    subst (λ (s : CoreState). StandsIn s.shards c.args.key.now.span c.args.key.now.span.shard
-    → ⊥) (sym (state_of-same c.self.inside c.args.key.now.span.shard c.in-Some.shard.now c.set.new.self read (away g c).1))
-    (not-standing (state_of c.self.inside) c.self.invariant.sound.groups c.args.key.now.span c.args.key.now.span.shard c.in-Some.shard.now
-    (shard-read c.self.inside c.args.key.now.span.shard c.in-Some.shard.now read) (away g c).0)
+pub returns-in_default-clause-plain : goal.returns-in_default-clause-plain
+returns-in_default-clause-plain g c = subst (λ (old : CoreState). MatchResult c.set_parts.result (λ (done : Bool). PlainStep old.limits (shown old) (Set c.args.key.now c.args.words.now) (Replaced done) (shown c.set_parts.new.self))
+    (λ (refusal : Refusal). PlainStep old.limits (shown old) (Set c.args.key.now c.args.words.now) (Refused refusal) (shown c.set_parts.new.self))) c.self.view_is
+    (c.set_parts.ensures.plain c.args.key.now (refl, refl, refl))
+
+pub set_parts-requires : goal.set_parts-requires
+set_parts-requires g c = c.args.key.now.generation_in_range
+
+-- the span does not stand first, and the shard is as it was
+
+pub invariant_of-self-then-not-stands_first : goal.invariant_of-self-then-not-stands_first
+invariant_of-self-then-not-stands_first g c =
+    IsKept-same c.self.inside c.self.invariant c.args.key.now.span.shard c.in-Some.shard.now (record { within = c.in-Some.ensures.variant.0 refl; value = c.in-Some.ensures.value }) _ refl
+
+pub returns-then-not-stands_first-clause-exact : goal.returns-then-not-stands_first-clause-exact
+returns-then-not-stands_first-clause-exact g c = subst (λ old. MatchResult c.set_parts-then-not-stands_first.result (λ (done : Bool). CoreStep old (Set c.args.key.now c.args.words.now) (Replaced done) c.set_parts-then-not-stands_first.new.self)
+    (λ (refusal : Refusal). CoreStep old (Set c.args.key.now c.args.words.now) (Refused refusal) c.set_parts-then-not-stands_first.new.self))
+    (state_of-same c.self.inside c.args.key.now.span.shard c.in-Some.shard.now _ (record { within = c.in-Some.ensures.variant.0 refl; value = c.in-Some.ensures.value }) refl ∙ c.self.view_is)
+    (c.set_parts-then-not-stands_first.ensures.exact c.args.key.now (refl, refl, refl))
+
+pub returns-then-not-stands_first-clause-plain : goal.returns-then-not-stands_first-clause-plain
+returns-then-not-stands_first-clause-plain g c = subst (λ (old : CoreState). MatchResult c.set_parts-then-not-stands_first.result (λ (done : Bool). PlainStep old.limits (shown old) (Set c.args.key.now c.args.words.now) (Replaced done) (shown c.set_parts-then-not-stands_first.new.self))
+    (λ (refusal : Refusal). PlainStep old.limits (shown old) (Set c.args.key.now c.args.words.now) (Refused refusal) (shown c.set_parts-then-not-stands_first.new.self)))
+    (state_of-same c.self.inside c.args.key.now.span.shard c.in-Some.shard.now _ (record { within = c.in-Some.ensures.variant.0 refl; value = c.in-Some.ensures.value }) refl ∙ c.self.view_is)
+    (c.set_parts-then-not-stands_first.ensures.plain c.args.key.now (refl, refl, refl))
