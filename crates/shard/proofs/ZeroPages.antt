@@ -45,6 +45,13 @@ pub page_written : (old new : Option Words) (blank : Bool) (class : Class) (slot
 page_written old new blank class slot object set is_there =
     is_there ∙ ap Some (set ∙ ap (λ (w : Words). set_object w class slot object) (sym (words_of-page_of old blank)))
 
+-- and of one that takes the object as it is: it has words in memory, or is there without
+pub page_put : (old new : Option Words) (blank : Bool) (class : Class) (slot : ℕ) (object : List ℕ) → unwrap_or new blank_page ≡ set_object (unwrap_or old blank_page) class slot object
+    → is_some new ≡ is_some old → (old ≡ None → blank ≡ true) → page_of new blank ≡ with_object (page_of old blank) class slot object
+page_put (Some old) new blank class slot object set same there = page_written (Some old) new blank class slot object set (page_of-stays (Some old) new blank same refl)
+page_put None new blank class slot object set same there =
+    page_written None new blank class slot object set (page_of-stays None new blank same (subst (λ b. IsSome (page_of None b)) (sym (there refl)) refl))
+
 -- the words that are taken over by a page without any
 pub joined_zeros : (blank : Bool) (class : Class) (slots : SlotSet) → joined (page_of None blank) class slots blank_page ≡ blank_page
 joined_zeros true class slots = copied-zeros class slots

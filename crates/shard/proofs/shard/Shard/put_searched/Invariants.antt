@@ -2,7 +2,7 @@ use Rattle.std.proofs.Common.{◌≡◌}
 use Rattle.std.specs.FinSet.{len}
 use Rattle.shard.specs.Kept.{IsKept, state_of}
 use Rattle.shard.specs.Rooms.{rooms_of}
-use Rattle.shard.proofs.shard.Shard.put_words.Given as goal
+use Rattle.shard.proofs.shard.Shard.put_searched.Given as goal
 
 abbrev pub invariant-loop-index : goal.invariant-loop-index
 invariant-loop-index g l = record {
