@@ -67,11 +67,7 @@ impl Marks {
             slice_index (marks_of self.new) slot ≡ slice_index (marks_of self.old) slot }
     {
         let wider = match self {
-            Marks::Bytes(bytes) => {
-                let words = as_words(bytes)?;
-                let _ = as_word(bytes[usize::from(slot)]);
-                Marks::Words(words)
-            }
+            Marks::Bytes(bytes) => Marks::Words(as_words(bytes)?),
             Marks::Words(words) => Marks::Longs(as_longs(words)?),
             Marks::Longs(longs) => {
                 let alloc = *longs.allocator();
@@ -224,17 +220,11 @@ impl Marks {
     }
 }
 
-// The same number, as a word.
-fn as_word(byte: u8) -> u32
-    ensures value { result ≡ byte }
-    ensures small { result < 2 ^ 8 }
-{
-    u32::from(byte)
-}
-
 // The same numbers, as words.
 fn as_words(bytes: &Vec<u8>) -> Result<Vec<u32>, AllocError>
-    ensures { IfOk result (λ words. words.items ≡ bytes.now.items) }
+    ensures items { IfOk result (λ words. words.items ≡ bytes.now.items) }
+    ensures small { (slot : ℕ) → slot < length bytes.now.items
+        → slice_index bytes.now.items slot < 2 ^ 8 }
 {
     bytes
         .iter()

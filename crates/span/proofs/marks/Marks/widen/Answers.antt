@@ -1,11 +1,11 @@
 use Rattle.std.proofs.Common.{rules, ◌≡◌, ◌+◌, ◌<◌, ◌^◌, ℕ, List, length, replicate, get_or, ap, sym, subst, ◌∙◌, inl, inr, arith}
 use Rattle.std.proofs.lemmas.Bool.{cases_lt}
-use Rattle.std.proofs.lemmas.List.{get_or-replicate, get_or_default, get_or_past, length-replicate}
+use Rattle.std.proofs.lemmas.List.{get_or-replicate, get_or_past, length-replicate}
 use Rattle.span.specs.Classes.{slots_in}
 use Rattle.span.specs.declared.class.Class.{Class}
 use Rattle.span.specs.Marks.{HasAllOrNone, HasRoom, IsToWiden, marks_of}
 use Rattle.span.proofs.marks.Marks.widen.Goals as goal
-use Rattle.span.proofs.marks.Marks.widen.Goals.{in-Bytes+in_ok-words-in-Bytes, in-Words+in_ok-as_longs-in-Words, in-Longs+in_ok-vec-in-Longs}
+use Rattle.span.proofs.marks.Marks.widen.Goals.{in-Bytes+in_ok-as_words-in-Bytes, in-Words+in_ok-as_longs-in-Words, in-Longs+in_ok-vec-in-Longs}
 
 -- a list of zeros says at each slot what an empty one does
 get_or-zeros : (n slot : ℕ) (zeros none : List ℕ) → zeros ≡ replicate n 0 → length none ≡ 0 → get_or zeros slot 0 ≡ get_or none slot 0
@@ -28,9 +28,9 @@ zeros-small n slot zeros are low = omega (arith, ap (λ xs. get_or xs slot 0) ar
 
 pub returns-clause-same : goal.returns-clause-same
 returns-clause-same c slot = elim c.match-self.branch [
-  | in-Bytes+in_ok-words-in-Bytes w ↦
+  | in-Bytes+in_ok-as_words-in-Bytes w ↦
       ap (λ g. get_or (marks_of g) slot 0) w.wider-is
-      ∙ ap (λ xs. get_or xs slot 0) w.in_ok-words-in-Bytes.ensures
+      ∙ ap (λ xs. get_or xs slot 0) w.in_ok-as_words-in-Bytes.ensures.items
       ∙ ap (λ g. get_or (marks_of g) slot 0) (sym w.in-Bytes.is)
   | in-Words+in_ok-as_longs-in-Words w ↦
       ap (λ g. get_or (marks_of g) slot 0) w.wider-is
@@ -44,17 +44,9 @@ returns-clause-same c slot = elim c.match-self.branch [
 
 pub returns-clause-ok : goal.returns-clause-ok
 returns-clause-ok c = elim c.match-self.branch [
-  | in-Bytes+in_ok-words-in-Bytes w ↦ subst (HasRoom c.args.slot) (sym w.wider-is) (
-    omega (arith, long-Bytes c.args.class w.in-Bytes.bytes.items (subst (HasAllOrNone c.args.class) w.in-Bytes.is c.requires.all_or_none) c.args.slot c.requires.on_page, ap length w.in_ok-words-in-Bytes.ensures),
-    omega (
-      arith,
-      ap (λ xs. get_or xs c.args.slot 0) w.in_ok-words-in-Bytes.ensures,
-      get_or_default w.in-Bytes.bytes.items c.args.slot 0 w.index.result.now
-          (long-Bytes c.args.class w.in-Bytes.bytes.items (subst (HasAllOrNone c.args.class) w.in-Bytes.is c.requires.all_or_none) c.args.slot c.requires.on_page),
-      w.index.ensures ∙ ap (λ i. get_or w.in-Bytes.bytes.items i w.index.result.now) w.from.ensures,
-      w.as_word.ensures.value,
-      w.as_word.ensures.small,
-    ),
+  | in-Bytes+in_ok-as_words-in-Bytes w ↦ subst (HasRoom c.args.slot) (sym w.wider-is) (
+    omega (arith, long-Bytes c.args.class w.in-Bytes.bytes.items (subst (HasAllOrNone c.args.class) w.in-Bytes.is c.requires.all_or_none) c.args.slot c.requires.on_page, ap length w.in_ok-as_words-in-Bytes.ensures.items),
+    omega (arith, ap (λ xs. get_or xs c.args.slot 0) w.in_ok-as_words-in-Bytes.ensures.items, w.in_ok-as_words-in-Bytes.ensures.small c.args.slot (long-Bytes c.args.class w.in-Bytes.bytes.items (subst (HasAllOrNone c.args.class) w.in-Bytes.is c.requires.all_or_none) c.args.slot c.requires.on_page)),
   )
   | in-Words+in_ok-as_longs-in-Words w ↦ subst (HasRoom c.args.slot) (sym w.wider-is)
       (omega (arith, subst (HasAllOrNone c.args.class) w.in-Words.is c.requires.all_or_none, c.requires.on_page, ap length w.in_ok-as_longs-in-Words.ensures))
