@@ -6,8 +6,7 @@
 #include <stdio.h>
 #include <stdlib.h>
 
-/* A page is a block of 256 words of 16 bytes. A core has other blocks of this size too, from its
- * start on, and from a first fold on. */
+/* A page is a block of 256 words of 16 bytes. A core may have other blocks of this size too. */
 enum { SLOTS = 256, PAGE = 16 * SLOTS, PAGES = 64 };
 
 /* Stands before each block, and keeps it aligned to 16. */
@@ -150,7 +149,7 @@ static void free_in_the_pool(void) {
 }
 
 /* Each step of a plan gives a page back, and the lists of groups and pages, which are full, stay as
- * long as they are. */
+ * long as they are. The close gives the room of the plan back. */
 static void fold(void) {
     struct teurlaks_mark_reply marked = teurlaks_mark(&core);
     WANT(marked.status == TEURLAKS_OK && marked.folds == PAGES - 2);
@@ -158,9 +157,9 @@ static void fold(void) {
         WANT(teurlaks_step(&core).status == TEURLAKS_OK);
         WANT_PAGES(2 * PAGES - 2 - step);
     }
-    size_t before = calls;
+    size_t before = calls, kept = blocks;
     WANT(teurlaks_close(&core) == TEURLAKS_OK);
-    WANT(calls == before);
+    WANT(calls == before + 1 && blocks == kept - 1);
     look_up(0, 2, 0);
     look_up(1, 0, 1);
     WANT_PAGES(PAGES);
@@ -272,12 +271,23 @@ static void core_forgets(void) {
     teurlaks_drop(&many);
 }
 
-/* An empty core has a block of its own, its shards and the room for a plan, and no ring. */
+/* An empty core has a block of its own, and no shard, ring or room for a plan. A look-up and a free
+ * of a key that it never gave out, a trim and a retirement take nothing. The first put takes one
+ * shard. */
 static void little(void) {
     struct teurlaks_handle many = {0};
+    struct teurlaks_key none = {0};
     size_t before = bytes, kept = blocks;
     WANT(teurlaks_new(&many, 64, MANY, 1024, 9) == TEURLAKS_OK);
-    WANT(blocks == kept + 3 && bytes - before < 65536 + 64 * 800);
+    WANT(blocks == kept + 1 && bytes - before <= 1024);
+    none.generation = 1;
+    QUIETLY(teurlaks_get(&many, none).status == TEURLAKS_NONE);
+    QUIETLY(teurlaks_free(&many, none) == TEURLAKS_NONE);
+    QUIETLY(teurlaks_trim(&many, 63).status == TEURLAKS_OK);
+    QUIETLY(teurlaks_retire(&many, 63, 1).status == TEURLAKS_OK);
+    QUIETLY(teurlaks_begin(&many, 63) == TEURLAKS_RUNNING);
+    WANT(teurlaks_put(&many, 0, (struct teurlaks_word){1, 2}).status == TEURLAKS_OK);
+    WANT(bytes - before <= PAGE + 3072);
     teurlaks_drop(&many);
 }
 

@@ -104,7 +104,7 @@ pub(crate) const MOST_SHARDS: usize = 64;
 const MOST_PAGES: u32 = 1 << 20;
 
 /// How many shards a slab or a store has where nobody says so: enough that each has few pages,
-/// whose number an adoption goes by. Each takes 464 bytes before it has any.
+/// whose number an adoption goes by. Each takes 464 bytes from its first value on.
 pub(crate) const SHARDS: u32 = 16;
 
 /// How many pages a shard opens until it is the turn of the next one, where nobody has set limits.

@@ -57,7 +57,7 @@ IsSoundStep-begun old number before sound here ended sound_after =
 module _ {L : Type 0} (c : Inside L) (kept : IsKept c) (number : ℕ) (before after : ShardState) (read : IsRead c number before) (after_is : after ≡ begun before) where
   pub IsSoundStep-begin_fields : before.ended ≡ true → IsSoundShard after → IsSoundStep (state_of c) (Begin number) ShardBegun (state_of (with_shard_at c number after))
   IsSoundStep-begin_fields ended sound_after =
-      subst (IsSoundStep (state_of c) (Begin number) ShardBegun) (sym (state_of-with_shard_at c number after))
+      subst (IsSoundStep (state_of c) (Begin number) ShardBegun) (sym (state_of-with_shard_at c number before after read))
       (subst (λ (s : ShardState). IsSoundStep (state_of c) (Begin number) ShardBegun (with_shard (state_of c) number s)) (sym after_is)
       (IsSoundStep-begun (state_of c) number before kept.sound (shard-read c number before read) ended (subst IsSoundShard after_is sound_after)))
 

@@ -32,7 +32,8 @@ use Rattle.arena_core.specs.declared.machine.Core.TheInside.{Inside}
 use Rattle.arena_core.specs.declared.reply.Refusal.{Refusal}
 use Rattle.arena_core.specs.declared.reply.Refusal.TheVariants.{OutOfMemory}
 use Rattle.arena_core.specs.declared.reply.Reply.TheVariants as reply
-use Rattle.arena_core.specs.Kept.{state_of}
+use Rattle.arena_core.specs.Kept.{shards_of, state_of}
+use Rattle.arena_core.specs.Made.{all_shards}
 use Rattle.arena_core.specs.Moved.{StandsIn, StandsInNoOther, WhereaboutsState}
 use Rattle.arena_core.specs.Plain.{PlainStep}
 use Rattle.arena_core.specs.Refusals.{refusal_of, refusal_of_adoption, refusal_of_end}
@@ -40,7 +41,7 @@ use Rattle.arena_core.specs.Sound.{IsSound}
 use Rattle.arena_core.specs.State.{CoreState, has_span, shown, with_pool}
 use Rattle.marks.specs.Numbers.{Limits}
 use Rattle.arena_core.specs.Step.{CoreStep, HasClosed}
-use Rattle.arena_core.proofs.Fields.{IsRead, shard-read, state_of-with_both_at, state_of-with_shard_at, with_both_at, with_shard_at}
+use Rattle.arena_core.proofs.Fields.{IsRead, made-read, shard-read, state_of-with_both_at, state_of-with_shard_at, with_both_at, with_shard_at}
 use Rattle.arena_core.proofs.Moves.{CoreStep-adopt_refused, CoreStep-end_refused, CoreStep-retire_refused}
 use Rattle.pool.specs.Retires.{HasRetired, Retires}
 use Rattle.shard.specs.Trims.{Trims}
@@ -51,15 +52,9 @@ use Rattle.arena_core.proofs.Steps.{CoreStep-refused, has_span-may_set, may_set-
 -- a shard that is as it was leaves the fields as they were
 pub state_of-same : {L : Type 0} (c : Inside L) (number : ℕ) (before after : ShardState) → IsRead c number before → after ≡ before → state_of (with_shard_at c number after) ≡ state_of c
 state_of-same c number before after read same =
-    let shards : set c.shards.items number after ≡ c.shards.items = ap (set c.shards.items number) same ∙ set-same c.shards.items number before (shard-read c number before read) in
+    let shards : all_shards c.limits (set c.shards.items number after) ≡ shards_of c = ap (λ s. all_shards c.limits (set c.shards.items number s)) same ∙ ap (all_shards c.limits) (set-same c.shards.items number before (made-read c number before read)) in
     λ i. record {
-      limits = record {
-        shards = length (shards i);
-        page_limit = c.page_limit;
-        span_limit = c.span_limit;
-        ring_capacity = c.ring_capacity;
-        gens = c.gens;
-      };
+      limits = c.limits;
       shards = shards i;
       pool = c.pool;
       plan = c.plan;
@@ -71,15 +66,9 @@ state_of-same c number before after read same =
 pub state_of-both_same : {L : Type 0} (c : Inside L) (number : ℕ) (before after : ShardState) (pool : PoolState) (whereabouts : WhereaboutsState)
     → IsRead c number before → after ≡ before → pool ≡ c.pool → state_of (with_both_at c number after pool whereabouts) ≡ state_of c
 state_of-both_same c number before after pool whereabouts read same pool_is =
-    let shards : set c.shards.items number after ≡ c.shards.items = ap (set c.shards.items number) same ∙ set-same c.shards.items number before (shard-read c number before read) in
+    let shards : all_shards c.limits (set c.shards.items number after) ≡ shards_of c = ap (λ s. all_shards c.limits (set c.shards.items number s)) same ∙ ap (all_shards c.limits) (set-same c.shards.items number before (made-read c number before read)) in
     λ i. record {
-      limits = record {
-        shards = length (shards i);
-        page_limit = c.page_limit;
-        span_limit = c.span_limit;
-        ring_capacity = c.ring_capacity;
-        gens = c.gens;
-      };
+      limits = c.limits;
       shards = shards i;
       pool = pool_is i;
       plan = c.plan;
@@ -92,7 +81,7 @@ pub IsStep-put_fields : {L : Type 0} (c : Inside L) (number : ℕ) (value : Valu
     → (shown_by before).is_issued key ≡ false → shown_by after ≡ with_put (shown_by before) key value → IsSoundShard after
     → IsSoundStep (state_of c) (Put number value) (reply.Issued key) (state_of (with_shard_at c number after))
 IsStep-put_fields c number value key at before after kept read puts fresh plain sound =
-    subst (IsSoundStep (state_of c) (Put number value) (reply.Issued key)) (sym (state_of-with_shard_at c number after))
+    subst (IsSoundStep (state_of c) (Put number value) (reply.Issued key)) (sym (state_of-with_shard_at c number before after read))
     (IsSoundStep-Puts (state_of c) number value key at before after kept (shard-read c number before read) puts fresh plain sound)
 
 -- a put that the shard refuses leaves the fields as they were
@@ -123,7 +112,7 @@ IsStep-set_home c now number key value before after answer now_is kept read here
     let at = shard-read c number before read in
     let has = has_span-Sets before after key value answer (kept.groups.shards number before at).sound here sets in
     subst (λ old. IsSoundStep old (Set key value) (reply.Replaced (was_replaced answer)) (state_of (with_shard_at c number after))) now_is
-    (subst (IsSoundStep (state_of c) (Set key value) (reply.Replaced (was_replaced answer))) (sym (state_of-with_shard_at c number after))
+    (subst (IsSoundStep (state_of c) (Set key value) (reply.Replaced (was_replaced answer))) (sym (state_of-with_shard_at c number before after read))
     (IsSoundStep-Sets (state_of c) key value number before after answer kept at has sets found plain sound))
 
 -- a set that the shard refuses leaves the fields as they were
@@ -165,14 +154,14 @@ pub IsStep-free_fields : {L : Type 0} (c : Inside L) (number : ℕ) (key : Key) 
     → was_freed answer ≡ is_some ((shown_by before).value_of key) → shown_by after ≡ cond (was_freed answer) (without (shown_by before) key) (shown_by before) → IsSoundShard after
     → IsSoundStep (state_of c) (Free key) (reply.Freed (was_freed answer)) (state_of (with_shard_at c number after))
 IsStep-free_fields c number key before after answer kept read has frees found plain sound =
-    subst (IsSoundStep (state_of c) (Free key) (reply.Freed (was_freed answer))) (sym (state_of-with_shard_at c number after))
+    subst (IsSoundStep (state_of c) (Free key) (reply.Freed (was_freed answer))) (sym (state_of-with_shard_at c number before after read))
     (IsSoundStep-Frees (state_of c) key number before after answer kept (shard-read c number before read) has frees found plain sound)
 
 pub IsStep-end_fields : {L : Type 0} (c : Inside L) (number : ℕ) (before after : ShardState) (pool : PoolState) (whereabouts : WhereaboutsState)
     → IsSound (state_of c) → IsRead c number before → (HasClosed before.groups → ⊥) → Receives c.pool before pool after → IsSoundShard after → IsSoundPool pool
     → IsSoundStep (state_of c) (End number) reply.ShardEnded (state_of (with_both_at c number after pool whereabouts))
 IsStep-end_fields c number before after pool whereabouts kept read unclosed receives sound sound_pool =
-    subst (IsSoundStep (state_of c) (End number) reply.ShardEnded) (sym (state_of-with_both_at c number after pool whereabouts))
+    subst (IsSoundStep (state_of c) (End number) reply.ShardEnded) (sym (state_of-with_both_at c number before after pool whereabouts read))
     (IsSoundStep-Receives (state_of c) number before after pool kept (shard-read c number before read) unclosed receives sound sound_pool)
 
 -- an end that the pool refuses leaves the fields as they were
@@ -194,7 +183,7 @@ pub IsStep-retire_fields : {L : Type 0} (c : Inside L) (number most count : ℕ)
     → HasRetired c.pool before count pool after → IsSoundShard after → IsSoundPool pool
     → IsSoundStep (state_of c) (Retire number most) (reply.Retired count) (state_of (with_both_at c number after pool whereabouts))
 IsStep-retire_fields c number most count before after pool whereabouts kept read unclosed retires whole sound sound_pool =
-    subst (IsSoundStep (state_of c) (Retire number most) (reply.Retired count)) (sym (state_of-with_both_at c number after pool whereabouts))
+    subst (IsSoundStep (state_of c) (Retire number most) (reply.Retired count)) (sym (state_of-with_both_at c number before after pool whereabouts read))
     (IsSoundStep-Retires (state_of c) number most count before after pool kept (shard-read c number before read) unclosed retires whole sound sound_pool)
 
 -- a retirement that the pool refuses leaves the fields as they were
@@ -217,14 +206,14 @@ pub IsStep-adopt_fields : {L : Type 0} (c : Inside L) (number : ℕ) (head : Spa
     → Adopts c.pool before head pool after → IsSoundShard after → IsSoundPool pool
     → IsSoundStep (state_of c) (Adopt number) (reply.Adopted head) (state_of (with_both_at c number after pool whereabouts))
 IsStep-adopt_fields c number head before after pool whereabouts kept no_plan read running adopts sound sound_pool =
-    subst (IsSoundStep (state_of c) (Adopt number) (reply.Adopted head)) (sym (state_of-with_both_at c number after pool whereabouts))
+    subst (IsSoundStep (state_of c) (Adopt number) (reply.Adopted head)) (sym (state_of-with_both_at c number before after pool whereabouts read))
     (IsSoundStep-Adopts (state_of c) number head before after pool kept no_plan (shard-read c number before read) running adopts sound sound_pool)
 
 pub IsStep-trim_fields : {L : Type 0} (c : Inside L) (number count : ℕ) (before after : ShardState) → IsSound (state_of c) → IsRead c number before
     → Trims before count after → shown_by after ≡ shown_by before → IsSoundShard after
     → IsSoundStep (state_of c) (Trim number) (reply.Trimmed count) (state_of (with_shard_at c number after))
 IsStep-trim_fields c number count before after kept read trims plain sound =
-    subst (IsSoundStep (state_of c) (Trim number) (reply.Trimmed count)) (sym (state_of-with_shard_at c number after))
+    subst (IsSoundStep (state_of c) (Trim number) (reply.Trimmed count)) (sym (state_of-with_shard_at c number before after read))
     (IsSoundStep-Trims (state_of c) number count before after kept (shard-read c number before read) trims plain sound)
 
 -- where the pool does not know of a plan, none is open

@@ -1,19 +1,20 @@
 -- The steps of a core whose shards and pool stand in its fields.
 use Rattle.std.proofs.Common.{◌≡◌, ℕ, ◌<◌, true, false, ◌⊎◌, inl, inr, arith, List, Some, ◌≤◌, Bor, get_or, ap, ◌∙◌, length, refl, set, slice_get, sym}
 use Rattle.std.specs.Prelude.{vec_len}
-use Rattle.std.proofs.Math.ListN.{length-set}
 use Rattle.std.proofs.lemmas.Bool.{cases_lt}
-use Rattle.std.proofs.lemmas.Option.{slice_get_read}
+use Rattle.std.proofs.lemmas.Option.{slice_get_read, slice_get_within}
 use Rattle.std.specs.Slice.{IsItemAt}
 use Rattle.std.specs.Vec.{with_item}
 use Rattle.span.specs.declared.limits.TheConstants.{MOST_PAGES, MOST_SHARDS}
 use Rattle.shard.specs.State.{ShardState}
 use Rattle.pool.specs.State.{PoolState}
 use Rattle.arena_core.specs.declared.machine.Core.TheInside.{Inside}
-use Rattle.arena_core.specs.Kept.{state_of}
+use Rattle.arena_core.specs.Kept.{shards_of, state_of}
+use Rattle.arena_core.specs.Made.{all_shards}
 use Rattle.arena_core.specs.Moved.{WhereaboutsState}
 use Rattle.arena_core.specs.Sound.{HasSoundGroups, IsSoundAt}
 use Rattle.arena_core.specs.State.{with_pool, with_shard}
+use Rattle.arena_core.proofs.Made.{made-get, made-set}
 use Rattle.span.specs.declared.limits.TheConstants.{MOST_PAGES, MOST_SHARDS}
 
 -- the fields with another shard at this number
@@ -24,38 +25,66 @@ with_shard_at c number after = record c { shards = with_item c.shards number aft
 abbrev pub with_both_at : {L : Type 0} → Inside L → ℕ → ShardState → PoolState → WhereaboutsState → Inside L
 with_both_at c number after pool whereabouts = record c { shards = with_item c.shards number after; pool = pool; whereabouts = whereabouts }
 
-pub state_of-with_shard_at : {L : Type 0} (c : Inside L) (number : ℕ) (after : ShardState) → state_of (with_shard_at c number after) ≡ with_shard (state_of c) number after
-state_of-with_shard_at c number after = λ i. record {
-  limits = record { shards = length-set c.shards.items number after i; page_limit = c.page_limit; span_limit = c.span_limit; ring_capacity = c.ring_capacity; gens = c.gens };
-  shards = set c.shards.items number after;
+-- the shard that was read at this number
+pub record IsRead {L : Type 0} (c : Inside L) (number : ℕ) (shard : ShardState) : Type 0 where
+  pub within : number < vec_len c.shards
+  pub value : shard ≡ get_or c.shards.items number shard
+
+-- it was made
+pub made-read : {L : Type 0} (c : Inside L) (number : ℕ) (shard : ShardState) → IsRead c number shard → slice_get c.shards.items number ≡ Some shard
+made-read c number shard read = slice_get_read c.shards.items (vec_len c.shards) number shard c.shards.ok.0 read.within read.value
+
+pub shard-read : {L : Type 0} (c : Inside L) (number : ℕ) (shard : ShardState) → IsRead c number shard → slice_get (shards_of c) number ≡ Some shard
+shard-read c number shard read = made-get c.limits c.shards.items number shard (made-read c number shard read)
+
+set-read : {L : Type 0} (c : Inside L) (number : ℕ) (before after : ShardState) → IsRead c number before → all_shards c.limits (set c.shards.items number after) ≡ set (shards_of c) number after
+set-read c number before after read = made-set c.limits c.shards.items number after (omega (arith, read.within, c.shards.ok.0))
+
+pub state_of-with_shard_at : {L : Type 0} (c : Inside L) (number : ℕ) (before after : ShardState) → IsRead c number before
+    → state_of (with_shard_at c number after) ≡ with_shard (state_of c) number after
+state_of-with_shard_at c number before after read = λ i. record {
+  limits = c.limits;
+  shards = set-read c number before after read i;
   pool = c.pool;
   plan = c.plan;
   rings = c.rings;
   forgotten = c.forgotten.spans;
 }
 
-pub state_of-with_both_at : {L : Type 0} (c : Inside L) (number : ℕ) (after : ShardState) (pool : PoolState) (whereabouts : WhereaboutsState)
+pub state_of-with_both_at : {L : Type 0} (c : Inside L) (number : ℕ) (before after : ShardState) (pool : PoolState) (whereabouts : WhereaboutsState) → IsRead c number before
     → state_of (with_both_at c number after pool whereabouts) ≡ with_pool (with_shard (state_of c) number after) pool
-state_of-with_both_at c number after pool whereabouts = λ i. record {
-  limits = record { shards = length-set c.shards.items number after i; page_limit = c.page_limit; span_limit = c.span_limit; ring_capacity = c.ring_capacity; gens = c.gens };
-  shards = set c.shards.items number after;
+state_of-with_both_at c number before after pool whereabouts read = λ i. record {
+  limits = c.limits;
+  shards = set-read c number before after read i;
   pool = pool;
   plan = c.plan;
   rings = c.rings;
   forgotten = c.forgotten.spans;
 }
 
--- the shard that was read at this number
-pub record IsRead {L : Type 0} (c : Inside L) (number : ℕ) (shard : ShardState) : Type 0 where
-  pub within : number < vec_len c.shards
-  pub value : shard ≡ get_or c.shards.items number shard
-
-pub shard-read : {L : Type 0} (c : Inside L) (number : ℕ) (shard : ShardState) → IsRead c number shard → slice_get c.shards.items number ≡ Some shard
-shard-read c number shard read = slice_get_read c.shards.items (vec_len c.shards) number shard c.shards.ok.0 read.within read.value
+-- fields that show as they did
+pub state_of-unchanged : {L : Type 0} (c now : Inside L) → now.limits ≡ c.limits → now.plan ≡ c.plan → now.rings ≡ c.rings → now.forgotten.spans ≡ c.forgotten.spans
+    → shards_of now ≡ shards_of c → now.pool ≡ c.pool → state_of now ≡ state_of c
+state_of-unchanged c now limits plan rings gone shards pool = λ i. record {
+  limits = limits i;
+  shards = shards i;
+  pool = pool i;
+  plan = plan i;
+  rings = rings i;
+  forgotten = gone i;
+}
 
 -- the shard that a look-up gave, where there is one
 pub shard-found : (shards : List ShardState) (number : ℕ) (shard : Bor ShardState) → IsItemAt shards number (Some shard) → slice_get shards number ≡ Some shard.now
 shard-found shards number shard (is, value, some, (within, holds), all) = slice_get_read shards (length shards) number shard.now refl within value
+
+-- the shard that a look-up among those that were made gave
+pub shard-lent : {L : Type 0} (c : Inside L) (made : List ShardState) (number : ℕ) (shard : Bor ShardState) → made ≡ c.shards.items → IsItemAt made number (Some shard)
+    → slice_get (shards_of c) number ≡ Some shard.now
+shard-lent c made number shard are at = made-get c.limits c.shards.items number shard.now (ap (λ xs. slice_get xs number) (sym are) ∙ shard-found made number shard at)
+
+pub shard-past : {L : Type 0} (c : Inside L) (made : List ShardState) (number : ℕ) → made ≡ c.shards.items → length made ≤ number → length c.shards.items ≤ number
+shard-past c made number are past = omega (arith, ap length are)
 
 -- a look-up that gave no shard
 pub no_read : {L : Type 0} (c : Inside L) (number : ℕ) → (number < vec_len c.shards → false ≡ true) → length c.shards.items ≤ number
@@ -73,9 +102,10 @@ pub record IsFew (index : ℕ) (shard : ShardState) : Type 0 where
 pub IsFew-fields : {L : Type 0} (c : Inside L) (shards : List ShardState) (index : ℕ) (shard : ShardState) → HasSoundGroups (state_of c)
     → shards ≡ c.shards.items → index < length shards → shard ≡ get_or shards index shard → IsFew index shard
 IsFew-fields c shards index shard kept are within read =
-    let here : slice_get c.shards.items index ≡ Some shard = ap (λ xs. slice_get xs index) (sym are) ∙ slice_get_read shards (length shards) index shard refl within read in
+    let there : slice_get c.shards.items index ≡ Some shard = ap (λ xs. slice_get xs index) (sym are) ∙ slice_get_read shards (length shards) index shard refl within read in
+    let here : slice_get (shards_of c) index ≡ Some shard = made-get c.limits c.shards.items index shard there in
     let sound : IsSoundAt (state_of c).limits index shard = kept.shards index shard here in
     record {
-      shards = omega (arith, kept.within.shards.1, ap length are);
+      shards = omega (arith, kept.within.shards.1, slice_get_within (shards_of c) index shard here, kept.count);
       pages = omega (arith, sound.sound.limit, sound.page_limit_is, kept.within.page_limit.1);
     }

@@ -1,5 +1,6 @@
 -- What the fields of a core keep, where a shard, the pool and the whereabouts change.
-use Rattle.std.proofs.Common.{◌≡◌, ◌≢◌, ℕ, Bool, Option, Some, true, false, cond, ap, arith, is_some, length, map, refl, set, slice_get, subst, sym, ◌∙◌}
+use Rattle.std.proofs.Common.{◌≡◌, ◌≢◌, ℕ, Bool, Option, Some, Result, Ok, Err, IfOk, OnErr, true, false, cond, ap, arith, is_some, length, map, refl, set, slice_get, subst, sym, ◌∙◌}
+use Rattle.std.specs.declared.alloc.AllocError.{AllocError}
 use Rattle.std.proofs.lemmas.Option.{get_or_from_slice_get, slice_get_within}
 use Rattle.span.specs.declared.id.SpanId.{SpanId}
 use Rattle.span.specs.declared.key.Key.{Key}
@@ -18,14 +19,16 @@ use Rattle.shard.specs.declared.shard.replacing.Replaced.TheVariants as replaced
 use Rattle.pool.specs.Calls.{Receives}
 use Rattle.pool.specs.State.{PoolState}
 use Rattle.arena_core.specs.declared.machine.Core.TheInside.{Inside}
-use Rattle.arena_core.specs.Kept.{IsKept, state_of}
+use Rattle.arena_core.specs.Kept.{IsKept, shards_of, state_of}
+use Rattle.arena_core.specs.Made.{all_shards, new_shard_of}
 use Rattle.arena_core.specs.Moved.{Entries, KnowsMoved, Notes, WhereaboutsState}
 use Rattle.arena_core.specs.Sound.{IsSound}
 use Rattle.marks.specs.Numbers.{Limits}
 use Rattle.marks.specs.Plans.{OpenPlan}
 use Rattle.arena_core.specs.State.{has_span, new_core}
 use Rattle.arena_core.proofs.FieldSteps.{IsStep-free_home, IsStep-set_home, state_of-both_same, state_of-same}
-use Rattle.arena_core.proofs.Fields.{IsRead, shard-read, with_both_at, with_shard_at}
+use Rattle.arena_core.proofs.Fields.{IsRead, made-read, shard-read, state_of-unchanged, with_both_at, with_shard_at}
+use Rattle.arena_core.proofs.Made.{completed-map, made-set}
 use Rattle.marks.proofs.Flagged.{with_flags}
 use Rattle.arena_core.proofs.Groups.{IsCall-ChangesSpan, IsCall-Puts}
 use Rattle.arena_core.proofs.MarkSteps.{with_step_at}
@@ -37,7 +40,7 @@ use Rattle.arena_core.proofs.OneSpan.{ChangesSpan-Frees, ChangesSpan-Sets}
 use Rattle.arena_core.proofs.Retired.{HasGone-Retires}
 use Rattle.arena_core.proofs.Start.{slice_get-range}
 
--- a shard that stands at this number was read there
+-- a shard that was made and stands at this number was read there
 pub read-at : {L : Type 0} (c : Inside L) (number : ℕ) (shard : ShardState) → slice_get c.shards.items number ≡ Some shard → IsRead c number shard
 read-at c number shard here = record {
   within = omega (arith, slice_get_within c.shards.items number shard here, c.shards.ok.0);
@@ -51,6 +54,14 @@ GetsNone number before after = (id : SpanId) → number ≢ id.shard → has_spa
 module _ {L : Type 0} (c : Inside L) (kept : IsKept c) (number : ℕ) (before : ShardState) (read : IsRead c number before) where
   number_is : before.number ≡ number
   number_is = (kept.sound.groups.shards number before (shard-read c number before read)).number_is
+
+  -- the shards with another one at this number
+  set_shards : (after : ShardState) → all_shards c.limits (set c.shards.items number after) ≡ set (shards_of c) number after
+  set_shards after = made-set c.limits c.shards.items number after (slice_get_within c.shards.items number before (made-read c number before read))
+
+  moved_set : (after : ShardState) → GetsNone number before after → KnowsMoved (all_shards c.limits (set c.shards.items number after)) c.whereabouts.entries
+  moved_set after none = subst (λ shards. KnowsMoved shards c.whereabouts.entries) (sym (set_shards after))
+      (KnowsMoved-set (shards_of c) c.whereabouts.entries kept.moved number before after (shard-read c number before read) none)
 
   pub GetsNone-Puts : (value : Value) (key : Key) (at : ℕ) (after : ShardState) → Puts before (class_of value) value key at after → GetsNone number before after
   GetsNone-Puts value key at after puts = kept-IsCall before after number number_is (IsCall-Puts before after value key at puts)
@@ -84,13 +95,13 @@ module _ {L : Type 0} (c : Inside L) (kept : IsKept c) (number : ℕ) (before : 
       → IsSound (state_of (with_both_at c number after pool c.whereabouts)) → IsKept (with_both_at c number after pool c.whereabouts)
   IsKept-with_both_at after pool none sound = record {
     sound = sound;
-    moved = KnowsMoved-set c.shards.items c.whereabouts.entries kept.moved number before after (shard-read c number before read) none;
+    moved = moved_set after none;
   }
 
   pub IsKept-with_shard_at : (after : ShardState) → GetsNone number before after → IsSound (state_of (with_shard_at c number after)) → IsKept (with_shard_at c number after)
   IsKept-with_shard_at after none sound = record {
     sound = sound;
-    moved = KnowsMoved-set c.shards.items c.whereabouts.entries kept.moved number before after (shard-read c number before read) none;
+    moved = moved_set after none;
   }
 
   -- a shard and a pool that are as they were
@@ -103,7 +114,7 @@ module _ {L : Type 0} (c : Inside L) (kept : IsKept c) (number : ℕ) (before : 
       → roomy.entries ≡ c.whereabouts.entries → IsKept (with_both_at c number after pool roomy)
   IsKept-room_made after pool roomy same pool_is entries = record {
     sound = subst IsSound (sym (state_of-both_same c number before after pool roomy read same pool_is)) kept.sound;
-    moved = subst (KnowsMoved (set c.shards.items number after)) (sym entries) (IsKept-both_same after pool same pool_is).moved;
+    moved = subst (KnowsMoved (all_shards c.limits (set c.shards.items number after))) (sym entries) (IsKept-both_same after pool same pool_is).moved;
   }
 
   pub IsKept-same : (after : ShardState) → after ≡ before → IsKept (with_shard_at c number after)
@@ -135,6 +146,14 @@ module _ {L : Type 0} (c : Inside L) (kept : IsKept c) (number : ℕ) (before : 
       (IsStep-set_home c (state_of c) number key value before after (replaced.No at) refl kept.sound read (λ e. absurd cc) sets found plain sound).kept
   IsKept-set key value replaced.NotHere after sets found plain sound = IsKept-same after sets.1
 
+  -- the same, also if memory fails
+  pub IsKept-set_result : (key : Key) (value : Value) (result : Result Replaced AllocError) (after : ShardState) → IfOk result (λ answer. Sets before key value answer after)
+      → IfOk result (λ answer. was_replaced answer ≡ may_set (shown_by before) key value)
+      → IfOk result (λ answer. shown_by after ≡ cond (was_replaced answer) (with_value (shown_by before) key value) (shown_by before)) → OnErr result (after ≡ before)
+      → IsSoundShard after → IsKept (with_shard_at c number after)
+  IsKept-set_result key value (Ok answer) after sets found plain same sound = IsKept-set key value answer after sets found plain sound
+  IsKept-set_result key value (Err error) after sets found plain same sound = IsKept-same after same
+
   -- spans come in, and are noted
   pub IsKept-noted : (after : ShardState) (pool : PoolState) (plan : Option OpenPlan) (noted : WhereaboutsState) (head : SpanId) (first : ℕ)
       → Comes before after head first → Notes c.whereabouts.entries noted.entries after.groups head first number
@@ -142,39 +161,34 @@ module _ {L : Type 0} (c : Inside L) (kept : IsKept c) (number : ℕ) (before : 
   IsKept-noted after pool plan noted head first comes notes sound = record {
     sound = sound;
     moved = KnowsMoved-noted (state_of c) (state_of (with_step_at c number after pool plan noted)) sound.groups number before after
-        (shard-read c number before read) refl c.whereabouts.entries noted.entries head first kept.moved comes notes;
+        (shard-read c number before read) (set_shards after) c.whereabouts.entries noted.entries head first kept.moved comes notes;
   }
 
 -- only the room of the whereabouts is another
 pub IsKept-roomy : {L : Type 0} (c : Inside L) (roomy : WhereaboutsState) → IsKept c → roomy.entries ≡ c.whereabouts.entries → IsKept (record c { whereabouts = roomy })
-IsKept-roomy c roomy kept entries = record { sound = kept.sound; moved = subst (KnowsMoved c.shards.items) (sym entries) kept.moved }
+IsKept-roomy c roomy kept entries = record { sound = kept.sound; moved = subst (KnowsMoved (shards_of c)) (sym entries) kept.moved }
 
 -- each shard has the spans that it had
-pub IsKept-mapped : {L : Type 0} (c now : Inside L) → IsKept c → now.whereabouts ≡ c.whereabouts → (closed : GroupState → Bool)
+pub IsKept-mapped : {L : Type 0} (c now : Inside L) → IsKept c → now.limits ≡ c.limits → now.whereabouts ≡ c.whereabouts → (closed : GroupState → Bool)
     → now.shards.items ≡ map (with_flags closed) c.shards.items → IsSound (state_of now) → IsKept now
-IsKept-mapped c now kept whereabouts closed items sound = record {
-  sound = sound;
-  moved =
-      subst (KnowsMoved now.shards.items) (sym (ap (λ (w : WhereaboutsState). w.entries) whereabouts))
-      (subst (λ shards. KnowsMoved shards c.whereabouts.entries) (sym items) (KnowsMoved-map c.shards.items c.whereabouts.entries kept.moved (with_flags closed) (has_span-flagged closed)));
-}
+IsKept-mapped c now kept limits whereabouts closed items sound =
+    let all : shards_of now ≡ map (with_flags closed) (shards_of c) =
+    (λ i. all_shards (limits i) (items i)) ∙ completed-map 0 c.limits.shards (new_shard_of c.limits) (with_flags closed) (λ k. refl) c.shards.items in
+    record {
+      sound = sound;
+      moved =
+          subst (KnowsMoved (shards_of now)) (sym (ap (λ (w : WhereaboutsState). w.entries) whereabouts))
+          (subst (λ shards. KnowsMoved shards c.whereabouts.entries) (sym all) (KnowsMoved-map (shards_of c) c.whereabouts.entries kept.moved (with_flags closed) (has_span-flagged closed)));
+    }
 
--- fields that are as they were
-pub IsKept-unchanged : {L : Type 0} (c now : Inside L) → IsKept c → now.page_limit ≡ c.page_limit → now.span_limit ≡ c.span_limit
-    → now.ring_capacity ≡ c.ring_capacity → now.gens ≡ c.gens → now.plan ≡ c.plan → now.whereabouts ≡ c.whereabouts → now.rings ≡ c.rings
-    → now.forgotten.spans ≡ c.forgotten.spans → now.shards.items ≡ c.shards.items → now.pool ≡ c.pool → IsKept now
-IsKept-unchanged c now kept pages spans ring gens plan whereabouts rings gone items pool =
-    let same : state_of now ≡ state_of c = λ i. record {
-      limits = record { shards = length (items i); page_limit = pages i; span_limit = spans i; ring_capacity = ring i; gens = gens i };
-      shards = items i;
-      pool = pool i;
-      plan = plan i;
-      rings = rings i;
-      forgotten = gone i;
-    } in
+-- fields that show as they did
+pub IsKept-unchanged : {L : Type 0} (c now : Inside L) → IsKept c → now.limits ≡ c.limits → now.plan ≡ c.plan → now.whereabouts ≡ c.whereabouts
+    → now.rings ≡ c.rings → now.forgotten.spans ≡ c.forgotten.spans → shards_of now ≡ shards_of c → now.pool ≡ c.pool → IsKept now
+IsKept-unchanged c now kept limits plan whereabouts rings gone shards pool =
+    let same : state_of now ≡ state_of c = state_of-unchanged c now limits plan rings gone shards pool in
     record {
       sound = subst IsSound (sym same) kept.sound;
-      moved = subst (KnowsMoved now.shards.items) (sym (ap (λ (w : WhereaboutsState). w.entries) whereabouts)) (subst (λ shards. KnowsMoved shards c.whereabouts.entries) (sym items) kept.moved);
+      moved = subst (KnowsMoved (shards_of now)) (sym (ap (λ (w : WhereaboutsState). w.entries) whereabouts)) (subst (λ shards. KnowsMoved shards c.whereabouts.entries) (sym shards) kept.moved);
     }
 
 -- no shard has a span

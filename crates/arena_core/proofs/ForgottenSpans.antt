@@ -22,14 +22,16 @@ use Rattle.pool.specs.State.{PoolState, PooledState}
 use Rattle.pool.proofs.ForgottenPool.{IsSound-left, sum-paged}
 use Rattle.marks.proofs.Flagged.{map_back}
 use Rattle.arena_core.specs.Forgets.{dead_owned, dead_spans, with_forgotten, without_dead_groups, without_dead_guests}
-use Rattle.arena_core.specs.Kept.{IsKept, state_of}
+use Rattle.arena_core.specs.Kept.{IsKept, shards_of, state_of}
+use Rattle.arena_core.specs.Made.{all_shards, new_shard_of}
 use Rattle.arena_core.specs.declared.machine.Core.TheInside.{Inside}
-use Rattle.arena_core.specs.Moved.{Entries, KeepsStanding, KnowsMoved}
+use Rattle.arena_core.specs.Moved.{Entries, KeepsStanding, KnowsMoved, StandsIn}
 use Rattle.arena_core.specs.Sound.{HasSoundGroups, IsForgotten, IsSound, IsSoundAt}
 use Rattle.arena_core.specs.State.{CoreState, all_spans, has_span, opened_of, shown}
 use Rattle.arena_core.proofs.Changes.{indicator, no_strays}
 use Rattle.arena_core.proofs.Groups.{strays, strays-each}
 use Rattle.arena_core.proofs.Logged.{shown-same}
+use Rattle.arena_core.proofs.Made.{completed-flat_map, completed-map, made-get, standing-in_made}
 use Rattle.arena_core.proofs.MarkSteps.{AreOpen-none}
 use Rattle.arena_core.proofs.PlanSteps.{HasSoundPlan-none}
 use Rattle.arena_core.proofs.Standing.{KnowsMoved-standing}
@@ -190,28 +192,47 @@ KnowsMoved-forgotten shards entries knows id number foreign (shard, at, has) =
     let (was, there, is) = map_back without_dead_guests shards number shard at in
     knows id number foreign (was, there, has_span-forgotten was id (ap (has_span id) is ∙ has))
 
+-- a new shard has no guest
+pub dead_owned-all : {L : Type 0} (c : Inside L) → dead_owned (shards_of c) ≡ dead_owned c.shards.items
+dead_owned-all c = completed-flat_map 0 c.limits.shards (new_shard_of c.limits) (λ shard. dead_guests shard.groups) (λ k. refl) c.shards.items
+
 -- the fields
-module _ {L : Type 0} (c now : Inside L) (kept : IsKept c) (pages : now.page_limit ≡ c.page_limit) (spans : now.span_limit ≡ c.span_limit)
-    (ring : now.ring_capacity ≡ c.ring_capacity) (gens : now.gens ≡ c.gens) (pool : now.pool ≡ without_dead_groups c.pool) (plan : now.plan ≡ c.plan)
+module _ {L : Type 0} (c now : Inside L) (kept : IsKept c) (limits : now.limits ≡ c.limits) (pool : now.pool ≡ without_dead_groups c.pool) (plan : now.plan ≡ c.plan)
     (keeps : KeepsStanding now.shards.items c.whereabouts.entries now.whereabouts.entries) (rings : now.rings ≡ c.rings)
     (items : now.shards.items ≡ map without_dead_guests c.shards.items) (gone : now.forgotten.spans ≡ c.forgotten.spans ++ dead_spans c.shards.items c.pool) where
-  count_is : length now.shards.items ≡ length c.shards.items
-  count_is = ap length items ∙ length-map c.shards.items without_dead_guests
+  all_are : shards_of now ≡ map without_dead_guests (shards_of c)
+  all_are = (λ i. all_shards (limits i) (items i)) ∙ completed-map 0 c.limits.shards (new_shard_of c.limits) without_dead_guests (λ k. refl) c.shards.items
+
+  gone_all : now.forgotten.spans ≡ c.forgotten.spans ++ dead_spans (shards_of c) c.pool
+  gone_all = gone ∙ ap (λ spans. c.forgotten.spans ++ (spans ++ gone_from c.pool.groups)) (sym (dead_owned-all c))
 
   pub state_of-forgotten : state_of now ≡ with_forgotten (state_of c)
   state_of-forgotten = λ i. record {
-    limits = record { shards = count_is i; page_limit = pages i; span_limit = spans i; ring_capacity = ring i; gens = gens i };
-    shards = items i;
+    limits = limits i;
+    shards = all_are i;
     pool = pool i;
     plan = plan i;
     rings = rings i;
-    forgotten = gone i;
+    forgotten = gone_all i;
   }
+
+  -- what is named stands in a shard that was made
+  keeps_all : KeepsStanding (shards_of now) c.whereabouts.entries now.whereabouts.entries
+  keeps_all = record {
+    kept = λ id number named (shard, here, has).
+        keeps.kept id number named (made_standing id number shard here has);
+    stands = λ id number named.
+        let (shard, here, has) = keeps.stands id number named in
+        (shard, made-get now.limits now.shards.items number shard here, has);
+  }
+    where
+      made_standing : (id : SpanId) (number : ℕ) (shard : ShardState) → slice_get (shards_of now) number ≡ Some shard → has_span id shard ≡ true → StandsIn now.shards.items id number
+      made_standing id number shard here has = standing-in_made now.limits now.shards.items id number (shard, here, has)
 
   pub IsKept-forgotten : c.plan ≡ None → IsKept now
   IsKept-forgotten none = record {
     sound = subst IsSound (sym state_of-forgotten) (IsSound-forgotten (state_of c) kept.sound none);
     moved =
-        KnowsMoved-standing now.shards.items c.whereabouts.entries now.whereabouts.entries keeps
-        (subst (λ shards. KnowsMoved shards c.whereabouts.entries) (sym items) (KnowsMoved-forgotten c.shards.items c.whereabouts.entries kept.moved));
+        KnowsMoved-standing (shards_of now) c.whereabouts.entries now.whereabouts.entries keeps_all
+        (subst (λ shards. KnowsMoved shards c.whereabouts.entries) (sym all_are) (KnowsMoved-forgotten (shards_of c) c.whereabouts.entries kept.moved));
   }

@@ -16,6 +16,10 @@ pub mod LiveKeys
 pub mod LiveKeysShown
 pub mod Logged
 pub mod Lookups
+pub mod Made
+pub mod MadeFields
+pub mod MadeMarked
+pub mod MadeWalked
 pub mod MarkSteps
 pub mod Marking
 pub mod Moved

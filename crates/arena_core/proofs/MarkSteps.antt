@@ -1,11 +1,9 @@
 -- What a mark and a close leave: a sound core, which shows the same map.
 use Rattle.std.proofs.Common.{◌≡◌, ℕ, ◌<◌, ◌≤◌, ◌&&◌, is_some, Bool, true, false, refl, sym, ap, subst, ◌∙◌, arith, Option, Some, None, slice_get, set, length, map, get_or}
-use Rattle.std.proofs.Math.ListN.{length-set}
 use Rattle.std.proofs.lemmas.Option.{get_or_from_slice_get, slice_get_within}
 use Rattle.std.specs.Prelude.{option_map}
 use Rattle.std.proofs.lemmas.Bool.{true≢false}
 use Rattle.std.specs.Vec.{with_item}
-use Rattle.std.proofs.lemmas.List.{length-map}
 use Rattle.span.specs.declared.id.SpanId.{SpanId}
 use Rattle.span.specs.declared.limits.TheConstants.{MOST_SHARDS}
 use Rattle.shard.specs.Closes.{opened_group}
@@ -21,7 +19,8 @@ use Rattle.fold.specs.Folds.{Steps}
 use Rattle.fold.specs.declared.step.Step.{Step as Outcome}
 use Rattle.certificate.specs.declared.certificate.Certificate.{Certificate}
 use Rattle.marks.specs.Closings.{AreOpen, closed_as_planned, closed_onto, reopened}
-use Rattle.arena_core.specs.Kept.{state_of}
+use Rattle.arena_core.specs.Kept.{shards_of, state_of}
+use Rattle.arena_core.specs.Made.{all_shards, new_shard_of}
 use Rattle.marks.specs.Seen.{IsLargestInPart, with_plan_told}
 use Rattle.marks.specs.Plans.{next_pair, plans_onto, with_next_done, OpenPlan}
 use Rattle.arena_core.specs.Moved.{StandsIn, WhereaboutsState}
@@ -32,6 +31,8 @@ use Rattle.arena_core.specs.Step.{with_plan_closed, with_plan_opened}
 use Rattle.arena_core.specs.declared.event.Event.TheVariants.{Step}
 use Rattle.arena_core.specs.declared.machine.Core.TheInside.{Inside}
 use Rattle.arena_core.specs.declared.reply.Reply.TheVariants.{Stepped}
+use Rattle.arena_core.proofs.Fields.{IsRead, made-read, shard-read}
+use Rattle.arena_core.proofs.Made.{completed-map, made-set, standing-made}
 use Rattle.arena_core.proofs.Flagged.{HasSoundGroups-flagged, shown-flagged, with_all_flags}
 use Rattle.marks.proofs.Flagged.{map_back}
 use Rattle.marks.proofs.Lists.{slice_get-map_at}
@@ -162,18 +163,20 @@ module _ (old : CoreState) (sound : IsSound old) where
 
 -- the fields
 
-pub state_of-mapped : {L : Type 0} (c now : Inside L) (change : ShardState → ShardState) → now.page_limit ≡ c.page_limit → now.span_limit ≡ c.span_limit
-    → now.ring_capacity ≡ c.ring_capacity → now.gens ≡ c.gens → now.rings ≡ c.rings → now.forgotten.spans ≡ c.forgotten.spans
-    → now.shards.items ≡ map change c.shards.items
-    → state_of now ≡ record (state_of c) { shards = map change c.shards.items; pool = now.pool; plan = now.plan }
-state_of-mapped c now change pages spans ring gens rings gone items = λ i. record {
-  limits = record { shards = (ap length items ∙ length-map c.shards.items change) i; page_limit = pages i; span_limit = spans i; ring_capacity = ring i; gens = gens i };
-  shards = items i;
-  pool = now.pool;
-  plan = now.plan;
-  rings = rings i;
-  forgotten = gone i;
-}
+pub state_of-mapped : {L : Type 0} (c now : Inside L) (change : ShardState → ShardState) → ((number : ℕ) → change (new_shard_of c.limits number) ≡ new_shard_of c.limits number)
+    → now.limits ≡ c.limits → now.rings ≡ c.rings → now.forgotten.spans ≡ c.forgotten.spans → now.shards.items ≡ map change c.shards.items
+    → state_of now ≡ record (state_of c) { shards = map change (shards_of c); pool = now.pool; plan = now.plan }
+state_of-mapped c now change same limits rings gone items =
+    let all : shards_of now ≡ map change (shards_of c) =
+    (λ i. all_shards (limits i) (items i)) ∙ completed-map 0 c.limits.shards (new_shard_of c.limits) change same c.shards.items in
+    λ i. record {
+      limits = limits i;
+      shards = all i;
+      pool = now.pool;
+      plan = now.plan;
+      rings = rings i;
+      forgotten = gone i;
+    }
 
 -- the pair that comes next
 pub next-IsNext : (core : CoreState) (pair : SpanId × SpanId) → next_pair core.plan ≡ Some pair → (plan : OpenPlan) × IsNext core plan pair
@@ -215,45 +218,49 @@ abbrev pub with_step_at : {L : Type 0} → Inside L → ℕ → ShardState → P
 with_step_at c number after pool plan whereabouts = record c { shards = with_item c.shards number after; pool = pool; plan = plan; whereabouts = whereabouts }
 
 state_of-with_step_at : {L : Type 0} (c : Inside L) (number : ℕ) (after : ShardState) (pool : PoolState) (plan : Option OpenPlan)
-    (whereabouts : WhereaboutsState)
+    (whereabouts : WhereaboutsState) → number < length c.shards.items
     → state_of (with_step_at c number after pool plan whereabouts) ≡ with_plan (with_pool (with_shard (state_of c) number after) pool) plan
-state_of-with_step_at c number after pool plan whereabouts = λ i. record {
-  limits = record { shards = length-set c.shards.items number after i; page_limit = c.page_limit; span_limit = c.span_limit; ring_capacity = c.ring_capacity; gens = c.gens };
-  shards = set c.shards.items number after;
+state_of-with_step_at c number after pool plan whereabouts within = λ i. record {
+  limits = c.limits;
+  shards = made-set c.limits c.shards.items number after within i;
   pool = pool;
   plan = plan;
   rings = c.rings;
   forgotten = c.forgotten.spans;
 }
 
+-- the shard of this number, which was made, has the span
+pub made-named : {L : Type 0} (c : Inside L) (id : SpanId) (number : ℕ) (shard : ShardState) → StandsIn (shards_of c) id number → shard ≡ get_or c.shards.items number shard
+    → IsRead c number shard × (has_span id shard ≡ true)
+made-named c id number shard (other, here, has) read =
+    let within = standing-made c.limits c.shards.items id number (other, here, has) in
+    let is_read : IsRead c number shard = record { within = omega (arith, within, c.shards.ok.0); value = read } in
+    let same : other ≡ shard = same_some (sym here ∙ shard-read c number shard is_read) in
+    (is_read, ap (has_span id) (sym same) ∙ has)
+
 pub IsSoundStep-fold_fields : {L : Type 0} (c : Inside L) (plan : OpenPlan) (pair : SpanId × SpanId) (number : ℕ) (before after : ShardState) (pool : PoolState)
     (current : Option OpenPlan) (whereabouts : WhereaboutsState) (step : Outcome) → IsSound (state_of c) → IsNext (state_of c) plan pair
-    → StandsIn c.shards.items pair.1 number → before ≡ get_or c.shards.items number before → Steps c.pool before pair.0 pair.1 step pool after
+    → StandsIn (shards_of c) pair.1 number → before ≡ get_or c.shards.items number before → Steps c.pool before pair.0 pair.1 step pool after
     → IsSoundShard after → IsSoundPool pool → current ≡ option_map with_next_done c.plan
     → IsSoundStep (state_of c) Step (Stepped pair.0 pair.1 step) (state_of (with_step_at c number after pool current whereabouts))
 IsSoundStep-fold_fields c plan pair number before after pool current whereabouts step sound next there read steps sound_after sound_pool current_is =
-    let named = shard-named (state_of c) pair.1 number before there read in
-    subst (IsSoundStep (state_of c) Step (Stepped pair.0 pair.1 step)) (sym (state_of-with_step_at c number after pool current whereabouts))
+    let named = made-named c pair.1 number before there read in
+    subst (IsSoundStep (state_of c) Step (Stepped pair.0 pair.1 step))
+    (sym (state_of-with_step_at c number after pool current whereabouts (slice_get_within c.shards.items number before (made-read c number before named.0))))
     (subst (λ p. IsSoundStep (state_of c) Step (Stepped pair.0 pair.1 step) (with_plan (with_pool (with_shard (state_of c) number after) pool) p))
     (sym (current_is ∙ ap (option_map with_next_done) next.plan_is))
-    (IsSoundStep-Steps (state_of c) sound plan pair next number before named.0 named.1 step after pool steps sound_after sound_pool))
+    (IsSoundStep-Steps (state_of c) sound plan pair next number before (shard-read c number before named.0) named.1 step after pool steps sound_after sound_pool))
 
 -- a step that wants memory leaves the fields as they were
 pub state_of-refused : {L : Type 0} (c : Inside L) (id : SpanId) (number : ℕ) (before after : ShardState) (pool : PoolState) (whereabouts : WhereaboutsState)
-    → StandsIn c.shards.items id number → before ≡ get_or c.shards.items number before → after ≡ before → pool ≡ c.pool
+    → StandsIn (shards_of c) id number → before ≡ get_or c.shards.items number before → after ≡ before → pool ≡ c.pool
     → state_of (with_step_at c number after pool c.plan whereabouts) ≡ state_of c
 state_of-refused c id number before after pool whereabouts there read same pool_is =
-    let named = shard-named (state_of c) id number before there read in
-    let shards : set c.shards.items number after ≡ c.shards.items = ap (set c.shards.items number) same ∙ set-same c.shards.items number before named.0 in
+    let named = made-named c id number before there read in
+    let made : set c.shards.items number after ≡ c.shards.items = ap (set c.shards.items number) same ∙ set-same c.shards.items number before (made-read c number before named.0) in
     λ i. record {
-      limits = record {
-        shards = length (shards i);
-        page_limit = c.page_limit;
-        span_limit = c.span_limit;
-        ring_capacity = c.ring_capacity;
-        gens = c.gens;
-      };
-      shards = shards i;
+      limits = c.limits;
+      shards = all_shards c.limits (made i);
       pool = pool_is i;
       plan = c.plan;
       rings = c.rings;

@@ -2,7 +2,7 @@
 use Rattle.std.proofs.Common.{◌≡◌, ◌≢◌, ◌⊎◌, ◌+◌, ◌<◌, ◌≤◌, ◌++◌, ◌∷◌, [], ℕ, zero, suc, Bool, true, false, List, Option, None, Some, inl, inr, refl, sym, ap, subst, ◌∙◌, arith, eqb, is_some, length, map, set, slice_get}
 use Rattle.std.specs.Prelude.{count_by, find}
 use Rattle.std.proofs.lemmas.Bool.{cases_eq, cases_lt, ne_eqb}
-use Rattle.std.proofs.lemmas.Option.{slice_get_past, slice_get_within}
+use Rattle.std.proofs.lemmas.Option.{slice_get_within}
 use Rattle.span.specs.declared.id.SpanId.{SpanId}
 use Rattle.span.specs.State.{SpanState}
 use Rattle.span.proofs.Ids.{same_id_from_test}
@@ -22,11 +22,14 @@ use Rattle.fold.specs.Folds.{Folds, Steps}
 use Rattle.fold.specs.declared.step.Step.{Step as Outcome}
 use Rattle.fold.specs.declared.step.Step.TheVariants.{Absent, Clash, Emptied, Folded}
 use Rattle.fold.proofs.Sums.{sum_by-Folds_shard}
+use Rattle.arena_core.specs.Made.{all_shards}
 use Rattle.arena_core.specs.Moved.{Entries, HasAtMost, KnowsMoved, Notes, StandsIn, WhereaboutsState, named, taken_by, with_taken}
 use Rattle.arena_core.specs.Sound.{HasSoundGroups}
 use Rattle.arena_core.specs.State.{CoreState, has_span, opened_by, opened_of}
 use Rattle.arena_core.proofs.Changes.{at_most_once, opened-somewhere}
 use Rattle.marks.proofs.Flagged.{map_back, spans_in-flagged, with_flags}
+use Rattle.marks.specs.Numbers.{Limits}
+use Rattle.arena_core.proofs.Made.{unmade-new}
 use Rattle.arena_core.proofs.Groups.{IsCall, own, sum_in-TakesIn}
 use Rattle.arena_core.proofs.Lists.{find-counted}
 use Rattle.marks.proofs.Lists.{slice_get-set_other, slice_get-set_same}
@@ -280,16 +283,22 @@ Comes-Steps pool before a b pool_after after first Folded steps count id has = C
 
 -- the shard of this number gets spans, which are noted
 
--- a span that stands in a shard was opened by one of the core's
-pub home-within : (core : CoreState) → HasSoundGroups core → (id : SpanId) (number : ℕ) → StandsIn core.shards id number → id.shard < length core.shards
-home-within core sound id number (shard, at, has) = by_order (cases_lt id.shard (length core.shards))
+-- a span that stands in a shard was opened by one of the core's that was made
+pub home-made : (limits : Limits) (made : List ShardState) (core : CoreState) → HasSoundGroups core → core.shards ≡ all_shards limits made → (id : SpanId) (number : ℕ)
+    → StandsIn core.shards id number → id.shard < length made
+home-made limits made core sound are id number (shard, at, has) = by_order (cases_lt id.shard (length made))
   where
     opened : id.serial < opened_by core.shards id.shard
     opened = opened-somewhere core sound id (omega (arith, times_in-found id shard has, times_in-le id core.shards number shard at, times-parts id core))
 
-    by_order : (id.shard < length core.shards) ⊎ (length core.shards ≤ id.shard) → id.shard < length core.shards
+    -- a shard that was not made has opened none
+    none_opened : (o : Option ShardState) → slice_get (all_shards limits made) id.shard ≡ o → length made ≤ id.shard → opened_of o ≡ 0
+    none_opened None is past = refl
+    none_opened (Some home) is past = ap (λ (s : ShardState). s.opened) (sym (unmade-new limits made id.shard home past is))
+
+    by_order : (id.shard < length made) ⊎ (length made ≤ id.shard) → id.shard < length made
     by_order (inl within) = within
-    by_order (inr past) = absurd (omega (arith, opened, ap opened_of (slice_get_past core.shards id.shard past)))
+    by_order (inr past) = absurd (omega (arith, opened, ap (λ xs. opened_by xs id.shard) are, none_opened (slice_get (all_shards limits made) id.shard) refl past))
 
 module _ (core : CoreState) (sound : HasSoundGroups core) where
   -- a span stands in one shard

@@ -7,19 +7,20 @@ use Rattle.std.proofs.lemmas.Option.{none-some}
 use Rattle.span.specs.declared.id.SpanId.{SpanId}
 use Rattle.span.specs.PlainMap.{empty_map}
 use Rattle.span.specs.State.{SpanState}
-use Rattle.shard.specs.Sound.{IsSound as IsSoundShard}
 use Rattle.shard.specs.Group.{GroupState}
 use Rattle.shard.specs.State.{ShardState}
 use Rattle.groups.proofs.Logged.{same_plain_map}
 use Rattle.pool.specs.State.{PoolState}
 use Rattle.pool.proofs.Started.{IsSound-new}
-use Rattle.arena_core.specs.Rings.{RingState, new_rings}
+use Rattle.arena_core.specs.Made.{all_shards}
+use Rattle.arena_core.specs.Rings.{RingState}
 use Rattle.arena_core.specs.Sound.{HasSoundGroups, IsSound, IsSoundAt}
 use Rattle.marks.specs.Numbers.{AreWithin, Limits}
 use Rattle.arena_core.specs.State.{CoreState, all_spans, new_core, new_pool, new_shard, opened_by, shard_spans, shard_with, shown, shown_at}
 use Rattle.marks.specs.Plans.{OpenPlan}
 use Rattle.arena_core.proofs.Changes.{indicator, past-indicator}
 use Rattle.arena_core.proofs.Groups.{strays, strays-each}
+use Rattle.arena_core.proofs.Made.{IsSound-new_shard, all_shards-none}
 use Rattle.arena_core.proofs.RingsKept.{AreRings-new, pending_at-new}
 use Rattle.arena_core.proofs.Spans.{named, shard_with-nowhere, sum_all}
 
@@ -50,17 +51,15 @@ slice_get-range limits from (suc count) (suc number) shard here =
     let rest : (number < count) × (new_shard limits.page_limit limits.span_limit limits.gens (from + 1 + number) ≡ shard) = slice_get-range limits (from + 1) count number shard here in
     (omega arith, ap (new_shard limits.page_limit limits.span_limit limits.gens) (omega arith) ∙ rest.1)
 
-pub HasSoundGroups-new_core : (limits : Limits) → AreWithin limits
-    → ((number : ℕ) → number < limits.shards → IsSoundShard (new_shard limits.page_limit limits.span_limit limits.gens number))
-    → HasSoundGroups (new_core limits)
-HasSoundGroups-new_core limits within each = record {
+pub HasSoundGroups-new_core : (limits : Limits) → AreWithin limits → HasSoundGroups (new_core limits)
+HasSoundGroups-new_core limits within = record {
   within = within;
   count = length-map-range_with_len (new_shard limits.page_limit limits.span_limit limits.gens) 0 limits.shards;
   shards = λ number shard here.
       let at : (number < limits.shards) × (new_shard limits.page_limit limits.span_limit limits.gens (0 + number) ≡ shard) = slice_get-range limits 0 limits.shards number shard here in
       let same : 0 + number ≡ number = omega arith in
       subst (IsSoundAt limits number) (ap (new_shard limits.page_limit limits.span_limit limits.gens) (sym same) ∙ at.1)
-      (record { number_is = refl; page_limit_is = refl; span_limit_is = refl; gens_is = refl; sound = each number at.0 });
+      (record { number_is = refl; page_limit_is = refl; span_limit_is = refl; gens_is = refl; sound = IsSound-new_shard limits number within });
   pool = IsSound-new;
   gens = strays-each limits.gens (all_spans (new_core limits)) (sum_all-new (strays limits.gens) limits);
   once = λ id.
@@ -78,45 +77,27 @@ shown-new_core limits =
     nowhere : (id : SpanId) → shard_with (new_core limits).shards id ≡ None
     nowhere id = shard_with-nowhere id (new_core limits).shards (sum-new (named id) limits (range_with_len 0 limits.shards))
 
-abbrev with_count : Limits → ℕ → List ShardState → CoreState
-with_count limits count shards = record {
-  limits = record limits { shards = count };
-  shards = shards;
-  pool = new_pool;
-  plan = None;
-  rings = new_rings limits.shards limits.ring_capacity;
-  forgotten = [];
-}
-
 -- the fields of a new core show as the new core
-pub new_core-fields : (limits : Limits) (pages spans capacity gens : ℕ) (shards : List ShardState) (pool : PoolState) (plan : Option OpenPlan) (rings : List (List RingState)) (gone : List SpanState)
-    → pages ≡ limits.page_limit → spans ≡ limits.span_limit → capacity ≡ limits.ring_capacity → gens ≡ limits.gens → shards ≡ (new_core limits).shards
-    → pool ≡ new_pool → plan ≡ None → rings ≡ (new_core limits).rings → gone ≡ []
+pub new_core-fields : (limits : Limits) (made : List ShardState) (pool : PoolState) (plan : Option OpenPlan) (rings : List (List RingState)) (gone : List SpanState)
+    → made ≡ [] → pool ≡ new_pool → plan ≡ None → rings ≡ (new_core limits).rings → gone ≡ []
     → ◌≡◌ {A = CoreState} (record {
-      limits = record { shards = length shards; page_limit = pages; span_limit = spans; ring_capacity = capacity; gens = gens };
-      shards = shards;
+      limits = limits;
+      shards = all_shards limits made;
       pool = pool;
       plan = plan;
       rings = rings;
       forgotten = gone;
     }) (new_core limits)
-new_core-fields limits pages spans capacity gens shards pool plan rings gone pages_are spans_are capacity_is gens_are are empty no_plan rings_are none_gone =
-    (λ i. record {
-      limits = record {
-        shards = length shards;
-        page_limit = pages_are i;
-        span_limit = spans_are i;
-        ring_capacity = capacity_is i;
-        gens = gens_are i;
-      };
-      shards = shards;
+new_core-fields limits made pool plan rings gone none_made empty no_plan rings_are none_gone =
+    let shards : all_shards limits made ≡ (new_core limits).shards = ap (all_shards limits) none_made ∙ all_shards-none limits in
+    λ i. record {
+      limits = limits;
+      shards = shards i;
       pool = empty i;
       plan = no_plan i;
       rings = rings_are i;
       forgotten = none_gone i;
-    })
-    ∙ ap (λ all. with_count limits (length all) all) are
-    ∙ ap (λ n. with_count limits n (new_core limits).shards) (length-map-range_with_len (new_shard limits.page_limit limits.span_limit limits.gens) 0 limits.shards)
+    }
 
 -- a core begins with no plan
 pub IsSound-new_core : (limits : Limits) → HasSoundGroups (new_core limits) → IsSound (new_core limits)

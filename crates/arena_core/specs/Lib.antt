@@ -1,7 +1,9 @@
 pub mod Filled
 pub mod Forgets
 pub mod Kept
+pub mod LatePlan
 pub mod Lookups
+pub mod Made
 pub mod Moved
 pub mod NextLive
 pub mod Plain

@@ -58,6 +58,7 @@
 mod error;
 mod event;
 mod forgotten;
+mod late_plan;
 mod machine;
 mod reply;
 mod rings;

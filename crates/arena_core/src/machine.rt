@@ -14,10 +14,11 @@ ghost use Rattle.arena_core.specs.Plain.{ErasedStep};
 use crate::error::CoreError;
 use crate::event::Event;
 use crate::forgotten::Forgotten;
+use crate::late_plan::LatePlan;
 use crate::reply::{Refusal, Reply};
 use crate::rings::Rings;
 use crate::whereabouts::Whereabouts;
-use marks::{CurrentPlan, Limits, Totals};
+use marks::{Limits, Totals};
 use mesh_graph::{AtHand, Runner};
 use pool::Pool;
 use shard::Shard;
@@ -29,6 +30,7 @@ mod deferred;
 mod ends;
 mod forgetting;
 mod keys;
+mod making;
 mod plans;
 mod setting;
 mod walk;
@@ -44,13 +46,11 @@ mod walk;
 #[derive(Drop)]
 pub struct Core<L: Log = Kept> {
     alloc: Global,
-    page_limit: usize,
-    span_limit: u32,
-    ring_capacity: usize,
-    gens: u32,
+    limits: Limits,
+    // As far as a shard was used; those behind are new.
     shards: Vec<Shard<L>>,
     pool: Pool<L>,
-    plan: CurrentPlan,
+    plan: LatePlan,
     whereabouts: Whereabouts,
     rings: Rings,
     forgotten: Forgotten,
@@ -129,32 +129,24 @@ impl<L: Log> Core<L> {
     /// A core of new shards by all of its numbers, how many spans a shard may open among them,
     /// whose logs are kept or counted as its type says.
     ///
-    /// It is refused with [`CoreError::OutOfMemory`] alone, since each number of [`Limits`] is
-    /// within its range.
+    /// It takes no memory: a shard takes its own with the first object, group or end of it, and
+    /// those of lower numbers with it.
     pub fn with_limits(alloc: Global, limits: Limits) -> Result<Core<L>, CoreError>
         ensures ok { IfOk result (λ core. core ≡ new_core limits) }
         ensures only { IsOkUnless result CoreError.OutOfMemory }
         ensures empty { IfOk result (λ core. shown core ≡ empty_map) }
         ensures sound { IfOk result IsSound }
     {
-        let count = limits.shards();
-        let ring_capacity = limits.ring_capacity();
-        let plan = CurrentPlan::new(alloc)?;
-        let rings = Rings::new(alloc, count, ring_capacity);
-        let shards = new_shards(alloc, limits)?;
-        let forgotten = Forgotten::new();
+        let rings = Rings::new(alloc, limits.shards(), limits.ring_capacity());
         Ok(Core {
             alloc,
-            page_limit: limits.page_limit(),
-            span_limit: limits.span_limit(),
-            ring_capacity,
-            gens: limits.gens(),
-            shards,
+            limits,
+            shards: Vec::new(alloc),
             pool: Pool::with_log(alloc),
-            plan,
+            plan: LatePlan::new(),
             whereabouts: Whereabouts::new(alloc),
             rings,
-            forgotten,
+            forgotten: Forgotten::new(),
         })
     }
 
@@ -313,30 +305,4 @@ fn object_of(found: Option<&[u128]>) -> Option<Object>
         Some(words) => Some(Object::from_words(words)),
         None => None,
     }
-}
-
-// The new shards of a core of these numbers, each by its own.
-fn new_shards<L: Log>(alloc: Global, limits: Limits) -> Result<Vec<Shard<L>>, AllocError>
-    ensures shards { IfOk result (λ shards. shards.items
-        ≡ map (new_shard limits.page_limit limits.span_limit limits.gens)
-        (range_with_len 0 limits.shards)) }
-    ensures sound { OnOk result ((number : ℕ) → number < limits.shards
-        → IsSoundShard (new_shard limits.page_limit limits.span_limit limits.gens number)) }
-{
-    let count = limits.shards();
-    let mut shards = Vec::with_capacity(alloc, count as usize)?;
-    for number in 0..count {
-        let made = Shard::with_log(
-            alloc,
-            number,
-            limits.page_limit(),
-            limits.span_limit(),
-            limits.gens(),
-        );
-        let Ok(shard) = made else {
-            unreachable!();
-        };
-        shards.push_reserved(shard);
-    }
-    Ok(shards)
 }

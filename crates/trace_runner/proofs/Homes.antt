@@ -1,8 +1,9 @@
 -- The shards that open the spans of the keys which puts give out.
-use Rattle.std.proofs.Common.{◌≡◌, ◌∙◌, ◌<◌, ◌++◌, ◌∷◌, [], ℕ, List, Some, refl, sym, ap, subst, arith, inl, inr, slice_get}
+use Rattle.std.proofs.Common.{◌≡◌, ◌⊎◌, ◌∙◌, ◌<◌, ◌≤◌, ◌++◌, ◌∷◌, [], ℕ, List, Some, length, refl, sym, ap, subst, arith, inl, inr, slice_get}
 use Rattle.std.specs.List.{AllByRecursion}
-use Rattle.std.proofs.lemmas.Bool.{cases_Bool}
-use Rattle.std.proofs.lemmas.Option.{slice_get_within}
+use Rattle.std.proofs.lemmas.Bool.{cases_Bool, cases_lt}
+use Rattle.std.proofs.lemmas.Option.{slice_get_past, slice_get_within}
+use Rattle.span.specs.declared.id.SpanId.{SpanId}
 use Rattle.span.specs.Classes.{class_of}
 use Rattle.span.specs.Log.{Value}
 use Rattle.span.specs.declared.class.Class.{Class}
@@ -11,8 +12,9 @@ use Rattle.shard.specs.Calls.{Puts}
 use Rattle.shard.specs.Group.{GroupState}
 use Rattle.groups.specs.Pages.{put_group}
 use Rattle.shard.specs.State.{ShardState}
-use Rattle.arena_core.specs.Sound.{IsSound}
-use Rattle.arena_core.specs.State.{CoreState}
+use Rattle.arena_core.specs.Moved.{StandsIn}
+use Rattle.arena_core.specs.Sound.{HasSoundGroups, IsSound}
+use Rattle.arena_core.specs.State.{CoreState, opened_by, opened_of}
 use Rattle.marks.specs.Numbers.{Limits}
 use Rattle.arena_core.specs.Step.{CoreRun, CoreStep}
 use Rattle.arena_core.specs.declared.event.Event.{Event}
@@ -21,11 +23,23 @@ use Rattle.arena_core.specs.declared.reply.Reply.{Reply}
 use Rattle.arena_core.specs.declared.reply.Reply.TheVariants.{Issued}
 use Rattle.arena_core.proofs.Limits.{limits-CoreStep}
 use Rattle.marks.proofs.Lists.{slice_get-set_same}
-use Rattle.arena_core.proofs.Noted.{home-within}
+use Rattle.arena_core.proofs.Changes.{opened-somewhere}
+use Rattle.arena_core.proofs.Spans.{times-parts, times_in-found, times_in-le}
 use Rattle.arena_core.proofs.Steps.{has_span-here}
 use Rattle.trace_runner.specs.Kept.{AreHome, IsHome, is_put, keys_of}
 use Rattle.trace_runner.specs.Made.{CalledEvent, Called, Made, all_called, events_of, replies_of}
 use Rattle.trace_runner.specs.Runs.{IsAnswered, key_given}
+
+-- a span that stands in a shard was opened by one of the core's
+home-within : (core : CoreState) → HasSoundGroups core → (id : SpanId) (number : ℕ) → StandsIn core.shards id number → id.shard < length core.shards
+home-within core sound id number (shard, at, has) = by_order (cases_lt id.shard (length core.shards))
+  where
+    opened : id.serial < opened_by core.shards id.shard
+    opened = opened-somewhere core sound id (omega (arith, times_in-found id shard has, times_in-le id core.shards number shard at, times-parts id core))
+
+    by_order : (id.shard < length core.shards) ⊎ (length core.shards ≤ id.shard) → id.shard < length core.shards
+    by_order (inl within) = within
+    by_order (inr past) = absurd (omega (arith, opened, ap opened_of (slice_get_past core.shards id.shard past)))
 
 -- ---- one key
 

@@ -1,5 +1,7 @@
 // The end of a shard and its beginning again, retirements, and the adoption of a group.
-ghost use Rattle.std.specs.Prelude.{◌≡◌, ◌≤◌, MatchResult};
+ghost use Rattle.std.specs.Prelude.{◌≡◌, MatchResult};
+ghost use Rattle.arena_core.specs.Filled.{CannotReach};
+ghost use Rattle.arena_core.specs.Made.{IsUnused};
 ghost use Rattle.arena_core.specs.Sound.{IsSound};
 ghost use Rattle.arena_core.specs.State.{shown};
 ghost use Rattle.arena_core.specs.Step.{CoreStep};
@@ -7,6 +9,7 @@ ghost use Rattle.arena_core.specs.declared.event.Event.TheVariants as event;
 ghost use Rattle.arena_core.specs.declared.reply.Reply.TheVariants as reply;
 
 use super::Core;
+use super::making::reach;
 use super::plans::spans_to_come;
 use crate::reply::{Refusal, adopt_refusal, end_refusal};
 use span::{Log, SpanId};
@@ -20,9 +23,8 @@ impl<L: Log> Core<L> {
         ensures same { shown self.new ≡ shown self.old }
         ensures sound { IsSound self.new }
     {
-        let Some(shard) = self.shards.get_mut(number as usize) else {
-            return Err(Refusal::Config);
-        };
+        reach(self.alloc, self.limits, number, &mut self.shards)?;
+        let shard = &mut self.shards[number as usize];
         match self.pool.receive(shard) {
             Ok(()) => {}
             Err(error) => return Err(end_refusal(error)),
@@ -47,12 +49,24 @@ impl<L: Log> Core<L> {
         ensures sound { IsSound self.new }
     {
         let Some(shard) = self.shards.get_mut(number as usize) else {
-            return Err(Refusal::Config);
+            return Err(self.no_begin(number));
         };
         if !shard.begin() {
             return Err(Refusal::Running);
         }
         Ok(())
+    }
+
+    // Why a shard that is not made cannot begin again.
+    fn no_begin(&self, number: u32) -> Refusal
+        requires { IsUnused self.now number }
+        ensures { CoreStep self.now (event.Begin number) (reply.Refused result) self.now }
+    {
+        let count = self.limits.shards();
+        if number >= count {
+            return Refusal::Config;
+        }
+        Refusal::Running
     }
 
     /// Moves up to `most` groups of the shard of this number to the pool, with their pages, and
@@ -73,13 +87,28 @@ impl<L: Log> Core<L> {
         ensures sound { IsSound self.new }
     {
         let Some(shard) = self.shards.get_mut(number as usize) else {
-            return Err(Refusal::Config);
+            return self.retire_none(number, most);
         };
         let count = match self.pool.retire(shard, most) {
             Ok(count) => count,
             Err(error) => return Err(end_refusal(error)),
         };
         Ok(count)
+    }
+
+    // A retirement of a shard that is not made, and so has no group.
+    fn retire_none(&self, number: u32, most: usize) -> Result<usize, Refusal>
+        requires { IsUnused self.now number }
+        ensures { MatchResult result
+            (λ count. CoreStep self.now (event.Retire number most) (reply.Retired count) self.now)
+            (λ refusal. CoreStep self.now (event.Retire number most)
+            (reply.Refused refusal) self.now) }
+    {
+        let count = self.limits.shards();
+        if number >= count {
+            return Err(Refusal::Config);
+        }
+        Ok(0)
     }
 
     /// Gives back the page of each open group of the shard of this number in which no slot is live,
@@ -97,14 +126,29 @@ impl<L: Log> Core<L> {
         ensures sound { IsSound self.new }
     {
         let Some(shard) = self.shards.get_mut(number as usize) else {
-            return Err(Refusal::Config);
+            return self.trim_none(number);
         };
         Ok(shard.trim())
     }
 
-    // Why no group is adopted by a shard that there is not.
-    fn no_adopter(&self, number: u32) -> Refusal
-        requires { self.now.limits.shards ≤ number }
+    // A trim of a shard that is not made, and so has no page.
+    fn trim_none(&self, number: u32) -> Result<usize, Refusal>
+        requires { IsUnused self.now number }
+        ensures { MatchResult result
+            (λ count. CoreStep self.now (event.Trim number) (reply.Trimmed count) self.now)
+            (λ refusal. CoreStep self.now (event.Trim number) (reply.Refused refusal) self.now) }
+    {
+        let count = self.limits.shards();
+        if number >= count {
+            return Err(Refusal::Config);
+        }
+        Ok(0)
+    }
+
+    // Why no group is adopted by a shard that cannot be made, for this cause.
+    fn no_adopter(&self, number: u32, cause: Refusal) -> Refusal
+        requires unused { IsUnused self.now number }
+        requires cause { CannotReach cause self.now.limits.shards number number }
         ensures { CoreStep self.now (event.Adopt number) (reply.Refused result) self.now }
     {
         if self.plan.is_open() {
@@ -113,7 +157,7 @@ impl<L: Log> Core<L> {
         if self.pool.pages() == 0 {
             return Refusal::NothingToAdopt;
         }
-        Refusal::Config
+        cause
     }
 
     // Moves the pool's group of lowest head that has a page to the shard of this number, and notes
@@ -125,9 +169,11 @@ impl<L: Log> Core<L> {
         ensures same { shown self.new ≡ shown self.old }
         ensures sound { IsSound self.new }
     {
-        let Some(shard) = self.shards.get_mut(number as usize) else {
-            return Err(self.no_adopter(number));
-        };
+        match reach(self.alloc, self.limits, number, &mut self.shards) {
+            Ok(()) => {}
+            Err(cause) => return Err(self.no_adopter(number, cause)),
+        }
+        let shard = &mut self.shards[number as usize];
         let coming = match self.pool.adoptable(shard) {
             Ok(head) => head,
             Err(error) => return Err(adopt_refusal(error)),

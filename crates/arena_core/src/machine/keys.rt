@@ -12,6 +12,7 @@ ghost use Rattle.arena_core.specs.declared.event.Event.TheVariants as event;
 ghost use Rattle.arena_core.specs.declared.reply.Reply.TheVariants as reply;
 
 use super::Core;
+use super::making::reach;
 use crate::reply::Refusal;
 use shard::{Found, Freed, Shard};
 use span::{Class, Key, Log, Object, SpanId};
@@ -57,9 +58,8 @@ impl<L: Log> Core<L> {
             (reply.Refused refusal) (shown self.new)) }
         ensures sound { IsSound self.new }
     {
-        let Some(shard) = self.shards.get_mut(number as usize) else {
-            return Err(Refusal::Config);
-        };
+        reach(self.alloc, self.limits, number, &mut self.shards)?;
+        let shard = &mut self.shards[number as usize];
         let (key, _) = shard.put_words(class, words)?;
         Ok(key)
     }
@@ -74,7 +74,7 @@ impl<L: Log> Core<L> {
         ensures sound { IsSound self.now }
     {
         let Some(shard) = self.shards.get(key.span.shard as usize) else {
-            return None;
+            return some_words(self.get_unmade(key.span, key.slot, key.generation));
         };
         match shard.get_first(key) {
             Some(found) => words_of(found),
@@ -182,6 +182,16 @@ impl<L: Log> Core<L> {
             Found::NotHere => self.get_away(span, slot, generation),
             found => words_in(found),
         }
+    }
+
+    // The same, if the shard that opened the span is not made.
+    #[inline(never)]
+    fn get_unmade(&self, span: SpanId, slot: u8, generation: u32) -> &[u128]
+        requires home { StandsIn self.now.shards span span.shard → ⊥ }
+        requires generation { 1 ≤ generation }
+        ensures { FindsWords self.now span slot generation result.now }
+    {
+        self.get_away(span, slot, generation)
     }
 
     // The same, if the shard that opened the span does not have it.
@@ -296,7 +306,7 @@ impl<L: Log> Core<L> {
         ensures sound { IsSound self.new }
     {
         let Some(shard) = self.shards.get_mut(key.span.shard as usize) else {
-            return false;
+            return self.free_moved(*key);
         };
         let freed = shard.free(key);
         if matches!(freed, Freed::NotHere) {

@@ -18,7 +18,7 @@ use super::Core;
 use crate::reply::{Refusal, Reply, mark_refusal};
 use certificate::Certificate;
 use fold::{Step, fold_one};
-use marks::{has_too_many, mark_some_in, reopen_all};
+use marks::{CurrentPlan, has_too_many, mark_some_in, reopen_all};
 use mesh_graph::Runner;
 use pool::Pool;
 use shard::Shard;
@@ -55,11 +55,16 @@ impl<L: Log> Core<L> {
         ensures same { shown self.new ≡ shown self.old }
         ensures sound { IsSound self.new }
     {
+        if self.plan.is_open() {
+            return Err(Refusal::PlanOpen);
+        }
+        let mut plan = CurrentPlan::new(self.alloc)?;
         let certificate = match mark_some_in(runner, self.alloc, &mut self.pool, &mut self.shards) {
             Ok(certificate) => certificate,
             Err(error) => return Err(mark_refusal(error)),
         };
-        self.plan.begin(certificate.plan.pairs());
+        plan.begin(certificate.plan.pairs());
+        self.plan.open(plan);
         Ok(certificate)
     }
 

@@ -94,7 +94,7 @@ impl<L: Log> Core<L> {
         ensures sound { IsSound self.new }
     {
         let Some(shard) = self.shards.get_mut(key.span.shard as usize) else {
-            return Ok(false);
+            return self.set_moved(key, words);
         };
         let replaced = shard.set(key, words)?;
         if matches!(replaced, Replaced::NotHere) {

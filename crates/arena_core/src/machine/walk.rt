@@ -166,7 +166,9 @@ impl<L: Log> Core<L> {
         ensures { MatchOption result (HasNoneIn self.now.shards number id slot)
             (IsFirstFrom (shown self.now) id slot) }
     {
-        let shard = self.shards.get(number)?;
+        let Some(shard) = self.shards.get(number) else {
+            return None;
+        };
         shard.first_from(id, slot)
     }
 }

@@ -4,8 +4,9 @@ use Rattle.arena_core.specs.declared.reply.Refusal.TheVariants.{Running}
 use Rattle.arena_core.specs.declared.reply.Reply.TheVariants.{Refused, ShardBegun}
 use Rattle.arena_core.specs.Kept.{state_of}
 use Rattle.arena_core.proofs.Begun.{IsKept-begin_fields, IsSoundStep-begin_fields, IsSoundStep-begin_refused_fields}
-use Rattle.arena_core.proofs.Fields.{with_shard_at}
+use Rattle.arena_core.proofs.Fields.{no_read, with_shard_at}
 use Rattle.arena_core.proofs.PlanSteps.{IsSoundStep}
+use Rattle.arena_core.proofs.MadeFields.{IsUnused-unmade}
 use Rattle.arena_core.proofs.machine.Core.begin.Goals as goal
 
 refused : (g : _) (c : goal.Then-not-begin g) → IsSoundStep c.args.self.now (Begin c.args.number) (Refused Running) (state_of (with_shard_at c.self.inside c.args.number c.begin.new.self))
@@ -41,3 +42,8 @@ returns-clause-same g c = (begins g c).plain
 
 pub returns-clause-sound : goal.returns-clause-sound
 returns-clause-sound g c = (begins g c).kept
+
+-- the shard is not made
+
+pub no_begin-requires : goal.no_begin-requires
+no_begin-requires g c = IsUnused-unmade (state_of c.self.inside) c.self.inside.shards.items c.args.number refl (no_read c.self.inside c.args.number c.in_default.ensures.variant.1)

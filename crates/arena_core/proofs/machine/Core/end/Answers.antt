@@ -1,11 +1,14 @@
-use Rattle.std.proofs.Common.{◌≡◌, Some, slice_get, Err, ap, refl, subst}
+use Rattle.std.proofs.Common.{◌≡◌, Some, slice_get, Err, ap, arith, refl, subst, sym, ◌∙◌}
+use Rattle.std.proofs.lemmas.Result.{err_from_is_err_and}
 use Rattle.arena_core.specs.declared.event.Event.TheVariants.{End}
 use Rattle.arena_core.specs.declared.reply.Reply.TheVariants.{Refused, ShardEnded}
-use Rattle.arena_core.specs.Kept.{state_of}
+use Rattle.arena_core.specs.Kept.{shards_of, state_of}
+use Rattle.arena_core.specs.State.{shown}
 use Rattle.arena_core.specs.Step.{CoreStep}
 use Rattle.arena_core.proofs.FieldSteps.{CoreStep-end_refused_fields, IsStep-end_fields}
-use Rattle.arena_core.proofs.Fields.{IsRead, shard-read, with_both_at}
-use Rattle.arena_core.proofs.FieldsKept.{GetsNone-Receives, IsKept-both_same, IsKept-with_both_at}
+use Rattle.arena_core.proofs.Fields.{IsRead, shard-read, state_of-unchanged, with_both_at}
+use Rattle.arena_core.proofs.FieldsKept.{GetsNone-Receives, IsKept-both_same, IsKept-unchanged, IsKept-with_both_at}
+use Rattle.arena_core.proofs.MadeFields.{CoreStep-end_unreached, IsUnused-unmade}
 use Rattle.arena_core.proofs.Moves.{running-received}
 use Rattle.arena_core.proofs.PlanSteps.{IsSoundStep}
 use Rattle.arena_core.proofs.Steps.{not_in_pool}
@@ -13,43 +16,43 @@ use Rattle.arena_core.proofs.machine.Core.end.Goals as goal
 
 pub end_refusal-requires : goal.end_refusal-requires
 end_refusal-requires g c = λ e.
-    not_in_pool (state_of c.self.inside) c.self.invariant.sound.groups c.args.number c.in-Some.shard.now
-    (shard-read c.self.inside c.args.number c.in-Some.shard.now (record { within = c.in-Some.ensures.variant.0 refl; value = c.in-Some.ensures.value }))
+    not_in_pool (state_of (record c.self.inside { shards = c.reach.new.shards })) (IsKept-unchanged c.self.inside (record c.self.inside { shards = c.reach.new.shards }) c.self.invariant refl refl refl refl refl (c.in_ok-reach.ensures {u = tt}).same refl).sound.groups c.args.number c.index_mut-shard.result.now
+    (shard-read (record c.self.inside { shards = c.reach.new.shards }) c.args.number c.index_mut-shard.result.now (record { within = (c.in_ok-reach.ensures {u = tt}).here; value = c.index_mut-shard.ensures.value }))
     (c.in-Err.ensures.doubled.0 (ap Err e)).1
 
 pub returns-in-Err-clause-exact : goal.returns-in-Err-clause-exact
 returns-in-Err-clause-exact g c =
     subst (λ old. CoreStep old (End c.args.number) (Refused c.end_refusal.result)
-    (state_of (with_both_at c.self.inside c.args.number c.receive.new.shard c.receive.new.self c.self.inside.whereabouts))) c.self.view_is
-    (CoreStep-end_refused_fields c.self.inside c.args.number c.in-Some.shard.now c.receive.new.shard c.receive.new.self c.self.inside.whereabouts c.in-Err.error
-    c.end_refusal.result c.self.invariant.sound
-    (record { within = c.in-Some.ensures.variant.0 refl; value = c.in-Some.ensures.value }) c.end_refusal.ensures c.in-Err.ensures.ended
+    (state_of (with_both_at (record c.self.inside { shards = c.reach.new.shards }) c.args.number c.receive.new.shard c.receive.new.self (record c.self.inside { shards = c.reach.new.shards }).whereabouts))) (state_of-unchanged c.self.inside (record c.self.inside { shards = c.reach.new.shards }) refl refl refl refl (c.in_ok-reach.ensures {u = tt}).same refl ∙ c.self.view_is)
+    (CoreStep-end_refused_fields (record c.self.inside { shards = c.reach.new.shards }) c.args.number c.index_mut-shard.result.now c.receive.new.shard c.receive.new.self (record c.self.inside { shards = c.reach.new.shards }).whereabouts c.in-Err.error
+    c.end_refusal.result (IsKept-unchanged c.self.inside (record c.self.inside { shards = c.reach.new.shards }) c.self.invariant refl refl refl refl refl (c.in_ok-reach.ensures {u = tt}).same refl).sound
+    (record { within = (c.in_ok-reach.ensures {u = tt}).here; value = c.index_mut-shard.ensures.value }) c.end_refusal.ensures c.in-Err.ensures.ended
     c.in-Err.ensures.plan_open c.in-Err.ensures.err_shard c.in-Err.ensures.err)
 
-read_shard : (g : _) (c : goal.In-Ok g) → slice_get c.self.inside.shards.items c.args.number ≡ Some c.in-Some.shard.now
-read_shard g c = shard-read c.self.inside c.args.number c.in-Some.shard.now (record { within = c.in-Some.ensures.variant.0 refl; value = c.in-Some.ensures.value })
+read_shard : (g : _) (c : goal.In-Ok g) → slice_get (shards_of (record c.self.inside { shards = c.reach.new.shards })) c.args.number ≡ Some c.index_mut-shard.result.now
+read_shard g c = shard-read (record c.self.inside { shards = c.reach.new.shards }) c.args.number c.index_mut-shard.result.now (record { within = (c.in_ok-reach.ensures {u = tt}).here; value = c.index_mut-shard.ensures.value })
 
 ended : (g : _) (c : goal.In-Ok g)
     → IsSoundStep c.args.self.now (End c.args.number) ShardEnded
-    (state_of (with_both_at c.self.inside c.args.number c.receive.new.shard c.receive.new.self c.self.inside.whereabouts))
+    (state_of (with_both_at (record c.self.inside { shards = c.reach.new.shards }) c.args.number c.receive.new.shard c.receive.new.self (record c.self.inside { shards = c.reach.new.shards }).whereabouts))
 ended g c =
-    subst (λ old. IsSoundStep old (End c.args.number) ShardEnded (state_of (with_both_at c.self.inside c.args.number c.receive.new.shard c.receive.new.self c.self.inside.whereabouts))) c.self.view_is
-    (IsStep-end_fields c.self.inside c.args.number c.in-Some.shard.now c.receive.new.shard c.receive.new.self c.self.inside.whereabouts c.self.invariant.sound
-    (record { within = c.in-Some.ensures.variant.0 refl; value = c.in-Some.ensures.value })
-    (λ closed. let never = c.in-Ok.ensures.plan_open.1 (running-received c.in-Ok.ensures.ok, not_in_pool (state_of c.self.inside) c.self.invariant.sound.groups c.args.number c.in-Some.shard.now (read_shard g c), closed) in cc)
+    subst (λ old. IsSoundStep old (End c.args.number) ShardEnded (state_of (with_both_at (record c.self.inside { shards = c.reach.new.shards }) c.args.number c.receive.new.shard c.receive.new.self (record c.self.inside { shards = c.reach.new.shards }).whereabouts))) (state_of-unchanged c.self.inside (record c.self.inside { shards = c.reach.new.shards }) refl refl refl refl (c.in_ok-reach.ensures {u = tt}).same refl ∙ c.self.view_is)
+    (IsStep-end_fields (record c.self.inside { shards = c.reach.new.shards }) c.args.number c.index_mut-shard.result.now c.receive.new.shard c.receive.new.self (record c.self.inside { shards = c.reach.new.shards }).whereabouts (IsKept-unchanged c.self.inside (record c.self.inside { shards = c.reach.new.shards }) c.self.invariant refl refl refl refl refl (c.in_ok-reach.ensures {u = tt}).same refl).sound
+    (record { within = (c.in_ok-reach.ensures {u = tt}).here; value = c.index_mut-shard.ensures.value })
+    (λ closed. let never = c.in-Ok.ensures.plan_open.1 (running-received c.in-Ok.ensures.ok, not_in_pool (state_of (record c.self.inside { shards = c.reach.new.shards })) (IsKept-unchanged c.self.inside (record c.self.inside { shards = c.reach.new.shards }) c.self.invariant refl refl refl refl refl (c.in_ok-reach.ensures {u = tt}).same refl).sound.groups c.args.number c.index_mut-shard.result.now (read_shard g c), closed) in cc)
     c.in-Ok.ensures.ok c.receive.ensures.sound_shard c.receive.ensures.sound)
 
 pub invariant_of-self-in-Err : goal.invariant_of-self-in-Err
 invariant_of-self-in-Err g c =
-    IsKept-both_same c.self.inside c.self.invariant c.args.number c.in-Some.shard.now
-    (record { within = c.in-Some.ensures.variant.0 refl; value = c.in-Some.ensures.value }) c.receive.new.shard c.receive.new.self
+    IsKept-both_same (record c.self.inside { shards = c.reach.new.shards }) (IsKept-unchanged c.self.inside (record c.self.inside { shards = c.reach.new.shards }) c.self.invariant refl refl refl refl refl (c.in_ok-reach.ensures {u = tt}).same refl) c.args.number c.index_mut-shard.result.now
+    (record { within = (c.in_ok-reach.ensures {u = tt}).here; value = c.index_mut-shard.ensures.value }) c.receive.new.shard c.receive.new.self
     c.in-Err.ensures.err_shard c.in-Err.ensures.err
 
 pub invariant_of-self-2 : goal.invariant_of-self-2
 invariant_of-self-2 g c =
-    let read : IsRead c.self.inside c.args.number c.in-Some.shard.now = record { within = c.in-Some.ensures.variant.0 refl; value = c.in-Some.ensures.value } in
-    IsKept-with_both_at c.self.inside c.self.invariant c.args.number c.in-Some.shard.now read c.receive.new.shard c.receive.new.self
-    (GetsNone-Receives c.self.inside c.self.invariant c.args.number c.in-Some.shard.now read c.self.inside.pool c.receive.new.self c.receive.new.shard c.in-Ok.ensures.ok) (ended g c).kept
+    let read : IsRead (record c.self.inside { shards = c.reach.new.shards }) c.args.number c.index_mut-shard.result.now = record { within = (c.in_ok-reach.ensures {u = tt}).here; value = c.index_mut-shard.ensures.value } in
+    IsKept-with_both_at (record c.self.inside { shards = c.reach.new.shards }) (IsKept-unchanged c.self.inside (record c.self.inside { shards = c.reach.new.shards }) c.self.invariant refl refl refl refl refl (c.in_ok-reach.ensures {u = tt}).same refl) c.args.number c.index_mut-shard.result.now read c.receive.new.shard c.receive.new.self
+    (GetsNone-Receives (record c.self.inside { shards = c.reach.new.shards }) (IsKept-unchanged c.self.inside (record c.self.inside { shards = c.reach.new.shards }) c.self.invariant refl refl refl refl refl (c.in_ok-reach.ensures {u = tt}).same refl) c.args.number c.index_mut-shard.result.now read (record c.self.inside { shards = c.reach.new.shards }).pool c.receive.new.self c.receive.new.shard c.in-Ok.ensures.ok) (ended g c).kept
 
 pub returns-clause-exact : goal.returns-clause-exact
 returns-clause-exact g c = (ended g c).exact
@@ -59,3 +62,28 @@ returns-clause-same g c = (ended g c).plain
 
 pub returns-clause-sound : goal.returns-clause-sound
 returns-clause-sound g c = (ended g c).kept
+
+-- the shard is not made
+
+pub invariant_of-self : goal.invariant_of-self
+invariant_of-self g c =
+    IsKept-unchanged c.self.inside (record c.self.inside { shards = c.reach.new.shards }) c.self.invariant refl refl refl refl refl (c.in_err-reach.ensures {u = tt}).same refl
+
+pub returns-in_err-reach-clause-exact : goal.returns-in_err-reach-clause-exact
+returns-in_err-reach-clause-exact g c =
+    let refused = err_from_is_err_and c.from_residual.result c.from_residual.ensures.1 in
+    let told = c.in_err-reach.ensures {u = tt} in
+    let now = (record c.self.inside { shards = c.reach.new.shards }) in
+    let step = CoreStep-end_unreached (state_of c.self.inside) c.args.number c.in_err-reach.field-0.0 (IsUnused-unmade (state_of c.self.inside) c.self.inside.shards.items c.args.number refl (omega (arith, told.refused.0, c.self.inside.shards.ok.0))) told.refused.1 in
+    rw (refused.1, refused.2) (
+    subst (λ old. CoreStep old (End c.args.number) (Refused c.in_err-reach.field-0.0) (state_of now)) c.self.view_is
+    (subst (λ new. CoreStep (state_of c.self.inside) (End c.args.number) (Refused c.in_err-reach.field-0.0) new)
+    (sym (state_of-unchanged c.self.inside now refl refl refl refl told.same refl)) step)
+    )
+
+pub returns-in_err-reach-clause-same : goal.returns-in_err-reach-clause-same
+returns-in_err-reach-clause-same g c = ap shown (state_of-unchanged c.self.inside (record c.self.inside { shards = c.reach.new.shards }) refl refl refl refl (c.in_err-reach.ensures {u = tt}).same refl ∙ c.self.view_is)
+
+pub returns-in_err-reach-clause-sound : goal.returns-in_err-reach-clause-sound
+returns-in_err-reach-clause-sound g c =
+    (IsKept-unchanged c.self.inside (record c.self.inside { shards = c.reach.new.shards }) c.self.invariant refl refl refl refl refl (c.in_err-reach.ensures {u = tt}).same refl).sound

@@ -1,8 +1,7 @@
 use Rattle.std.proofs.Common.{◌<◌, arith, subst, sym, ◌∙◌}
-use Rattle.std.proofs.lemmas.Option.{slice_get_within}
 use Rattle.std.proofs.lemmas.Result.{err_from_is_err_and}
 use Rattle.span.specs.declared.limits.TheConstants.{MOST_SHARDS}
-use Rattle.arena_core.specs.Kept.{state_of}
+use Rattle.arena_core.specs.Kept.{shards_of, state_of}
 use Rattle.arena_core.specs.Moved.{Notes, StandsIn}
 use Rattle.arena_core.specs.Plan.{IsNext}
 use Rattle.arena_core.specs.State.{CoreState}
@@ -10,8 +9,10 @@ use Rattle.arena_core.specs.declared.event.Event.TheVariants.{Step}
 use Rattle.arena_core.specs.declared.reply.Refusal.TheVariants.{OutOfMemory}
 use Rattle.arena_core.specs.declared.reply.Reply.TheVariants.{Refused, Stepped}
 use Rattle.arena_core.specs.Step.{CoreStep}
-use Rattle.arena_core.proofs.FieldsKept.{IsKept-noted, IsKept-room_made, IsKept-roomy, read-at}
-use Rattle.arena_core.proofs.MarkSteps.{IsSoundStep-fold_fields, number-named, shard-named, state_of-refused, with_step_at}
+use Rattle.arena_core.proofs.FieldsKept.{IsKept-noted, IsKept-room_made, IsKept-roomy}
+use Rattle.arena_core.proofs.Fields.{shard-read}
+use Rattle.arena_core.proofs.Made.{standing-made}
+use Rattle.arena_core.proofs.MarkSteps.{IsSoundStep-fold_fields, made-named, number-named, state_of-refused, with_step_at}
 use Rattle.arena_core.proofs.Noted.{Comes-Steps}
 use Rattle.arena_core.proofs.PlanSteps.{IsSoundStep}
 use Rattle.arena_core.proofs.Rooms.{HasAtMost-Steps}
@@ -39,8 +40,8 @@ returns-in_err-reserve-clause-exact g c =
 
 pub index_mut-shard-requires : goal.index_mut-shard-requires
 index_mut-shard-requires g c =
-    let there : StandsIn c.self.inside.shards.items c.args.owned c.args.number = subst (λ (s : CoreState). StandsIn s.shards c.args.owned c.args.number) (sym c.self.view_is) c.requires.there in
-    omega (arith, c.self.inside.shards.ok.0, slice_get_within c.self.inside.shards.items c.args.number there.0 there.1)
+    let there : StandsIn (shards_of c.self.inside) c.args.owned c.args.number = subst (λ (s : CoreState). StandsIn s.shards c.args.owned c.args.number) (sym c.self.view_is) c.requires.there in
+    omega (arith, c.self.inside.shards.ok.0, standing-made c.self.inside.limits c.self.inside.shards.items c.args.owned c.args.number there)
 
 pub overflow_cast-number : goal.overflow_cast-number
 overflow_cast-number g c =
@@ -66,23 +67,23 @@ invariant_of-self g c = IsKept-roomy c.self.inside c.reserve.new.self c.self.inv
 
 pub invariant_of-self-in_err-step : goal.invariant_of-self-in_err-step
 invariant_of-self-in_err-step g c =
-    let there = shard-named (state_of c.self.inside) c.args.owned c.args.number c.index_mut-shard.result.now
+    let there = made-named c.self.inside c.args.owned c.args.number c.index_mut-shard.result.now
     (subst (λ (s : CoreState). StandsIn s.shards c.args.owned c.args.number) (sym c.self.view_is) c.requires.there) c.index_mut-shard.ensures.value in
     IsKept-room_made c.self.inside c.self.invariant c.args.number c.index_mut-shard.result.now
-    (read-at c.self.inside c.args.number c.index_mut-shard.result.now there.0) c.fold_one.new.shard c.fold_one.new.pool c.reserve.new.self
+    there.0 c.fold_one.new.shard c.fold_one.new.pool c.reserve.new.self
     c.in_err-step.ensures.err_shard c.in_err-step.ensures.err c.reserve.ensures.entries
 
 pub span_count-before-requires : goal.span_count-before-requires
 span_count-before-requires g c =
-    let there = shard-named (state_of c.self.inside) c.args.owned c.args.number c.index_mut-shard.result.now
+    let there = made-named c.self.inside c.args.owned c.args.number c.index_mut-shard.result.now
     (subst (λ (s : CoreState). StandsIn s.shards c.args.owned c.args.number) (sym c.self.view_is) c.requires.there) c.index_mut-shard.ensures.value in
-    (c.self.invariant.sound.groups.shards c.args.number c.index_mut-shard.result.now there.0).sound
+    (c.self.invariant.sound.groups.shards c.args.number c.index_mut-shard.result.now (shard-read c.self.inside c.args.number c.index_mut-shard.result.now there.0)).sound
 
 pub invariant_of-self-2 : goal.invariant_of-self-2
 invariant_of-self-2 g c =
-    let there = shard-named (state_of c.self.inside) c.args.owned c.args.number c.index_mut-shard.result.now
+    let there = made-named c.self.inside c.args.owned c.args.number c.index_mut-shard.result.now
     (subst (λ (s : CoreState). StandsIn s.shards c.args.owned c.args.number) (sym c.self.view_is) c.requires.there) c.index_mut-shard.ensures.value in
-    IsKept-noted c.self.inside c.self.invariant c.args.number c.index_mut-shard.result.now (read-at c.self.inside c.args.number c.index_mut-shard.result.now there.0)
+    IsKept-noted c.self.inside c.self.invariant c.args.number c.index_mut-shard.result.now there.0
     c.fold_one.new.shard c.fold_one.new.pool c.advance.new.self c.note.new.self c.args.owned c.span_count-before.result
     (Comes-Steps c.self.inside.pool c.index_mut-shard.result.now c.args.abandoned c.args.owned c.fold_one.new.pool c.fold_one.new.shard
     c.span_count-before.result c.in_ok-step.step c.in_ok-step.ensures.ok c.span_count-before.ensures)

@@ -6,7 +6,8 @@ use Rattle.std.specs.Vec.{with_items}
 use Rattle.shard.specs.Group.{GroupState}
 use Rattle.shard.specs.State.{ShardState}
 use Rattle.marks.specs.Closings.{closed_onto, closing}
-use Rattle.arena_core.specs.Kept.{state_of}
+use Rattle.arena_core.specs.Kept.{shards_of, state_of}
+use Rattle.arena_core.specs.Made.{all_shards}
 use Rattle.marks.specs.Seen.{AreDistinct, IsLargestInPart}
 use Rattle.marks.specs.Plans.{plans_onto}
 use Rattle.arena_core.specs.Sound.{IsSound}
@@ -16,6 +17,7 @@ use Rattle.arena_core.specs.declared.machine.Core.TheInside.{Inside}
 use Rattle.marks.specs.declared.error.MarkError.TheVariants.{PlanOpen}
 use Rattle.marks.proofs.Closings.{closing-open}
 use Rattle.arena_core.proofs.FieldsKept.{IsKept-mapped, IsKept-unchanged}
+use Rattle.arena_core.proofs.MadeMarked.{AreDistinct-made, AreOpen-made, IsLargestInPart-all}
 use Rattle.arena_core.proofs.MarkSteps.{AreOpen-none, IsSound-marked, marked, shown-marked, state_of-mapped}
 use Rattle.arena_core.proofs.Distinct.{AreDistinct-sound}
 use Rattle.arena_core.proofs.machine.Core.mark_some.Goals as goal
@@ -24,7 +26,7 @@ use Rattle.arena_core.proofs.machine.Core.mark_some.Goals as goal
 pub mark_refusal-requires : goal.mark_refusal-requires
 mark_refusal-requires g c = λ doubled.
     c.mark_some_in.ensures.doubled (c.in-Err.is ∙ ap Err doubled)
-    (subst (AreDistinct c.self.inside.pool) (sym (map-id c.deref_mut.result.now ∙ c.deref_mut.ensures.value)) (AreDistinct-sound (state_of c.self.inside) c.self.invariant.sound))
+    (subst (AreDistinct c.self.inside.pool) (sym (map-id c.deref_mut.result.now ∙ c.deref_mut.ensures.value)) (AreDistinct-made c.self.inside.limits c.self.inside.shards.items c.self.inside.pool (AreDistinct-sound (state_of c.self.inside) c.self.invariant.sound)))
 
 pub invariant_of-self : goal.invariant_of-self
 invariant_of-self g c =
@@ -32,53 +34,55 @@ invariant_of-self g c =
     IsKept-unchanged c.self.inside (record c.self.inside {
       shards = with_items c.self.inside.shards c.mark_some_in.new.shards;
       pool = c.mark_some_in.new.pool;
-    }) c.self.invariant refl refl refl refl refl refl refl refl
-    (with_items_is c.self.inside.shards c.mark_some_in.new.shards (ap length refused.err_shards ∙ c.deref_mut.ensures.len) ∙ refused.err_shards ∙ c.deref_mut.ensures.value) refused.err
+    }) c.self.invariant refl refl refl refl refl
+    (ap (all_shards c.self.inside.limits) (with_items_is c.self.inside.shards c.mark_some_in.new.shards (ap length refused.err_shards ∙ c.deref_mut.ensures.len) ∙ refused.err_shards ∙ c.deref_mut.ensures.value)) refused.err
 
 -- the shards that are lent are the core's
-lent : (g : _) (c : goal.After-begin g) → map (λ (shard : ShardState). shard) c.deref_mut.result.now ≡ c.self.inside.shards.items
+lent : (g : _) (c : goal.After-open g) → map (λ (shard : ShardState). shard) c.deref_mut.result.now ≡ c.self.inside.shards.items
 lent g c = map-id c.deref_mut.result.now ∙ c.deref_mut.ensures.value
 
-largest : (g : _) (c : goal.After-begin g) → IsLargestInPart c.self.inside.pool c.self.inside.shards.items c.in-Ok.certificate
-largest g c = subst (λ shards. IsLargestInPart c.self.inside.pool shards c.in-Ok.certificate) (lent g c) ((c.in-Ok.ensures {u = tt}).largest)
+largest : (g : _) (c : goal.After-open g) → IsLargestInPart c.self.inside.pool (shards_of c.self.inside) c.in-Ok.certificate
+largest g c =
+    IsLargestInPart-all c.self.inside.limits c.self.inside.shards.items c.self.inside.pool c.in-Ok.certificate
+    (subst (λ shards. IsLargestInPart c.self.inside.pool shards c.in-Ok.certificate) (lent g c) ((c.in-Ok.ensures {u = tt}).largest))
 
-no_plan : (g : _) (c : goal.After-begin g) → c.self.inside.pool.has_plan ≡ false
+no_plan : (g : _) (c : goal.After-open g) → c.self.inside.pool.has_plan ≡ false
 no_plan g c = elim (cases_Bool c.self.inside.pool.has_plan) [
   | inl e ↦ let refused : Ok c.in-Ok.certificate ≡ Err PlanOpen = sym c.in-Ok.is ∙ c.mark_some_in.ensures.plan_open.1 e in absurd cc
   | inr e ↦ e
 ]
 
 -- the fields after the mark
-abbrev fields : (g : _) → goal.After-begin g → Inside g.row.L.Denot
-fields g c = record c.self.inside { shards = with_items c.self.inside.shards c.mark_some_in.new.shards; pool = c.mark_some_in.new.pool; plan = c.begin.new.self }
+abbrev fields : (g : _) → goal.After-open g → Inside g.row.L.Denot
+fields g c = record c.self.inside { shards = with_items c.self.inside.shards c.mark_some_in.new.shards; pool = c.mark_some_in.new.pool; plan = c.open.new.self }
 
-shards_are : (g : _) (c : goal.After-begin g) → c.mark_some_in.new.shards ≡ map (closed_onto c.in-Ok.certificate.plan) c.self.inside.shards.items
+shards_are : (g : _) (c : goal.After-open g) → c.mark_some_in.new.shards ≡ map (closed_onto c.in-Ok.certificate.plan) c.self.inside.shards.items
 shards_are g c =
     sym (map-id c.mark_some_in.new.shards) ∙ (c.in-Ok.ensures {u = tt}).closed ∙ ap (map (closing c.in-Ok.certificate.plan)) (lent g c)
     ∙ closing-open c.in-Ok.certificate.plan c.self.inside.shards.items
-    (AreOpen-none (state_of c.self.inside) c.self.invariant.sound
-    (None-if_not_some c.self.inside.plan (sym c.self.invariant.sound.plan.told ∙ no_plan g c)))
+    (AreOpen-made c.self.inside.limits c.self.inside.shards.items (AreOpen-none (state_of c.self.inside) c.self.invariant.sound
+    (None-if_not_some c.self.inside.plan (sym c.self.invariant.sound.plan.told ∙ no_plan g c))))
 
-items_are : (g : _) (c : goal.After-begin g) → (fields g c).shards.items ≡ map (closed_onto c.in-Ok.certificate.plan) c.self.inside.shards.items
+items_are : (g : _) (c : goal.After-open g) → (fields g c).shards.items ≡ map (closed_onto c.in-Ok.certificate.plan) c.self.inside.shards.items
 items_are g c =
     with_items_is c.self.inside.shards c.mark_some_in.new.shards
     (ap length (shards_are g c) ∙ length-map c.self.inside.shards.items (closed_onto c.in-Ok.certificate.plan) ∙ ap length (sym c.deref_mut.ensures.value)
     ∙ c.deref_mut.ensures.len) ∙ shards_are g c
 
-is_marked : (g : _) (c : goal.After-begin g) → state_of (fields g c) ≡ marked (state_of c.self.inside) c.self.invariant.sound c.in-Ok.certificate (largest g c)
+is_marked : (g : _) (c : goal.After-open g) → state_of (fields g c) ≡ marked (state_of c.self.inside) c.self.invariant.sound c.in-Ok.certificate (largest g c)
 is_marked g c =
-    state_of-mapped c.self.inside (fields g c) (closed_onto c.in-Ok.certificate.plan) refl refl refl refl refl refl (items_are g c)
+    state_of-mapped c.self.inside (fields g c) (closed_onto c.in-Ok.certificate.plan) (λ number. refl) refl refl refl (items_are g c)
     ∙ (λ i. record (state_of c.self.inside) {
-      shards = map (closed_onto c.in-Ok.certificate.plan) c.self.inside.shards.items;
+      shards = map (closed_onto c.in-Ok.certificate.plan) (shards_of c.self.inside);
       pool = (c.in-Ok.ensures {u = tt}).opened i;
-      plan = (c.begin.ensures ∙ ap (λ pairs. Some (record { pairs = pairs; done = 0 })) c.pairs.ensures) i;
+      plan = (c.open.ensures ∙ c.begin.ensures ∙ ap (λ pairs. Some (record { pairs = pairs; done = 0 })) c.pairs.ensures) i;
     })
 
-kept : (g : _) (c : goal.After-begin g) → IsSound (state_of (fields g c))
+kept : (g : _) (c : goal.After-open g) → IsSound (state_of (fields g c))
 kept g c = subst IsSound (sym (is_marked g c)) (IsSound-marked (state_of c.self.inside) c.self.invariant.sound c.in-Ok.certificate (largest g c))
 
 pub invariant_of-self-2 : goal.invariant_of-self-2
-invariant_of-self-2 g c = IsKept-mapped c.self.inside (fields g c) c.self.invariant refl
+invariant_of-self-2 g c = IsKept-mapped c.self.inside (fields g c) c.self.invariant refl refl
     (λ (group : GroupState). is_some group.page && plans_onto c.in-Ok.certificate.plan group.head.id) (items_are g c) (kept g c)
 
 pub returns-clause-exact : goal.returns-clause-exact

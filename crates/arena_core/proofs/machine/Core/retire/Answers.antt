@@ -1,13 +1,14 @@
 use Rattle.std.proofs.Common.{◌≡◌, Some, slice_get, Err, ap, refl, subst}
 use Rattle.arena_core.specs.declared.event.Event.TheVariants.{Retire}
 use Rattle.arena_core.specs.declared.reply.Reply.TheVariants.{Refused, Retired}
-use Rattle.arena_core.specs.Kept.{state_of}
+use Rattle.arena_core.specs.Kept.{shards_of, state_of}
 use Rattle.arena_core.specs.Step.{CoreStep}
 use Rattle.arena_core.proofs.FieldSteps.{CoreStep-retire_refused_fields, IsStep-retire_fields}
-use Rattle.arena_core.proofs.Fields.{IsRead, shard-read, with_both_at}
+use Rattle.arena_core.proofs.Fields.{IsRead, no_read, shard-read, with_both_at}
 use Rattle.arena_core.proofs.FieldsKept.{GetsNone-Retires, IsKept-both_same, IsKept-with_both_at}
 use Rattle.arena_core.proofs.PlanSteps.{IsSoundStep}
 use Rattle.arena_core.proofs.Steps.{not_in_pool}
+use Rattle.arena_core.proofs.MadeFields.{IsUnused-unmade}
 use Rattle.arena_core.proofs.machine.Core.retire.Goals as goal
 
 pub end_refusal-requires : goal.end_refusal-requires
@@ -25,7 +26,7 @@ returns-in-Err-clause-exact g c =
     (record { within = c.in-Some.ensures.variant.0 refl; value = c.in-Some.ensures.value }) c.end_refusal.ensures c.in-Err.ensures.ended
     c.in-Err.ensures.plan_open c.in-Err.ensures.err_shard c.in-Err.ensures.err)
 
-read_shard : (g : _) (c : goal.In-Ok g) → slice_get c.self.inside.shards.items c.args.number ≡ Some c.in-Some.shard.now
+read_shard : (g : _) (c : goal.In-Ok g) → slice_get (shards_of c.self.inside) c.args.number ≡ Some c.in-Some.shard.now
 read_shard g c = shard-read c.self.inside c.args.number c.in-Some.shard.now (record { within = c.in-Some.ensures.variant.0 refl; value = c.in-Some.ensures.value })
 
 retired : (g : _) (c : goal.In-Ok g)
@@ -61,3 +62,8 @@ returns-clause-same g c = (retired g c).plain
 
 pub returns-clause-sound : goal.returns-clause-sound
 returns-clause-sound g c = (retired g c).kept
+
+-- the shard is not made
+
+pub retire_none-requires : goal.retire_none-requires
+retire_none-requires g c = IsUnused-unmade (state_of c.self.inside) c.self.inside.shards.items c.args.number refl (no_read c.self.inside c.args.number c.in_default.ensures.variant.1)

@@ -1,43 +1,36 @@
-use Rattle.std.proofs.Common.{◌≡◌, true, false, ap, refl, subst, sym, ◌∙◌}
-use Rattle.std.proofs.lemmas.Option.{slice_get_past}
+use Rattle.std.proofs.Common.{◌≡◌, true, false, refl, subst, sym, ◌∙◌}
 use Rattle.std.proofs.lemmas.Result.{err_from_is_err_and}
-use Rattle.span.specs.PlainMap.{has_as_many}
 use Rattle.shard.specs.Calls.{Sets}
 use Rattle.shard.specs.declared.shard.replacing.Replaced.TheVariants.{NotHere as not_here}
 use Rattle.arena_core.specs.declared.event.Event.TheVariants.{Set}
 use Rattle.arena_core.specs.declared.reply.Reply.TheVariants.{Replaced}
 use Rattle.arena_core.specs.Kept.{state_of}
 use Rattle.arena_core.specs.Moved.{StandsIn}
-use Rattle.arena_core.specs.State.{CoreState, shown}
+use Rattle.arena_core.specs.State.{CoreState}
 use Rattle.arena_core.proofs.FieldSteps.{IsStep-set_home, IsStep-set_refused_home, state_of-same}
 use Rattle.arena_core.proofs.Fields.{IsRead, no_read, shard-read, with_shard_at}
-use Rattle.arena_core.proofs.FieldsKept.{IsKept-same, IsKept-set}
+use Rattle.arena_core.proofs.FieldsKept.{IsKept-set_result}
+use Rattle.arena_core.proofs.Made.{unmade-standing}
 use Rattle.arena_core.proofs.Moved.{not-standing}
-use Rattle.arena_core.proofs.PlanSteps.{IsSoundStep, IsSoundStep-unset}
-use Rattle.arena_core.proofs.Steps.{value-no_home}
+use Rattle.arena_core.proofs.PlanSteps.{IsSoundStep}
 use Rattle.arena_core.proofs.machine.Core.set_asked.Goals as goal
 use Rattle.arena_core.proofs.machine.Core.set_asked.Goals.{in-NotHere, in_default-matches}
 
-nowhere : (g : _) (c : goal.After-self-in_default-2-1 g) → IsSoundStep c.args.self.now (Set c.args.key.now c.args.words.now) (Replaced false) c.args.self.now
-nowhere g c =
-    subst (λ old. IsSoundStep old (Set c.args.key.now c.args.words.now) (Replaced false) old) c.self.view_is
-    (IsSoundStep-unset (state_of c.self.inside) c.args.key.now c.args.words.now c.self.invariant.sound
-    (ap (has_as_many c.args.words.now)
-    (value-no_home (state_of c.self.inside) c.self.invariant.sound.groups c.args.key.now
-    (slice_get_past c.self.inside.shards.items c.args.key.now.span.shard (no_read c.self.inside c.args.key.now.span.shard c.in_default.ensures.variant.1)))))
+-- the shard is not made
 
-pub returns-in_default-clause-exact : goal.returns-in_default-clause-exact
-returns-in_default-clause-exact g c = ((nowhere g c).exact.0, c.self.view_is)
+pub set_moved-requires : goal.set_moved-requires
+set_moved-requires g c =
+    unmade-standing c.self.inside.limits c.self.inside.shards.items c.args.key.now.span c.args.key.now.span.shard
+    (no_read c.self.inside c.args.key.now.span.shard c.in_default.ensures.variant.1)
 
-pub returns-in_default-clause-plain : goal.returns-in_default-clause-plain
-returns-in_default-clause-plain g c = ((nowhere g c).plain.0, ap shown c.self.view_is)
+-- the shard was asked
+
+pub invariant_of-self-2 : goal.invariant_of-self-2
+invariant_of-self-2 g c =
+    IsKept-set_result c.self.inside c.self.invariant c.args.key.now.span.shard c.in-Some.shard.now (record { within = c.in-Some.ensures.variant.0 refl; value = c.in-Some.ensures.value })
+    c.args.key.now c.args.words.now c.set.result c.set.new.self c.set.ensures.step c.set.ensures.found c.set.ensures.plain c.set.ensures.err c.set.ensures.sound
 
 -- the shard refuses
-
-pub invariant_of-self-in_err-replaced : goal.invariant_of-self-in_err-replaced
-invariant_of-self-in_err-replaced g c =
-    IsKept-same c.self.inside c.self.invariant c.args.key.now.span.shard c.in-Some.shard.now (record { within = c.in-Some.ensures.variant.0 refl; value = c.in-Some.ensures.value })
-    c.set.new.self c.in_err-replaced.ensures.err
 
 pub returns-in_err-replaced-clause-exact : goal.returns-in_err-replaced-clause-exact
 returns-in_err-replaced-clause-exact g c =
@@ -54,11 +47,6 @@ returns-in_err-replaced-clause-plain g c =
     rw (refused.1, refused.2) step.plain
 
 -- the shard answers
-
-pub invariant_of-self-else-matches : goal.invariant_of-self-else-matches
-invariant_of-self-else-matches g c =
-    IsKept-set c.self.inside c.self.invariant c.args.key.now.span.shard c.in-Some.shard.now (record { within = c.in-Some.ensures.variant.0 refl; value = c.in-Some.ensures.value })
-    c.args.key.now c.args.words.now c.in_ok-replaced.replaced c.set.new.self c.in_ok-replaced.ensures.step c.in_ok-replaced.ensures.found c.in_ok-replaced.ensures.plain c.set.ensures.sound
 
 done : (g : _) (c : goal.After-was_set g)
     → IsSoundStep c.args.self.now (Set c.args.key.now c.args.words.now) (Replaced c.was_set.result)
@@ -84,23 +72,16 @@ returns-clause-plain g c = (done g c).plain
 pub returns-clause-sound : goal.returns-clause-sound
 returns-clause-sound g c = (done g c).kept
 
--- the shard was asked, and does not have the span
+-- the shard does not have the span
 
-pub invariant_of-self-then-matches : goal.invariant_of-self-then-matches
-invariant_of-self-then-matches g c =
-    IsKept-set c.self.inside c.self.invariant c.args.key.now.span.shard c.in-Some.shard.now (record { within = c.in-Some.ensures.variant.0 refl; value = c.in-Some.ensures.value })
-    c.args.key.now c.args.words.now c.in_ok-replaced.replaced c.set.new.self c.in_ok-replaced.ensures.step c.in_ok-replaced.ensures.found c.in_ok-replaced.ensures.plain c.set.ensures.sound
-
-away : (g : _) (c : goal.After-set_moved-arg-1 g) → Sets c.in-Some.shard.now c.args.key.now c.args.words.now not_here c.set.new.self
-away g c = elim c.match-matches.branch [
-  | in-NotHere w ↦ subst (λ answer. Sets c.in-Some.shard.now c.args.key.now c.args.words.now answer c.set.new.self) w.in-NotHere.is c.in_ok-replaced.ensures.step
-  | in_default-matches w ↦ absurd (let both : false ≡ true = sym w.matches-is ∙ c.if-matches.true in cc)
-]
-
-pub set_moved-requires : goal.set_moved-requires
-set_moved-requires g c =
+pub set_moved-requires-then-matches : goal.set_moved-requires-then-matches
+set_moved-requires-then-matches g c =
+    let away : Sets c.in-Some.shard.now c.args.key.now c.args.words.now not_here c.set.new.self = elim c.match-matches.branch [
+      | in-NotHere w ↦ subst (λ answer. Sets c.in-Some.shard.now c.args.key.now c.args.words.now answer c.set.new.self) w.in-NotHere.is c.in_ok-replaced.ensures.step
+      | in_default-matches w ↦ absurd (let both : false ≡ true = sym w.matches-is ∙ c.if-matches.true in cc)
+    ] in
     let read : IsRead c.self.inside c.args.key.now.span.shard c.in-Some.shard.now = record { within = c.in-Some.ensures.variant.0 refl; value = c.in-Some.ensures.value } in
     subst (λ (s : CoreState). StandsIn s.shards c.args.key.now.span c.args.key.now.span.shard
-    → ⊥) (sym (state_of-same c.self.inside c.args.key.now.span.shard c.in-Some.shard.now c.set.new.self read (away g c).1))
+    → ⊥) (sym (state_of-same c.self.inside c.args.key.now.span.shard c.in-Some.shard.now c.set.new.self read away.1))
     (not-standing (state_of c.self.inside) c.self.invariant.sound.groups c.args.key.now.span c.args.key.now.span.shard c.in-Some.shard.now
-    (shard-read c.self.inside c.args.key.now.span.shard c.in-Some.shard.now read) (away g c).0)
+    (shard-read c.self.inside c.args.key.now.span.shard c.in-Some.shard.now read) away.0)

@@ -8,7 +8,9 @@ use Rattle.pool.specs.State.{PooledState}
 use Rattle.arena_core.proofs.Fields.{IsFew, IsFew-fields}
 use Rattle.arena_core.proofs.Lists.{length-filter_most}
 use Rattle.arena_core.specs.Sound.{IsSound}
-use Rattle.arena_core.specs.State.{HasKeys, live_keys, shard_keys, shown}
+use Rattle.arena_core.specs.State.{HasKeys, live_keys, pages, shard_keys, shown}
+use Rattle.arena_core.specs.Kept.{shards_of}
+use Rattle.arena_core.proofs.Made.{keys-all, pages-all}
 use Rattle.arena_core.proofs.LiveKeysShown.{HasKeys-live_keys}
 use Rattle.arena_core.proofs.machine.Core.totals.Goals as goal
 
@@ -41,10 +43,28 @@ loop-shard-preserved g c =
       few_keys = omega (arith, few.pages, c.live-in-loop-shard.ensures.at_most);
     }
 
+-- the sum over those that were made is that over all
+pub returns-clause-pages : goal.returns-clause-pages
+returns-clause-pages g c =
+    let shards = c.deref-shard-items.result.now in
+    let all : take c.loop-shard.shard-index shards ≡ shards = take_all c.loop-shard.shard-index shards (omega arith) in
+    let owned : sum_by (λ (shard : ShardState). length (paged_in shard.groups)) (take c.loop-shard.shard-index shards) ≡ sum_by (λ (shard : ShardState). length (paged_in shard.groups)) (shards_of c.self.inside) =
+    ap (sum_by (λ (shard : ShardState). length (paged_in shard.groups))) (all ∙ c.deref-shard-items.ensures.value) ∙ sym (pages-all c.self.inside.limits c.self.inside.shards.items) in
+    omega (arith, c.loop-shard.invariant.pages, owned, c.pages.ensures) ∙ ap pages c.self.view_is
+
+pub returns-clause-live : goal.returns-clause-live
+returns-clause-live g c =
+    let shards = c.deref-shard-items.result.now in
+    let all : take c.loop-shard.shard-index shards ≡ shards = take_all c.loop-shard.shard-index shards (omega arith) in
+    let owned : sum_by shard_keys (take c.loop-shard.shard-index shards) ≡ sum_by shard_keys (shards_of c.self.inside) =
+    ap (sum_by shard_keys) (all ∙ c.deref-shard-items.ensures.value) ∙ sym (keys-all c.self.inside.limits c.self.inside.shards.items) in
+    omega (arith, c.loop-shard.invariant.live, owned, c.live.ensures.live) ∙ ap live_keys c.self.view_is
+
 pub returns-clause-shown : goal.returns-clause-shown
 returns-clause-shown g c =
     let shards = c.deref-shard-items.result.now in
     let all : take c.loop-shard.shard-index shards ≡ shards = take_all c.loop-shard.shard-index shards (omega arith) in
-    let owned : sum_by shard_keys (take c.loop-shard.shard-index shards) ≡ sum_by shard_keys c.self.inside.shards.items = ap (sum_by shard_keys) (all ∙ c.deref-shard-items.ensures.value) in
+    let owned : sum_by shard_keys (take c.loop-shard.shard-index shards) ≡ sum_by shard_keys (shards_of c.self.inside) =
+    ap (sum_by shard_keys) (all ∙ c.deref-shard-items.ensures.value) ∙ sym (keys-all c.self.inside.limits c.self.inside.shards.items) in
     let live : c.loop-shard.totals.live ≡ live_keys c.args.self.now = omega (arith, c.loop-shard.invariant.live, owned, c.live.ensures.live) ∙ ap live_keys c.self.view_is in
     subst (HasKeys (shown c.args.self.now)) (sym live) (HasKeys-live_keys c.args.self.now (subst IsSound c.self.view_is c.self.invariant.sound).groups)

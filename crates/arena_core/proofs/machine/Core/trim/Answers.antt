@@ -3,9 +3,10 @@ use Rattle.arena_core.specs.declared.event.Event.TheVariants.{Trim}
 use Rattle.arena_core.specs.declared.reply.Reply.TheVariants.{Trimmed}
 use Rattle.arena_core.specs.Kept.{state_of}
 use Rattle.arena_core.proofs.FieldSteps.{IsStep-trim_fields}
-use Rattle.arena_core.proofs.Fields.{IsRead, with_shard_at}
+use Rattle.arena_core.proofs.Fields.{IsRead, no_read, with_shard_at}
 use Rattle.arena_core.proofs.FieldsKept.{GetsNone-Trims, IsKept-with_shard_at}
 use Rattle.arena_core.proofs.PlanSteps.{IsSoundStep}
+use Rattle.arena_core.proofs.MadeFields.{IsUnused-unmade}
 use Rattle.arena_core.proofs.machine.Core.trim.Goals as goal
 
 trimmed : (g : _) (c : goal.After-self-2-1 g) → IsSoundStep c.args.self.now (Trim c.args.number) (Trimmed c.trim.result) (state_of (with_shard_at c.self.inside c.args.number c.trim.new.self))
@@ -29,3 +30,8 @@ returns-clause-same g c = (trimmed g c).plain
 
 pub returns-clause-sound : goal.returns-clause-sound
 returns-clause-sound g c = (trimmed g c).kept
+
+-- the shard is not made
+
+pub trim_none-requires : goal.trim_none-requires
+trim_none-requires g c = IsUnused-unmade (state_of c.self.inside) c.self.inside.shards.items c.args.number refl (no_read c.self.inside c.args.number c.in_default.ensures.variant.1)

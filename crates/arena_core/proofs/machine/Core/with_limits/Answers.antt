@@ -1,4 +1,5 @@
-use Rattle.std.proofs.Common.{◌≡◌, ap, length, subst, sym, ◌∙◌}
+use Rattle.std.proofs.Common.{◌≡◌, ap, subst, sym, ◌∙◌}
+use Rattle.arena_core.specs.Made.{all_shards}
 use Rattle.arena_core.specs.Moved.{KnowsMoved}
 use Rattle.arena_core.specs.Rings.{new_rings}
 use Rattle.arena_core.specs.Sound.{IsSound}
@@ -6,40 +7,32 @@ use Rattle.arena_core.specs.State.{CoreState, new_core, shown}
 use Rattle.arena_core.proofs.FieldsKept.{KnowsMoved-new}
 use Rattle.arena_core.proofs.Start.{HasSoundGroups-new_core, IsSound-new_core, new_core-fields, shown-new_core}
 use Rattle.arena_core.proofs.machine.Core.with_limits.Goals as goal
+use Rattle.arena_core.proofs.machine.Core.with_limits.Goals.{After-new-4}
 
 -- the fields show as a new core of these numbers
-made : (g : _) (c : goal.After-new-2 g)
+made : (g : _) (c : After-new-4 g)
     → ◌≡◌ {A = CoreState} (record {
-      limits = record {
-        shards = length c.in_ok-shards.shards.items;
-        page_limit = c.page_limit.result;
-        span_limit = c.span_limit.result;
-        ring_capacity = c.ring_capacity-ring_capacity.result;
-        gens = c.gens.result;
-      };
-      shards = c.in_ok-shards.shards.items;
+      limits = c.args.limits;
+      shards = all_shards c.args.limits c.new.result.items;
       pool = c.with_log.result;
-      plan = c.in_ok-plan.plan;
+      plan = c.new-2.result;
       rings = c.new-rings.result;
-      forgotten = c.new-forgotten.result.spans;
+      forgotten = c.new-4.result.spans;
     })
     (new_core c.args.limits)
-made g c = new_core-fields c.args.limits c.page_limit.result c.span_limit.result c.ring_capacity-ring_capacity.result c.gens.result c.in_ok-shards.shards.items
-    c.with_log.result c.in_ok-plan.plan c.new-rings.result c.new-forgotten.result.spans
-    c.page_limit.ensures.page_limit c.span_limit.ensures.span_limit c.ring_capacity-ring_capacity.ensures.ring_capacity c.gens.ensures.gens
-    c.in_ok-shards.ensures.shards c.with_log.ensures.empty c.in_ok-plan.ensures
-    (c.new-rings.ensures ∙ (λ i. new_rings (c.shards-count.ensures.shards i) (c.ring_capacity-ring_capacity.ensures.ring_capacity i)))
-    c.new-forgotten.ensures
+made g c = new_core-fields c.args.limits c.new.result.items c.with_log.result c.new-2.result c.new-rings.result c.new-4.result.spans
+    c.new.ensures.items c.with_log.ensures.empty c.new-2.ensures
+    (c.new-rings.ensures ∙ (λ i. new_rings (c.shards.ensures.shards i) (c.ring_capacity.ensures.ring_capacity i)))
+    c.new-4.ensures
 
-sound : (g : _) (c : goal.After-new-2 g) → IsSound (new_core c.args.limits)
-sound g c = IsSound-new_core c.args.limits (HasSoundGroups-new_core c.args.limits c.page_limit.ensures.within c.in_ok-shards.ensures.sound)
+sound : (g : _) (c : After-new-4 g) → IsSound (new_core c.args.limits)
+sound g c = IsSound-new_core c.args.limits (HasSoundGroups-new_core c.args.limits c.shards.ensures.within)
 
 pub invariant_of-result : goal.invariant_of-result
-invariant_of-result g c =
-    record {
-      sound = subst IsSound (sym (made g c)) (sound g c);
-      moved = subst (λ shards. KnowsMoved shards c.new-2.result.entries) (sym c.in_ok-shards.ensures.shards) (KnowsMoved-new c.args.limits c.new-2.result.entries);
-    }
+invariant_of-result g c = record {
+  sound = subst IsSound (sym (made g c)) (sound g c);
+  moved = subst (λ (s : CoreState). KnowsMoved s.shards c.new-3.result.entries) (sym (made g c)) (KnowsMoved-new c.args.limits c.new-3.result.entries);
+}
 
 pub returns-clause-ok : goal.returns-clause-ok
 returns-clause-ok g c = made g c

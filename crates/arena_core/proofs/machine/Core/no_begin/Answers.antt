@@ -1,0 +1,11 @@
+use Rattle.std.proofs.Common.{◌≤◌, ◌<◌, arith, refl, ap}
+use Rattle.arena_core.specs.State.{CoreState}
+use Rattle.arena_core.proofs.MadeFields.{CoreStep-begin_unused}
+use Rattle.arena_core.proofs.machine.Core.no_begin.Goals as goal
+
+pub returns-then-number-count : goal.returns-then-number-count
+returns-then-number-count g c = (omega (arith, c.shards-count.ensures.shards, ap (λ (s : CoreState). s.limits.shards) c.self.view_is), refl)
+
+pub returns : goal.returns
+returns g c =
+    CoreStep-begin_unused c.args.self.now c.args.number c.requires (omega (arith, c.shards-count.ensures.shards, ap (λ (s : CoreState). s.limits.shards) c.self.view_is))

@@ -1,0 +1,82 @@
+// The open plan of a core, which has memory only while it is open.
+ghost use Rattle.std.specs.Prelude.{◌≡◌, None, IsSome, is_some, option_map};
+ghost use Rattle.marks.specs.Plans.{next_pair, with_next_done};
+
+use marks::CurrentPlan;
+use span::SpanId;
+use std::marker::Model;
+
+/// The open plan of folds, if there is one. The room of a plan comes with the mark that opens it,
+/// and goes with the close.
+#[derive(Drop)]
+pub struct LatePlan {
+    plan: Option<CurrentPlan>,
+}
+
+impl Model for LatePlan {
+    ghost use Rattle.std.specs.Prelude.{Option};
+    ghost use Rattle.marks.specs.Plans.{OpenPlan};
+    ghost use Rattle.arena_core.specs.LatePlan.{plan_in};
+
+    ghost Value = { Option OpenPlan };
+
+    ghost view = { λ late. plan_in late.plan };
+}
+
+impl LatePlan {
+    /// No plan. It takes no memory.
+    pub fn new() -> LatePlan
+        ensures { result ≡ None }
+    {
+        LatePlan { plan: None }
+    }
+
+    /// Whether a plan is open.
+    #[inline]
+    pub fn is_open(&self) -> bool
+        ensures { result ≡ is_some self.now }
+    {
+        match &self.plan {
+            Some(plan) => plan.is_open(),
+            None => false,
+        }
+    }
+
+    /// The pair that comes next: none if no plan is open, and none if all pairs of the plan are
+    /// done with.
+    #[inline]
+    pub fn next(&self) -> Option<(SpanId, SpanId)>
+        ensures { result ≡ next_pair self.now }
+    {
+        match &self.plan {
+            Some(plan) => plan.next(),
+            None => None,
+        }
+    }
+
+    /// Goes on to the pair after the next one.
+    #[inline]
+    pub fn advance(&mut self)
+        requires { IsSome (next_pair self.old) }
+        ensures { self.new ≡ option_map with_next_done self.old }
+    {
+        match &mut self.plan {
+            Some(plan) => plan.advance(),
+            None => unreachable!(),
+        }
+    }
+
+    /// Keeps the plan in the place of the one that there was.
+    pub fn open(&mut self, plan: CurrentPlan)
+        ensures { self.new ≡ plan }
+    {
+        self.plan = Some(plan);
+    }
+
+    /// Ends the plan, if there is one, and gives its memory back.
+    pub fn end(&mut self)
+        ensures { self.new ≡ None }
+    {
+        self.plan = None;
+    }
+}
