@@ -76,6 +76,32 @@ fn no_value_takes_no_memory() {
     assert!(bytes_taken() < before + 1000);
 }
 
+/// With one value each takes some lists and one shard of its 16 beside its pages, which the
+/// allocator does not count.
+fn one_value_takes_little() {
+    let core = || {
+        let mut core = Core::new(Limits {
+            shards: 16,
+            ..Limits::default()
+        })?;
+        core.insert(0, 7)?;
+        Ok::<_, Refused>(core)
+    };
+    let slab = || {
+        let mut slab = Slab::new()?;
+        slab.insert(7_u64)?;
+        Ok::<_, Refused>(slab)
+    };
+    let store = || {
+        let mut store = Store::new()?;
+        store.insert(7_u64)?;
+        Ok::<_, Refused>(store)
+    };
+    for each in [bytes_each(core), bytes_each(slab), bytes_each(store)] {
+        assert!(each <= 3500, "{each} bytes");
+    }
+}
+
 /// What a core that has no key answers to each call, as a text.
 fn answers(core: &mut Core) -> Vec<String> {
     let key: Key = "0.0/7/9".parse().unwrap();
@@ -208,6 +234,7 @@ fn unwinds<T: UnwindSafe + RefUnwindSafe>(_: &T) {}
 #[test]
 fn until_used() -> Result<(), Refused> {
     no_value_takes_no_memory();
+    one_value_takes_little();
     it_answers_as_one_that_had_values()?;
     an_arena_without_seats_answers()?;
     unwinds(&Slab::<String>::new()?);
