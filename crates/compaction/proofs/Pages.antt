@@ -1,6 +1,6 @@
 -- No step of a compaction makes pages more.
-use Rattle.std.proofs.Common.{◌≡◌, ◌∙◌, zero, suc, ℕ, ◌+◌, ◌≤◌, Bool, true, false, cond, List, [], ◌∷◌, length, map, insert, remove, Option, None, Some, is_some, ap, arith, inl, inr, refl, slice_get, subst, sym, set}
-use Rattle.std.specs.Prelude.{filter, sum_by}
+use Rattle.std.proofs.Common.{◌≡◌, ◌∙◌, zero, suc, ℕ, ◌+◌, ◌≤◌, Bool, true, false, cond, List, [], ◌∷◌, length, map, insert, remove, Option, None, Some, is_some, ap, arith, inl, inr, refl, slice_get, sym}
+use Rattle.std.specs.Prelude.{sum_by}
 use Rattle.std.proofs.lemmas.List.Sums.{length-filter, sum_by-cons}
 use Rattle.page.specs.Words.{Words}
 use Rattle.groups.specs.Dead.{without_dead}
@@ -10,7 +10,6 @@ use Rattle.groups.proofs.Lists.{count-insert}
 use Rattle.groups.proofs.Removed.{count-remove}
 use Rattle.shard.specs.Closes.{opened_group}
 use Rattle.shard.specs.Group.{GroupState}
-use Rattle.shard.specs.Moves.{TakesIn as TakesInShard}
 use Rattle.shard.specs.State.{ShardState}
 use Rattle.shard.specs.Trims.{is_idle, trimmed}
 use Rattle.pool.specs.Calls.{Adopts, TakesIn, with_rooms}
@@ -27,8 +26,11 @@ use Rattle.arena_core.specs.declared.reply.Reply.TheVariants.{Retired, Trimmed, 
 use Rattle.arena_core.specs.Forgets.{Forgets, without_dead_guests}
 use Rattle.arena_core.specs.State.{CoreState, pages}
 use Rattle.arena_core.specs.Step.{CoreStep}
-use Rattle.compaction.specs.Compacts.{Going, Takes, TakesAll, is_of_compaction}
+use Rattle.compaction.specs.Compacts.{Going, IsWithin, MayCome, Stops, Takes, TakesAll}
 use Rattle.compaction.specs.declared.advanced.Advanced.{Advanced}
+use Rattle.compaction.specs.declared.compacted.Standing.{Standing}
+use Rattle.compaction.specs.declared.compacted.Standing.TheVariants.{GoesOn, Done, Refused as IsRefused}
+use Rattle.compaction.specs.declared.progress.Progress.{Progress}
 
 -- how many of the groups have a page, and whether one has
 abbrev paged : {Closed : Type 0} → List (Group Closed) → ℕ
@@ -126,66 +128,66 @@ trimmed-paged group = by_test (is_idle group)
 abbrev owned : List ShardState → ℕ
 owned shards = sum_by (λ (s : ShardState). paged s.groups) shards
 
-pages-event : (old new : CoreState) (event : Event) (reply : Reply) → is_of_compaction event ≡ true → CoreStep old event reply new → pages new ≤ pages old
-pages-event old new (Retire shard most) (Retired count) of step = omega (
+pages-event : (old new : CoreState) (event : Event) (reply : Reply) (progress : Progress) → MayCome event progress → CoreStep old event reply new → pages new ≤ pages old
+pages-event old new (Retire shard most) (Retired count) progress may step = omega (
   arith,
   ap pages step.rest,
   sum_by-set_at (λ (s : ShardState). paged s.groups) old.shards shard step.before step.after step.here,
   paged-MovesSparse count (with_rooms old.pool step.retires.group_room step.retires.span_room) step.before step.pool step.after step.retires.moved,
 )
-pages-event old new (Retire shard most) (Refused Config) of step = omega (arith, ap pages step.1)
-pages-event old new (Retire shard most) (Refused Ended) of step = omega (arith, ap pages step.1)
-pages-event old new (Retire shard most) (Refused PlanOpen) of step = omega (arith, ap pages step.2)
-pages-event old new (Retire shard most) (Refused OutOfMemory) of step = omega (arith, ap pages step.1)
-pages-event old new (Trim shard) (Trimmed count) of step = omega (
+pages-event old new (Retire shard most) (Refused Config) progress may step = omega (arith, ap pages step.1)
+pages-event old new (Retire shard most) (Refused Ended) progress may step = omega (arith, ap pages step.1)
+pages-event old new (Retire shard most) (Refused PlanOpen) progress may step = omega (arith, ap pages step.2)
+pages-event old new (Retire shard most) (Refused OutOfMemory) progress may step = omega (arith, ap pages step.1)
+pages-event old new (Trim shard) (Trimmed count) progress may step = omega (
   arith,
   ap pages step.rest,
   sum_by-set_at (λ (s : ShardState). paged s.groups) old.shards shard step.before step.after step.here,
   ap (λ (s : ShardState). paged s.groups) step.trims.after,
   paged-map trimmed trimmed-paged step.before.groups,
 )
-pages-event old new (Trim shard) (Refused Config) of step = omega (arith, ap pages step.1)
-pages-event old new (Adopt shard) (Adopted head) of step = omega (
+pages-event old new (Trim shard) (Refused Config) progress may step = omega (arith, ap pages step.1)
+pages-event old new (Adopt shard) (Adopted head) progress may step = omega (
   arith,
   ap pages step.rest,
   sum_by-set_at (λ (s : ShardState). paged s.groups) old.shards shard step.before step.after step.here,
   paged-Adopts old.pool step.before head step.pool step.after step.adopts,
 )
-pages-event old new (Adopt shard) (Refused Config) of step = omega (arith, ap pages step.3)
-pages-event old new (Adopt shard) (Refused PlanOpen) of step = omega (arith, ap pages step.2)
-pages-event old new (Adopt shard) (Refused Ended) of step = omega (arith, ap pages step.1)
-pages-event old new (Adopt shard) (Refused PagesSpent) of step = omega (arith, ap pages step.1)
-pages-event old new (Adopt shard) (Refused NothingToAdopt) of step = omega (arith, ap pages step.3)
-pages-event old new (Adopt shard) (Refused OutOfMemory) of step = omega (arith, ap pages step.1)
-pages-event old new MarkSome (Marked certificate) of step = omega (
+pages-event old new (Adopt shard) (Refused Config) progress may step = omega (arith, ap pages step.3)
+pages-event old new (Adopt shard) (Refused PlanOpen) progress may step = omega (arith, ap pages step.2)
+pages-event old new (Adopt shard) (Refused Ended) progress may step = omega (arith, ap pages step.1)
+pages-event old new (Adopt shard) (Refused PagesSpent) progress may step = omega (arith, ap pages step.1)
+pages-event old new (Adopt shard) (Refused NothingToAdopt) progress may step = omega (arith, ap pages step.3)
+pages-event old new (Adopt shard) (Refused OutOfMemory) progress may step = omega (arith, ap pages step.1)
+pages-event old new MarkSome (Marked certificate) progress may step = omega (
   arith,
   ap pages step.after,
   sum_by-map (λ (s : ShardState). paged s.groups) (closed_onto certificate.plan)
       (λ shard. paged-map (closed_as_planned certificate.plan) (λ group e. e) shard.groups) old.shards,
 )
-pages-event old new MarkSome (Refused PlanOpen) of step = omega (arith, ap pages step.1)
-pages-event old new MarkSome (Refused OutOfMemory) of step = omega (arith, ap pages step.1)
-pages-event old new Step (Stepped abandoned onto Folded) of step = omega (arith, step.page_goes)
-pages-event old new Step (Stepped abandoned onto Emptied) of step = omega (arith, ap pages step.rest)
-pages-event old new Step NoPairLeft of step = omega (arith, ap pages step.1)
-pages-event old new Step NoPlan of step = omega (arith, ap pages step.1)
-pages-event old new Step (Refused OutOfMemory) of step = omega (arith, ap pages step.1)
-pages-event old new Close Closed of step = omega (
+pages-event old new MarkSome (Refused PlanOpen) progress may step = omega (arith, ap pages step.1)
+pages-event old new MarkSome (Refused OutOfMemory) progress may step = omega (arith, ap pages step.1)
+pages-event old new Step (Stepped abandoned onto Folded) progress may step = omega (arith, step.page_goes)
+pages-event old new Step (Stepped abandoned onto Emptied) progress may step = omega (arith, ap pages step.rest)
+pages-event old new Step NoPairLeft progress may step = omega (arith, ap pages step.1)
+pages-event old new Step NoPlan progress may step = omega (arith, ap pages step.1)
+pages-event old new Step (Refused OutOfMemory) progress may step = omega (arith, ap pages step.1)
+pages-event old new Close Closed progress may step = omega (
   arith,
   ap pages step.1,
   sum_by-map (λ (s : ShardState). paged s.groups) reopened (λ shard. paged-map opened_group (λ group e. e) shard.groups) old.shards,
 )
-pages-event old new Close NoPlan of step = omega (arith, ap pages step.1)
-pages-event old new (Put shard value) reply of step = cc
-pages-event old new (Get key) reply of step = cc
-pages-event old new (Set key value) reply of step = cc
-pages-event old new (Free key) reply of step = cc
-pages-event old new (Later worker key) reply of step = cc
-pages-event old new (Settle worker shard) reply of step = cc
-pages-event old new (End shard) reply of step = cc
-pages-event old new (Begin shard) reply of step = cc
-pages-event old new Mark reply of step = cc
-pages-event old new event reply of step = absurd step
+pages-event old new Close NoPlan progress may step = omega (arith, ap pages step.1)
+pages-event old new (Put shard value) reply progress may step = absurd may
+pages-event old new (Get key) reply progress may step = absurd may
+pages-event old new (Set key value) reply progress may step = absurd may
+pages-event old new (Free key) reply progress may step = absurd may
+pages-event old new (Later worker key) reply progress may step = absurd may
+pages-event old new (Settle worker shard) reply progress may step = absurd may
+pages-event old new (End shard) reply progress may step = absurd may
+pages-event old new (Begin shard) reply progress may step = absurd may
+pages-event old new Mark reply progress may step = absurd may
+pages-event old new event reply progress may step = absurd step
 
 paged-paged_in : (groups : List PooledState) → paged (paged_in groups) ≤ paged groups
 paged-paged_in groups = length-filter_most is_paged (paged_in groups)
@@ -200,10 +202,18 @@ pages-forgetting old new count forgets = omega (
 )
 
 pages-Takes : (taken : ℕ) (tells : Advanced) (old new : Going) → Takes taken tells old new → pages new.core ≤ pages old.core
-pages-Takes taken tells old new (inl takes) = pages-event old.core new.core takes.event takes.reply takes.of takes.exact
+pages-Takes taken tells old new (inl takes) = pages-event old.core new.core takes.event takes.reply old.progress takes.may_come takes.exact
 pages-Takes taken tells old new (inr (taken_is, inl takes)) = pages-forgetting old.core new.core takes.count takes.forgets
 pages-Takes taken tells old new (inr (taken_is, inr tries)) = omega (arith, ap (λ (g : Going). pages g.core) tries.same)
 
-pub pages-TakesAll : (steps taken : ℕ) (old new : Going) → TakesAll steps taken old new → pages new.core ≤ pages old.core
+pages-TakesAll : (steps taken : ℕ) (old new : Going) → TakesAll steps taken old new → pages new.core ≤ pages old.core
 pages-TakesAll zero taken old new (taken_is, same) = omega (arith, ap (λ (g : Going). pages g.core) same)
-pages-TakesAll (suc steps) taken old new (mid, before, last, tells, takes, step, taken_is) = omega (arith, pages-TakesAll steps before old mid takes, pages-Takes last tells mid new step)
+pages-TakesAll (suc steps) taken old new (mid, before, last, tells, takes, step, goes_on, taken_is) = omega (arith, pages-TakesAll steps before old mid takes, pages-Takes last tells mid new step)
+
+pages-Stops : (budget : ℕ) (standing : Standing) (old new : Going) → Stops budget standing old new → pages new.core ≤ pages old.core
+pages-Stops budget standing old new stops = omega (arith, pages-TakesAll stops.steps stops.taken old stops.mid stops.before, pages-Takes stops.last stops.tells stops.mid new stops.takes)
+
+pub pages-IsWithin : (budget : ℕ) (standing : Standing) (old new : Going) → IsWithin budget standing old new → pages new.core ≤ pages old.core
+pages-IsWithin budget GoesOn old new (steps, takes) = pages-TakesAll steps budget old new takes
+pages-IsWithin budget Done old new stops = pages-Stops budget Done old new stops
+pages-IsWithin budget (IsRefused refusal) old new stops = pages-Stops budget (IsRefused refusal) old new stops

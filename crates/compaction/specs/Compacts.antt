@@ -1,9 +1,9 @@
 -- What a compaction does to a core: which steps it takes, and where it leaves the core.
-use Rattle.std.specs.Prelude.{zero, suc, ◌≡◌, ◌⊎◌, ℕ, ◌+◌, ◌*◌, ◌<◌, ◌≤◌, min, max, length, Bool, true, false, None}
+use Rattle.std.specs.Prelude.{zero, suc, ◌≡◌, ◌⊎◌, ℕ, ◌+◌, ◌*◌, ◌<◌, ◌≤◌, min, max, nat_lt, length, Bool, true, false, None}
 use Rattle.arena_core.specs.declared.event.Event.{Event}
 use Rattle.arena_core.specs.declared.event.Event.TheVariants.{Retire, Trim, Adopt, MarkSome, Step, Close}
 use Rattle.arena_core.specs.declared.reply.Reply.{Reply}
-use Rattle.arena_core.specs.declared.reply.Reply.TheVariants.{Marked, Trimmed, Refused as IsRefused}
+use Rattle.arena_core.specs.declared.reply.Reply.TheVariants.{Marked, Trimmed, NoPairLeft, NoPlan, Refused as IsRefused}
 use Rattle.arena_core.specs.declared.reply.Refusal.TheVariants.{OutOfMemory, PlanOpen}
 use Rattle.arena_core.specs.Forgets.{Forgets}
 use Rattle.arena_core.specs.Sound.{IsSound}
@@ -14,9 +14,10 @@ use Rattle.compaction.specs.declared.advanced.Advanced.{Advanced}
 use Rattle.compaction.specs.declared.advanced.Advanced.TheVariants as advanced
 use Rattle.compaction.specs.declared.compacted.Standing.{Standing}
 use Rattle.compaction.specs.declared.compacted.Standing.TheVariants.{GoesOn, Done, Refused}
+use Rattle.compaction.specs.declared.progress.Phase.TheVariants.{Fresh, Trimming, Choosing, Folding, Closing}
 use Rattle.compaction.specs.declared.progress.Progress.{Progress}
-use Rattle.compaction.specs.Progress.{IsThrough, fresh}
-use Rattle.compaction.specs.Told.{told}
+use Rattle.compaction.specs.Progress.{IsThrough, begun, fresh, is_planned}
+use Rattle.compaction.specs.Told.{standing_of, told}
 
 -- a core, and what its compaction has gone through
 pub record Going : Type 0 where
@@ -26,15 +27,16 @@ pub record Going : Type 0 where
 abbrev pub going : Progress → CoreState → Going
 going progress core = record { progress = progress; core = core }
 
--- the events that a compaction consists of
-abbrev pub is_of_compaction : Event → Bool
-is_of_compaction (Retire shard most) = true
-is_of_compaction (Trim shard) = true
-is_of_compaction (Adopt shard) = true
-is_of_compaction MarkSome = true
-is_of_compaction Step = true
-is_of_compaction Close = true
-is_of_compaction event = false
+-- the events that may come next: shards are trimmed one after another, before all else; and a plan
+-- is folded or closed only if the compaction has opened it, and closed only once no pair is left
+abbrev pub MayCome : Event → Progress → Type 0
+MayCome (Trim shard) progress = (progress.phase ≡ Trimming) × (shard ≡ progress.trimmed)
+MayCome (Retire shard most) progress = (progress.phase ≡ Choosing) × (0 < most)
+MayCome (Adopt shard) progress = progress.phase ≡ Choosing
+MayCome MarkSome progress = progress.phase ≡ Choosing
+MayCome Step progress = progress.phase ≡ Folding
+MayCome Close progress = progress.phase ≡ Closing
+MayCome event progress = ⊥
 
 -- how much of a budget the event takes: a retirement as much as it may retire, and another one
 abbrev pub cost : Event → ℕ
@@ -42,47 +44,50 @@ cost (Retire shard most) = most
 cost event = 1
 
 -- the mark plans fewer folds than one of 16 groups of its smaller side, or none
-abbrev pub IsPoor : Certificate → Type 0
-IsPoor certificate = length certificate.plan * 16
-    < max (min (length certificate.snapshot.abandoned) (length certificate.snapshot.owned)) 1
+abbrev pub is_poor : Certificate → Bool
+is_poor certificate = nat_lt (length certificate.plan * 16)
+    (max (min (length certificate.snapshot.abandoned) (length certificate.snapshot.owned)) 1)
 
--- a mark is noted as the last one, if it was not refused; only a poor one leaves the compaction
--- spent
-abbrev pub NotesMark : Reply → Progress → Progress → Type 0
-NotesMark (Marked certificate) old new = (new.is_spent ≡ true → IsPoor certificate)
-    × (new ≡ record old { is_spent = new.is_spent })
-NotesMark reply old new = new ≡ old
-
--- what the compaction has gone through after one more event: shards are trimmed from 0 on, until
--- there is no further one, which refuses that
-abbrev pub Notes : Event → Reply → Progress → Progress → Type 0
-Notes (Trim shard) (Trimmed count) old new = (shard ≡ old.trimmed)
-    × (new ≡ record old { trimmed = new.trimmed }) × (new.trimmed ≤ suc shard)
-Notes (Trim shard) (IsRefused refusal) old new = (shard ≡ old.trimmed)
-    × (new ≡ record old { has_trimmed = true })
-Notes MarkSome reply old new = NotesMark reply old new
-Notes event reply old new = new ≡ old
+-- what the compaction has gone through after one more event: the first shard that there is not
+-- refuses its trim, and a mark that is not refused opens a plan
+abbrev pub noted : Event → Reply → Progress → Progress
+noted (Trim shard) (Trimmed count) old = record old { trimmed = shard + 1 }
+noted (Trim shard) (IsRefused refusal) old = record old { phase = Choosing }
+noted MarkSome (Marked certificate) old =
+    record old { phase = Folding; is_spent = is_poor certificate }
+noted Step NoPairLeft old = record old { phase = Closing }
+noted Step NoPlan old = record old { phase = Choosing }
+noted Close reply old = record old { phase = Choosing }
+noted event reply old = old
 
 -- the core gives some reply to one of these events, which takes that much, and the compaction tells
 -- what came of it
 pub record TakesEvent (taken : ℕ) (tells : Advanced) (old new : Going) : Type 0 where
   pub event : Event
   pub reply : Reply
-  pub of : is_of_compaction event ≡ true
+  pub may_come : MayCome event old.progress
   pub cost_is : cost event ≡ taken
   pub tells_is : tells ≡ told reply
   pub exact : CoreStep old.core event reply new.core
-  pub notes : Notes event reply old.progress new.progress
+  pub notes : new.progress ≡ noted event reply old.progress
 
--- the core forgets the spans that can never be live again, with which a compaction begins anew
+-- a forgetting with which the compaction begins
+abbrev pub Begins : Advanced → Progress → Progress → Type 0
+Begins tells old new = (old.phase ≡ Fresh) × (tells ≡ advanced.Went) × (new ≡ begun)
+
+-- a forgetting with which it is done
+abbrev pub Ends : Advanced → Progress → Progress → Type 0
+Ends tells old new = IsThrough old × (tells ≡ advanced.Done) × (new ≡ fresh)
+
+-- the core forgets the spans that can never be live again
 pub record TakesForgetting (tells : Advanced) (old new : Going) : Type 0 where
   pub count : ℕ
   pub forgets : Forgets old.core count new.core
-  pub anew : new.progress ≡ fresh
-  pub tells_is : (tells ≡ advanced.Went) ⊎ ((tells ≡ advanced.Done) × IsThrough old.progress)
+  pub notes : Begins tells old.progress new.progress ⊎ Ends tells old.progress new.progress
 
--- a forgetting is refused, since a plan is open
+-- such a forgetting is refused, since a plan is open
 pub record TriesForgetting (tells : Advanced) (old new : Going) : Type 0 where
+  pub may_come : (old.progress.phase ≡ Fresh) ⊎ IsThrough old.progress
   pub tells_is : tells ≡ advanced.Refused PlanOpen
   pub has_plan : HasPlan old.core
   pub same : new ≡ old
@@ -93,22 +98,31 @@ abbrev pub Takes : ℕ → Advanced → Going → Going → Type 0
 Takes taken tells old new = TakesEvent taken tells old new
     ⊎ ((taken ≡ 1) × (TakesForgetting tells old new ⊎ TriesForgetting tells old new))
 
--- so many steps, one after another, which take that much together
+-- so many steps, one after another, which take that much together, and after each of which the
+-- compaction goes on
 abbrev pub TakesAll : ℕ → ℕ → Going → Going → Type 0
 TakesAll zero taken old new = (taken ≡ 0) × (new ≡ old)
 TakesAll (suc steps) taken old new = (mid : Going) × (before last : ℕ) × (tells : Advanced)
-    × TakesAll steps before old mid × Takes last tells mid new × (taken ≡ before + last)
+    × TakesAll steps before old mid × Takes last tells mid new × (standing_of tells ≡ GoesOn)
+    × (taken ≡ before + last)
 
--- the steps take no more than the budget, and where the compaction goes on, no less; it is done
--- only if it has gone through all before its last step, a forgetting
-pub record IsWithin (budget : ℕ) (standing : Standing) (old new : Going) : Type 0 where
+-- after such steps one more leaves the compaction so, and all take no more than the budget
+pub record Stops (budget : ℕ) (standing : Standing) (old new : Going) : Type 0 where
   pub steps : ℕ
   pub taken : ℕ
-  pub takes : TakesAll steps taken old new
-  pub at_most : taken ≤ budget
-  pub all : standing ≡ GoesOn → taken ≡ budget
-  pub done : standing ≡ Done → (before spent : ℕ) × (mid : Going) × TakesAll before spent old mid
-      × IsThrough mid.progress × TakesForgetting advanced.Done mid new
+  pub last : ℕ
+  pub mid : Going
+  pub tells : Advanced
+  pub before : TakesAll steps taken old mid
+  pub takes : Takes last tells mid new
+  pub at_most : taken + last ≤ budget
+  pub standing_is : standing ≡ standing_of tells
+
+-- the steps take all of the budget, and the compaction goes on; or the last one ends it, or is
+-- refused
+abbrev pub IsWithin : ℕ → Standing → Going → Going → Type 0
+IsWithin budget GoesOn old new = (steps : ℕ) × TakesAll steps budget old new
+IsWithin budget standing old new = Stops budget standing old new
 
 -- how a compaction leaves the core: with no plan open once it is done; and it is refused for want
 -- of memory, or since a plan is open, and else never
@@ -119,6 +133,13 @@ Leaves (Refused OutOfMemory) core = Unit {0}
 Leaves (Refused PlanOpen) core = HasPlan core
 Leaves (Refused refusal) core = ⊥
 
--- the open plan is closed, or nothing is done
-abbrev pub MayClose : CoreState → CoreState → Type 0
-MayClose old new = ((reply : Reply) × CoreStep old Close reply new × IsSound new) ⊎ (new ≡ old)
+-- the open plan is closed, if there is one
+pub record Closes (old new : CoreState) : Type 0 where
+  pub reply : Reply
+  pub exact : CoreStep old Close reply new
+  pub sound : IsSound new
+
+-- a plan that the compaction has opened is closed, and else nothing is done
+pub record ClosesOwn (progress : Progress) (old new : CoreState) : Type 0 where
+  pub own : is_planned progress.phase ≡ true → Closes old new
+  pub none : is_planned progress.phase ≡ false → new ≡ old

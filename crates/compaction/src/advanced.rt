@@ -1,5 +1,5 @@
 // What one step of a compaction did.
-ghost use Rattle.std.specs.Prelude.{◌≡◌, IfSome};
+ghost use Rattle.std.specs.Prelude.{◌≡◌, ◌≢◌, MatchOption};
 ghost use Rattle.compaction.specs.Told.{standing_of, told};
 
 use crate::compacted::Standing;
@@ -24,8 +24,8 @@ pub enum Advanced {
 impl Advanced {
     /// How a step that did so leaves the compaction, if that does not go on.
     pub(crate) fn ended(self) -> Option<Standing>
-        ensures some { IfSome result (λ standing. standing ≡ standing_of self) }
-        ensures ends { IfSome result (λ standing. standing ≡ Standing.GoesOn → ⊥) }
+        ensures { MatchOption result (standing_of self ≡ Standing.GoesOn)
+            (λ standing. (standing ≡ standing_of self) × (standing ≢ Standing.GoesOn)) }
     {
         match self {
             Advanced::Done => Some(Standing::Done),

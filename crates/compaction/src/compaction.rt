@@ -1,15 +1,16 @@
 // A compaction of a core, in steps.
-ghost use Rattle.std.specs.Prelude.{◌≡◌, ◌+◌, ◌<◌, ◌≤◌, false, max};
+ghost use Rattle.std.specs.Prelude.{◌≡◌, ◌+◌, ◌<◌, ◌≤◌, max, not};
+ghost use Rattle.arena_core.specs.declared.event.Event.TheVariants as event;
 ghost use Rattle.arena_core.specs.Sound.{IsSound};
 ghost use Rattle.arena_core.specs.State.{pages, shown};
-ghost use Rattle.compaction.specs.Compacts.{IsPoor, IsWithin, Leaves, MayClose, NotesMark, Takes, going};
-ghost use Rattle.compaction.specs.Progress.{fresh};
+ghost use Rattle.compaction.specs.Compacts.{ClosesOwn, IsWithin, Leaves, Takes, going, is_poor, noted};
+ghost use Rattle.compaction.specs.Progress.{IsThrough, fresh};
 ghost use Rattle.compaction.specs.Told.{standing_of};
 
 use crate::advanced::{Advanced, advanced_by};
 use crate::compacted::{Compacted, Standing};
 use crate::occupancy::{MOST_GROUPS, Occupancy};
-use crate::progress::Progress;
+use crate::progress::{Phase, Progress};
 use crate::round::Round;
 use crate::rounds::Rounds;
 use crate::turn::Turn;
@@ -17,14 +18,16 @@ use arena_core::{Core, Event, Refusal, Reply};
 use certificate::Certificate;
 use mesh_graph::Snapshot;
 use span::Counted;
+use std::marker::Model;
 
 /// A plan or a round that folds one of so many groups of its smaller side is worth another one.
 const WORTH: usize = 16;
 
 /// Where the compaction of a core stands between two calls.
-#[derive(Clone, Copy)]
+#[derive(Drop)]
 pub struct Compaction {
     progress: Progress,
+    // What comes next where the progress leaves a choice.
     stage: Stage,
     // How many slots a page has, of the class with the most that a mark saw.
     slots: usize,
@@ -33,23 +36,25 @@ pub struct Compaction {
     round: Round,
 }
 
-// What comes next.
+// What comes next while no plan of the compaction is open.
 #[derive(Clone, Copy)]
 enum Stage {
-    // The spans that can never be live again; and no plan of somebody else may be open.
-    Begin,
-    // The pages on which nothing is live.
-    Trim,
     Retire,
     // The adoptions of those that are kept.
     Keep,
     Mark,
-    Fold,
-    Close,
     // The adoptions of what is left.
     Adopt,
     // The spans that can never be live again, now that others are empty.
     End,
+}
+
+impl Model for Compaction {
+    ghost use Rattle.compaction.specs.declared.progress.Progress.{Progress};
+
+    ghost Value = { Progress };
+
+    ghost view = { λ compaction. compaction.progress };
 }
 
 /// What one step took of the budget, and what it did.
@@ -64,11 +69,18 @@ pub struct Taken {
 impl Compaction {
     /// A compaction that has not begun.
     pub fn new() -> Compaction
-        ensures { result.progress ≡ fresh }
+        ensures { result ≡ fresh }
+    {
+        Compaction::at(Progress::fresh())
+    }
+
+    // A compaction that has gone through this, and has made no mark.
+    fn at(progress: Progress) -> Compaction
+        ensures { result ≡ progress }
     {
         Compaction {
-            progress: Progress::none(),
-            stage: Stage::Begin,
+            progress,
+            stage: Stage::Mark,
             slots: 1,
             turn: Turn::first(),
             rounds: Rounds::none(),
@@ -86,7 +98,7 @@ impl Compaction {
     /// those of nobody.
     pub fn go_on(&mut self, core: &mut Core<Counted>, budget: usize) -> Compacted
         ensures steps { IsWithin (max budget 1) result.standing
-            (going self.old.progress core.old) (going self.new.progress core.new) }
+            (going self.old core.old) (going self.new core.new) }
         ensures same { shown core.new ≡ shown core.old }
         ensures pages { pages core.new + result.pages ≡ pages core.old }
         ensures stands { Leaves result.standing core.new }
@@ -105,7 +117,7 @@ impl Compaction {
     fn take_steps(&mut self, core: &mut Core<Counted>, budget: usize) -> Standing
         requires { 0 < budget }
         ensures steps { IsWithin budget result
-            (going self.old.progress core.old) (going self.new.progress core.new) }
+            (going self.old core.old) (going self.new core.new) }
         ensures same { shown core.new ≡ shown core.old }
         ensures stands { Leaves result core.new }
         ensures sound { IsSound core.new }
@@ -129,7 +141,7 @@ impl Compaction {
         ensures some { 0 < result.cost }
         ensures at_most { result.cost ≤ max left 1 }
         ensures takes { Takes result.cost result.advanced
-            (going self.old.progress core.old) (going self.new.progress core.new) }
+            (going self.old core.old) (going self.new core.new) }
         ensures same { shown core.new ≡ shown core.old }
         ensures stands { Leaves (standing_of result.advanced) core.new }
         ensures sound { IsSound core.new }
@@ -143,12 +155,13 @@ impl Compaction {
         ensures some { 0 < result.cost }
         ensures at_most { result.cost ≤ left }
         ensures takes { Takes result.cost result.advanced
-            (going self.old.progress core.old) (going self.new.progress core.new) }
+            (going self.old core.old) (going self.new core.new) }
         ensures same { shown core.new ≡ shown core.old }
         ensures stands { Leaves (standing_of result.advanced) core.new }
         ensures sound { IsSound core.new }
     {
-        if matches!(self.stage, Stage::Retire) {
+        let is_choosing = matches!(self.progress.phase, Phase::Choosing);
+        if is_choosing && matches!(self.stage, Stage::Retire) {
             return self.retire(core, left);
         }
         Taken {
@@ -159,28 +172,41 @@ impl Compaction {
 
     // Takes the next step, which is no retirement.
     fn take_one(&mut self, core: &mut Core<Counted>, budget: usize) -> Advanced
-        ensures takes { Takes 1 result
-            (going self.old.progress core.old) (going self.new.progress core.new) }
+        ensures takes { Takes 1 result (going self.old core.old) (going self.new core.new) }
+        ensures same { shown core.new ≡ shown core.old }
+        ensures stands { Leaves (standing_of result) core.new }
+        ensures sound { IsSound core.new }
+    {
+        match self.progress.phase {
+            Phase::Fresh => self.begin(core),
+            Phase::Trimming => self.trim(core),
+            Phase::Choosing => self.take_chosen(core, budget),
+            Phase::Folding => self.fold(core),
+            Phase::Closing => self.close(core),
+        }
+    }
+
+    // Takes the step that the stage says. All is done, unless the last mark planned so much that
+    // another one is worth it.
+    fn take_chosen(&mut self, core: &mut Core<Counted>, budget: usize) -> Advanced
+        requires { self.old.phase ≡ Phase.Choosing }
+        ensures takes { Takes 1 result (going self.old core.old) (going self.new core.new) }
         ensures same { shown core.new ≡ shown core.old }
         ensures stands { Leaves (standing_of result) core.new }
         ensures sound { IsSound core.new }
     {
         match self.stage {
-            Stage::Begin => self.begin(core),
-            // A retirement is no such step.
-            Stage::Trim | Stage::Retire => self.trim(core),
-            Stage::Mark => self.mark(core),
-            Stage::Fold => self.fold(core),
-            Stage::Close => self.close(core),
             Stage::Keep | Stage::Adopt => self.adopt(core, budget),
-            Stage::End => self.end(core),
+            Stage::End if self.progress.is_spent => self.end(core),
+            // A retirement is no such step.
+            Stage::Mark | Stage::End | Stage::Retire => self.mark(core),
         }
     }
 
     // Forgets, which is refused while a plan is open.
     fn begin(&mut self, core: &mut Core<Counted>) -> Advanced
-        ensures takes { Takes 1 result
-            (going self.old.progress core.old) (going self.new.progress core.new) }
+        requires { self.old.phase ≡ Phase.Fresh }
+        ensures takes { Takes 1 result (going self.old core.old) (going self.new core.new) }
         ensures same { shown core.new ≡ shown core.old }
         ensures stands { Leaves (standing_of result) core.new }
         ensures sound { IsSound core.new }
@@ -189,36 +215,30 @@ impl Compaction {
         if let Err(refusal) = done {
             return Advanced::Refused(refusal);
         }
-        *self = Compaction {
-            stage: Stage::Trim,
-            ..Compaction::new()
-        };
+        *self = Compaction::at(Progress::begun());
         Advanced::Went
     }
 
     // Trims the next shard. Once there is none, what is in the pool is marked.
     fn trim(&mut self, core: &mut Core<Counted>) -> Advanced
-        ensures takes { Takes 1 result
-            (going self.old.progress core.old) (going self.new.progress core.new) }
+        requires { self.old.phase ≡ Phase.Trimming }
+        ensures takes { Takes 1 result (going self.old core.old) (going self.new core.new) }
         ensures same { shown core.new ≡ shown core.old }
         ensures stands { Leaves (standing_of result) core.new }
         ensures sound { IsSound core.new }
     {
         let shard = self.progress.trimmed;
         match core.trim(shard) {
-            Ok(_) => self.progress.trimmed = shard.saturating_add(1),
-            Err(_) => {
-                self.progress.has_trimmed = true;
-                self.stage = Stage::Mark;
-            }
+            Ok(_) => self.progress.trimmed = shard + 1,
+            Err(_) => self.progress.phase = Phase::Choosing,
         }
         Advanced::Went
     }
 
     // Plans as many folds as can be of the sparsest groups of the pool and of the shards.
     fn mark(&mut self, core: &mut Core<Counted>) -> Advanced
-        ensures takes { Takes 1 result
-            (going self.old.progress core.old) (going self.new.progress core.new) }
+        requires { self.old.phase ≡ Phase.Choosing }
+        ensures takes { Takes 1 result (going self.old core.old) (going self.new core.new) }
         ensures same { shown core.new ≡ shown core.old }
         ensures stands { Leaves (standing_of result) core.new }
         ensures sound { IsSound core.new }
@@ -230,67 +250,71 @@ impl Compaction {
 
     // Notes what the mark planned, of which side, and what the pages are.
     fn note_marked(&mut self, reply: &Reply)
-        ensures { NotesMark reply.now self.old.progress self.new.progress }
+        ensures { self.new ≡ noted event.MarkSome reply.now self.old }
     {
         let Reply::Marked(certificate) = reply else {
             return;
         };
         let is_worth = is_worth(certificate);
+        self.progress.phase = Phase::Folding;
         self.progress.is_spent = !is_worth;
         self.round = self.round.with_mark(is_worth, leaves_some(certificate));
         self.slots = self.slots.max(slots_of(&certificate.snapshot));
         self.turn = Turn::first();
-        self.stage = Stage::Fold;
+        self.stage = if self.round.is_again {
+            Stage::Mark
+        } else {
+            Stage::Adopt
+        };
     }
 
     // Folds the next pair of the plan, if one is left.
     fn fold(&mut self, core: &mut Core<Counted>) -> Advanced
-        ensures takes { Takes 1 result
-            (going self.old.progress core.old) (going self.new.progress core.new) }
+        requires { self.old.phase ≡ Phase.Folding }
+        ensures takes { Takes 1 result (going self.old core.old) (going self.new core.new) }
         ensures same { shown core.new ≡ shown core.old }
         ensures stands { Leaves (standing_of result) core.new }
         ensures sound { IsSound core.new }
     {
         let reply = core.step(Event::Step);
-        self.stage = match &reply {
-            Reply::NoPairLeft => Stage::Close,
-            // Somebody else has closed it.
-            Reply::NoPlan => self.after_plan(),
-            _ => Stage::Fold,
-        };
+        self.note_folded(&reply);
         advanced_by(&reply)
+    }
+
+    // Notes whether a pair was left.
+    fn note_folded(&mut self, reply: &Reply)
+        ensures { self.new ≡ noted event.Step reply.now self.old }
+    {
+        match reply {
+            Reply::NoPairLeft => self.progress.phase = Phase::Closing,
+            // Somebody else has closed it.
+            Reply::NoPlan => self.progress.phase = Phase::Choosing,
+            _ => {}
+        }
     }
 
     // Closes the plan.
     fn close(&mut self, core: &mut Core<Counted>) -> Advanced
-        ensures takes { Takes 1 result
-            (going self.old.progress core.old) (going self.new.progress core.new) }
+        requires { self.old.phase ≡ Phase.Closing }
+        ensures takes { Takes 1 result (going self.old core.old) (going self.new core.new) }
         ensures same { shown core.new ≡ shown core.old }
         ensures stands { Leaves (standing_of result) core.new }
         ensures sound { IsSound core.new }
     {
         let reply = core.step(Event::Close);
-        self.stage = self.after_plan();
+        self.progress.phase = Phase::Choosing;
         advanced_by(&reply)
-    }
-
-    // What comes after a plan.
-    fn after_plan(&self) -> Stage {
-        if self.round.is_again {
-            Stage::Mark
-        } else {
-            Stage::Adopt
-        }
     }
 
     // Has the next shard retire its part of what is wanted, so far as it has that and the budget
     // goes.
     fn retire(&mut self, core: &mut Core<Counted>, left: usize) -> Taken
-        requires { 0 < left }
+        requires some { 0 < left }
+        requires choosing { self.old.phase ≡ Phase.Choosing }
         ensures some { 0 < result.cost }
         ensures at_most { result.cost ≤ left }
         ensures takes { Takes result.cost result.advanced
-            (going self.old.progress core.old) (going self.new.progress core.new) }
+            (going self.old core.old) (going self.new core.new) }
         ensures same { shown core.new ≡ shown core.old }
         ensures stands { Leaves (standing_of result.advanced) core.new }
         ensures sound { IsSound core.new }
@@ -321,7 +345,7 @@ impl Compaction {
     // Notes how many groups the shard retired of those that it was asked for. One that has ended
     // has none.
     fn note_retired(&mut self, reply: &Reply, share: usize, most: usize)
-        ensures { self.new.progress ≡ self.old.progress }
+        ensures { self.new ≡ self.old }
     {
         let count = match reply {
             Reply::Retired(count) => *count,
@@ -350,8 +374,8 @@ impl Compaction {
     // Has a shard adopt the next group of the pool, until enough are kept, or there is none, or no
     // shard may have one.
     fn adopt(&mut self, core: &mut Core<Counted>, budget: usize) -> Advanced
-        ensures takes { Takes 1 result
-            (going self.old.progress core.old) (going self.new.progress core.new) }
+        requires { self.old.phase ≡ Phase.Choosing }
+        ensures takes { Takes 1 result (going self.old core.old) (going self.new core.new) }
         ensures same { shown core.new ≡ shown core.old }
         ensures stands { Leaves (standing_of result) core.new }
         ensures sound { IsSound core.new }
@@ -365,7 +389,7 @@ impl Compaction {
 
     // Notes the adoption, and goes on if it was the last one.
     fn after_adoption(&mut self, reply: &Reply, core: &Core<Counted>, budget: usize)
-        ensures { self.new.progress ≡ self.old.progress }
+        ensures { self.new ≡ self.old }
     {
         if self.note_adopted(reply) {
             self.end_adoptions(core, budget);
@@ -375,7 +399,7 @@ impl Compaction {
     // Notes who adopted the group, and answers whether no further one is to be adopted. Groups come
     // by ascending heads, so that a shard adopts what follows on its own.
     fn note_adopted(&mut self, reply: &Reply) -> bool
-        ensures { self.new.progress ≡ self.old.progress }
+        ensures { self.new ≡ self.old }
     {
         let shards = self.progress.trimmed;
         match reply {
@@ -394,10 +418,9 @@ impl Compaction {
         }
     }
 
-    // Goes on with the mark, or with the next round, if there is one. Else all is done, unless the
-    // last mark planned so much that another one is worth it.
+    // Goes on with the mark, or with the next round, if there is one.
     fn end_adoptions(&mut self, core: &Core<Counted>, budget: usize)
-        ensures { self.new.progress ≡ self.old.progress }
+        ensures { self.new ≡ self.old }
     {
         self.turn = Turn::first();
         if matches!(self.stage, Stage::Keep) {
@@ -415,45 +438,36 @@ impl Compaction {
             }
             None => {
                 self.round = Round::of_pool();
-                self.stage = if self.progress.is_spent {
-                    Stage::End
-                } else {
-                    Stage::Mark
-                };
+                self.stage = Stage::End;
             }
         }
     }
 
-    // Forgets once more, and then all is done, if all was gone through.
+    // Forgets once more, and then all is done.
     fn end(&mut self, core: &mut Core<Counted>) -> Advanced
-        ensures takes { Takes 1 result
-            (going self.old.progress core.old) (going self.new.progress core.new) }
+        requires { IsThrough self.old }
+        ensures takes { Takes 1 result (going self.old core.old) (going self.new core.new) }
         ensures same { shown core.new ≡ shown core.old }
         ensures stands { Leaves (standing_of result) core.new }
         ensures sound { IsSound core.new }
     {
-        let is_through = self.progress.is_through();
         if let Err(refusal) = core.forget() {
             return Advanced::Refused(refusal);
         }
         *self = Compaction::new();
-        if is_through {
-            Advanced::Done
-        } else {
-            Advanced::Went
-        }
+        Advanced::Done
     }
 
     /// Gives the compaction up where it is: a plan of it is closed, and a further call begins anew.
     /// Groups that it has retired stay in the pool.
     pub fn give_up(&mut self, core: &mut Core<Counted>)
-        ensures anew { self.new.progress ≡ fresh }
-        ensures closes { MayClose core.old core.new }
+        ensures anew { self.new ≡ fresh }
+        ensures closes { ClosesOwn self.old core.old core.new }
         ensures same { shown core.new ≡ shown core.old }
     {
-        let stage = self.stage;
+        let is_planned = self.progress.is_planned();
         *self = Compaction::new();
-        if matches!(stage, Stage::Fold | Stage::Close) {
+        if is_planned {
             core.step(Event::Close);
         }
     }
@@ -462,7 +476,7 @@ impl Compaction {
 // Whether so many folds were planned that another mark is worth it: one of 16 groups of the smaller
 // side.
 fn is_worth(certificate: &Certificate) -> bool
-    ensures { result ≡ false → IsPoor certificate.now }
+    ensures { result ≡ not (is_poor certificate.now) }
 {
     let snapshot = &certificate.snapshot;
     let smaller = snapshot.abandoned().len().min(snapshot.owned().len());

@@ -21,12 +21,14 @@
 //! quarters, eighths and so on, as long as these are worth it. A mark is worth another one if it
 //! plans at least one fold for 16 groups of its smaller side.
 //!
-//! The public facts (`specs/Compacts.antt`): all that a call does to the core are such steps, and
-//! they take no more than the budget, and no less while the compaction goes on. The map of keys
-//! that the core shows is as it was, also where a step is refused memory. The pages that a call
-//! counts are those that went. A compaction is done only after all shards were trimmed and the last
-//! mark was not worth another one, and no plan is open then. A caller that keeps something beside
-//! each page takes the steps one by one ([`Compaction::step`]), and is told each fold.
+//! The public facts (`specs/Compacts.antt`): all that a call does to the core are such steps, in
+//! such an order, and they use up the budget, unless one is refused or all is done. Folds and
+//! closes come only after a mark of the compaction has opened a plan: while somebody else's is
+//! open, a step is refused. The map of keys that the core shows is as it was, also where a step is
+//! refused memory. The pages that a call counts are those that went. A compaction is done only
+//! after all shards were trimmed and the last mark was not worth another one, and no plan is open
+//! then. A caller that keeps something beside each page takes the steps one by one
+//! ([`Compaction::step`]), and is told each fold.
 //!
 //! # Examples
 //!

@@ -2,7 +2,7 @@
 use Rattle.std.specs.Prelude.{◌≡◌, ◌+◌, ◌<◌, ◌≤◌, ℕ, max, Option, Some}
 use Rattle.arena_core.specs.Sound.{IsSound}
 use Rattle.arena_core.specs.State.{pages, shown}
-use Rattle.compaction.specs.Compacts.{IsWithin, Leaves, MayClose, Takes, going}
+use Rattle.compaction.specs.Compacts.{ClosesOwn, IsWithin, Leaves, Takes, going}
 use Rattle.compaction.specs.Progress.{fresh}
 use Rattle.compaction.specs.Told.{standing_of}
 use Rattle.compaction.specs.declared.advanced.Advanced.{Advanced}
@@ -31,7 +31,7 @@ pub record Compacts (old : Option Held) (budget : ℕ) (says : CompactReply) (ne
   pub before_is : old ≡ Some before
   pub after_is : new ≡ Some after
   pub steps : IsWithin (max budget 1) standing
-      (going before.compaction.progress before.core) (going after.compaction.progress after.core)
+      (going before.compaction before.core) (going after.compaction after.core)
   pub plain : shown after.core ≡ shown before.core
   pub pages_are : pages after.core + says.pages ≡ pages before.core
   pub stands : Leaves standing after.core
@@ -59,21 +59,21 @@ pub record Advances (old : Option Held) (left : ℕ) (says : AdvanceReply) (new 
   pub after_is : new ≡ Some after
   pub some : 0 < says.cost
   pub at_most : says.cost ≤ max left 1
-  pub takes : Takes says.cost tells (going before.compaction.progress before.core)
-      (going after.compaction.progress after.core)
+  pub takes : Takes says.cost tells (going before.compaction before.core)
+      (going after.compaction after.core)
   pub plain : shown after.core ≡ shown before.core
   pub stands : Leaves (standing_of tells) after.core
   pub sound : IsSound after.core
   pub same : after.last ≡ before.last
   pub says_is : SaysAdvanced says tells
 
--- the core's plan is closed, if one is open, and its compaction begins anew
+-- a plan that the compaction has opened is closed, and the compaction begins anew
 pub record GivesUp (old new : Option Held) : Type 0 where
   pub before : Held
   pub after : Held
   pub before_is : old ≡ Some before
   pub after_is : new ≡ Some after
-  pub closes : MayClose before.core after.core
-  pub anew : after.compaction.progress ≡ fresh
+  pub closes : ClosesOwn before.compaction before.core after.core
+  pub anew : after.compaction ≡ fresh
   pub plain : shown after.core ≡ shown before.core
   pub same : after.last ≡ before.last

@@ -78,7 +78,7 @@ pub extern "C" fn teurlaks_compaction_step(
     advance_reply(held.compaction.step(&mut held.core, left, budget))
 }
 
-/// Gives the compaction of the core up where it is: its plan is closed, if one is open, and a
+/// Gives the compaction of the core up where it is: a plan that it has opened is closed, and a
 /// further call begins anew. Groups that it has retired stay in the pool, until shards adopt them.
 #[unsafe(no_mangle)]
 pub extern "C" fn teurlaks_compaction_give_up(handle: &mut Handle) -> u32

@@ -1,11 +1,8 @@
 use Rattle.std.proofs.Common.{refl}
 use Rattle.arena_core.specs.declared.event.Event.TheVariants as event
 use Rattle.compaction.specs.Compacts.{going}
-use Rattle.compaction.proofs.Steps.{Takes-event, leaves-told}
+use Rattle.compaction.proofs.Steps.{Takes-event}
 use Rattle.compaction.proofs.compaction.Compaction.fold.Goals as goal
 
 pub returns-clause-takes : goal.returns-clause-takes
-returns-clause-takes c = Takes-event 1 c.advanced_by.result (going c.args.self.now.progress c.args.core.now) (going c.args.self.now.progress c.step-reply.new.self) event.Step c.step-reply.result refl refl c.advanced_by.ensures c.step-reply.ensures.exact refl
-
-pub returns-clause-stands : goal.returns-clause-stands
-returns-clause-stands c = leaves-told c.advanced_by.result event.Step c.step-reply.result c.args.core.now c.step-reply.new.self refl c.advanced_by.ensures c.step-reply.ensures.exact
+returns-clause-takes c = Takes-event 1 c.advanced_by.result (going c.args.self.now c.args.core.now) (going c.note_folded.new.self c.step-reply.new.self) event.Step c.step-reply.result c.requires refl c.advanced_by.ensures c.step-reply.ensures.exact c.note_folded.ensures

@@ -1,6 +1,6 @@
-use Rattle.std.proofs.Common.{◌+◌, ◌∙◌, arith, refl, subst, suc, sym}
-use Rattle.compaction.specs.Compacts.{Leaves, going}
-use Rattle.compaction.proofs.Steps.{IsWithin-ended, TakesAll-next}
+use Rattle.std.proofs.Common.{◌+◌, ◌∙◌, arith, refl, suc}
+use Rattle.compaction.specs.Compacts.{going}
+use Rattle.compaction.proofs.Steps.{TakesAll-next}
 use Rattle.compaction.proofs.compaction.Compaction.take_steps.Goals as goal
 
 pub loop-left-init : goal.loop-left-init
@@ -13,18 +13,10 @@ loop-left-preserved c =
       takes = (
         suc steps,
         taken + c.advance-taken.result.cost,
-        TakesAll-next steps taken c.advance-taken.result.cost c.advance-taken.result.advanced (going c.args.self.now.progress c.args.core.now) (going c.loop-left.self.progress c.loop-left.core)
-            (going c.advance-taken.new.self.progress c.advance-taken.new.core) takes c.advance-taken.ensures.takes,
+        TakesAll-next steps taken c.advance-taken.result.cost c.advance-taken.result.advanced (going c.args.self.now c.args.core.now) (going c.loop-left.self c.loop-left.core)
+            (going c.advance-taken.new.self c.advance-taken.new.core) takes c.advance-taken.ensures.takes c.in-None.ensures,
         omega (arith, is, c.advance-taken.ensures.at_most),
       );
       same = c.advance-taken.ensures.same ∙ c.loop-left.invariant.same;
       sound = λ less. c.advance-taken.ensures.sound;
     }
-
-pub returns-in-Some-clause-steps : goal.returns-in-Some-clause-steps
-returns-in-Some-clause-steps c = IsWithin-ended c.args.budget c.loop-left.left c.advance-taken.result.cost c.advance-taken.result.advanced c.in-Some.standing (going c.args.self.now.progress c.args.core.now)
-    (going c.loop-left.self.progress c.loop-left.core) (going c.advance-taken.new.self.progress c.advance-taken.new.core) c.in-Some.ensures.ends c.in-Some.ensures.some
-    c.loop-left.invariant.takes c.advance-taken.ensures.at_most c.advance-taken.ensures.takes
-
-pub returns-in-Some-clause-stands : goal.returns-in-Some-clause-stands
-returns-in-Some-clause-stands c = subst (λ s. Leaves s c.advance-taken.new.core) (sym c.in-Some.ensures.some) c.advance-taken.ensures.stands
