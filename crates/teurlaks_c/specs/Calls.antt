@@ -19,6 +19,7 @@ use Rattle.arena_core.specs.Sound.{IsSound}
 use Rattle.arena_core.specs.State.{CoreState, HasKeys, new_core, pages, shown}
 use Rattle.marks.specs.Numbers.{Limits}
 use Rattle.arena_core.specs.Step.{CoreStep, HasPlan}
+use Rattle.compaction.specs.Progress.{fresh}
 use Rattle.teurlaks_c.specs.declared.held.Held.{Held}
 use Rattle.teurlaks_c.specs.declared.held.Witness.{Witness}
 use Rattle.teurlaks_c.specs.declared.replies.RawKey.{RawKey}
@@ -39,12 +40,13 @@ use Rattle.teurlaks_c.specs.Keys.{IsKeyOf, IsNoKey, IsIdOf}
 use Rattle.teurlaks_c.specs.Status.{done, none, out_of_memory, config, emptied, no_pair_left, no_plan, too_small, refusal_status}
 use Rattle.teurlaks_c.specs.Words.{word_of, words_of}
 
--- a new core of these numbers, and no certificate
+-- a new core of these numbers, no certificate, and a compaction that has not begun
 pub record HasNew (limits : Limits) (new : Option Held) : Type 0 where
   pub held : Held
   pub is : new ≡ Some held
   pub core : held.core ≡ new_core limits
   pub last : held.last ≡ None
+  pub compaction : held.compaction ≡ fresh
 
 -- from one core to the other it gives this reply to the event: a step of shards and pool, and of
 -- the plain map that they show, to a sound core

@@ -1,6 +1,7 @@
 // What a handle holds.
 ghost use Rattle.std.specs.Prelude.{◌≡◌, None};
 ghost use Rattle.certificate.specs.Text.{IsWritable};
+ghost use Rattle.compaction.specs.Progress.{fresh};
 
 use arena_core::Core;
 use certificate::Certificate;
@@ -24,6 +25,7 @@ impl Held {
     pub(crate) fn new(core: Core<Counted>) -> Held
         ensures core { result.core ≡ core }
         ensures last { result.last ≡ None }
+        ensures compaction { result.compaction ≡ fresh }
     {
         Held {
             core,

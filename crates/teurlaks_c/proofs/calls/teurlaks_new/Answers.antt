@@ -8,4 +8,5 @@ returns-in-Ok-new-clause-ok c done = record {
   is = c.of.ensures ∙ ap Some c.in-Ok-new.ensures.ok;
   core = c.new-held.ensures.core ∙ c.in-Ok.ensures.ok;
   last = c.new-held.ensures.last;
+  compaction = c.new-held.ensures.compaction;
 }
