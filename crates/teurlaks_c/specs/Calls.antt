@@ -56,8 +56,8 @@ pub record Replies (before : CoreState) (event : Event) (reply : Reply) (after :
   pub plain : ErasedStep before.limits (shown before) event reply (shown after)
   pub sound : IsSound after
 
--- the core of the handle gives this reply to the event, and the certificate that is kept is as it
--- was
+-- the core of the handle gives this reply to the event, and the certificate that is kept and the
+-- compaction are as they were
 pub record Steps (old : Option Held) (event : Event) (reply : Reply) (new : Option Held) :
     Type 0 where
   pub before : Held
@@ -66,6 +66,7 @@ pub record Steps (old : Option Held) (event : Event) (reply : Reply) (new : Opti
   pub after_is : new ≡ Some after
   pub replies : Replies before.core event reply after.core
   pub same : after.last ≡ before.last
+  pub compaction : after.compaction ≡ before.compaction
 
 -- what C reads of the reply to a put; no other reply comes
 abbrev pub SaysPut : PutReply → Reply → Type 0
@@ -237,7 +238,8 @@ SaysForgotten says (Ok count) = (says.status ≡ done) × (says.count ≡ count)
 SaysForgotten says (Err refusal) = (says.status ≡ refusal_status refusal) × (says.count ≡ 0)
 
 -- the core of the handle forgets the spans that can never be live again, or is refused that while a
--- plan is open; the map that it shows stays, and so does the certificate that is kept
+-- plan is open; the map that it shows stays, and so do the certificate that is kept and the
+-- compaction
 pub record Forgets (old : Option Held) (says : ForgetReply) (new : Option Held) : Type 0 where
   pub before : Held
   pub after : Held
@@ -249,6 +251,7 @@ pub record Forgets (old : Option Held) (says : ForgetReply) (new : Option Held) 
   pub plain : shown after.core ≡ shown before.core
   pub sound : IsSound after.core
   pub same : after.last ≡ before.last
+  pub compaction : after.compaction ≡ before.compaction
   pub says_is : SaysForgotten says answer
 
 -- what C reads of the reply to an adoption
@@ -306,6 +309,7 @@ pub record Marks (event : Event) (old : Option Held) (says : MarkReply) (new : O
   pub replies : Replies before.core event reply after.core
   pub told : SaysMarked says reply
   pub keeps : Keeps before.last reply after.last
+  pub compaction : after.compaction ≡ before.compaction
 
 -- what C reads of the reply to a step
 abbrev pub SaysStepped : StepReply → Reply → Type 0

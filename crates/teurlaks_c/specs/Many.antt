@@ -72,7 +72,7 @@ pub record GetsAll (core : CoreState) (raws : List RawKey) (room room_new : List
       → slice_get room_new place ≡ Some says → GetsRaw core raw says
   pub others : (place : ℕ) → length raws ≤ place → slice_get room_new place ≡ slice_get room place
 
--- the cores of the handle before and after, whose certificate stays
+-- the cores of the handle before and after, whose certificate and compaction stay
 pub record Changes (old : Option Held) (Does : CoreState → CoreState
     → Type 0) (new : Option Held) : Type 0 where
   pub before : Held
@@ -81,3 +81,4 @@ pub record Changes (old : Option Held) (Does : CoreState → CoreState
   pub after_is : new ≡ Some after
   pub does : Does before.core after.core
   pub same : after.last ≡ before.last
+  pub compaction : after.compaction ≡ before.compaction

@@ -305,6 +305,7 @@ fn keep(held: &mut Held, reply: Reply) -> MarkReply
     ensures core { held.new.core ≡ held.old.core }
     ensures told { SaysMarked result reply }
     ensures keeps { Keeps held.old.last reply held.new.last }
+    ensures compaction { held.new.compaction ≡ held.old.compaction }
 {
     match reply {
         Reply::Marked(certificate) => {

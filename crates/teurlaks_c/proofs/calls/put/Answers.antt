@@ -12,6 +12,7 @@ returns-in-Ok-clause-live c live = (
     after_is = refl;
     replies = record { exact = c.in-Ok.ensures.exact; plain = c.in-Ok.ensures.plain; sound = c.put_words.ensures.sound };
     same = refl;
+    compaction = refl;
   }),
   (refl, c.raw_of.ensures),
 )
@@ -26,6 +27,7 @@ returns-in-Err-clause-live c live = (
     after_is = refl;
     replies = record { exact = c.in-Err.ensures.exact; plain = c.in-Err.ensures.plain; sound = c.put_words.ensures.sound };
     same = refl;
+    compaction = refl;
   }),
   c.status_of.ensures,
 )

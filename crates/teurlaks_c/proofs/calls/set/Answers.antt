@@ -15,6 +15,7 @@ returns-then-done-clause-live c live = (
     after_is = refl;
     replies = record { exact = c.in-Ok.ensures.exact; plain = c.in-Ok.ensures.plain; sound = c.set.ensures.sound };
     same = refl;
+    compaction = refl;
   }),
   refl,
 )
@@ -29,6 +30,7 @@ returns-else-done-clause-live c live = (
     after_is = refl;
     replies = record { exact = c.in-Ok.ensures.exact; plain = c.in-Ok.ensures.plain; sound = c.set.ensures.sound };
     same = refl;
+    compaction = refl;
   }),
   refl,
 )
@@ -43,6 +45,7 @@ returns-in-Err-clause-live c live = (
     after_is = refl;
     replies = record { exact = c.in-Err.ensures.exact; plain = c.in-Err.ensures.plain; sound = c.set.ensures.sound };
     same = refl;
+    compaction = refl;
   }),
   c.status_of.ensures,
 )

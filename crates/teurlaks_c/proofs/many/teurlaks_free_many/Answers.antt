@@ -11,5 +11,6 @@ returns-clause-live c live = (
     after_is = refl;
     does = c.free_all.ensures;
     same = refl;
+    compaction = refl;
   }),
 )

@@ -11,5 +11,6 @@ returns-clause-live c live = (
     after_is = refl;
     does = (refl, c.get_all.ensures);
     same = refl;
+    compaction = refl;
   }),
 )

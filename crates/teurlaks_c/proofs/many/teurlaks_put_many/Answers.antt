@@ -9,4 +9,5 @@ returns-clause-live c live = record {
   after_is = refl;
   does = c.put_all.ensures;
   same = refl;
+  compaction = refl;
 }
