@@ -1,22 +1,20 @@
 -- Who answers that the key's span is not there does not have it.
-use Rattle.std.proofs.Common.{◌≡◌, ◌↔◌, ℕ, Bool, false, IsTrue, List, Option, Some, None, sym, ◌∙◌}
+use Rattle.std.proofs.Common.{◌≡◌, ◌↔◌, ℕ, Bool, false, IsTrue, List, Option, None, sym, ◌∙◌}
 use Rattle.std.proofs.lemmas.Bool.{false≢true}
 use Rattle.std.proofs.lemmas.Option.{none-some}
 use Rattle.groups.specs.Group.{Group, IsElsewhere}
 use Rattle.span.specs.declared.id.SpanId.{SpanId}
 use Rattle.span.specs.Log.{Value}
 use Rattle.span.specs.declared.key.Key.{Key}
-use Rattle.shard.specs.Calls.{Frees, Gets, Sets}
+use Rattle.shard.specs.Calls.{Frees, Gets}
 use Rattle.shard.specs.State.{ShardState}
 use Rattle.shard.specs.declared.shard.Found.{Found}
 use Rattle.shard.specs.declared.shard.Found.TheVariants as found
 use Rattle.shard.specs.declared.shard.Freed.{Freed}
 use Rattle.shard.specs.declared.shard.Freed.TheVariants as freed
-use Rattle.shard.specs.declared.shard.replacing.Replaced.{Replaced}
-use Rattle.shard.specs.declared.shard.replacing.Replaced.TheVariants as replaced
-use Rattle.pool.specs.Calls.{Frees as FreesPooled, Gets as GetsPooled, Sets as SetsPooled}
+use Rattle.pool.specs.Calls.{Frees as FreesPooled, Gets as GetsPooled}
 use Rattle.pool.specs.State.{PoolState}
-use Rattle.arena.specs.Told.{changes_at, free_told, set_told}
+use Rattle.arena.specs.Told.{changes_at, free_told}
 
 pub Gets-elsewhere : (owner : ShardState) (key : Key) (at : Option ℕ) → ((what : Found) × Gets owner key what × (at ≡ changes_at what)) → at ≡ None → IsElsewhere owner.groups key.span
 Gets-elsewhere owner key at got none = of got.0 got.1 got.2

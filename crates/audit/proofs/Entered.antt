@@ -11,10 +11,11 @@ use Rattle.span.specs.declared.key.Key.{Key}
 use Rattle.span.specs.declared.receipt.Call.{Call}
 use Rattle.span.specs.declared.receipt.Receipt.{Receipt}
 use Rattle.span.specs.declared.span_log.SpanLog.{SpanLog}
+use Rattle.span.proofs.KeptReceipts.{get_left, get_right}
 use Rattle.audit.specs.Receipts.{log_of, makes_change}
 use Rattle.audit.specs.Agreement.{ChangesHaveReceipts, CallMakes, HaveOneSpanEach}
 use Rattle.audit.specs.Tables.{AreEntered, AreFull, IsFull, IsKnown, IsLogAt, IsRowOf, MakeChanges, WereEntered}
-use Rattle.audit.proofs.Flat.{get_left, get_right, get_cases, place, flat_at, flat_from, flat_once}
+use Rattle.audit.proofs.Flat.{get_cases, place, flat_at, flat_from, flat_once}
 use Rattle.audit.proofs.LogTable.{find_log}
 use Rattle.audit.proofs.Replies.{take_more}
 

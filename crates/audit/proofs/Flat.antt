@@ -1,16 +1,7 @@
 -- The receipts of all lists, list after list.
-use Rattle.std.proofs.Common.{zero, suc, ◌≡◌, ℕ, ◌+◌, List, [], ◌∷◌, ◌++◌, map, flat_map, length, get_or, Some, slice_get, ap, refl, ◌∙◌, inl, inr, ◌⊎◌, arith, rules}
+use Rattle.std.proofs.Common.{zero, suc, ◌≡◌, ℕ, ◌+◌, List, [], ◌∷◌, ◌++◌, map, flat_map, length, get_or, Some, slice_get, ap, refl, inl, inr, ◌⊎◌, arith, rules}
 use Rattle.std.proofs.lemmas.Option.{slice_get_within}
-
-pub get_left : {Y : Type 0} (l m : List Y) (i : ℕ) (y : Y) → slice_get l i ≡ Some y → slice_get (l ++ m) i ≡ Some y
-get_left [] m i y at = absurd cc
-get_left (x ∷ l) m zero y at = at
-get_left (x ∷ l) m (suc i) y at = get_left l m i y at
-
-pub get_right : {Y : Type 0} (l m : List Y) (k i : ℕ) (y : Y) → k ≡ length l + i → slice_get m i ≡ Some y → slice_get (l ++ m) k ≡ Some y
-get_right [] m k i y e at = let same : k ≡ i = omega arith in ap (λ k. slice_get m k) same ∙ at
-get_right (x ∷ l) m zero i y e at = absurd (omega arith)
-get_right (x ∷ l) m (suc k) i y e at = get_right l m k i y (omega arith) at
+use Rattle.span.proofs.KeptReceipts.{get_left, get_right}
 
 pub get_cases : {Y : Type 0} (l m : List Y) (k : ℕ) (y : Y) → slice_get (l ++ m) k ≡ Some y → (slice_get l k ≡ Some y) ⊎ ((i : ℕ) × (k ≡ length l + i) × (slice_get m i ≡ Some y))
 get_cases [] m k y at = inr (k, omega arith, at)

@@ -19,9 +19,6 @@ module _ (low now_low : SlotSet) (high now_high : List SlotSet) (number : ℕ) (
   past : (q : ℕ) → SLOTS + SLOTS * length high ≤ q → contains new q ≡ false
   past q large = contains-high now_low now_high q (omega (arith, large)) ∙ contains-past now_high (q - SLOTS) (omega (arith, large, long))
 
-  past_before : (q : ℕ) → SLOTS + SLOTS * length high ≤ q → contains old q ≡ false
-  past_before q large = contains-high low high q (omega (arith, large)) ∙ contains-past high (q - SLOTS) (omega (arith, large))
-
   module _ (low_below : (slot : ℕ) → slot < 256 → slot < number → contains now_low slot ≡ contains low slot)
       (low_above : (slot : ℕ) → slot + 1 < 256 → number ≤ slot → contains now_low (slot + 1) ≡ contains low slot)
       (high_below : (q : ℕ) → q < number - SLOTS → q < SLOTS * length high → contains (numbers_in now_high) q ≡ contains (numbers_in high) q)

@@ -29,10 +29,6 @@ then-ok r next a h = ap (λ x. x >>= next) (sym h)
 abbrev pub carried : {X : Type 0} → List X → Result (List X) ReadError → Result (List X) ReadError
 carried xs r = r >>= (λ more. Ok (xs ++ more))
 
-carried-nil : {X : Type 0} (r : Result (List X) ReadError) → r ≡ carried [] r
-carried-nil (Ok more) = refl
-carried-nil (Err e) = refl
-
 carried-push : {X : Type 0} (xs : List X) (x : X) (r : Result (List X) ReadError) → carried xs (r >>= (λ more. Ok (x ∷ more))) ≡ carried (xs ++ x ∷ []) r
 carried-push xs x (Ok more) = ap Ok (sym (append_assoc xs (x ∷ []) more))
 carried-push xs x (Err e) = refl
@@ -53,9 +49,6 @@ pub record IsReading {X Y : Type 0} (parse : List ℕ → Result X Cause) (id_of
 
 module _ {X Y : Type 0} (parse : List ℕ → Result X Cause) (id_of : X → Id) (view : Y → X) (key : Y → SpanId) (keys : (y : Y)
     → id_of (view y) ≡ id_parts (key y)) (parts : List (List ℕ)) (at n : ℕ) where
-  pub IsReading-start : IsReading parse id_of view key parts at n [] None 0
-  IsReading-start = search (rules, carried-nil)
-
   module _ (done : List Y) (last : Option SpanId) (k : ℕ) (s : IsReading parse id_of view key parts at n done last k) where
     pub IsReading-more : (y : Y) → k < n → Ok (view y) ≡ line_in (item_in parse id_of (option_map id_parts last)) parts (at + k) → ComesAfter last (key y)
         → IsReading parse id_of view key parts at n (done ++ y ∷ []) (Some (key y)) (k + 1)

@@ -79,13 +79,8 @@ pub any-more : (test : SpanId → Bool) (before : List SpanId) (id : SpanId) →
 any-more test before id = list_any-append test before (id ∷ []) ∙ ap (λ b. list_any test before || b) (or-false (test id))
 
 -- an id that no group has
-pub has_id-none : (entries : List Entry) (id : SpanId) (q : ℕ) (d : Entry) → has_id entries id ≡ false → q < length entries → same_span (get_or entries q d).id id ≡ false
-has_id-none entries id q d none within = search (rules, cases_Bool, both_ways, list_any_at)
 
 module _ (entries : List Entry) (before : List SpanId) (id : SpanId) (old : List ℕ) (seen : HasSeen entries before old) where
-  pub HasSeen-same : has_id entries id ≡ false → HasSeen entries (before ++ id ∷ []) old
-  HasSeen-same none q d within = search (rules, or-false, has_id-none, any-more)
-
   module _ (p : ℕ) (up : IsAscending (ids entries)) (p_in : p < length entries) (at : (d : Entry) → same_span (get_or entries p d).id id ≡ true) where
     pub HasSeen-more : (new : List ℕ) → ((q : ℕ) → has_bit new q ≡ (eqb q p || has_bit old q)) → HasSeen entries (before ++ id ∷ []) new
     HasSeen-more new bits q d within =
@@ -244,9 +239,6 @@ abbrev pub HasAdded : (Entry → Bool) → List Entry → ℕ → List ℕ → L
 HasAdded test owned k old new = (q : ℕ) (d : Entry) → q < length owned → has_bit new q ≡ (has_bit old q || (nat_lt q k && test (get_or owned q d)))
 
 module _ (test : Entry → Bool) (owned : List Entry) (old : List ℕ) where
-  pub HasAdded-none : HasAdded test owned 0 old old
-  HasAdded-none q d within = sym (ap (λ b. has_bit old q || (b && test (get_or owned q d))) (le-ltb q 0 (omega arith)) ∙ or-false (has_bit old q))
-
   pub HasAdded-more : (k : ℕ) (mid new : List ℕ) (y : Entry) → HasAdded test owned k old mid → k < length owned → y ≡ get_or owned k y
       → ((q : ℕ) → has_bit new q ≡ (has_bit mid q || (eqb q k && test y))) → HasAdded test owned (k + 1) old new
   HasAdded-more k mid new y added low is bits q d within = search (rules, cases_eq, get_or_default, le-ltb, eq-eqb, or-false, lt-ltb, nat_lt, ne_eqb, cases_lt)
@@ -255,10 +247,6 @@ module _ (test : Entry → Bool) (owned : List Entry) (old : List ℕ) where
   pub HasAdded-skip : (k : ℕ) (mid : List ℕ) (y : Entry) → HasAdded test owned k old mid → k < length owned → y ≡ get_or owned k y
       → test y ≡ false → HasAdded test owned (k + 1) old mid
   HasAdded-skip k mid y added low is fails = search (rules, HasAdded-more, or-false)
-
-  pub HasAdded-all : (k : ℕ) (new : List ℕ) → HasAdded test owned k old new → length owned ≤ k → (q : ℕ) (d : Entry) → q < length owned
-      → has_bit new q ≡ (has_bit old q || test (get_or owned q d))
-  HasAdded-all k new added past q d within = added q d within ∙ ap (λ b. has_bit old q || (b && test (get_or owned q d))) (lt-ltb q k (omega arith))
 
 -- how many fit, by the bits of all of the ids
 pub count-fitting : (abandoned : List Entry) (chosen : List SpanId) (owned : List Entry) (k : ℕ) (words : List ℕ) → length chosen ≤ k → HasFitting abandoned (take k chosen) owned words

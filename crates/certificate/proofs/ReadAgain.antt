@@ -176,7 +176,7 @@ lacks-pair_body p = lacks-append 10 (id_text p.0) (codes " " ++ id_text p.1) (la
 abbrev pub title_body : List ℕ → ℕ → List ℕ
 title_body title n = title ++ (codes " " ++ decimal n)
 
-bytes_eq-same : (xs : List ℕ) → bytes_eq xs xs ≡ true
+pub bytes_eq-same : (xs : List ℕ) → bytes_eq xs xs ≡ true
 bytes_eq-same xs = (bytes_eq-Decides xs xs).1 refl
 
 pub count_in-body : (title : List ℕ) (n : ℕ) → lacks 32 title ≡ true → n ≤ MOST_GROUPS → count_in title (title_body title n) ≡ Ok n

@@ -19,6 +19,7 @@ use Rattle.shard.proofs.Classes.{cases_class}
 use Rattle.shard.proofs.HeadsHere.{head_among-here}
 use Rattle.groups.proofs.Logged.{logged, nothing_pending}
 use Rattle.shard.proofs.ShownLogs.{shown-logged as shown-logged_shard}
+use Rattle.shard.proofs.Grafted.{spans_in-Grafts}
 use Rattle.pool.specs.Calls.{Lifts}
 use Rattle.pool.specs.Shown.{shown, together}
 use Rattle.pool.specs.Sound.{IsSound}
@@ -29,7 +30,6 @@ use Rattle.groups.proofs.EmptySets.{empty_or_not}
 use Rattle.pool.proofs.Together.{spans_in-Lifts, together-moved}
 use Rattle.fold.specs.Folds.{Folds, MayFold}
 use Rattle.fold.proofs.Heads.{none_or_head}
-use Rattle.fold.proofs.Sums.{spans_in-Grafts}
 
 module _ (pool : PoolState) (sound : IsSound pool) (shard : ShardState) (a b : SpanId) (may : MayFold pool shard a b) where
   -- the group of the shard

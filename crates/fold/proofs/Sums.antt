@@ -1,46 +1,24 @@
 -- What a fold does to the spans of pool and shard.
-use Rattle.std.proofs.Common.{◌≡◌, ℕ, ◌+◌, ◌++◌, false, true, Bool, List, ◌∷◌, length, append_assoc, length-set, None, Some, ◌∙◌, ap, sym, refl, arith, is_some, cond, set, slice_get}
+use Rattle.std.proofs.Common.{◌≡◌, ℕ, ◌+◌, ◌++◌, true, Bool, length, length-set, Some, ◌∙◌, ap, sym, arith, is_some, cond, set}
 use Rattle.std.specs.Prelude.{remove, sum_by}
-use Rattle.std.proofs.lemmas.Grind.{flat_map-append}
 use Rattle.std.proofs.lemmas.List.Sums.{length-filter, sum_by-append}
 use Rattle.span.specs.State.{SpanState}
 use Rattle.span.specs.declared.id.SpanId.{SpanId}
-use Rattle.groups.specs.Group.{paged_in, spans_in, spans_of}
+use Rattle.groups.specs.Group.{paged_in, spans_in}
 use Rattle.shard.specs.Moves.{Grafts, with_guests, with_room}
 use Rattle.groups.specs.Whole.{WholeState, spans_moved}
 use Rattle.shard.specs.Sound.{IsSound as IsSoundShard}
 use Rattle.shard.specs.State.{ShardState}
-use Rattle.groups.proofs.Lists.{count-set, split_at}
+use Rattle.groups.proofs.Lists.{count-set}
 use Rattle.shard.specs.Group.{GroupState}
 use Rattle.shard.proofs.HeadsHere.{same_group}
-use Rattle.shard.proofs.MovedGroups.{AreBetween}
 use Rattle.pool.specs.Calls.{Lifts}
 use Rattle.pool.specs.State.{PoolState, PooledState, paged_groups}
 use Rattle.groups.proofs.Removed.{count-remove}
 use Rattle.pool.proofs.Together.{spans_in-Lifts}
 use Rattle.fold.specs.Folds.{Folds}
 use Rattle.shard.specs.Closes.{HasPagedHead}
-
--- after a graft the spans are the old ones with those that came after the last guest of the group
-pub spans_in-Grafts : (old new : ShardState) (head : SpanId) (whole : WholeState) → Grafts old head whole new → AreBetween (spans_in new.groups) (spans_in old.groups) (spans_moved whole)
-spans_in-Grafts old new head whole grafts =
-    let cut = split_at old.groups grafts.index grafts.group grafts.here.here in
-    let left : List SpanState = spans_in cut.left in
-    let right : List SpanState = spans_in cut.right in
-    let own : List SpanState = spans_of grafts.group in
-    let moved : List SpanState = spans_moved whole in
-    record {
-      left = left ++ own;
-      right = right;
-      with_is =
-          ap (λ (s : ShardState). spans_in s.groups) grafts.after
-          ∙ ap spans_in (cut.after_set (with_guests grafts.group moved grafts.words))
-          ∙ flat_map-append spans_of cut.left (with_guests grafts.group moved grafts.words ∷ cut.right)
-          ∙ ap (λ (xs : List SpanState). left ++ xs) (append_assoc own moved right)
-          ∙ sym (append_assoc left own (moved ++ right));
-      without_is =
-          ap spans_in cut.whole ∙ flat_map-append spans_of cut.left (grafts.group ∷ cut.right) ∙ sym (append_assoc left own right);
-    }
+use Rattle.shard.proofs.Grafted.{spans_in-Grafts}
 
 -- sums over the spans
 
@@ -93,17 +71,6 @@ module _ (pool : PoolState) (shard : ShardState) (a b : SpanId) (pool_new : Pool
 
   pub ended-Folds : shard_new.ended ≡ shard.ended
   ended-Folds = ap (λ (s : ShardState). s.ended) folds.grafts.after
-
-  -- a shard that has a group has not ended
-  pub running-Folds : IsSoundShard shard → shard.ended ≡ false
-  running-Folds sound = by_end shard.ended refl
-    where
-      by_end : (e : Bool) → shard.ended ≡ e → shard.ended ≡ false
-      by_end false is = is
-      by_end true is = absurd (
-          let none : None ≡ slice_get shard.groups folds.grafts.index = ap (λ gs. slice_get gs folds.grafts.index) (sym (sound.none_left is)) in
-          let some = folds.grafts.here.here in
-          cc)
 
   -- the shard has as many groups as before
   pub length_groups-Folds : length shard_new.groups ≡ length shard.groups

@@ -51,29 +51,6 @@ pub record IsEntering (before now : DirectoryState) (guests : List SpanState) (h
   pub room : now.room + place ≡ before.room + first
   pub least : first ≤ place
 
-module _ (before now : DirectoryState) (guests : List SpanState) (head : SpanId) (first place : ℕ) (is : IsEntering before now guests head first place) where
-  pub IsEntering-next : (guest : SpanState) → slice_get guests place ≡ Some guest → 1 ≤ now.room
-      → IsEntering before (record { entries = map.insert now.entries (rank guest.id) (record { head = head; place = place + 1 }); room = now.room - 1 }) guests head first (place + 1)
-  IsEntering-next guest here some = record {
-    entries =
-        let next : place + 1 ≡ suc place = omega arith in
-        let after : place + 1 + 1 ≡ suc (place + 1) = omega arith in
-        let with_it = map.insert now.entries (rank guest.id) (record { head = head; place = place + 1 }) in
-        ap (entered with_it (drop (place + 1) guests) head) after
-        ∙ ap (λ n. entered with_it (drop n guests) head (suc (place + 1))) next
-        ∙ ap (λ rest. entered now.entries rest head (place + 1)) (sym (drop_step guests place guest here)) ∙ is.entries;
-    room = omega (arith, is.room);
-    least = omega (arith, is.least);
-  }
-
-  pub IsEntering-all : length guests ≤ place → place ≤ length guests
-      → now ≡ record { entries = entered before.entries (drop first guests) head (first + 1); room = before.room + first - length guests }
-  IsEntering-all most least =
-      let at : place ≡ length guests = omega arith in
-      same_directory now (record { entries = entered before.entries (drop first guests) head (first + 1); room = before.room + first - length guests })
-      (ap (λ rest. entered now.entries rest head (place + 1)) (sym (ap (λ n. drop n guests) at ∙ drop_all (length guests) guests (omega arith))) ∙ is.entries)
-      (omega (arith, is.room))
-
 -- the spans before the index are struck; with the others it comes to all of them
 pub record IsStriking (before now : DirectoryState) (spans : List SpanState) (index : ℕ) : Type 0 where
   pub entries : struck now.entries (drop index spans) ≡ struck before.entries spans
@@ -159,10 +136,3 @@ module _ (before now : DirectoryState) (guests : List SpanState) (head : SpanId)
       still number false other was = ap is_some
           (get-insert now.entries (rank guest.id) (record { head = head; place = index + 1 }) number
           ∙ ap (λ b. cond b (Some (record { head = head; place = index + 1 })) (map.get now.entries number)) other) ∙ was
-
-  pub IsMoving-all : length guests ≤ index → index ≤ length guests → now ≡ record before { entries = entered before.entries guests head 1 }
-  IsMoving-all most least =
-      let at : index ≡ length guests = omega arith in
-      same_directory now (record before { entries = entered before.entries guests head 1 })
-      (ap (λ rest. entered now.entries rest head (index + 1)) (sym (ap (λ n. drop n guests) at ∙ drop_all (length guests) guests (omega arith))) ∙ is.entries)
-      is.room

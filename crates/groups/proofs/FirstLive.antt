@@ -37,12 +37,6 @@ has-none map key some none = let e : true ≡ false = sym some ∙ ap is_some no
 -- ranges of a map
 
 module _ (map : PlainMap) where
-  pub HasNoneBetween-more : (low mid high : ℕ) → HasNoneBetween map low mid → HasNoneBetween map mid high → HasNoneBetween map low high
-  HasNoneBetween-more low mid high first rest key above below = elim (cases_lt (rank key.span) mid) [
-    | inl before ↦ first key above before
-    | inr behind ↦ rest key behind below
-  ]
-
   pub HasNoneBetween-span : (low : ℕ) (id : SpanId) → HasNoneBetween map low (rank id) → HasNoneFrom map id 0 → HasNoneBetween map low (rank id + 1)
   HasNoneBetween-span low id before none key above below = elim (cases_lt (rank key.span) (rank id)) [
     | inl less ↦ before key above less
@@ -182,7 +176,7 @@ module _ {Closed : Type 0} where
         IsFirstLive-span (shown_by groups) low key.span key first.its.0 (none-shown low (rank key.span) first.none_before)
         (first-held (shown_by groups) key.span one.span.log 0 (of_span key.span at one.span there one.named) (Some key) one.lowest refl)
 
-take-suc : {X : Type 0} (xs : List X) (at : ℕ) (x : X) → slice_get xs at ≡ Some x → take (suc at) xs ≡ take at xs ++ x ∷ []
+pub take-suc : {X : Type 0} (xs : List X) (at : ℕ) (x : X) → slice_get xs at ≡ Some x → take (suc at) xs ≡ take at xs ++ x ∷ []
 take-suc [] at x here = absurd cc
 take-suc (y ∷ xs) zero x here = ap (λ z. z ∷ take 0 xs) (same_some here) ∙ ap (λ zs. x ∷ zs) (none xs)
   where

@@ -9,7 +9,7 @@ use Rattle.std.proofs.lemmas.Option.{slice_get-get_or}
 use Rattle.span.specs.Log.{live_slots}
 use Rattle.span.specs.State.{SpanState}
 use Rattle.span.specs.declared.limits.TheConstants.{ALL_IDS}
-use Rattle.span.proofs.Next.{contains-Holds}
+use Rattle.span.proofs.Keeping.{live-if_held}
 use Rattle.groups.specs.FirstLive.{HasNoneIn, IsFirstAmong}
 use Rattle.groups.specs.Spans.{live_count}
 use Rattle.groups.proofs.FirstLive.{IsFirstAmong-nil}
@@ -30,6 +30,6 @@ IsFirstAmong-none (span ∷ spans) low none = record {
   none_before = All-from_get_or (HasNoneIn low ALL_IDS) (span ∷ spans) span (λ at within above below slot generation from holds.
       let one = get_or (span ∷ spans) at span in
       let dead = none_at (span ∷ spans) none at one (slice_get-get_or (span ∷ spans) at span within) in
-      false≢true (sym (contains-empty nat_cmp slot) ∙ ap (λ slots. contains slots slot) (sym dead) ∙ contains-Holds one.log slot generation holds));
+      false≢true (sym (contains-empty nat_cmp slot) ∙ ap (λ slots. contains slots slot) (sym dead) ∙ live-if_held one.log slot generation holds));
   its = tt;
 }

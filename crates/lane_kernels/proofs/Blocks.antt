@@ -4,7 +4,7 @@ use Rattle.std.specs.Int.{bit_at, bit_not, trailing_zeros}
 use Rattle.std.specs.FinSet.{contains}
 use Rattle.std.specs.Simd.Lanes.{chunk, zip2}
 use Rattle.std.proofs.Math.Nat.{mul-add, mul-le-mul_left}
-use Rattle.std.proofs.lemmas.Bool.{both_ways, cases_Bool, cases_eq, cases_lt}
+use Rattle.std.proofs.lemmas.Bool.{both_ways, cases_Bool, cases_eq, cases_lt, not-true}
 use Rattle.std.proofs.lemmas.List.{get_or_past}
 use Rattle.std.proofs.lemmas.Nat.{and_le_l}
 use Rattle.std.proofs.lemmas.Nat.Bits.{bit_at-lt, bit_at-trailing_zeros, bit_at-zero, bit_at_and, bit_at_clear_other, bit_at_clear_same, bit_at_not, bit_at_or}
@@ -12,8 +12,9 @@ use Rattle.std.proofs.lemmas.Simd.{get_or-chunk, get_or-zip2, length-chunk, leng
 use Rattle.bitmap.specs.Slots.{SlotSet, ascending, has_bit, members_below}
 use Rattle.bitmap.specs.Words.{has_bit-place}
 use Rattle.lane_kernels.specs.Rows.{IsClear, IsClearIn, row_at, survives}
-use Rattle.lane_kernels.proofs.Rows.{all_at, all_from, not_false, not_true, only_bit}
+use Rattle.lane_kernels.proofs.Rows.{all_at, all_from, not_false}
 use Rattle.bitmap.specs.declared.bits.TheConstants.{SLOTS}
+use Rattle.bitmap.proofs.WordByWord.{only_bit}
 
 -- a word without its lowest bit
 abbrev pub without_lowest : ℕ → ℕ
@@ -134,7 +135,7 @@ module _ (set : SlotSet) (words rows : List ℕ) (W j bit : ℕ) (size : length 
   all_clear : survives W rows j (ascending set) ≡ true → IsClearIn words rows W (j / 64) (j % 64) SLOTS
   unfolding members_below
   all_clear all q low is_in =
-      let off : has_bit (row_at W rows q) j ≡ false = not_true _ (all_at (contains set) held 0 SLOTS all q (omega arith) low (sym (are q) ∙ is_in)) in
+      let off : has_bit (row_at W rows q) j ≡ false = not-true _ (all_at (contains set) held 0 SLOTS all q (omega arith) low (sym (are q) ∙ is_in)) in
       let lt = bit_at-lt (get_or rows (j / 64 + W * q) 0) (j % 64) in
       elim (cases_eq (bit_at (get_or rows (j / 64 + W * q) 0) (j % 64)) 1) [
         | inl one ↦ absurd (both_ways (has_bit (row_at W rows q) j) off (row_bit-is W rows q j size low inside ∙ tested _ one))

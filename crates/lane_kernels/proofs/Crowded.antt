@@ -1,5 +1,5 @@
 -- Sets that share no slot have no more slots together than there are.
-use Rattle.std.proofs.Common.{◌≡◌, ℕ, zero, suc, ◌+◌, ◌^◌, ◌<◌, ◌≤◌, ◌&&◌, ◌==◌, Bool, true, false, cond, List, [], ◌∷◌, min, length, get_or, bit_and, bit_or, count_by, count_ones, ap, sym, ◌∙◌, refl, arith, eqb-true, zero-add, inl, inr}
+use Rattle.std.proofs.Common.{◌≡◌, ℕ, zero, suc, ◌+◌, ◌^◌, ◌<◌, ◌≤◌, ◌&&◌, ◌==◌, Bool, true, false, cond, List, [], ◌∷◌, min, length, get_or, bit_and, count_by, count_ones, ap, sym, ◌∙◌, refl, arith, eqb-true, zero-add, inl, inr}
 use Rattle.std.specs.Int.{bit_at}
 use Rattle.std.specs.List.{range_with_len}
 use Rattle.std.specs.FinSet.{len}
@@ -7,7 +7,6 @@ use Rattle.std.proofs.Math.Pow.{pow_pos}
 use Rattle.std.proofs.lemmas.Bool.{cases_Bool, cases_eq}
 use Rattle.std.proofs.lemmas.List.FromFn.{length-range_with_len}
 use Rattle.std.proofs.lemmas.List.Sums.{sum_by-cons}
-use Rattle.std.proofs.lemmas.Nat.{le_or_l, le_or_r}
 use Rattle.std.proofs.lemmas.Nat.Bits.{bit_at-lt, bit_at_and, bit_at-zero}
 use Rattle.std.proofs.lemmas.Simd.{ones-mask_l}
 use Rattle.bitmap.specs.Bits.{word_where}
@@ -16,6 +15,7 @@ use Rattle.bitmap.specs.Words.{word_where-is}
 use Rattle.bitmap.proofs.Counts.{len-slots_of_words}
 use Rattle.lane_kernels.specs.Planes.{column, is_apart, word_of}
 use Rattle.bitmap.specs.declared.bits.TheConstants.{SLOTS}
+use Rattle.bitmap.proofs.Disjoint.{either_zero}
 
 at_most_one : (b c : Bool) → (b && c) ≡ false → cond b 1 0 + cond c 1 0 ≤ 1
 at_most_one true true both = absurd (let e : true ≡ false = both in cc)
@@ -52,9 +52,6 @@ no_bit a b none i =
 ones-apart : (a b : ℕ) → a < 2 ^ 64 → b < 2 ^ 64 → bit_and a b ≡ 0 → count_ones a + count_ones b ≤ 64
 ones-apart a b fits_a fits_b none =
     omega (arith, ones-bits a fits_a, ones-bits b fits_b, count_by-apart (bit_of a) (bit_of b) (no_bit a b none) (range_with_len 0 64), length-range_with_len 0 64)
-
-either_zero : (x y : ℕ) → bit_or x y ≡ 0 → (x ≡ 0) × (y ≡ 0)
-either_zero x y none = (omega (arith, le_or_l x y), omega (arith, le_or_r x y))
 
 module _ (a p q r s : List ℕ) (are : AreWords a) (fit_p : (k : ℕ) → get_or p k 0 < 2 ^ 64) (fit_q : (k : ℕ) → get_or q k 0 < 2 ^ 64) (fit_r : (k : ℕ)
     → get_or r k 0 < 2 ^ 64) (fit_s : (k : ℕ) → get_or s k 0 < 2 ^ 64) (k : ℕ) where

@@ -1,12 +1,12 @@
 -- Rows of bits, a row a slot.
-use Rattle.std.proofs.Common.{ℕ, zero, suc, ◌+◌, ◌-◌, ◌*◌, ◌/◌, ◌%◌, ◌^◌, ◌<◌, ◌≤◌, ◌≡◌, ◌==◌, ◌&&◌, Bool, true, false, not, min, List, ◌++◌, ◌↔◌, length, length-append, take, drop, subst, get_or, lit<, lit≤, ap, sym, ◌∙◌, refl, inl, inr, arith, eqb-true, eq-eqb}
+use Rattle.std.proofs.Common.{ℕ, zero, suc, ◌+◌, ◌-◌, ◌*◌, ◌/◌, ◌%◌, ◌^◌, ◌<◌, ◌≤◌, ◌≡◌, ◌==◌, ◌&&◌, Bool, true, false, not, List, ◌++◌, ◌↔◌, length, length-append, take, drop, subst, get_or, lit<, lit≤, ap, sym, ◌∙◌, refl, inl, inr, arith, eqb-true, eq-eqb}
 use Rattle.std.specs.Int.{bit_at}
 use Rattle.std.specs.List.{filter, list_all, list_any, range_with_len, slice_get}
 use Rattle.std.specs.Ordering.{nat_cmp}
 use Rattle.std.specs.FinSet.{contains, contains-empty, empty, empty_of_len, intersection, len, len-empty}
 use Rattle.std.proofs.Math.Nat.{mul-le-mul_left, mul-suc}
 use Rattle.std.proofs.Math.Seq.{drop-append_seam, take-add, take-length}
-use Rattle.std.proofs.lemmas.Bool.{and_from, and_parts, both_ways, cases_Bool, cases_eq, cases_lt}
+use Rattle.std.proofs.lemmas.Bool.{and_from, and_parts, both_ways, cases_Bool, cases_eq, cases_lt, not-true}
 use Rattle.std.proofs.lemmas.List.{drop-append-le, get_or_default, get_or_past, length-drop, take-append-le}
 use Rattle.std.proofs.lemmas.List.Elements.{All-from_get_or}
 use Rattle.std.proofs.lemmas.List.Folds.{Any-from_list_any, list_any_at, list_any_none}
@@ -20,14 +20,6 @@ use Rattle.lane_kernels.specs.Planes.{IsUnionOf, column, sets_of}
 use Rattle.lane_kernels.specs.Rows.{AreBitRows, AreSlotRows, HaveSlots, IsFullRow, padded, row_at, survives, width_of}
 use Rattle.lane_kernels.proofs.Columns.{get_or-sets_of, length-sets_of}
 use Rattle.bitmap.specs.declared.bits.TheConstants.{SLOTS}
-
-pub only_bit : (x y : ℕ) → x < 2 → y < 2 → (min x (1 - y) == 1) ≡ ((x == 1) && not (y == 1))
-only_bit zero zero p q = refl
-only_bit zero (suc zero) p q = refl
-only_bit (suc zero) zero p q = refl
-only_bit (suc zero) (suc zero) p q = refl
-only_bit (suc (suc x)) y p q = absurd (omega arith)
-only_bit x (suc (suc y)) p q = absurd (omega arith)
 
 -- a bit of a column, by the plane that has it
 pub column_bit : (p q r s : List ℕ) (j slot k w : ℕ) → slot / 64 ≡ k → w ≡ get_or (column p q r s j) k 0 → (bit_at w (slot % 64) == 1) ≡ has_bit (column p q r s j) slot
@@ -122,10 +114,6 @@ module _ (test held : ℕ → Bool) where
     | inl in' ↦ rw in' (and_from (held start) (list_all held (filter test (range_with_len (start + 1) n))) (each start (omega arith) in') (all_from (start + 1) n (λ q low. each q (omega arith))))
     | inr out ↦ rw out (all_from (start + 1) n (λ q low. each q (omega arith)))
   ]
-
-pub not_true : (b : Bool) → not b ≡ true → b ≡ false
-not_true true h = sym h
-not_true false h = refl
 
 -- the test tells whether the sets are disjoint
 are_disjoint-is : (a b : SlotSet) (r : Bool) → (r ≡ true → AreDisjoint a b) → (AreDisjoint a b → r ≡ true) → r ≡ are_disjoint a b
@@ -253,7 +241,7 @@ module _ (set other : SlotSet) (rows : List ℕ) (width j : ℕ) (below : IsBelo
       let held : ℕ → Bool = λ q. not (has_bit (row_at width rows q) j) in
       are_disjoint-is set other (list_all held (filter (contains set) (range_with_len 0 SLOTS)))
       (λ all. AreDisjoint-by_slot set other (λ q in_a in_b.
-      both_ways (has_bit (row_at width rows q) j) (not_true _ (all_at (contains set) held 0 SLOTS all q (omega arith) (below q in_a) in_a))
+      both_ways (has_bit (row_at width rows q) j) (not-true _ (all_at (contains set) held 0 SLOTS all q (omega arith) (below q in_a) in_a))
       (read q (below q in_a) ∙ in_b)))
       (λ apart. all_from (contains set) held 0 SLOTS (λ q small in_a. not_false _ (λ bit. AreDisjoint-at set other apart q in_a (sym (read q small) ∙ bit))))
 

@@ -5,7 +5,7 @@ use Rattle.std.specs.Prelude.{MatchOption}
 use Rattle.std.proofs.Math.Nat.{mul-le-mul_left, mul-suc}
 use Rattle.std.proofs.lemmas.Bool.{both_ways, cases_eq, cases_lt}
 use Rattle.std.proofs.lemmas.List.{get_or_default, length-drop, length-map, length-take-le}
-use Rattle.std.proofs.Math.Seq.{take-add, take-append_seam, drop-append_seam, take-length}
+use Rattle.std.proofs.Math.Seq.{take-add, take-length}
 use Rattle.std.proofs.lemmas.Option.{slice_get-get_or, slice_get_past}
 use Rattle.bitmap.specs.Slots.{SlotSet, has_bit}
 use Rattle.lane_kernels.specs.Rows.{row_at, width_of}
@@ -63,17 +63,6 @@ module _ (start width : ℕ) (before row words : List ℕ) (ends : start + width
 
   long : length (take start before) ≡ start
   long = length-take-le start before (omega (arith, ends))
-
-  pub over-earlier : take start words ≡ take start before
-  over-earlier = ap (take start) are ∙ ap (λ k. take k (take start before ++ behind)) (sym long) ∙ take-append_seam (take start before) behind
-
-  pub over-row : take width (drop start words) ≡ row
-  over-row =
-      ap (λ l. take width (drop start l)) are
-      ∙ ap (λ k. take width (drop k (take start before ++ behind))) (sym long)
-      ∙ ap (take width) (drop-append_seam (take start before) behind)
-      ∙ ap (λ k. take k behind) (sym wide)
-      ∙ take-append_seam row (drop (start + width) before)
 
 -- the rows of all groups are those of the snapshot
 pub AreRows-from_rows : (s : Groups) (sets : List SlotSet) (masks : Option Masks) (words : List ℕ) → length s.abandoned ≤ MOST_GROUPS

@@ -15,9 +15,8 @@ use Rattle.lane_kernels.specs.Disjoint.{fits}
 use Rattle.lane_kernels.specs.Rows.{row_at}
 use Rattle.span.specs.Classes.{number_of, width_of}
 use Rattle.span.specs.declared.class.Class.{Class}
-use Rattle.span.specs.declared.class.TheConstants.{CLASSES}
 use Rattle.span.specs.declared.entry.Entry.{Entry}
-use Rattle.span.proofs.Widths.{number_of-width, width_of-most}
+use Rattle.span.proofs.Widths.{number_of-width}
 use Rattle.mesh_graph.specs.Groups.{has_partner}
 use Rattle.mesh_graph.specs.Masked.{AreMasks, AreOfOneClass, is_kept, is_of}
 use Rattle.mesh_graph.specs.declared.by_class.Masks.{Masks}
@@ -109,14 +108,6 @@ row_bit-set W i j words low within m q =
           ∙ has_bit-set row j inside q)
       | inr other ↦ rw (ne_eqb m i other) (ap (λ l. has_bit l q) (row_at-set_other W i (j / 64) w words low within m other))
     ]
-
--- the row of a class stands among those of all classes
-pub row-of_class : (W : ℕ) (class : Class) → W * number_of class + W ≤ W * CLASSES
-row-of_class W class =
-    let next : number_of class + 1 ≤ CLASSES = omega (arith, number_of-width class, width_of-most class) in
-    let ends : W * suc (number_of class) ≤ W * CLASSES = mul-le-mul_left W (omega (arith, next)) in
-    let more = mul-suc W (number_of class) in
-    omega (arith, ends, more)
 
 -- ---- the masks of the first n groups
 

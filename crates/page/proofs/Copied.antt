@@ -33,7 +33,7 @@ whole_of class j = div-add-mod j (width_of class)
 slot-lt : (class : Class) (j : ℕ) → j < SLOTS → j / width_of class < SLOTS
 slot-lt class j low = omega (arith, low, div-le_self j (width_of class))
 
-same_both : (b : Bool) (x : ℕ) → cond b x x ≡ x
+pub same_both : (b : Bool) (x : ℕ) → cond b x x ≡ x
 same_both true x = refl
 same_both false x = refl
 

@@ -1,10 +1,10 @@
 -- Zeros on a page, and a page that keeps the objects at some slots alone.
-use Rattle.std.proofs.Common.{zero, suc, ◌≡◌, ◌⊎◌, ℕ, ◌+◌, ◌-◌, ◌*◌, ◌/◌, ◌%◌, ◌<◌, ◌≤◌, ◌==◌, ◌∷◌, [], Bool, true, false, cond, if◌then◌else◌, eqb, eqb-true, Option, None, Some, List, length, get_or, set, take, is_some, ap, sym, ◌∙◌, refl, inl, inr, arith}
+use Rattle.std.proofs.Common.{zero, suc, ◌≡◌, ℕ, ◌+◌, ◌-◌, ◌*◌, ◌/◌, ◌%◌, ◌<◌, ◌≤◌, ◌==◌, ◌∷◌, [], Bool, true, false, cond, eqb, eqb-true, Option, None, Some, List, length, get_or, set, take, is_some, ap, sym, ◌∙◌, refl, arith}
 use Rattle.std.specs.Prelude.{IsSome, unwrap_or}
 use Rattle.std.specs.Cmp.{first_so, second_so}
 use Rattle.std.specs.FinSet.{contains}
-use Rattle.std.proofs.lemmas.Bool.{cases_eq, false≢true}
-use Rattle.std.proofs.lemmas.List.{get_or-replicate, get_or-set_other, get_or-set_same, get_or-take, length-set, length-take-le}
+use Rattle.std.proofs.lemmas.Bool.{false≢true}
+use Rattle.std.proofs.lemmas.List.{get_or-replicate, get_or-take, length-take-le}
 use Rattle.std.proofs.lemmas.List.FromFn.{fill_by_all}
 use Rattle.bitmap.specs.Slots.{SlotSet}
 use Rattle.bitmap.specs.declared.bits.TheConstants.{SLOTS}
@@ -13,6 +13,7 @@ use Rattle.span.specs.declared.class.Class.{Class}
 use Rattle.span.proofs.Widths.{width_of-most}
 use Rattle.page.specs.Words.{Words, blank_page, copied, is_zeros, object_in, page_of, same_words, set_object}
 use Rattle.page.proofs.Words.{object_in-from, on_page, set_object-from}
+use Rattle.page.proofs.Copied.{same_both}
 
 -- each word of zeros is 0
 get_or-zeros : (object : List ℕ) (k : ℕ) → is_zeros object ≡ true → get_or object k 0 ≡ 0
@@ -23,10 +24,6 @@ get_or-zeros (word ∷ object) (suc k) zeros = get_or-zeros object k (second_so 
 get_or-blank : (k : ℕ) → k < SLOTS → get_or blank_page.items k 0 ≡ 0
 unfolding blank_page
 get_or-blank k low = get_or-replicate SLOTS k 0 0 low
-
-same_both : (b : Bool) (x : ℕ) → cond b x x ≡ x
-same_both true x = refl
-same_both false x = refl
 
 -- zeros written on a page of zeros leave it
 pub set_object-zeros : (class : Class) (slot : ℕ) (object : List ℕ) → is_zeros object ≡ true → blank_page ≡ set_object blank_page class slot object
@@ -47,30 +44,7 @@ pub record IsCleared (class : Class) (slots : SlotSet) (before now : List ℕ) (
   pub done : (k : ℕ) → k < place → get_or now k 0 ≡ cond (contains slots (k / width_of class)) (get_or before k 0) 0
   pub left : (k : ℕ) → place ≤ k → get_or now k 0 ≡ get_or before k 0
 
-pub IsCleared-first : (class : Class) (slots : SlotSet) (before : List ℕ) → length before ≡ SLOTS → IsCleared class slots before before 0
-IsCleared-first class slots before long = record { long = long; done = λ k low. absurd (omega (arith, low)); left = λ k from. refl }
-
 module _ (class : Class) (slots : SlotSet) (before now : List ℕ) (place : ℕ) (is : IsCleared class slots before now place) where
-  pub IsCleared-kept : contains slots (place / width_of class) ≡ true → IsCleared class slots before now (place + 1)
-  IsCleared-kept inside = record {
-    long = is.long;
-    done = λ k low. elim (cases_eq k place) [
-      | inl same ↦ rw (same, inside) (is.left place (omega arith))
-      | inr apart ↦ is.done k (omega (arith, low, apart))
-    ];
-    left = λ k from. is.left k (omega (arith, from));
-  }
-
-  pub IsCleared-next : place < SLOTS → contains slots (place / width_of class) ≡ false → IsCleared class slots before (set now place 0) (place + 1)
-  IsCleared-next low outside = record {
-    long = length-set now place 0 ∙ is.long;
-    done = λ k below. elim (cases_eq k place) [
-      | inl same ↦ rw (same, outside) (get_or-set_same now place 0 0 (omega (arith, low, is.long)))
-      | inr apart ↦ get_or-set_other now place k 0 0 apart ∙ is.done k (omega (arith, below, apart))
-    ];
-    left = λ k from. get_or-set_other now place k 0 0 (λ e. omega (arith, e, from)) ∙ is.left k (omega (arith, from));
-  }
-
   pub IsCleared-all : SLOTS ≤ place → (others : Words) → others.items ≡ before → now ≡ (copied blank_page class slots others).items
   unfolding copied
   IsCleared-all all others is_before = fill_by_all (λ j. cond (contains slots (j / width_of class)) (get_or others.items j 0) (get_or blank_page.items j 0)) now SLOTS 0 is.long

@@ -3,19 +3,13 @@ use Rattle.std.proofs.Common.{suc, ◌≡◌, ◌+◌, Bool, true, false, cond, 
 use Rattle.std.specs.Prelude.{filter}
 use Rattle.std.specs.FinSet as set
 use Rattle.std.specs.Ordering.{nat_cmp}
-use Rattle.std.proofs.lemmas.List.Sums.{sum_by-append}
-use Rattle.span.specs.Log.{live_slots}
-use Rattle.span.specs.State.{SpanState}
 use Rattle.page.specs.Words.{Words}
 use Rattle.groups.specs.Spans.{union_of, live_count}
 use Rattle.groups.proofs.LiveCounts.{len-union_of}
 use Rattle.groups.specs.Sound.{AreSoundGroups, AreStored, IsSoundGroup}
 use Rattle.pool.specs.State.{PooledState}
 use Rattle.groups.specs.Group.{spans_in, spans_of}
-use Rattle.pool.proofs.Walked.{paged}
-
-count-append : (xs ys : List SpanState) → live_count (xs ++ ys) ≡ live_count xs + live_count ys
-count-append xs ys = sum_by-append (λ (s : SpanState). set.len (live_slots s.log)) xs ys
+use Rattle.pool.proofs.Walked.{count-append, paged}
 
 none-live : (group : PooledState) → IsSoundGroup group → paged group ≡ false → live_count (spans_of group) ≡ 0
 none-live group sound off = sym (len-union_of (spans_of group) sound.apart) ∙ ap (λ s. set.len s) (empty group.page off sound.page) ∙ set.len-empty nat_cmp

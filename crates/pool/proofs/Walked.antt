@@ -13,7 +13,7 @@ use Rattle.span.specs.State.{SpanState}
 use Rattle.groups.specs.Group.{spans_in, spans_of}
 use Rattle.groups.specs.Spans.{live_count}
 use Rattle.groups.proofs.GroupSpans.{put_in}
-use Rattle.groups.proofs.Lists.{same_some}
+use Rattle.groups.proofs.FirstLive.{take-suc}
 use Rattle.pool.specs.Ranked.{arranged, head_rank, in_order, lower}
 use Rattle.pool.specs.State.{PooledState}
 use Rattle.pool.proofs.Arranged.{IsPermutation-arranged}
@@ -22,15 +22,6 @@ abbrev pub paged : PooledState → Bool
 paged group = is_some group.page
 
 -- one more of the first
-
-take-more : {X : Type 0} (xs : List X) (at : ℕ) (x : X) → slice_get xs at ≡ Some x → take (suc at) xs ≡ take at xs ++ x ∷ []
-take-more [] at x here = absurd cc
-take-more (y ∷ xs) zero x here = ap (λ z. z ∷ take 0 xs) (same_some here) ∙ ap (λ zs. x ∷ zs) (none xs)
-  where
-    none : {X : Type 0} (xs : List X) → take 0 xs ≡ []
-    none [] = refl
-    none (x ∷ xs) = refl
-take-more (y ∷ xs) (suc at) x here = ap (λ ys. y ∷ ys) (take-more xs at x here)
 
 pub take_all : {X : Type 0} (xs : List X) (n : ℕ) → length xs ≤ n → take n xs ≡ xs
 take_all [] zero most = refl
@@ -51,7 +42,7 @@ module _ (groups : List PooledState) (at : ℕ) (group : PooledState) (here : sl
   next = omega arith
 
   pub before-more : take (at + 1) groups ≡ take at groups ++ group ∷ []
-  before-more = ap (λ n. take n groups) next ∙ take-more groups at group here
+  before-more = ap (λ n. take n groups) next ∙ take-suc groups at group here
 
   pub paged-more : paged group ≡ true → filter paged (take (at + 1) groups) ≡ filter paged (take at groups) ++ group ∷ []
   paged-more on = ap (filter paged) before-more ∙ filter-append paged (take at groups) (group ∷ []) ∙ ap (λ b. filter paged (take at groups) ++ cond b (group ∷ []) []) on
@@ -74,7 +65,7 @@ live_count-push groups group =
 abbrev live_of : PooledState → ℕ
 live_of group = live_count (spans_of group)
 
-count-append : (xs ys : List SpanState) → live_count (xs ++ ys) ≡ live_count xs + live_count ys
+pub count-append : (xs ys : List SpanState) → live_count (xs ++ ys) ≡ live_count xs + live_count ys
 count-append xs ys = sum_by-append (λ (s : SpanState). set.len (live_slots s.log)) xs ys
 
 paged_sum : (groups : List PooledState) → length (filter paged groups) ≡ sum_by (λ g. cond (paged g) 1 0) groups

@@ -18,11 +18,6 @@ module _ {T : Type 0} where
   with_next (c ∷ cs) [] r short = ap (λ t. (c ++ r ∷ []) ∷ t) (sym (with_no_row cs))
   with_next (c ∷ cs) (q ∷ row) r short = ap (λ t. (c ++ q ∷ []) ∷ t) (with_next cs row r (omega arith))
 
-  pub length-with_row : (cs : List (List T)) (row : List T) → length (with_row cs row) ≡ length cs
-  length-with_row [] row = refl
-  length-with_row (c ∷ cs) [] = refl
-  length-with_row (c ∷ cs) (r ∷ row) = ap suc (length-with_row cs row)
-
   -- within a list that goes on, its own entries
   get_front : (xs ys : List T) (i : ℕ) → i < length xs → slice_get (xs ++ ys) i ≡ slice_get xs i
   get_front [] ys i below = absurd (omega arith)

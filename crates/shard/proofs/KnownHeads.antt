@@ -9,7 +9,7 @@ use Rattle.std.proofs.lemmas.Option.{get_or_from_slice_get, slice_get-get_or, sl
 use Rattle.span.specs.Ids.{rank}
 use Rattle.span.specs.declared.id.SpanId.{SpanId}
 use Rattle.span.specs.declared.limits.TheConstants.{MOST_PAGES, MOST_SPANS}
-use Rattle.groups.specs.Group.{Ascend, IsHeadOf, IsPlaceFor}
+use Rattle.groups.specs.Group.{Ascend, IsPlaceFor}
 use Rattle.groups.proofs.Lists.{cases-insert, cases-set, length_insert, pairs-insert, same_some}
 use Rattle.groups.proofs.Removed.{before-remove, cases-remove, pairs-remove}
 use Rattle.shard.specs.Group.{GroupState}
@@ -76,11 +76,6 @@ module _ (number : ℕ) (groups : List GroupState) (window : HeadWindow) (knows 
       → FitHeads number after window
   FitHeads-some after stood q g there own = let was = stood q g there in FitHeads-known was.0 g was.1 own
 
-  -- an own head stands where its index says
-  pub head-known : (head : SpanId) → IsNoted number window.base head → (index : ℕ) (group : GroupState) → IsHeadOf groups head index group → entry_of window head.serial ≡ Some index
-  head-known head own index group here =
-      ap (λ (id : SpanId). entry_of window id.serial) (sym here.head_is) ∙ knows index group here.here (subst (IsNoted number window.base) (sym here.head_is) own)
-
 -- a change of pages and flags
 pub KnowsHeads-alike : (number : ℕ) (groups after : List GroupState) (window : HeadWindow) → map_list bare after ≡ map_list bare groups → KnowsHeads number groups window
     → KnowsHeads number after window
@@ -137,13 +132,6 @@ module _ (shard : ShardState) (sound : IsSound shard) (window : HeadWindow) (kno
 
 module _ (number : ℕ) (groups : List GroupState) (ascend : Ascend groups) (window : HeadWindow) (at : ℕ) (knows : KnowsBelow number groups window at) (group : GroupState)
     (here : slice_get groups at ≡ Some group) where
-  -- a head of another shard needs none
-  pub KnowsBelow-other : (IsNoted number window.base group.head.id → ⊥) → KnowsBelow number groups window (at + 1)
-  KnowsBelow-other apart q g low there own = elim (cases_eq q at) [
-    | inl same ↦ absurd (apart (subst (λ (x : GroupState). IsNoted number window.base x.head.id) (sym (same_some (sym here ∙ ap (slice_get groups) (sym same) ∙ there))) own))
-    | inr other ↦ knows q g (omega (arith, low, other)) there own
-  ]
-
   -- heads before it have other serials
   other_serial : IsNoted number window.base group.head.id → (q : ℕ) (g : GroupState) → q < at → slice_get groups q ≡ Some g → IsNoted number window.base g.head.id
       → g.head.id.serial - window.base ≡ group.head.id.serial - window.base → ⊥

@@ -1,27 +1,18 @@
 -- Sets in a list, changed one after another.
-use Rattle.std.proofs.Common.{zero, suc, ◌≡◌, ℕ, ◌+◌, ◌<◌, ◌≤◌, Bool, List, [], ◌∷◌, length, length-set, get_or, set, Option, None, Some, is_some, not, true, false, ◌∙◌, ap, sym, subst, refl, inl, inr, arith, get_or-set_other, get_or-set_same}
+use Rattle.std.proofs.Common.{zero, suc, ◌≡◌, ℕ, ◌+◌, ◌<◌, ◌≤◌, Bool, List, [], ◌∷◌, length, set, Option, None, Some, is_some, not, true, false, ◌∙◌, ap, sym, refl, inl, inr, arith}
 use Rattle.std.specs.Prelude.{MatchOption}
 use Rattle.std.specs.FinSet.{contains, empty, contains-empty}
 use Rattle.std.specs.Ordering.{nat_cmp}
-use Rattle.std.proofs.lemmas.Bool.{cases_eq, cases_lt, true≢false}
-use Rattle.std.proofs.lemmas.Option.{get_or_from_slice_get, slice_get-get_or}
+use Rattle.std.proofs.lemmas.Bool.{cases_lt, true≢false}
 use Rattle.bitmap.specs.Numbers.{NumbersState}
 use Rattle.shard.specs.Rooms.{IsNoLess, IsShiftedDown, IsShiftedUp, no_numbers, set_at}
 
 -- a set that was read, whatever stands past the end
-pub set_at-read : (sets : List NumbersState) (at : ℕ) (past : NumbersState) → at < length sets → get_or sets at past ≡ set_at sets at
-set_at-read sets at past low = sym (get_or_from_slice_get sets at (get_or sets at past) no_numbers (slice_get-get_or sets at past low))
 
 pub set_at-past : (sets : List NumbersState) (at : ℕ) → length sets ≤ at → set_at sets at ≡ no_numbers
 set_at-past [] at past = refl
 set_at-past (x ∷ sets) zero past = absurd (omega (arith, past))
 set_at-past (x ∷ sets) (suc at) past = set_at-past sets at (omega (arith, past))
-
-pub set_at-set_same : (sets : List NumbersState) (at : ℕ) (now : NumbersState) → at < length sets → set_at (set sets at now) at ≡ now
-set_at-set_same sets at now low = get_or-set_same sets at now no_numbers low
-
-pub set_at-set_other : (sets : List NumbersState) (at : ℕ) (now : NumbersState) (n : ℕ) → (n ≡ at → ⊥) → set_at (set sets at now) n ≡ set_at sets n
-set_at-set_other sets at now n apart = get_or-set_other sets at n now no_numbers apart
 
 -- of the sets those below the place have changed as is said
 module _ (R : NumbersState → NumbersState → Type 0) where
@@ -29,21 +20,6 @@ module _ (R : NumbersState → NumbersState → Type 0) where
     pub count : length now ≡ length old
     pub done : (n : ℕ) → n < at → R (set_at old n) (set_at now n)
     pub rest : (n : ℕ) → at ≤ n → set_at now n ≡ set_at old n
-
-  pub AreChanged-none : (sets : List NumbersState) → AreChanged sets sets 0
-  AreChanged-none sets = record { count = refl; done = λ n low. absurd (omega (arith, low)); rest = λ n from. refl }
-
-  pub AreChanged-next : (old now : List NumbersState) (at : ℕ) → AreChanged old now at → at < length now → (was new : NumbersState) → was ≡ get_or now at was
-      → R was new → AreChanged old (set now at new) (at + 1)
-  AreChanged-next old now at changed low was new read step = record {
-    count = length-set now at new ∙ changed.count;
-    done = λ n less. elim (cases_eq n at) [
-      | inl same ↦ rw (same, set_at-set_same now at new low)
-          (subst (λ s. R s new) (read ∙ set_at-read now at was low ∙ changed.rest at (omega arith)) step)
-      | inr apart ↦ rw (set_at-set_other now at new n apart) (changed.done n (omega (arith, less, apart)))
-    ];
-    rest = λ n from. set_at-set_other now at new n (λ e. absurd (omega (arith, e, from))) ∙ changed.rest n (omega (arith, from));
-  }
 
   -- in the end all have
   pub AreChanged-all : (old now : List NumbersState) (at : ℕ) → AreChanged old now at → length old ≤ at → R no_numbers no_numbers → (n : ℕ) → R (set_at old n) (set_at now n)

@@ -15,14 +15,7 @@ use Rattle.bitmap.specs.Numbers.{NumbersState}
 use Rattle.shard.specs.Rooms.{HasRooms, rooms_of}
 use Rattle.shard.proofs.Classes.{cases_class}
 use Rattle.shard.proofs.Sparse.{filter-no, filter-yes}
-
-drop-next : {X : Type 0} (xs : List X) (at : ℕ) (x : X) → slice_get xs at ≡ Some x → drop at xs ≡ x ∷ drop (suc at) xs
-drop-next [] at x here = absurd cc
-drop-next (y ∷ xs) zero x here = ap (λ z. z ∷ xs) (some_same here)
-  where
-    some_same : Some y ≡ Some x → y ≡ x
-    some_same e = cc
-drop-next (y ∷ xs) (suc at) x here = drop-next xs at x here
+use Rattle.groups.proofs.Maps.{drop_step}
 
 joined-last : {X : Type 0} (xs : List X) (x : X) (ys : List X) → xs ++ x ∷ ys ≡ (xs ++ x ∷ []) ++ ys
 joined-last [] x ys = refl
@@ -86,7 +79,7 @@ module _ (class : Class) (groups : List GroupState) (old now : SlotSet) (has : H
     pub IsSwept-left : has_stayed group ≡ false → IsSwept class groups old after (index + 1) next
     IsSwept-left left = record {
       done = swept.done;
-      all = swept.all ∙ ap (λ gs. swept.done ++ filter has_stayed gs) (drop-next groups index group here)
+      all = swept.all ∙ ap (λ gs. swept.done ++ filter has_stayed gs) (drop_step groups index group here)
           ∙ ap (λ gs. swept.done ++ gs) (filter-no has_stayed group (drop (suc index) groups) left)
           ∙ ap (λ n. swept.done ++ filter has_stayed (drop n groups)) next_is;
       count = swept.count;
@@ -115,7 +108,7 @@ module _ (class : Class) (groups : List GroupState) (old now : SlotSet) (has : H
         → (contains last next ≡ false → HasNoRoom class group) → (contains last next ≡ true → group.head.class ≡ class) → IsSwept class groups old last (index + 1) (next + 1)
     IsSwept-stayed stayed last kept out_is member_is = record {
       done = swept.done ++ group ∷ [];
-      all = swept.all ∙ ap (λ gs. swept.done ++ filter has_stayed gs) (drop-next groups index group here)
+      all = swept.all ∙ ap (λ gs. swept.done ++ filter has_stayed gs) (drop_step groups index group here)
           ∙ ap (λ gs. swept.done ++ gs) (filter-yes has_stayed group (drop (suc index) groups) stayed)
           ∙ ap (λ n. swept.done ++ group ∷ filter has_stayed (drop n groups)) next_is
           ∙ joined-last swept.done group (filter has_stayed (drop (index + 1) groups));

@@ -70,12 +70,12 @@ length-receipts_in words wide len start (run ∷ runs) are =
     let up = are.0.1 in
     omega arith
 
-get_left : {Y : Type 0} (l m : List Y) (i : ℕ) (y : Y) → slice_get l i ≡ Some y → slice_get (l ++ m) i ≡ Some y
+pub get_left : {Y : Type 0} (l m : List Y) (i : ℕ) (y : Y) → slice_get l i ≡ Some y → slice_get (l ++ m) i ≡ Some y
 get_left [] m i y at = absurd cc
 get_left (x ∷ l) m zero y at = at
 get_left (x ∷ l) m (suc i) y at = get_left l m i y at
 
-get_right : {Y : Type 0} (l m : List Y) (k i : ℕ) (y : Y) → k ≡ length l + i → slice_get m i ≡ Some y → slice_get (l ++ m) k ≡ Some y
+pub get_right : {Y : Type 0} (l m : List Y) (k i : ℕ) (y : Y) → k ≡ length l + i → slice_get m i ≡ Some y → slice_get (l ++ m) k ≡ Some y
 get_right [] m k i y e at = let same : k ≡ i = omega arith in ap (λ k. slice_get m k) same ∙ at
 get_right (x ∷ l) m zero i y e at = absurd (omega arith)
 get_right (x ∷ l) m (suc k) i y e at = get_right l m k i y (omega arith) at

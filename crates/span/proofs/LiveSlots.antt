@@ -1,10 +1,9 @@
 -- The live slots of a log of a class, and of marks that follow it.
-use Rattle.std.proofs.Common.{zero, suc, ◌≡◌, ◌+◌, ◌%◌, ◌<◌, ◌≤◌, ℕ, Bool, true, false, List, length, Option, Some, None, get_or, is_some, ap, sym, subst, ◌∙◌, refl, inl, inr, eq-eqb, arith}
-use Rattle.std.specs.Ordering.{nat_cmp}
+use Rattle.std.proofs.Common.{◌≡◌, ◌%◌, ◌<◌, ◌≤◌, ℕ, true, false, List, length, Option, Some, None, get_or, is_some, ap, sym, subst, ◌∙◌, refl, inl, inr, eq-eqb, arith}
 use Rattle.std.specs.FinMap as map
 use Rattle.std.specs.FinSet.{contains, empty, len, empty_of_len}
-use Rattle.std.proofs.lemmas.Bool.{cases_lt, false_from_ne_true, true≢false}
-use Rattle.bitmap.specs.Slots.{SlotSet, IsBelow, slots_where}
+use Rattle.std.proofs.lemmas.Bool.{cases_lt, false_from_ne_true}
+use Rattle.bitmap.specs.Slots.{IsBelow, slots_where}
 use Rattle.bitmap.specs.declared.bits.TheConstants.{SLOTS}
 use Rattle.span.specs.Kept.{Follows}
 use Rattle.span.specs.Log.{Held, IsOfClass, live_slots, replay}

@@ -1,5 +1,5 @@
 -- The live key that comes first in a span.
-use Rattle.std.proofs.Common.{◌≡◌, ◌≤◌, ℕ, Bool, List, Option, Some, None, IsSomeAnd, true, false, arith, ap, refl, sym, ◌∙◌, inl, inr, is_some}
+use Rattle.std.proofs.Common.{◌≡◌, ◌≤◌, ℕ, Bool, List, Option, Some, None, true, false, arith, ap, refl, sym, ◌∙◌, inl, inr, is_some}
 use Rattle.std.specs.Prelude.{IfSome, MatchOption}
 use Rattle.std.specs.FinMap as map
 use Rattle.std.specs.FinSet.{contains, len}
@@ -7,15 +7,14 @@ use Rattle.std.proofs.lemmas.Bool.{cases_eq}
 use mathlib.Core.HLevel.{is_prop→PathP}
 use native.Mathlib.Bridge.{le_prop}
 use Rattle.bitmap.specs.Slots.{SlotSet}
-use Rattle.span.specs.Log.{Held, Holds, IsLegal, Value, live_slots, puts_of, replay, value_in}
+use Rattle.span.specs.Log.{Held, Holds, IsLegal, Value, live_slots, puts_of, value_in}
 use Rattle.span.specs.Order.{HasNoMemberFrom, HasNoneFrom, HoldsNoneFrom, IsFirstFrom, IsFirstHeld, IsLowestFrom}
 use Rattle.span.specs.PlainMap.{PlainMap}
 use Rattle.span.specs.declared.change.Change.{Change}
 use Rattle.span.specs.declared.id.SpanId.{SpanId}
 use Rattle.span.specs.declared.key.Key.{Key}
-use Rattle.span.proofs.Keeping.{some_member}
+use Rattle.span.proofs.Keeping.{live-if_held, some_member}
 use Rattle.span.proofs.LegalLogs.{Holds-generation}
-use Rattle.span.proofs.Slots.{contains-live_slots}
 use Rattle.span.proofs.Values.{Holds-value_in, is_some-value_in}
 
 -- an empty set has no member
@@ -26,18 +25,10 @@ no_member s slot none = by_test (contains s slot) refl
     by_test true inside = absurd (omega (arith, some_member s slot inside))
     by_test false outside = refl
 
--- a slot that is live at a generation is live
-pub contains-Holds : (log : List Change) (slot generation : ℕ) → Holds log slot generation → contains (live_slots log) slot ≡ true
-contains-Holds log slot generation holds = contains-live_slots log slot ∙ is_there (map.get (replay log) slot) holds
-  where
-    is_there : (o : Option Held) → IsSomeAnd o (λ held. held.generation ≡ generation) → is_some o ≡ true
-    is_there None h = absurd h
-    is_there (Some held) h = refl
-
 -- where no slot is live, none is at any generation
 pub HoldsNoneFrom-members : (log : List Change) (from : ℕ) → HasNoMemberFrom (live_slots log) from → HoldsNoneFrom log from
 HoldsNoneFrom-members log from none slot generation above holds =
-    let e : true ≡ false = sym (contains-Holds log slot generation holds) ∙ none slot above in cc
+    let e : true ≡ false = sym (live-if_held log slot generation holds) ∙ none slot above in cc
 
 -- the lowest live slot is the first that is live at a generation, of which it has one
 pub IsFirstHeld-lowest : (gens : ℕ) (log : List Change) (from : ℕ) (key : Key) → IsLegal gens log → IsLowestFrom (live_slots log) from key.slot
@@ -47,7 +38,7 @@ IsFirstHeld-lowest gens log from key legal lowest holds = record {
   not_below = lowest.not_below;
   first = λ slot generation above other. elim (cases_eq slot key.slot) [
     | inl same ↦ inl (same, Holds-generation gens log slot generation legal other ∙ ap (λ s. puts_of s log) same ∙ sym (Holds-generation gens log key.slot key.generation legal holds))
-    | inr differ ↦ inr (omega (arith, differ, lowest.lower slot above (contains-Holds log slot generation other)))
+    | inr differ ↦ inr (omega (arith, differ, lowest.lower slot above (live-if_held log slot generation other)))
   ];
 }
 

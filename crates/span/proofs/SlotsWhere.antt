@@ -3,7 +3,7 @@ use Rattle.std.proofs.Common.{zero, suc, ◌+◌, if◌then◌else◌, ◌≡◌
 use Rattle.std.specs.Ordering.{nat_cmp}
 use Rattle.std.specs.Cmp.{nat_cmp_total}
 use Rattle.std.specs.FinSet.{contains, len, len-empty, len-insert}
-use Rattle.std.proofs.Math.Bool.{and-false}
+use Rattle.std.proofs.Math.Bool.{and-false, and-true}
 use Rattle.std.proofs.lemmas.Bool.{cases_lt, false_from_ne_true}
 use Rattle.bitmap.specs.Slots.{SlotSet, IsBelow, slots_where}
 use Rattle.bitmap.proofs.Where.{slots_where-zero, slots_where-insert, slots_where-skip}
@@ -25,16 +25,12 @@ slots_where-more test n m fewer none = same_slots _ _ (λ q. contains-slots_wher
     by_place q (inl low) = rw (lt-ltb q n low, lt-ltb q m (omega (arith, low, fewer))) refl
     by_place q (inr high) = rw (none q high) refl
 
-and_true : (b : Bool) → (b && true) ≡ b
-and_true true = refl
-and_true false = refl
-
 -- a set of slots below the number
 pub slots_where-below : (s : SlotSet) (n : ℕ) → IsBelow s n → slots_where (contains s) n ≡ s
 slots_where-below s n below = same_slots _ _ (λ q. contains-slots_where (contains s) n q ∙ by_place q (cases_lt q n))
   where
     by_place : (q : ℕ) → (q < n) ⊎ (n ≤ q) → (contains s q && nat_lt q n) ≡ contains s q
-    by_place q (inl low) = rw (lt-ltb q n low) (and_true (contains s q))
+    by_place q (inl low) = rw (lt-ltb q n low) (and-true (contains s q))
     by_place q (inr high) = rw (le-ltb q n high) (and-false (contains s q) ∙ sym (false_from_ne_true (contains s q) (λ inside. absurd (omega (arith, high, below q inside)))))
 
 -- no more pass than there are

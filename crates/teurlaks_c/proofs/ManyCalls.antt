@@ -1,5 +1,5 @@
 -- What is done after some of many calls, and what the next one adds.
-use Rattle.std.proofs.Common.{◌≡◌, ◌≢◌, ◌⊎◌, inl, inr, ℕ, zero, suc, ◌+◌, ◌<◌, ◌≤◌, ◌++◌, ◌∷◌, [], true, false, List, Some, append-nil, ap, arith, drop, length, refl, set, slice_get, subst, sym, take, ◌∙◌}
+use Rattle.std.proofs.Common.{◌≡◌, ◌⊎◌, inl, inr, ℕ, zero, suc, ◌+◌, ◌<◌, ◌≤◌, ◌++◌, ◌∷◌, [], true, false, List, Some, append-nil, ap, arith, drop, length, refl, set, slice_get, subst, sym, take, ◌∙◌}
 use Rattle.std.proofs.Math.ListN.{length-set}
 use Rattle.std.specs.Prelude.{option_map}
 use Rattle.std.specs.Prelude.{min}
@@ -21,15 +21,14 @@ use Rattle.teurlaks_c.specs.Keys.{IsKeyOf}
 use Rattle.teurlaks_c.specs.Many.{FreesAll, FreesRaw, GetsAll, GetsRaw, PutsAll, PutsMany, StopsAt, objects_of}
 use Rattle.teurlaks_c.specs.Status.{done, refusal_status}
 use Rattle.teurlaks_c.specs.Words.{word_of}
+use Rattle.groups.proofs.Lists.{same_some}
+use Rattle.marks.proofs.Lists.{slice_get-set_other}
 
 -- lists
 
-some-same : {T : Type 0} {x y : T} → Some x ≡ Some y → x ≡ y
-some-same e = cc
-
 take-suc : {T : Type 0} (xs : List T) (i : ℕ) (x : T) (ys : List T) → slice_get xs i ≡ Some x → take (suc i) xs ++ ys ≡ take i xs ++ x ∷ ys
 take-suc [] i x ys here = absurd cc
-take-suc (z ∷ zs) zero x ys here = ap (λ first. first ∷ ys) (some-same here)
+take-suc (z ∷ zs) zero x ys here = ap (λ first. first ∷ ys) (same_some here)
 take-suc (z ∷ zs) (suc i) x ys here = ap (λ rest. z ∷ rest) (take-suc zs i x ys here)
 
 take-next : {T : Type 0} (xs : List T) (i : ℕ) (x : T) (ys : List T) → slice_get xs i ≡ Some x → take (i + 1) xs ++ ys ≡ take i xs ++ x ∷ ys
@@ -39,13 +38,6 @@ slice_get-set_here : {T : Type 0} (xs : List T) (i : ℕ) (x : T) → i < length
 slice_get-set_here [] i x within = absurd (omega arith)
 slice_get-set_here (y ∷ xs) zero x within = refl
 slice_get-set_here (y ∷ xs) (suc i) x within = slice_get-set_here xs i x (omega arith)
-
-slice_get-set_there : {T : Type 0} (xs : List T) (i j : ℕ) (x : T) → j ≢ i → slice_get (set xs i x) j ≡ slice_get xs j
-slice_get-set_there [] i j x differ = refl
-slice_get-set_there (y ∷ xs) zero zero x differ = absurd (differ refl)
-slice_get-set_there (y ∷ xs) zero (suc j) x differ = refl
-slice_get-set_there (y ∷ xs) (suc i) zero x differ = refl
-slice_get-set_there (y ∷ xs) (suc i) (suc j) x differ = slice_get-set_there xs i j x (λ e. differ (ap suc e))
 
 take-set_here : {T : Type 0} (xs : List T) (i : ℕ) (x : T) → take i (set xs i x) ≡ take i xs
 take-set_here xs zero x = refl
@@ -234,17 +226,17 @@ module _ (core : CoreState) (raws : List RawKey) (room : List GetReply) (place :
   HasGot-next raw says here within gets = record {
     long = length-set now place says ∙ has.long;
     got = λ i other told below at there. by_place i other told at there (cases_lt i place) below;
-    others = λ i past. slice_get-set_there now place i says (λ e. absurd (omega (arith, e))) ∙ has.others i (omega arith);
+    others = λ i past. slice_get-set_other now place i says (λ e. absurd (omega (arith, e))) ∙ has.others i (omega arith);
   }
     where
       by_place : (i : ℕ) (other : RawKey) (told : GetReply) → slice_get raws i ≡ Some other → slice_get (set now place says) i ≡ Some told
           → (i < place) ⊎ (place ≤ i) → i < place + 1 → GetsRaw core other told
       by_place i other told at there (inl earlier) below =
-          has.got i other told earlier at (sym (slice_get-set_there now place i says (λ e. absurd (omega (arith, e)))) ∙ there)
+          has.got i other told earlier at (sym (slice_get-set_other now place i says (λ e. absurd (omega (arith, e)))) ∙ there)
       by_place i other told at there (inr past) below =
           let same : i ≡ place = omega arith in
-          let is_raw : raw ≡ other = some-same (sym here ∙ ap (slice_get raws) (sym same) ∙ at) in
-          let is_says : says ≡ told = some-same (sym (slice_get-set_here now place says within) ∙ ap (slice_get (set now place says)) (sym same) ∙ there) in
+          let is_raw : raw ≡ other = same_some (sym here ∙ ap (slice_get raws) (sym same) ∙ at) in
+          let is_says : says ≡ told = same_some (sym (slice_get-set_here now place says within) ∙ ap (slice_get (set now place says)) (sym same) ∙ there) in
           subst (λ r. GetsRaw core r told) is_raw (subst (GetsRaw core raw) is_says gets)
 
   pub GetsAll-all : place ≤ length raws → (place ≡ length raws) ⊎ (place ≡ length room) → GetsAll core raws room now

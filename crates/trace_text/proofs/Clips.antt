@@ -5,6 +5,7 @@ use Rattle.std.proofs.lemmas.Bool.Decides.{nat_tests}
 use Rattle.std.proofs.lemmas.Bool.{and_parts, cases_Bool}
 use Rattle.trace_text.proofs.Tests.{chosen}
 use Rattle.std.specs.Int.{IsInRange}
+use Rattle.std.proofs.Math.Bool.{and-false}
 use Rattle.trace_text.specs.Header.{IsWithinLimits}
 use Rattle.trace_text.specs.Objects.{last_word}
 use Rattle.span.specs.declared.class.Class.{Class}
@@ -48,16 +49,12 @@ clip-range from to n few = grind (arith, nat_tests)
 clip-range_near : (from to n : ℕ) → n ≤ 262144 → nat_le (clip from) (clip to) ≡ true → nat_le (clip to) n ≡ true → (clip from ≡ from) × (clip to ≡ to)
 clip-range_near from to n few low high = (grind (arith, nat_tests), grind (arith, nat_tests))
 
-and_false : (b : Bool) → (b && false) ≡ false
-and_false true = refl
-and_false false = refl
-
 -- a count of a fill, and the last word of its last object
 abbrev is_fill_over : Class → (count value : ℕ) → Bool
 is_fill_over class count value = not (nat_le 1 count && nat_le count 262144) || nat_le (2 ^ 128) (last_word class (value + count - 1))
 
 clip-count : (class : Class) (n v : ℕ) → is_fill_over class (clip n) v ≡ is_fill_over class n v
-clip-count class n v = search (rules, cases_Bool, nat_le, nat_tests, and_false)
+clip-count class n v = search (rules, cases_Bool, nat_le, nat_tests, and-false)
 
 clip-count_near : (class : Class) (n v : ℕ) → is_fill_over class (clip n) v ≡ false → clip n ≡ n
 clip-count_near class n v fine = grind (arith, nat_tests)
@@ -67,7 +64,7 @@ abbrev is_retire_over : ℕ → Bool
 is_retire_over most = not (nat_le 1 most && nat_le most MOST_RETIRED)
 
 clip-most : (n : ℕ) → is_retire_over (clip n) ≡ is_retire_over n
-clip-most n = search (rules, cases_Bool, nat_le, nat_tests, and_false)
+clip-most n = search (rules, cases_Bool, nat_le, nat_tests, and-false)
 
 clip-most_near : (n : ℕ) → is_retire_over (clip n) ≡ false → clip n ≡ n
 clip-most_near n fine = grind (arith, nat_tests)

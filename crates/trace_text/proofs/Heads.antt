@@ -16,7 +16,8 @@ use Rattle.trace_text.specs.declared.cause.Cause.{Cause}
 use Rattle.trace_text.specs.declared.cause.Cause.TheVariants as cause
 use Rattle.trace_text.specs.declared.cause.ParseError.{ParseError}
 use Rattle.trace_text.specs.declared.cause.ParseError.TheVariants.{BadTrace, OutOfMemory}
-use Rattle.trace_text.proofs.Tests.{chosen, same_bytes}
+use Rattle.trace_text.proofs.Tests.{chosen}
+use Rattle.certificate.proofs.Spelling.{same_bytes}
 
 -- the line below those that begin a header is at fault
 pub FailsHeader-below : (above more : List Field) (field : Field) (numbers : List ℕ) (number : ℕ) (lines rest : List (List ℕ)) (e : ParseError)

@@ -1,7 +1,7 @@
 -- What is kept for a place.
-use Rattle.std.proofs.Common.{◌≡◌, ℕ, zero, suc, ◌+◌, ◌<◌, ◌≤◌, true, false, List, [], ◌∷◌, ◌++◌, length, get_or, map, Option, Some, None, slice_get, arith, refl, sym, ap, ◌∙◌, ◌⊎◌, inl, inr, rules}
+use Rattle.std.proofs.Common.{◌≡◌, ℕ, zero, suc, ◌+◌, ◌<◌, ◌≤◌, true, false, List, [], ◌∷◌, ◌++◌, length, get_or, map, Some, None, slice_get, arith, refl, sym, ap, ◌∙◌, ◌⊎◌, inl, inr, rules}
 use Rattle.std.specs.List.{find, range_with_len}
-use Rattle.std.specs.Option.{option_map_or, option_or}
+use Rattle.std.specs.Option.{option_map_or}
 use Rattle.std.proofs.lemmas.Bool.Decides.{nat_tests}
 use Rattle.std.proofs.lemmas.List.FromFn.{fill_by_all, get_or-map-range_with_len, length-map-range_with_len, map-range_with_len_more}
 use Rattle.std.proofs.lemmas.List.Folds.{find-append, find_at}
@@ -10,6 +10,7 @@ use Rattle.std.proofs.lemmas.Option.{get_or_from_slice_get, slice_get-get_or, sl
 use Rattle.trace_text.specs.AllLines.{AreInOrder, is_at, line_kept, place_kept}
 use Rattle.trace_text.specs.declared.line.Line.TheVariants.{Silent}
 use Rattle.trace_text.specs.declared.line_list.KeptLine.{KeptLine}
+use Rattle.trace_text.proofs.Bindings.{or_none}
 
 -- a list made of all numbers below another, at one of them
 pub slice_get-map-range : {X : Type 0} (f : ℕ → X) (n i : ℕ) → i < n → slice_get (map f (range_with_len 0 n)) i ≡ Some (f i)
@@ -85,13 +86,9 @@ AreInOrder-push kept count new is order = search (rules, slice_get-push, slice_g
 map-range-same : {X : Type 0} (d : X) (f g : ℕ → X) (n : ℕ) → ((i : ℕ) → i < n → f i ≡ g i) → map f (range_with_len 0 n) ≡ map g (range_with_len 0 n)
 map-range-same d f g n same = fill_by_all g (map f (range_with_len 0 n)) n d (length-map-range_with_len f 0 n) (λ k less. get_or-map-range_with_len f 0 n k k d less (omega arith) ∙ same k less)
 
-or-none : {X : Type 0} (o : Option X) → option_or o None ≡ o
-or-none None = refl
-or-none (Some x) = refl
-
 -- what was found is found in a list with one more for another place
 find-old : (kept : List KeptLine) (new : KeptLine) (place : ℕ) → (new.place ≡ place → ⊥) → find (is_at place) (kept ++ new ∷ []) ≡ find (is_at place) kept
-find-old kept new place other = search (rules, find-append, find-none, or-none)
+find-old kept new place other = search (rules, find-append, find-none, or_none)
 
 -- nothing is kept for the place below the last line
 find-next : (kept : List KeptLine) (count : ℕ) → AreInOrder kept count → find (is_at count) kept ≡ None

@@ -17,10 +17,11 @@ use Rattle.trace_text.specs.declared.line.Call.TheVariants.{Put, Fill, Get, Set,
 use Rattle.trace_text.specs.declared.line.Line.{Line}
 use Rattle.trace_text.specs.declared.line.Line.TheVariants as line
 use Rattle.certificate.specs.Number.{number_in}
+use Rattle.certificate.proofs.Spelling.{same_bytes}
 use Rattle.trace_text.specs.Name.{is_name}
 use Rattle.trace_text.specs.Reference.{reference_in}
 use Rattle.trace_text.specs.Words.{words_of}
-use Rattle.trace_text.proofs.Tests.{chosen, same_bytes}
+use Rattle.trace_text.proofs.Tests.{chosen}
 use Rattle.trace_text.proofs.Verbs.{class_filled-again, class_filled-found, class_put-again, class_put-found}
 use Rattle.trace_text.specs.Form.{Word, Verb, Number, Named, Refers, IsWord, AreWords, SaysLine, HasForm, has_verb, class_filled, class_put, fill_verb, put_verb, set_verb, retire_verb, verb_of, words_of_call, bare_call, key_call, retire_call, aimed_call, with_name, value_call, set_call, valued_call, with_two, counted_call, thread_line, one_word, two_words, form_of_words, form_of}
 

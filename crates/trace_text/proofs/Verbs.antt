@@ -1,6 +1,6 @@
 -- Verbs that name a class.
 use Rattle.std.proofs.lemmas.Grind.{common_steps}
-use Rattle.std.proofs.Common.{◌≡◌, ◌∙◌, ℕ, ◌*◌, ◌%◌, ◌<◌, ◌^◌, ◌==◌, ◌&&◌, ◌||◌, nat_lt, nat_le, Bool, true, false, List, ◌++◌, length, get_or, Option, Some, None, is_some, codes, arith, refl, sym, inl, inr, eqb-true, eq-eqb, rules}
+use Rattle.std.proofs.Common.{◌≡◌, ◌∙◌, ℕ, ◌*◌, ◌%◌, ◌<◌, ◌^◌, ◌==◌, ◌&&◌, ◌||◌, nat_lt, nat_le, Bool, true, false, List, ◌++◌, length, get_or, Option, Some, None, is_some, codes, arith, sym, inl, inr, eqb-true, eq-eqb, rules}
 use Rattle.std.specs.Fmt.{decimal}
 use Rattle.std.specs.List.{range_with_len}
 use Rattle.std.specs.Str.{bytes_eq}
@@ -14,16 +14,13 @@ use Rattle.std.proofs.lemmas.List.FromFn.{get_or-range_with_len}
 use Rattle.std.proofs.lemmas.Option.{option_and_then_some}
 use Rattle.std.proofs.lemmas.Slice.Eq.{bytes_eq-Decides}
 use Rattle.certificate.specs.Number.{number_in}
-use Rattle.certificate.proofs.ReadAgain.{number_in-decimal}
-use Rattle.certificate.proofs.Spelling.{word-number}
+use Rattle.certificate.proofs.ReadAgain.{bytes_eq-same, number_in-decimal}
+use Rattle.certificate.proofs.Spelling.{same_bytes, word-number}
 use Rattle.span.specs.Classes.{class_with, number_of, width_of}
 use Rattle.span.specs.declared.class.Class.{Class}
 use Rattle.span.proofs.Widths.{class_with-width, number_of-most, number_of-width, width_of-class_with, width_of-injective, width_of-least, width_of-most}
 use Rattle.trace_text.specs.Form.{class_behind, class_filled, class_of_bytes, class_of_size, class_put, fill_verb, is_binding_verb, put_verb, size_text}
-use Rattle.trace_text.proofs.Tests.{chosen, same_bytes}
-
-same-bytes_eq : (xs : List ℕ) → bytes_eq xs xs ≡ true
-same-bytes_eq xs = (bytes_eq-Decides xs xs).1 refl
+use Rattle.trace_text.proofs.Tests.{chosen}
 
 -- ---- the verb of a class names it
 
@@ -36,7 +33,7 @@ longer word more some = grind (arith, common_steps, cases_Bool, length-append, s
 
 class_behind-again : (word : List ℕ) (class : Class) → class_behind word (word ++ size_text class) ≡ Some class
 class_behind-again word class =
-    search (rules, cases_Bool, append-nil, same-bytes_eq, width_of-injective, eqb-true, width_of-most, longer, decimal_is_IsNumeral, take-append_seam, drop-append_seam, number_in-decimal, class_of_bytes-width)
+    search (rules, cases_Bool, append-nil, bytes_eq-same, width_of-injective, eqb-true, width_of-most, longer, decimal_is_IsNumeral, take-append_seam, drop-append_seam, number_in-decimal, class_of_bytes-width)
 
 pub class_put-again : (class : Class) → class_put (put_verb class) ≡ Some class
 class_put-again class = class_behind-again (codes "put") class

@@ -10,9 +10,8 @@ use Rattle.span.proofs.OfClass.{IsOfClass-push}
 use Rattle.span.specs.declared.change.Change.{Change}
 use Rattle.span.specs.declared.change.Change.TheVariants.{Free}
 use Rattle.span.proofs.Counting.{all_puts-free, all_puts-le}
-use Rattle.span.proofs.Next.{contains-Holds}
 use Rattle.span.proofs.Slots.{live_slots-free, worn_slots-free}
-use Rattle.span.proofs.Keeping.{Holds-kept, Follows-free, live-within, len-remove_member, some_member}
+use Rattle.span.proofs.Keeping.{Follows-free, Holds-kept, len-remove_member, live-if_held, live-within, some_member}
 use Rattle.bitmap.specs.declared.bits.TheConstants.{SLOTS}
 use Rattle.span.proofs.span.Span.free_at.Goals as goal
 
@@ -20,7 +19,7 @@ use Rattle.span.proofs.span.Span.free_at.Goals as goal
 module _ {class : Class} {gens : ℕ} {worn : Bool} {count : ℕ} {marks : Marks} {log : List Change} {room : ℕ}
     (kept : IsKept class gens worn count marks log room) (slot generation : ℕ) (within : slot < SLOTS) (holds : Holds log slot generation) where
   member : set.contains (live_slots log) slot ≡ true
-  member = contains-Holds log slot generation holds
+  member = live-if_held log slot generation holds
 
   odd : get_or (marks_of marks) slot 0 % 2 ≡ 1
   odd = omega (arith, Holds-kept gens log (marks_of marks) kept.follows slot within generation holds)
