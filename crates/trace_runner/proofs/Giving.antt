@@ -12,9 +12,8 @@ use Rattle.trace_runner.specs.declared.key_list.Stretch.{Stretch}
 -- ---- the last stretch
 
 get_or-Nones : {X : Type 0} (n i : ℕ) → get_or (replicate {A = Option X} n None) i None ≡ None
-get_or-Nones zero i = refl
-get_or-Nones (suc n) zero = refl
 get_or-Nones (suc n) (suc i) = get_or-Nones n i
+get_or-Nones n i = refl
 
 get_or-last : (keys : List Key) (refused i : ℕ) → get_or (map Some keys ++ replicate refused None) i None ≡ slice_get keys i
 get_or-last [] refused i = get_or-Nones refused i
@@ -159,18 +158,17 @@ get_or-given keys stretch at within less =
     get_or-last (take stretch.given (drop stretch.above keys)) stretch.refused at ∙ (slice_get-take stretch.given at (drop stretch.above keys) less ∙ slice_get-drop stretch.above at keys) where
       slice_get-take : {X : Type 0} (n i : ℕ) (xs : List X) → i < n → slice_get (take n xs) i ≡ slice_get xs i
       slice_get-take zero i xs below = absurd (omega (arith, below))
-      slice_get-take (suc n) i [] below = refl
       slice_get-take (suc n) zero (x ∷ xs) below = refl
       slice_get-take (suc n) (suc i) (x ∷ xs) below = slice_get-take n i xs (omega (arith, below))
+      slice_get-take (suc n) i xs below = refl
 
 pub get_or-refused : (keys : List Key) (stretch : Stretch) (at : ℕ) → stretch.given ≤ at → get_or (given_in keys stretch) at None ≡ None
 get_or-refused keys stretch at past =
     get_or-last (take stretch.given (drop stretch.above keys)) stretch.refused at ∙ slice_get-take-past stretch.given at (drop stretch.above keys) past where
       slice_get-take-past : {X : Type 0} (n i : ℕ) (xs : List X) → n ≤ i → slice_get (take n xs) i ≡ None
-      slice_get-take-past zero i xs above = refl
-      slice_get-take-past (suc n) i [] above = refl
       slice_get-take-past (suc n) zero (x ∷ xs) above = absurd (omega (arith, above))
       slice_get-take-past (suc n) (suc i) (x ∷ xs) above = slice_get-take-past n i xs (omega (arith, above))
+      slice_get-take-past n i xs above = refl
 
 -- ---- how many there are
 

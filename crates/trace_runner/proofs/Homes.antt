@@ -78,14 +78,13 @@ each-given old new (Called event reply core ∷ called) (mid, step, sound, run) 
   subst (λ (limits : Limits). AllByRecursion (IsGivenHome limits.shards) called) (limits-CoreStep old mid event reply step) (each-given mid new called run),
 )
 
-each-parts : {X : Type 0} (P : X → Type 0) (xs ys : List X) → AllByRecursion P (xs ++ ys) → AllByRecursion P xs × AllByRecursion P ys
+pub each-parts : {X : Type 0} (P : X → Type 0) (xs ys : List X) → AllByRecursion P (xs ++ ys) → AllByRecursion P xs × AllByRecursion P ys
 each-parts P [] ys all = (tt, all)
 each-parts P (x ∷ xs) ys all = let parts = each-parts P xs ys all.1 in ((all.0, parts.0), parts.1)
 
 home-given : (shards : ℕ) (called : List CalledEvent) → AllByRecursion (IsGivenHome shards) called → IsHome shards (key_given called)
-home-given shards [] all = tt
 home-given shards (Called event (Issued key) core ∷ called) all = all.0
-home-given shards (c ∷ called) all = tt
+home-given shards called all = tt
 
 AreHome-keys_of : (shards : ℕ) (made : List Made) → AllByRecursion (IsGivenHome shards) (all_called made) → AreHome shards (keys_of made)
 AreHome-keys_of shards [] all = tt

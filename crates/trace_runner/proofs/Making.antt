@@ -20,7 +20,7 @@ use Rattle.trace_runner.specs.declared.plans.Plans.{Plans}
 use Rattle.trace_text.specs.declared.line.Call.{Call}
 use Rattle.trace_text.specs.declared.line.Line.TheVariants as line
 use Rattle.arena_core.specs.declared.event.Event.{Event}
-use Rattle.arena_core.specs.declared.event.Event.TheVariants.{Put, Get, Set, Free, Later, Settle, End, Begin, Retire, Trim, Adopt, Mark, MarkSome, Step, Close}
+use Rattle.arena_core.specs.declared.event.Event.TheVariants.{Put, Get, Set, Free, Later, Settle, End, Adopt, Mark}
 use Rattle.arena_core.specs.declared.reply.Reply.TheVariants.{ShardEnded}
 use Rattle.arena_core.specs.declared.reply.Reply.{Reply}
 use Rattle.span.specs.PlainMap.{PlainMap}
@@ -28,8 +28,7 @@ use Rattle.span.specs.PlainMap.{PlainMap}
 CoreRun-append : (a b c : CoreState) (es fs : List Event) (rs ss : List Reply) → CoreRun a es rs b → CoreRun b fs ss c → CoreRun a (es ++ fs) (rs ++ ss) c
 CoreRun-append a b c [] fs [] ss first second = subst (λ (s : CoreState). CoreRun s fs ss c) first second
 CoreRun-append a b c (e ∷ es) fs (r ∷ rs) ss (mid, step, sound, first) second = (mid, step, sound, CoreRun-append mid b c es fs rs ss first second)
-CoreRun-append a b c [] fs (r ∷ rs) ss first second = absurd first
-CoreRun-append a b c (e ∷ es) fs [] ss first second = absurd first
+CoreRun-append a b c es fs rs ss first second = absurd first
 
 PlainRun-append : (limits : Limits) (a b c : PlainMap) (first second : List (Event × Reply)) → PlainRun limits a first b → PlainRun limits b second c → PlainRun limits a (first ++ second) c
 PlainRun-append limits a b c [] second before after = subst (λ (s : PlainMap). PlainRun limits s second c) before after
@@ -42,10 +41,9 @@ cond-append false step first second = refl
 
 erased-append : (es fs : List Event) (rs ss : List Reply) → length es ≡ length rs → erased (es ++ fs) (rs ++ ss) ≡ erased es rs ++ erased fs ss
 erased-append [] fs [] ss same = refl
-erased-append [] fs (r ∷ rs) ss same = absurd (omega arith)
-erased-append (e ∷ es) fs [] ss same = absurd (omega arith)
 erased-append (e ∷ es) fs (r ∷ rs) ss same =
     ap (λ more. cond (is_plain e) ((e, r) ∷ more) more) (erased-append es fs rs ss (omega arith)) ∙ cond-append (is_plain e) (e, r) (erased es rs) (erased fs ss)
+erased-append es fs rs ss same = absurd (omega arith)
 
 -- each event has its reply
 replies-length : (called : List CalledEvent) → length (events_of called) ≡ length (replies_of called)
@@ -71,15 +69,7 @@ erased-one limits a b (Set key value) reply step = (b, step, refl)
 erased-one limits a b (Free key) reply step = (b, step, refl)
 erased-one limits a b (Later worker key) reply step = (b, step, refl)
 erased-one limits a b (Settle worker shard) reply step = (b, step, refl)
-erased-one limits a b (End shard) reply step = step
-erased-one limits a b (Begin shard) reply step = step
-erased-one limits a b (Retire shard most) reply step = step
-erased-one limits a b (Trim shard) reply step = step
-erased-one limits a b (Adopt shard) reply step = step
-erased-one limits a b Mark reply step = step
-erased-one limits a b MarkSome reply step = step
-erased-one limits a b Step reply step = step
-erased-one limits a b Close reply step = step
+erased-one limits a b event reply step = step
 
 pub AreSteps-none : (core : CoreState) → AreSteps core [] core
 AreSteps-none core = record { each = tt; last = refl; core = refl; plain = refl; told = tt }

@@ -10,7 +10,7 @@ use Rattle.pool.specs.State.{PoolState}
 use Rattle.certificate.specs.declared.certificate.Certificate.{Certificate}
 use Rattle.fold.specs.Folds.{Folds}
 use Rattle.fold.specs.declared.step.Step.{Step}
-use Rattle.fold.specs.declared.step.Step.TheVariants.{Absent, Emptied, Clash, Folded}
+use Rattle.fold.specs.declared.step.Step.TheVariants.{Emptied, Folded}
 use Rattle.marks.specs.Closings.{closed_onto, reopened}
 use Rattle.arena_core.specs.State.{CoreState}
 use Rattle.marks.specs.Plans.{OpenPlan}
@@ -42,8 +42,7 @@ KeepsShards-stepped old new abandoned owned Folded step =
     let keeps = KeepsShards-with_shard old step.number step.before step.after step.here (ended-Folds old.pool step.pool step.before step.after abandoned owned step.folds) in
     subst (KeepsShards old) (sym step.rest) (record { limits = keeps.limits; ended = keeps.ended })
 KeepsShards-stepped old new abandoned owned Emptied step = subst (KeepsShards old) (sym step.rest) (record { limits = refl; ended = λ number. refl })
-KeepsShards-stepped old new abandoned owned Clash step = absurd step
-KeepsShards-stepped old new abandoned owned Absent step = absurd step
+KeepsShards-stepped old new abandoned owned outcome step = absurd step
 
 pub KeepsShards-closed : (old new : CoreState) → CoreStep old event.Close reply.Closed new → KeepsShards old new
 KeepsShards-closed old new step = subst (KeepsShards old) (sym step.1) (record { limits = refl; ended = ended_in-map reopened (λ shard. refl) old.shards })

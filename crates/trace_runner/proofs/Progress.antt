@@ -3,11 +3,12 @@ use Rattle.std.proofs.Common.{◌≡◌, ℕ, ◌+◌, ◌<◌, ◌≤◌, ◌==
 use Rattle.std.proofs.Math.Seq.{take-length}
 use Rattle.std.specs.List.{flat_map, range_with_len}
 use Rattle.std.specs.Option.{option_map, option_map_or}
-use Rattle.std.proofs.lemmas.Bool.{and_parts, cases_Bool, eqb-true}
+use Rattle.std.proofs.lemmas.Bool.{and_parts, cases_Bool, eqb-true, not-true}
 use Rattle.std.proofs.lemmas.Bool.Decides.{nat_tests}
 use Rattle.std.proofs.lemmas.Grind.{flat_map-append}
 use Rattle.std.proofs.lemmas.List.Elements.{filter-append}
 use Rattle.std.proofs.lemmas.List.{append-nil, length-map, length_push}
+use Rattle.std.proofs.Math.Bool.{and-true}
 use Rattle.arena_core.specs.State.{CoreState}
 use Rattle.marks.specs.Numbers.{Limits}
 use Rattle.arena_core.proofs.Limits.{limits-CoreRun}
@@ -24,7 +25,7 @@ use Rattle.trace_runner.specs.News.{News, news_of, no_news, with_all_made, with_
 use Rattle.trace_runner.specs.Runs.{DoLines, Does, IsRun, asked_by, calls_at, calls_in, ends_asked, finishing, pairs_left_of, planning_at, rings_asked, settling_at}
 use Rattle.trace_runner.specs.declared.plans.Plans.{Plans}
 use Rattle.trace_text.specs.declared.header.Header.{Header}
-use Rattle.trace_text.specs.declared.line.Call.TheVariants.{Put, Fill, Get, Set, Free, Sweep, Later, Tend, Trim, Retire, End, Begin}
+use Rattle.trace_text.specs.declared.line.Call.TheVariants.{End}
 use Rattle.trace_text.specs.declared.line.Line.{Line}
 use Rattle.trace_text.specs.declared.line.Line.TheVariants as line
 use Rattle.trace_text.proofs.Barriers.{begins-ending, has_ended-open, has_ended-open-push, has_ended-push}
@@ -51,22 +52,12 @@ and_false false = refl
 -- a shard has ended where its thread ended above and does not wait, one line later
 flags : (above waits ends barrier : Bool) → (barrier ≡ true → ends ≡ false) → (waits ≡ true → above ≡ true) → (ends ≡ true → above ≡ false)
     → ((barrier && waits) || (above && not waits)) ≡ ((ends || above) && not (not barrier && (ends || waits)))
-flags true true true true bound waiting fresh = let bad = bound refl in cc
-flags true true true false bound waiting fresh = let bad = fresh refl in cc
+flags above waits true true bound waiting fresh = let bad = bound refl in cc
+flags false true ends barrier bound waiting fresh = let bad = waiting refl in cc
+flags true waits true false bound waiting fresh = let bad = fresh refl in cc
 flags true true false true bound waiting fresh = refl
-flags true true false false bound waiting fresh = refl
-flags true false true true bound waiting fresh = let bad = bound refl in cc
-flags true false true false bound waiting fresh = let bad = fresh refl in cc
-flags true false false true bound waiting fresh = refl
-flags true false false false bound waiting fresh = refl
-flags false true true true bound waiting fresh = let bad = bound refl in cc
-flags false true true false bound waiting fresh = let bad = waiting refl in cc
-flags false true false true bound waiting fresh = let bad = waiting refl in cc
-flags false true false false bound waiting fresh = let bad = waiting refl in cc
-flags false false true true bound waiting fresh = let bad = bound refl in cc
-flags false false true false bound waiting fresh = refl
-flags false false false true bound waiting fresh = refl
-flags false false false false bound waiting fresh = refl
+flags above waits false true bound waiting fresh = refl
+flags above waits ends barrier bound waiting fresh = refl
 
 -- the same where a thread that begins again has neither ended nor waits
 flags_turned : (above waits ends barrier begins : Bool) → (barrier ≡ true → ends ≡ false) → (waits ≡ true → above ≡ true) → (ends ≡ true → above ≡ false)
@@ -79,26 +70,15 @@ waits_turned waits ends false apart rests = refl
 waits_turned waits true true apart rests = let bad = apart refl in cc
 waits_turned waits false true apart rests = rests refl
 
-and_true : (b : Bool) → (b && true) ≡ b
-and_true true = refl
-and_true false = refl
-
-not_true : (b : Bool) → not b ≡ true → b ≡ false
-not_true true e = cc
-not_true false e = refl
-
 -- a call that begins again and comes in time is of a thread that rests
 in_time : (begins rests reads : Bool) → ((begins && not rests) || reads) ≡ false → begins ≡ true → rests ≡ true
 in_time true true reads e is = refl
-in_time true false reads e is = cc
-in_time false rests reads e is = cc
+in_time begins rests reads e is = cc
 
 -- a line of a barrier ends no thread
 ends-barrier : (l : Line) (t : ℕ) → is_barrier l ≡ true → ends t l ≡ false
-ends-barrier line.Silent t e = refl
 ends-barrier (line.Call thread call) t e = cc
-ends-barrier (line.Adopt s) t e = refl
-ends-barrier line.Mark t e = refl
+ends-barrier l t e = refl
 
 module _ (h : Header) (above : List Line) (l : Line) (fine : first_cause h above l ≡ None) where
   fine_of : AllFine h above l
@@ -106,65 +86,35 @@ module _ (h : Header) (above : List Line) (l : Line) (fine : first_cause h above
 
   -- the thread of a line has not ended above it, and is one of the header's
   running_above : (t : ℕ) → thread_of l ≡ Some t → is_call begins_again l ≡ false → has_ended above t ≡ false
-  running_above t is runs = sym (and_true (has_ended above t)) ∙ sym (ap₂ (λ o b. option_map_or (has_ended above) o false && not b) is runs) ∙ fine_of.ended
+  running_above t is runs = sym (and-true (has_ended above t)) ∙ sym (ap₂ (λ o b. option_map_or (has_ended above) o false && not b) is runs) ∙ fine_of.ended
 
   -- that of a line by which it begins again rests
   resting_above : (t : ℕ) → thread_of l ≡ Some t → is_call begins_again l ≡ true → is_abandoned above t ≡ true
   resting_above t is again = by_line l fine_of.in_time is again
     where
       by_line : (m : Line) → is_call_of (comes_early above) m ≡ false → thread_of m ≡ Some t → is_call begins_again m ≡ true → is_abandoned above t ≡ true
-      by_line line.Silent late of again = cc
-      by_line line.Mark late of again = cc
-      by_line (line.Adopt s) late of again = cc
       by_line (line.Call thread call) late of again =
           let same : thread ≡ t = cc of in
           subst (λ n. is_abandoned above n ≡ true) same (in_time (begins_again call) (is_abandoned above thread) (reads_early above thread call) late again)
+      by_line m late of again = cc
 
   thread_below : (t : ℕ) → thread_of l ≡ Some t → t < h.shards
   thread_below t is = let e : nat_le h.shards t ≡ false = sym (ap (λ o. option_map_or (nat_le h.shards) o false) is) ∙ fine_of.thread in grind (arith, nat_tests)
 
 -- a thread that a line ends is the line's
 ends-thread : (l : Line) (t : ℕ) → ends t l ≡ true → thread_of l ≡ Some t
-ends-thread line.Silent t e = cc
-ends-thread (line.Call thread (Put name class v)) t e = cc
-ends-thread (line.Call thread (Fill name class n v)) t e = cc
-ends-thread (line.Call thread (Get key)) t e = cc
-ends-thread (line.Call thread (Set key class v)) t e = cc
-ends-thread (line.Call thread (Free key)) t e = cc
-ends-thread (line.Call thread (Sweep name from to)) t e = cc
-ends-thread (line.Call thread (Later key)) t e = cc
-ends-thread (line.Call thread Tend) t e = cc
-ends-thread (line.Call thread Trim) t e = cc
-ends-thread (line.Call thread (Retire most)) t e = cc
-ends-thread (line.Call thread Begin) t e = cc
 ends-thread (line.Call thread End) t e = ap Some (eqb-true thread t e)
-ends-thread (line.Adopt s) t e = cc
-ends-thread line.Mark t e = cc
+ends-thread l t e = cc
 
 -- and that line does not let it begin again
 ends-runs : (l : Line) (t : ℕ) → ends t l ≡ true → is_call begins_again l ≡ false
-ends-runs line.Silent t e = cc
-ends-runs (line.Call thread (Put name class v)) t e = cc
-ends-runs (line.Call thread (Fill name class n v)) t e = cc
-ends-runs (line.Call thread (Get key)) t e = cc
-ends-runs (line.Call thread (Set key class v)) t e = cc
-ends-runs (line.Call thread (Free key)) t e = cc
-ends-runs (line.Call thread (Sweep name from to)) t e = cc
-ends-runs (line.Call thread (Later key)) t e = cc
-ends-runs (line.Call thread Tend) t e = cc
-ends-runs (line.Call thread Trim) t e = cc
-ends-runs (line.Call thread (Retire most)) t e = cc
 ends-runs (line.Call thread End) t e = refl
-ends-runs (line.Call thread Begin) t e = cc
-ends-runs (line.Adopt s) t e = cc
-ends-runs line.Mark t e = cc
+ends-runs l t e = cc
 
 -- a thread that a line lets begin again is the line's
 begins-thread : (l : Line) (t : ℕ) → begins t l ≡ true → (thread_of l ≡ Some t) × (is_call begins_again l ≡ true)
-begins-thread line.Silent t e = cc
 begins-thread (line.Call thread call) t e = let parts = and_parts (begins_again call) (thread == t) e in (ap Some (eqb-true thread t parts.1), parts.0)
-begins-thread (line.Adopt s) t e = cc
-begins-thread line.Mark t e = cc
+begins-thread l t e = cc
 
 -- the answers of a line, as many as it is a thread's and one more for an adoption
 calls_of_line : (shards : ℕ) (all : List Line) (start : CoreState) (done : List Did) (l : Line) (did : Did) → Does shards all start done l did
@@ -172,10 +122,8 @@ calls_of_line : (shards : ℕ) (all : List Line) (start : CoreState) (done : Lis
 calls_of_line shards all start done l did does = by_line l (sym (length-map did.calls asked_of) ∙ ap length does.calls)
   where
     by_line : (l : Line) → length did.calls ≡ length (asked_by shards all done l) → length did.calls ≡ calls_at l did + length (filter is_adopt (l ∷ []))
-    by_line line.Silent e = e
     by_line (line.Call t c) e = sym (add-zero (length did.calls))
-    by_line (line.Adopt s) e = e
-    by_line line.Mark e = e
+    by_line l e = e
 
 adopts-cons : (l : Line) (ls : List Line) → length (filter is_adopt (l ∷ ls)) ≡ length (filter is_adopt (l ∷ [])) + length (filter is_adopt ls)
 adopts-cons l ls = ap length (filter-append is_adopt (l ∷ []) ls) ∙ length-append (filter is_adopt (l ∷ [])) (filter is_adopt ls)
@@ -202,7 +150,7 @@ module _ (h : Header) (replies : Bool) (lines : List Line) (count : ℕ) (old co
   -- a thread that begins again does not wait
   resting_waits : (l : Line) → first_cause h (take count lines) l ≡ None → (t : ℕ) → thread_of l ≡ Some t → is_call begins_again l ≡ true → has_ended (open_lines (take count lines)) t ≡ false
   resting_waits l fine t is again =
-      not_true (has_ended (open_lines (take count lines)) t)
+      not-true (has_ended (open_lines (take count lines)) t)
       (and_parts (has_ended (take count lines) t) (not (has_ended (open_lines (take count lines)) t)) (resting_above h (take count lines) l fine t is again)).1
 
   pub HasCome-CanLeave : CanLeave h.shards core leaving

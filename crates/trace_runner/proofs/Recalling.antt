@@ -8,15 +8,16 @@ use Rattle.std.proofs.lemmas.Grind.{flat_map-append}
 use Rattle.std.proofs.lemmas.List.{append-nil, length-map, map-append, take-append-drop}
 use Rattle.std.proofs.lemmas.List.Elements.{filter-append}
 use Rattle.std.proofs.lemmas.List.FromFn.{length-range_with_len}
-use Rattle.std.proofs.lemmas.Option.{slice_get-map}
+use Rattle.std.proofs.lemmas.Option.{slice_get-map, slice_get_within}
+use Rattle.groups.proofs.Lists.{there_at}
 use Rattle.span.specs.declared.class.Class.{Class}
 use Rattle.span.specs.declared.key.Key.{Key}
 use Rattle.arena_core.specs.State.{CoreState}
 use Rattle.arena_core.specs.declared.event.Event.{Event}
 use Rattle.arena_core.specs.declared.event.Event.TheVariants as event
-use Rattle.arena_core.specs.declared.reply.Refusal.TheVariants.{NothingToAdopt, RingFull}
+use Rattle.arena_core.specs.declared.reply.Refusal.TheVariants.{RingFull}
 use Rattle.arena_core.specs.declared.reply.Reply.{Reply}
-use Rattle.arena_core.specs.declared.reply.Reply.TheVariants.{Issued, Found, Replaced, Freed, Refused, Sent, Trimmed}
+use Rattle.arena_core.specs.declared.reply.Reply.TheVariants.{Found, Freed, Refused, Replaced}
 use Rattle.trace_runner.specs.Kept.{FindsAt, FindsOne, Kept, Recalls, is_put, keeping, kept_none, kept_of, keys_of}
 use Rattle.trace_runner.specs.Made.{Asked, Calls, Did, Made, asked_of, one_call}
 use Rattle.trace_runner.specs.Answers.{answer_told, on_line, put_told, told_of}
@@ -31,7 +32,7 @@ use Rattle.trace_text.specs.Places.{first_of, place_at}
 use Rattle.trace_text.specs.declared.header.Header.{Header}
 use Rattle.trace_text.specs.declared.line.Binding.{Binding}
 use Rattle.trace_text.specs.Objects.{counted_from}
-use Rattle.trace_text.specs.declared.line.Call.TheVariants.{Put, Fill, Get, Set, Free, Sweep, Later, Tend, Trim, Retire, End, Begin}
+use Rattle.trace_text.specs.declared.line.Call.TheVariants.{Put, Fill, Get, Set, Free, Sweep, Later}
 use Rattle.trace_text.specs.declared.line.Keys.{Keys}
 use Rattle.trace_text.specs.declared.line.Keys.TheVariants.{One, Many}
 use Rattle.trace_text.specs.declared.line.Line.{Line}
@@ -120,17 +121,10 @@ answer_key-put_told None = refl
 
 -- the key that an answer names is that of the put
 pub answer_key-told : (event : Event) (reply : Reply) (core : CoreState) → answer_key (answer_told reply) ≡ key_made (one_call event reply core)
-answer_key-told event (Issued key) core = refl
 answer_key-told event (Found (Some value)) core = refl
-answer_key-told event (Found None) core = refl
 answer_key-told event (Replaced true) core = refl
-answer_key-told event (Replaced false) core = refl
 answer_key-told event (Freed true) core = refl
-answer_key-told event (Freed false) core = refl
-answer_key-told event (Refused NothingToAdopt) core = refl
 answer_key-told event (Refused RingFull) core = refl
-answer_key-told event Sent core = refl
-answer_key-told event (Trimmed count) core = refl
 answer_key-told event reply core = refl
 
 keys_of-push : (done : List Did) (did : Did) → flat_map (λ (d : Did). keys_of d.calls) (done ++ did ∷ []) ≡ flat_map (λ (d : Did). keys_of d.calls) done ++ keys_of did.calls
@@ -211,7 +205,6 @@ asks_none made asked is puts = keys_of-no made (subst NoPuts (sym is) puts)
 pub Keyed-asked : (shards : ℕ) (all : List Line) (done : List Did) (l : Line) (made : List Made) → map asked_of made ≡ asked_by shards all done l → Keyed l made
 Keyed-asked shards all done line.Silent made is = asks_none made [] is tt
 Keyed-asked shards all done line.Mark made is = asks_none made [] is tt
-Keyed-asked shards all done (line.Adopt s) made is = asks_none made _ is (refl, tt)
 Keyed-asked shards all done (line.Call t (Put name class v)) made is = (asks_some made _ is (refl, tt), sym (length-map made asked_of) ∙ ap length is)
 Keyed-asked shards all done (line.Call t (Fill name class n v)) made is = (
   asks_some made _ is (AllPuts-map (λ i. Calls (event.Put t (counted_from class (v + i)))) (λ i. refl) (range_with_len 0 n)),
@@ -222,31 +215,15 @@ Keyed-asked shards all done (line.Call t (Set key class v)) made is = asks_none 
 Keyed-asked shards all done (line.Call t (Free key)) made is = asks_none made _ is (free_is_no_put _, tt)
 Keyed-asked shards all done (line.Call t (Sweep name from to)) made is = asks_none made _ is (NoPuts-map _ (λ place. free_is_no_put _) (range_with_len from (to - from)))
 Keyed-asked shards all done (line.Call t (Later key)) made is = asks_none made _ is (later_is_no_put t _, tt)
-Keyed-asked shards all done (line.Call t Tend) made is = asks_none made _ is (refl, tt)
-Keyed-asked shards all done (line.Call t Trim) made is = asks_none made _ is (refl, tt)
-Keyed-asked shards all done (line.Call t (Retire most)) made is = asks_none made _ is (refl, tt)
-Keyed-asked shards all done (line.Call t End) made is = asks_none made _ is (refl, tt)
-Keyed-asked shards all done (line.Call t Begin) made is = asks_none made _ is (refl, tt)
+Keyed-asked shards all done l made is = asks_none made _ is (refl, tt)
 
 as_many : (made : List Made) (n : ℕ) → (keys_of made ≡ map key_made made) × (length made ≡ n) → length (keys_of made) ≡ n
 as_many made n keyed = ap length keyed.0 ∙ length-map made key_made ∙ keyed.1
 
 pub length-Keyed : (l : Line) (made : List Made) → Keyed l made → length (keys_of made) ≡ keys_at l
-length-Keyed line.Silent made keyed = ap length keyed
-length-Keyed line.Mark made keyed = ap length keyed
-length-Keyed (line.Adopt s) made keyed = ap length keyed
 length-Keyed (line.Call t (Put name class v)) made keyed = as_many made 1 keyed
 length-Keyed (line.Call t (Fill name class n v)) made keyed = as_many made n keyed
-length-Keyed (line.Call t (Get key)) made keyed = ap length keyed
-length-Keyed (line.Call t (Set key class v)) made keyed = ap length keyed
-length-Keyed (line.Call t (Free key)) made keyed = ap length keyed
-length-Keyed (line.Call t (Sweep name from to)) made keyed = ap length keyed
-length-Keyed (line.Call t (Later key)) made keyed = ap length keyed
-length-Keyed (line.Call t Tend) made keyed = ap length keyed
-length-Keyed (line.Call t Trim) made keyed = ap length keyed
-length-Keyed (line.Call t (Retire most)) made keyed = ap length keyed
-length-Keyed (line.Call t End) made keyed = ap length keyed
-length-Keyed (line.Call t Begin) made keyed = ap length keyed
+length-Keyed l made keyed = ap length keyed
 
 -- ---- the keys of a name
 
@@ -258,16 +235,6 @@ get_left (x ∷ xs) ys (suc n) less = get_left xs ys n (omega (arith, less))
 get_right : {X : Type 0} (xs ys : List X) (n : ℕ) → slice_get (xs ++ ys) (length xs + n) ≡ slice_get ys n
 get_right {X = X} [] ys n = let same : length {A = X} [] + n ≡ n = omega arith in ap (slice_get ys) same
 get_right (x ∷ xs) ys n = let same : length (x ∷ xs) + n ≡ suc (length xs + n) = omega arith in ap (slice_get (x ∷ (xs ++ ys))) same ∙ get_right xs ys n
-
-got : {X : Type 0} (xs : List X) (n : ℕ) → n < length xs → (x : X) × (slice_get xs n ≡ Some x)
-got [] n less = absurd (omega (arith, less))
-got (x ∷ xs) zero less = (x, refl)
-got (x ∷ xs) (suc n) less = got xs n (omega (arith, less))
-
-got_within : {X : Type 0} (xs : List X) (n : ℕ) (x : X) → slice_get xs n ≡ Some x → n < length xs
-got_within [] n x is = absurd cc
-got_within (y ∷ xs) zero x is = omega arith
-got_within (y ∷ xs) (suc n) x is = omega (arith, got_within xs n x is)
 
 -- what a line binds a name to
 record IsBound (place first : ℕ) (made : List Made) (b : Binding) : Type 0 where
@@ -286,9 +253,6 @@ by_record place section first thread n class keys made b is count keyed =
     record { line_is = sym line_is; first_is = sym first_is; count_is = ap key_count (sym keys_is) ∙ count ∙ sym keyed.1; keys_are = keyed.0 }
 
 IsBound-at : (place section first : ℕ) (name : List ℕ) (l : Line) (made : List Made) (b : Binding) → Keyed l made → binding_at place section first name l ≡ Some b → IsBound place first made b
-IsBound-at place section first name line.Silent made b keyed e = cc
-IsBound-at place section first name line.Mark made b keyed e = cc
-IsBound-at place section first name (line.Adopt s) made b keyed e = cc
 IsBound-at place section first name (line.Call t (Put bound class v)) made b keyed e = elim (chosen (bytes_eq bound name) _ _ (Some b) e) [
   | inl p ↦ by_record place section first t 1 class One made b p.1 refl keyed
   | inr p ↦ cc p.1
@@ -297,16 +261,7 @@ IsBound-at place section first name (line.Call t (Fill bound class n v)) made b 
   | inl p ↦ by_record place section first t n class (Many n) made b p.1 refl keyed
   | inr p ↦ cc p.1
 ]
-IsBound-at place section first name (line.Call t (Get key)) made b keyed e = cc
-IsBound-at place section first name (line.Call t (Set key class v)) made b keyed e = cc
-IsBound-at place section first name (line.Call t (Free key)) made b keyed e = cc
-IsBound-at place section first name (line.Call t (Sweep bound from to)) made b keyed e = cc
-IsBound-at place section first name (line.Call t (Later key)) made b keyed e = cc
-IsBound-at place section first name (line.Call t Tend) made b keyed e = cc
-IsBound-at place section first name (line.Call t Trim) made b keyed e = cc
-IsBound-at place section first name (line.Call t (Retire most)) made b keyed e = cc
-IsBound-at place section first name (line.Call t End) made b keyed e = cc
-IsBound-at place section first name (line.Call t Begin) made b keyed e = cc
+IsBound-at place section first name l made b keyed e = cc
 
 pub Recalls-none : (keys : List (Option Key)) → Recalls [] [] keys
 Recalls-none keys name b place is less = cc
@@ -319,14 +274,14 @@ module _ (above : List Line) (l : Line) (done : List Did) (did : Did) (keys : Li
       let same : key_bound (done ++ did ∷ []) place b
       ≡ key_bound done place b = ap (λ o. option_and_then (λ (d : Did). option_and_then key_made (slice_get d.calls place)) o)
       (get_left done (did ∷ []) b.line known.0) in
-      (omega (arith, known.0, length-append done (did ∷ [])), get_left keys (keys_of did.calls) (b.first + place) (got_within keys (b.first + place) _ known.1) ∙ known.1 ∙ ap Some (sym same))
+      (omega (arith, known.0, length-append done (did ∷ [])), get_left keys (keys_of did.calls) (b.first + place) (slice_get_within keys (b.first + place) _ known.1) ∙ known.1 ∙ ap Some (sym same))
 
   latest : (b : Binding) (place : ℕ) → place < key_count b.keys → IsBound (length above) (keys_in above) did.calls b
       → (b.line < length (done ++ did ∷ [])) × (slice_get (keys ++ keys_of did.calls) (b.first + place) ≡ Some (key_bound (done ++ did ∷ []) place b))
   latest b place less bound =
       let at : b.line ≡ length done + 0 = omega (arith, bound.line_is, count) in
       let here : b.first + place ≡ length keys + place = omega (arith, bound.first_is, long) in
-      let (made, is) = got did.calls place (omega (arith, less, bound.count_is)) in
+      let (made, is) = there_at did.calls place (omega (arith, less, bound.count_is)) in
       let found : slice_get (keys ++ keys_of did.calls) (b.first + place) ≡ Some (key_made made) =
       ap (slice_get (keys ++ keys_of did.calls)) here ∙ get_right keys (keys_of did.calls) place ∙ ap (λ ks. slice_get ks place) bound.keys_are
       ∙ slice_get-map key_made did.calls place ∙ ap (option_map key_made) is in
@@ -378,8 +333,7 @@ known test (Some b) e = (b, refl, is_true (test b.keys) e)
 below_count : (index : Option ℕ) (keys : Keys) → has_key index keys ≡ true → unwrap_or index 0 < key_count keys
 below_count None One e = omega arith
 below_count (Some i) (Many n) e = grind (arith, nat_tests)
-below_count None (Many n) e = cc
-below_count (Some i) One e = cc
+below_count index keys e = cc
 
 range_below : (from to place : ℕ) (keys : Keys) → has_range from to keys ≡ true → place < to → place < key_count keys
 range_below from to place One e less = cc
@@ -394,16 +348,6 @@ module _ (h : Header) (lines : List Line) (n : ℕ) (done : List Did) (keys : Li
 
   -- a line that may be run finds its keys
   pub FindsAt-fine : (l : Line) → first_cause h (take n lines) l ≡ None → FindsAt lines done keys (place_at (take n lines) l) l
-  FindsAt-fine line.Silent fine = tt
-  FindsAt-fine line.Mark fine = tt
-  FindsAt-fine (line.Adopt s) fine = tt
-  FindsAt-fine (line.Call t (Put name class v)) fine = tt
-  FindsAt-fine (line.Call t (Fill name class m v)) fine = tt
-  FindsAt-fine (line.Call t Tend) fine = tt
-  FindsAt-fine (line.Call t Trim) fine = tt
-  FindsAt-fine (line.Call t (Retire most)) fine = tt
-  FindsAt-fine (line.Call t End) fine = tt
-  FindsAt-fine (line.Call t Begin) fine = tt
   FindsAt-fine (line.Call t (Later key)) fine =
       let (b, is, has) = known (has_key key.index) (binding_of key.name (take n lines)) (all_fine h (take n lines) (line.Call t (Later key)) fine).known in
       one_found key.name b (unwrap_or key.index 0) is (below_count key.index b.keys has)
@@ -419,3 +363,4 @@ module _ (h : Header) (lines : List Line) (n : ℕ) (done : List Did) (keys : Li
   FindsAt-fine (line.Call t (Sweep name from to)) fine =
       let (b, is, has) = known (has_range from to) (binding_of name (take n lines)) (all_fine h (take n lines) (line.Call t (Sweep name from to)) fine).known in
       λ place low high. one_found name b place is (range_below from to place b.keys has high)
+  FindsAt-fine l fine = tt

@@ -18,11 +18,11 @@ use Rattle.arena_core.specs.State.{CoreState, with_shard}
 use Rattle.arena_core.specs.Step.{CoreStep}
 use Rattle.trace_runner.specs.Recalls.{EndsOne, IsOpen, IsPutServed, IsServed, IsSetServed, KeepsPlan, KeepsShards, MayCall, MeetsPlan, Resumes, ended_at, reply_to_put}
 use Rattle.arena_core.specs.declared.event.Event.{Event}
-use Rattle.arena_core.specs.declared.event.Event.TheVariants.{Put, Get, Set, Free, Later, Settle, End, Begin, Retire, Trim, Adopt, Mark, MarkSome, Step, Close}
+use Rattle.arena_core.specs.declared.event.Event.TheVariants.{Put, Get, Set, Free, Later, End, Begin, Retire, Trim, Adopt}
 use Rattle.arena_core.specs.declared.reply.Reply.{Reply}
 use Rattle.arena_core.specs.declared.reply.Reply.TheVariants.{Issued, Found, Replaced, Freed, Sent, ShardEnded, ShardBegun, Retired, Trimmed, Adopted, Refused}
 use Rattle.arena_core.specs.declared.reply.Refusal.{Refusal}
-use Rattle.arena_core.specs.declared.reply.Refusal.TheVariants.{OutOfMemory, PagesSpent, Ended, PlanOpen, NothingToAdopt, RingFull, Config}
+use Rattle.arena_core.specs.declared.reply.Refusal.TheVariants.{OutOfMemory, PagesSpent, Ended, PlanOpen, RingFull, Config}
 
 -- the shard of this number is there and has ended
 abbrev pub ended_in : List ShardState → ℕ → Bool
@@ -101,58 +101,36 @@ KeepsPlan-step old new (Put shard value) (Issued key) may step = subst (KeepsPla
           (ended-Puts step.before step.after (class_of value) value key step.at step.puts);
       plan = refl;
     })
-KeepsPlan-step old new (Put shard value) (Refused Config) may step = KeepsPlan-same old new step.1
-KeepsPlan-step old new (Put shard value) (Refused Ended) may step = KeepsPlan-same old new step.1
-KeepsPlan-step old new (Put shard value) (Refused PagesSpent) may step = KeepsPlan-same old new step.1
-KeepsPlan-step old new (Put shard value) (Refused OutOfMemory) may step = KeepsPlan-same old new step.1
-KeepsPlan-step old new (Get key) (Found value) may step = KeepsPlan-same old new step.1
 KeepsPlan-step old new (Set key value) (Replaced true) may (inl step) = subst (KeepsPlan old) (sym step.rest)
     (record {
       shards = KeepsShards-with_shard old step.number step.before step.after step.here (ended-Sets step.before step.after key value step.at step.sets);
       plan = refl;
     })
 KeepsPlan-step old new (Set key value) (Replaced true) may (inr step) = subst (KeepsPlan old) (sym step.rest) (record { shards = record { limits = refl; ended = λ number. refl }; plan = refl })
-KeepsPlan-step old new (Set key value) (Replaced false) may step = KeepsPlan-same old new step.1
-KeepsPlan-step old new (Set key value) (Refused OutOfMemory) may step = KeepsPlan-same old new step.1
 KeepsPlan-step old new (Free key) (Freed true) may (inl step) = subst (KeepsPlan old) (sym step.rest)
     (record {
       shards = KeepsShards-with_shard old step.number step.before step.after step.here (ended-Frees step.before step.after key step.at step.frees);
       plan = refl;
     })
 KeepsPlan-step old new (Free key) (Freed true) may (inr step) = subst (KeepsPlan old) (sym step.rest) (record { shards = record { limits = refl; ended = λ number. refl }; plan = refl })
-KeepsPlan-step old new (Free key) (Freed false) may step = KeepsPlan-same old new step.1
 KeepsPlan-step old new (Later worker key) Sent may step = subst (KeepsPlan old) (sym step.rest) (record { shards = record { limits = refl; ended = λ number. refl }; plan = refl })
-KeepsPlan-step old new (Later worker key) (Refused RingFull) may step = KeepsPlan-same old new step.1
-KeepsPlan-step old new (Later worker key) (Refused OutOfMemory) may step = KeepsPlan-same old new step.1
-KeepsPlan-step old new (Later worker key) (Refused Config) may step = KeepsPlan-same old new step.1
-KeepsPlan-step old new (Settle worker shard) reply may step = absurd may
-KeepsPlan-step old new (End shard) reply may step = absurd may
-KeepsPlan-step old new (Begin shard) reply may step = absurd may
 KeepsPlan-step old new (Retire shard most) (Retired count) may step =
     let keeps = KeepsShards-with_shard old shard step.before step.after step.here (ended-Retires old.pool step.pool step.before step.after most count step.retires) in
     subst (KeepsPlan old) (sym step.rest) (record { shards = record { limits = keeps.limits; ended = keeps.ended }; plan = refl })
-KeepsPlan-step old new (Retire shard most) (Refused Config) may step = KeepsPlan-same old new step.1
-KeepsPlan-step old new (Retire shard most) (Refused Ended) may step = KeepsPlan-same old new step.1
-KeepsPlan-step old new (Retire shard most) (Refused PlanOpen) may step = KeepsPlan-same old new step.2
-KeepsPlan-step old new (Retire shard most) (Refused OutOfMemory) may step = KeepsPlan-same old new step.1
 KeepsPlan-step old new (Trim shard) (Trimmed count) may step = subst (KeepsPlan old) (sym step.rest)
     (record { shards = KeepsShards-with_shard old shard step.before step.after step.here (ap (λ (s : ShardState). s.ended) step.trims.after); plan = refl })
-KeepsPlan-step old new (Trim shard) (Refused Config) may step = KeepsPlan-same old new step.1
 KeepsPlan-step old new (Adopt shard) (Adopted head) may step =
     let adopted = ap (λ (s : ShardState). s.ended) step.adopts.takes_in.after in
     let keeps = KeepsShards-with_shard old shard step.before step.after step.here adopted in
     subst (KeepsPlan old) (sym step.rest) (record { shards = record { limits = keeps.limits; ended = keeps.ended }; plan = refl })
+KeepsPlan-step old new (Put shard value) (Refused Config) may step = KeepsPlan-same old new step.1
+KeepsPlan-step old new (Get key) (Found value) may step = KeepsPlan-same old new step.1
+KeepsPlan-step old new (Set key value) (Refused OutOfMemory) may step = KeepsPlan-same old new step.1
+KeepsPlan-step old new (Later worker key) (Refused RingFull) may step = KeepsPlan-same old new step.1
+KeepsPlan-step old new (Retire shard most) (Refused Config) may step = KeepsPlan-same old new step.1
+KeepsPlan-step old new (Trim shard) (Refused Config) may step = KeepsPlan-same old new step.1
 KeepsPlan-step old new (Adopt shard) (Refused Config) may step = KeepsPlan-same old new step.3
-KeepsPlan-step old new (Adopt shard) (Refused PlanOpen) may step = KeepsPlan-same old new step.2
-KeepsPlan-step old new (Adopt shard) (Refused Ended) may step = KeepsPlan-same old new step.1
-KeepsPlan-step old new (Adopt shard) (Refused PagesSpent) may step = KeepsPlan-same old new step.1
-KeepsPlan-step old new (Adopt shard) (Refused NothingToAdopt) may step = KeepsPlan-same old new step.3
-KeepsPlan-step old new (Adopt shard) (Refused OutOfMemory) may step = KeepsPlan-same old new step.1
-KeepsPlan-step old new Mark reply may step = absurd may
-KeepsPlan-step old new MarkSome reply may step = absurd may
-KeepsPlan-step old new Step reply may step = absurd may
-KeepsPlan-step old new Close reply may step = absurd may
-KeepsPlan-step old new event reply may step = absurd step
+KeepsPlan-step old new event reply may step = search KeepsPlan-same
 
 -- the end of a shard is its own alone
 pub EndsOne-step : (old new : CoreState) (shard : ℕ) → CoreStep old (End shard) ShardEnded new → EndsOne old shard new
@@ -173,57 +151,21 @@ has_ended-clash core number shard is_open here ended = clash (sym ended ∙ sym 
 pub IsServed-step : (old new : CoreState) (event : Event) (reply : Reply) → MayCall old event → CoreStep old event reply new → IsServed reply
 IsServed-step old new (Put shard value) (Refused Config) may step = omega (arith, may.within, step.0)
 IsServed-step old new (Put shard value) (Refused Ended) may step = has_ended-clash old shard step.0.0 may step.0.1 step.0.2
-IsServed-step old new (Put shard value) (Refused PagesSpent) may step = tt
-IsServed-step old new (Put shard value) (Refused OutOfMemory) may step = tt
-IsServed-step old new (Put shard value) (Issued key) may step = tt
-IsServed-step old new (Get key) (Found value) may step = tt
-IsServed-step old new (Set key value) (Replaced done) may step = tt
-IsServed-step old new (Set key value) (Refused OutOfMemory) may step = tt
-IsServed-step old new (Free key) (Freed freed) may step = tt
-IsServed-step old new (Later worker key) Sent may step = tt
-IsServed-step old new (Later worker key) (Refused RingFull) may step = tt
-IsServed-step old new (Later worker key) (Refused OutOfMemory) may step = tt
 IsServed-step old new (Later worker key) (Refused Config) may step = elim step.0 [ inl outside ↦ omega (arith, may.0, outside) | inr outside ↦ omega (arith, may.1, outside) ]
-IsServed-step old new (Settle worker shard) reply may step = absurd may
-IsServed-step old new (End shard) reply may step = absurd may
-IsServed-step old new (Begin shard) reply may step = absurd may
 IsServed-step old new (Retire shard most) (Refused Config) may step = omega (arith, may.within, step.0)
 IsServed-step old new (Retire shard most) (Refused Ended) may step = has_ended-clash old shard step.0.0 may step.0.1 step.0.2
-IsServed-step old new (Retire shard most) (Refused PlanOpen) may step = tt
-IsServed-step old new (Retire shard most) (Refused OutOfMemory) may step = tt
-IsServed-step old new (Retire shard most) (Retired count) may step = tt
 IsServed-step old new (Trim shard) (Refused Config) may step = omega (arith, may.within, step.0)
-IsServed-step old new (Trim shard) (Trimmed count) may step = tt
 IsServed-step old new (Adopt shard) (Refused Config) may step = omega (arith, may.0.within, step.0)
 IsServed-step old new (Adopt shard) (Refused Ended) may step = has_ended-clash old shard step.0.0 may.0 step.0.1 step.0.2
-IsServed-step old new (Adopt shard) (Refused PlanOpen) may step = tt
-IsServed-step old new (Adopt shard) (Refused PagesSpent) may step = tt
-IsServed-step old new (Adopt shard) (Refused NothingToAdopt) may step = tt
-IsServed-step old new (Adopt shard) (Refused OutOfMemory) may step = tt
-IsServed-step old new (Adopt shard) (Adopted head) may step = tt
-IsServed-step old new Mark reply may step = absurd may
-IsServed-step old new MarkSome reply may step = absurd may
-IsServed-step old new Step reply may step = absurd may
-IsServed-step old new Close reply may step = absurd may
-IsServed-step old new event reply may step = absurd step
+IsServed-step old new (Get key) (Found value) may step = tt
+IsServed-step old new (Set key value) (Refused OutOfMemory) may step = tt
+IsServed-step old new (Free key) (Freed freed) may step = tt
+IsServed-step old new event reply may step = search
 
 -- an open plan is in the way of no other call of a line than a retirement
 pub MeetsPlan-step : (old new : CoreState) (event : Event) (reply : Reply) → MayCall old event → CoreStep old event reply new → MeetsPlan event reply
-MeetsPlan-step old new (Put shard value) (Refused PlanOpen) may step = absurd step
-MeetsPlan-step old new (Get key) (Refused PlanOpen) may step = absurd step
-MeetsPlan-step old new (Set key value) (Refused PlanOpen) may step = absurd step
-MeetsPlan-step old new (Free key) (Refused PlanOpen) may step = absurd step
-MeetsPlan-step old new (Later worker key) (Refused PlanOpen) may step = absurd step
-MeetsPlan-step old new (Settle worker shard) (Refused PlanOpen) may step = absurd may
-MeetsPlan-step old new (End shard) (Refused PlanOpen) may step = absurd may
-MeetsPlan-step old new (Begin shard) (Refused PlanOpen) may step = absurd may
-MeetsPlan-step old new (Retire shard most) (Refused PlanOpen) may step = tt
-MeetsPlan-step old new (Trim shard) (Refused PlanOpen) may step = absurd step
 MeetsPlan-step old new (Adopt shard) (Refused PlanOpen) may step = clash (sym step.1 ∙ ap is_some may.1)
-MeetsPlan-step old new Mark (Refused PlanOpen) may step = absurd may
-MeetsPlan-step old new MarkSome (Refused PlanOpen) may step = absurd may
-MeetsPlan-step old new Step (Refused PlanOpen) may step = absurd may
-MeetsPlan-step old new Close (Refused PlanOpen) may step = absurd may
+MeetsPlan-step old new event (Refused PlanOpen) may step = search
 MeetsPlan-step old new event reply may step = tt
 
 -- ---- a shard that begins again

@@ -1,7 +1,7 @@
 -- What is told, one line more.
 use Rattle.std.proofs.Common.{◌≡◌, ℕ, ◌+◌, Bool, List, [], ◌∷◌, ◌++◌, length, refl, sym, ap, ◌∙◌, arith, add-zero}
 use Rattle.std.specs.List.{fold}
-use Rattle.arena_core.specs.declared.event.Event.TheVariants.{Close, Mark, Step}
+use Rattle.arena_core.specs.declared.event.Event.TheVariants.{Mark, Step}
 use Rattle.arena_core.specs.declared.reply.Reply.TheVariants.{Marked, Stepped}
 use Rattle.trace_runner.specs.Made.{CalledEvent, Called, Did, Made}
 use Rattle.trace_runner.specs.News.{News, news_from, news_of, no_news, with_all_made, with_called, with_line, with_made}
@@ -9,9 +9,7 @@ use Rattle.trace_runner.specs.News.{News, news_from, news_of, no_news, with_all_
 -- whether replies are asked for stays
 replies-called : (n : News) (called : CalledEvent) → (with_called n called).replies ≡ n.replies
 replies-called n (Called Step (Stepped abandoned owned outcome) core) = refl
-replies-called n (Called Close reply core) = refl
 replies-called n (Called Mark (Marked c) core) = refl
-replies-called n (Called Mark reply core) = refl
 replies-called n called = refl
 
 replies-all_called : (n : News) (called : List CalledEvent) → (fold with_called n called).replies ≡ n.replies

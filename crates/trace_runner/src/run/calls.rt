@@ -19,7 +19,7 @@ use crate::rings::settle_shard;
 use arena_core::Event;
 use span::{Class, Key};
 use std::alloc::AllocError;
-use trace_text::{Call, Reference, count_up};
+use trace_text::{Call, Reference, counted_in};
 
 impl<'t> Run<'t> {
     /// Makes a call that is no put on the line of that number, and keeps what it answers.
@@ -83,9 +83,7 @@ impl<'t> Run<'t> {
             Class::C16 => self.put_words(number, thread, class, &[base]),
             _ => {
                 let mut room = [0; 16];
-                let words = &mut room[..class.words()];
-                count_up(words, base);
-                self.put_words(number, thread, class, words)
+                self.put_words(number, thread, class, counted_in(&mut room, class, base))
             }
         }
     }
@@ -192,9 +190,7 @@ impl<'t> Run<'t> {
             Class::C16 => self.set_key(number, key, &[base]),
             _ => {
                 let mut room = [0; 16];
-                let words = &mut room[..class.words()];
-                count_up(words, base);
-                self.set_key(number, key, words)
+                self.set_key(number, key, counted_in(&mut room, class, base))
             }
         }
     }
