@@ -79,15 +79,12 @@ between a b c d =
 joined-more : (after before keys : List (List Key)) → length after ≡ length before → length keys ≡ length before
     → ((from : ℕ) → slice_index_or after from [] ≡ slice_index_or before from [] ++ slice_index_or keys from []) → IsPermutation (joined after) (joined before ++ joined keys)
 joined-more [] [] [] same wide each = IsPermutation-refl []
-joined-more [] [] (k ∷ keys) same wide each = absurd (omega arith)
-joined-more [] (b ∷ before) keys same wide each = absurd (omega arith)
-joined-more (a ∷ after) [] keys same wide each = absurd (omega arith)
-joined-more (a ∷ after) (b ∷ before) [] same wide each = absurd (omega arith)
 joined-more (a ∷ after) (b ∷ before) (k ∷ keys) same wide each =
     let first : a ≡ b ++ k = each 0 in
     let rest = joined-more after before keys (omega arith) (omega arith) (λ from. each (suc from)) in
     subst (λ l. IsPermutation (l ++ joined after) ((b ++ joined before) ++ (k ++ joined keys))) (sym first)
     (IsPermutation-trans _ _ _ (IsPermutation-append_right (b ++ k) (joined after) (joined before ++ joined keys) rest) (between b k (joined before) (joined keys)))
+joined-more after before keys same wide each = absurd (omega arith)
 
 -- keys are taken from rings, and freed
 pub Carries-tended : (most total : ℕ) (old new : SeatState) (before after : List Receipt) (tended : IsTended most old new before after total) → KeepsEnds old new → sending_side new ≡ sending_side old

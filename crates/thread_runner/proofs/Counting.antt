@@ -90,10 +90,9 @@ AreBelow n lines = (place thread : ℕ) (call : Call) → slice_get lines place 
 
 -- the replies of one line, thread by thread
 line-below : (n : ℕ) (l : Line) → ((thread : ℕ) (call : Call) → l ≡ line.Call thread call → thread < n) → below (λ thread. if is_line_of thread l then replies_at l else 0) n ≡ replies_at l
-line-below n line.Silent of = below-none n
 line-below n (line.Call caller call) of = below-one caller (replies_by_call call) n (of caller call refl)
 line-below n (line.Adopt shard) of = below-nothing (λ thread. if shard == thread then 0 else 0) n (λ thread. nothing-either (shard == thread))
-line-below n line.Mark of = below-none n
+line-below n l of = below-none n
 
 -- the replies of all lines
 lines-below : (n : ℕ) (lines : List Line) → AreBelow n lines → below (λ thread. replies_by thread lines) n ≡ replies_in lines
@@ -106,10 +105,9 @@ lines-below n (l ∷ lines) of =
 -- where there are as many of both, each of the one stands beside one of the other
 beside : {X Y : Type 0} (xs : List X) (ys : List Y) (at : ℕ) (y : Y) → length xs ≡ length ys → slice_get ys at ≡ Some y → (x : X) × (slice_get xs at ≡ Some x)
 beside [] [] at y same there = absurd cc
-beside [] (z ∷ ys) at y same there = absurd (omega arith)
-beside (x ∷ xs) [] at y same there = absurd (omega arith)
 beside (x ∷ xs) (z ∷ ys) zero y same there = (x, refl)
 beside (x ∷ xs) (z ∷ ys) (suc at) y same there = beside xs ys at y (omega arith) there
+beside xs ys at y same there = absurd (omega arith)
 
 diaries-below : (f : ℕ → ℕ) (diaries : List Diary) → ((thread : ℕ) (diary : Diary) → slice_get diaries thread ≡ Some diary → diary.calls ≡ f thread)
     → sum_by (λ (diary : Diary). diary.calls) diaries ≡ below f (length diaries)
@@ -148,10 +146,9 @@ pub each_beside-push : {X Y : Type 0} (P : ℕ → X → Y → Type 0) (xs : Lis
     → P (length xs) x y → (at : ℕ) (u : X) (v : Y) → slice_get (xs ++ x ∷ []) at ≡ Some u → slice_get (ys ++ y ∷ []) at ≡ Some v → P at u v
 each_beside-push P [] [] x y same each it zero u v there here = let left : x ≡ u = cc in let right : y ≡ v = cc in subst (λ z. P 0 z v) left (subst (P 0 x) right it)
 each_beside-push P [] [] x y same each it (suc at) u v there here = absurd cc
-each_beside-push P [] (w ∷ ys) x y same each it at u v there here = absurd (omega arith)
-each_beside-push P (z ∷ xs) [] x y same each it at u v there here = absurd (omega arith)
 each_beside-push P (z ∷ xs) (w ∷ ys) x y same each it zero u v there here = each 0 u v there here
 each_beside-push P (z ∷ xs) (w ∷ ys) x y same each it (suc at) u v there here = each_beside-push (λ k. P (suc k)) xs ys x y (omega arith) (λ k a b. each (suc k) a b) it at u v there here
+each_beside-push P xs ys x y same each it at u v there here = absurd (omega arith)
 
 -- the seat and the diary of the next thread
 pub AreDiaries-push : (lines : List Line) (shown : Bool) (given : GivenKeys) (threads : ℕ) (seats : List SeatState) (diaries : List Diary) (seat : SeatState)

@@ -2,7 +2,8 @@
 use Rattle.std.proofs.Common.{zero, suc, ◌≡◌, ◌∙◌, ◌<◌, ◌++◌, ℕ, List, [], ◌∷◌, Some, ap, append-nil, arith, length, map, refl, slice_get, slice_index_or, subst, sym}
 use Rattle.std.specs.List.{All}
 use Rattle.std.proofs.lemmas.List.{length-map}
-use Rattle.std.proofs.lemmas.Option.{same_Some}
+use Rattle.std.proofs.lemmas.Option.{same_Some, slice_get_within}
+use Rattle.groups.proofs.Lists.{before-map}
 use Rattle.span.specs.declared.key.Key.{Key}
 use Rattle.span.specs.declared.receipt.Receipt.{Receipt}
 use Rattle.remote_queue.specs.Rings.{Sending, Taking}
@@ -15,20 +16,10 @@ pub with_element : {X G : Type 0} (xs : List X) (k : ℕ) → k < length xs → 
 with_element [] k within give = absurd (omega arith)
 with_element (x ∷ xs) k within give = give x
 
-within_list : {X : Type 0} (xs : List X) (k : ℕ) (x : X) → slice_get xs k ≡ Some x → k < length xs
-within_list [] k x there = absurd cc
-within_list (y ∷ xs) zero x there = omega arith
-within_list (y ∷ xs) (suc k) x there = let below = within_list xs k x there in omega arith
-
 each_at : {X : Type 0} (P : X → Type 0) (xs : List X) (k : ℕ) (x : X) → All P xs → slice_get xs k ≡ Some x → P x
 each_at P [] k x all there = absurd cc
 each_at P (y ∷ xs) zero x all there = subst P (same_Some _ _ there) (all 0 y (omega arith))
 each_at P (y ∷ xs) (suc k) x all there = each_at P xs k x (λ j d within. all (suc j) d (omega arith)) there
-
-source_at : {X Y : Type 0} (f : X → Y) (xs : List X) (k : ℕ) (y : Y) → slice_get (map f xs) k ≡ Some y → (x : X) × (slice_get xs k ≡ Some x) × (f x ≡ y)
-source_at f [] k y there = absurd cc
-source_at f (x ∷ xs) zero y there = (x, refl, same_Some _ _ there)
-source_at f (x ∷ xs) (suc k) y there = source_at f xs k y there
 
 image_at : {X Y : Type 0} (f : X → List Y) (xs : List X) (k : ℕ) (x : X) → slice_get xs k ≡ Some x → slice_index_or (map f xs) k [] ≡ f x
 image_at f [] k x there = absurd cc
@@ -69,15 +60,15 @@ pub AreDelivered-settled : (seats : List SeatState) → AreLinked seats → ((sh
 AreDelivered-settled seats linked empty = record {
   each_thread = length-map seats carried_by;
   each_ring = λ thread its at.
-      let (seat, sits, same) = source_at carried_by seats thread its at in
+      let (seat, sits, same) = before-map carried_by seats thread its at in
       let wide = each_at (λ (s : SeatState). (length s.outboxes ≡ length seats) × (length s.inboxes ≡ length seats)) seats thread seat linked.wide sits in (
         ap (λ (c : Carried). length c.sent) (sym same) ∙ length-map seat.outboxes (λ (o : Sending). o.sent) ∙ wide.0,
         ap (λ (c : Carried). length c.taken) (sym same) ∙ length-map seat.inboxes (λ (i : Taking). i.taken) ∙ wide.1,
       );
   whole = λ from to sender taker at there.
-      let (sends, sits, same) = source_at carried_by seats from sender at in
-      let (takes, stands, alike) = source_at carried_by seats to taker there in
+      let (sends, sits, same) = before-map carried_by seats from sender at in
+      let (takes, stands, alike) = before-map carried_by seats to taker there in
       ap (λ (c : Carried). slice_index_or c.taken from []) (sym alike) ∙ ap (λ l. slice_index_or l from []) (sym (image_at (λ (s : SeatState). taken_lists s.inboxes) seats to takes stands))
-      ∙ taken-all seats to from (empty to (within_list seats to takes stands)) (within_list seats from sends sits)
+      ∙ taken-all seats to from (empty to (slice_get_within seats to takes stands)) (slice_get_within seats from sends sits)
       ∙ ap (λ l. slice_index_or l to []) (image_at sent_lists seats from sends sits) ∙ ap (λ (c : Carried). slice_index_or c.sent to []) same;
 }

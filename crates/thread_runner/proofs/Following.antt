@@ -19,7 +19,7 @@ use Rattle.span.specs.declared.key.Key.{Key}
 use Rattle.trace_text.specs.Causes.{is_adopt, keys_in, marks}
 use Rattle.trace_text.specs.Places.{first_of}
 use Rattle.trace_text.specs.declared.line.Call.{Call}
-use Rattle.trace_text.specs.declared.line.Call.TheVariants.{Put, Fill, Get, Set, Free, Sweep, Later, Tend, Trim, Retire, End, Begin}
+use Rattle.trace_text.specs.declared.line.Call.TheVariants.{Fill, Sweep}
 use Rattle.trace_text.specs.declared.line.Line.{Line}
 use Rattle.trace_text.specs.declared.line.Line.TheVariants as line
 use Rattle.thread_runner.specs.Asked.{AreAnswers, Frees, GivenKeys, Outcome, Puts, Said, asked_at, asked_by, is_adoption, is_line_of, places_of, replies_at, replies_by, replies_on}
@@ -56,7 +56,6 @@ ArePassages-push lines given thread from to (first ∷ passages) passage are is 
 AnswersLine-call : (lines : List Line) (given : GivenKeys) (thread section place : ℕ) (l : Line) (outcomes : List Outcome) → slice_get lines place ≡ Some l
     → is_line_of thread l ≡ true → is_adopt l ≡ false
     → section ≡ marks (take place lines) → AreAnswers given section thread (asked_at (take place lines) l) outcomes → AnswersLine lines given thread section place outcomes
-AnswersLine-call lines given thread section place line.Silent outcomes here own is its answered = absurd cc
 AnswersLine-call lines given thread section place (line.Call caller call) outcomes here own is its answered = record {
   line = line.Call caller call;
   here = here;
@@ -64,14 +63,11 @@ AnswersLine-call lines given thread section place (line.Call caller call) outcom
   after_barriers = its;
   answered = subst (λ n. AreAnswers given n thread (asked_by (take place lines) call) outcomes) its answered;
 }
-AnswersLine-call lines given thread section place (line.Adopt shard) outcomes here own is its answered = absurd cc
-AnswersLine-call lines given thread section place line.Mark outcomes here own is its answered = absurd cc
+AnswersLine-call lines given thread section place l outcomes here own is its answered = absurd cc
 
 -- what came of an adoption
 AnswersLine-adopt : (lines : List Line) (given : GivenKeys) (thread section place : ℕ) (l : Line) (what : Other) → slice_get lines place ≡ Some l → is_line_of thread l ≡ true → is_adopt l ≡ true
     → section ≡ marks (take place lines) → is_adoption what ≡ true → AnswersLine lines given thread (section + 1) place (Said what ∷ [])
-AnswersLine-adopt lines given thread section place line.Silent what here own is its answered = absurd cc
-AnswersLine-adopt lines given thread section place (line.Call caller call) what here own is its answered = absurd cc
 AnswersLine-adopt lines given thread section place (line.Adopt shard) what here own is its answered = record {
   line = line.Adopt shard;
   here = here;
@@ -79,7 +75,7 @@ AnswersLine-adopt lines given thread section place (line.Adopt shard) what here 
   after_barriers = ap (λ n. n + 1) its;
   answered = (answered, tt);
 }
-AnswersLine-adopt lines given thread section place line.Mark what here own is its answered = absurd cc
+AnswersLine-adopt lines given thread section place l what here own is its answered = absurd cc
 
 -- one passage more
 module _ (lines : List Line) (given : GivenKeys) (thread : ℕ) (places : List ℕ) (barriers : ℕ) (shown : Bool) (old new : Diary) (was now_is : Carried)
@@ -139,31 +135,19 @@ take-place places done place next = take_more places done place next
 
 -- as many things are asked for as there are replies
 length-asked_by : (above : List Line) (call : Call) → length (asked_by above call) ≡ replies_by call
-length-asked_by above (Put name class value) = refl
 length-asked_by above (Fill name class count value) = length-map (range_with_len 0 count) (λ i. Puts (keys_in above + i) (counted_from class (value + i))) ∙ length-range_with_len 0 count
-length-asked_by above (Get key) = refl
-length-asked_by above (Set key class value) = refl
-length-asked_by above (Free key) = refl
 length-asked_by above (Sweep name from to) = length-map (range_with_len from (to - from)) (λ i. Frees (first_of above name + i)) ∙ length-range_with_len from (to - from)
-length-asked_by above (Later key) = refl
-length-asked_by above Tend = refl
-length-asked_by above Trim = refl
-length-asked_by above (Retire most) = refl
-length-asked_by above End = refl
-length-asked_by above Begin = refl
+length-asked_by above call = refl
 
 length-asked_at : (above : List Line) (l : Line) → is_adopt l ≡ false → length (asked_at above l) ≡ replies_at l
-length-asked_at above line.Silent is = refl
 length-asked_at above (line.Call thread call) is = length-asked_by above call
 length-asked_at above (line.Adopt shard) is = absurd cc
-length-asked_at above line.Mark is = refl
+length-asked_at above l is = refl
 
 -- an adoption has no reply that is counted
 replies_at-adopt : (l : Line) → is_adopt l ≡ true → replies_at l ≡ 0
-replies_at-adopt line.Silent is = refl
 replies_at-adopt (line.Call thread call) is = absurd cc
-replies_at-adopt (line.Adopt shard) is = refl
-replies_at-adopt line.Mark is = refl
+replies_at-adopt l is = refl
 
 -- the replies of a line are counted
 sum-place : (lines : List Line) (place : ℕ) (places : List ℕ) (l : Line) → slice_get lines place ≡ Some l

@@ -35,9 +35,8 @@ AreAnswers-append : (given : GivenKeys) (section thread : ℕ) (first second : L
     → AreAnswers given section thread second more
     → AreAnswers given section thread (first ++ second) (some ++ more)
 AreAnswers-append given section thread [] second [] more before after = after
-AreAnswers-append given section thread [] second (outcome ∷ some) more before after = absurd before
-AreAnswers-append given section thread (asked ∷ first) second [] more before after = absurd before
 AreAnswers-append given section thread (asked ∷ first) second (outcome ∷ some) more before after = (before.0, AreAnswers-append given section thread first second some more before.1 after)
+AreAnswers-append given section thread first second some more before after = absurd before
 
 -- nothing was asked
 pub Tells-none : (section thread number : ℕ) (knows : GivenKeys → Type 0) (diary : Diary) (carried : Carried) → Tells section thread number [] knows knows diary diary carried carried

@@ -1,13 +1,12 @@
 -- How the notes of a run go on.
-use Rattle.std.proofs.Common.{◌≡◌, ◌∙◌, ◌++◌, ◌+◌, ◌-◌, ◌<◌, ◌≤◌, ℕ, Bool, true, false, cond, List, [], ◌∷◌, Option, None, Some, ap, arith, drop, length, map, option_map, refl, slice_get, suc, subst, sym, take, zero}
-use Rattle.std.specs.Prelude.{filter, is_some, not}
-use Rattle.std.specs.List.{flat_map, range_with_len, take_while}
+use Rattle.std.proofs.Common.{◌≡◌, ◌∙◌, ◌++◌, ◌+◌, ◌-◌, ◌<◌, ◌≤◌, ℕ, Bool, true, false, cond, List, [], ◌∷◌, Option, None, Some, ap, arith, drop, length, map, option_map, refl, slice_get, suc, subst, sym, zero}
+use Rattle.std.specs.Prelude.{is_some, not}
+use Rattle.std.specs.List.{flat_map, take_while}
 use Rattle.std.specs.Option.{option_map_or}
 use Rattle.std.proofs.lemmas.Grind.{flat_map-append}
-use Rattle.std.proofs.lemmas.List.{append-nil, append_assoc, length-append, map-append, take_all, take_more}
-use Rattle.std.proofs.lemmas.List.FromFn.{filter_of_map_range_with_len_more}
+use Rattle.std.proofs.lemmas.List.{append-nil, append_assoc, length-append, map-append, take_all}
 use Rattle.std.proofs.lemmas.List.Sums.{fold-append, take_while-cons}
-use Rattle.std.proofs.lemmas.Option.{get_or_from_slice_get, slice_get_within}
+use Rattle.std.proofs.lemmas.Option.{slice_get_within}
 use Rattle.arena.specs.declared.arena.Stepped.{Stepped}
 use Rattle.arena.specs.declared.arena.Stepped.TheVariants.{Taken}
 use Rattle.arena.specs.Stewards.{Steps}
@@ -27,17 +26,16 @@ use Rattle.thread_runner.specs.Marked.{AreNotesTo, IsCarriedOut, IsMarkMade, IsS
 use Rattle.thread_runner.specs.Noted.{HaveCome, pairs_done, pairs_left, plan_pairs}
 use Rattle.thread_runner.specs.declared.body.Note.{Note}
 use Rattle.thread_runner.specs.declared.minutes.Minutes.{Minutes}
+use Rattle.audit.proofs.Replies.{take_more}
+use Rattle.trace_runner.proofs.Shards.{filter-range_with_len_more}
 use Rattle.thread_runner.proofs.Lists.{slice_get-drop}
 
 -- ---- the steps of a plan
 
 -- the first pairs, one more
-take-next : {X : Type 0} (xs : List X) (i : ℕ) (x : X) → slice_get xs i ≡ Some x → take (i + 1) xs ≡ take i xs ++ x ∷ []
-take-next xs i x here = take_more xs i x (slice_get_within xs i x here) ∙ ap (λ y. take i xs ++ y ∷ []) (get_or_from_slice_get xs i x x here)
-
 pairs_done-next : (plan : Option OpenPlan) (pair : SpanId × SpanId) → next_pair plan ≡ Some pair → pairs_done (option_map with_next_done plan) ≡ pairs_done plan ++ pair ∷ []
 pairs_done-next None pair next = absurd cc
-pairs_done-next (Some plan) pair next = take-next plan.pairs plan.done pair next
+pairs_done-next (Some plan) pair next = take_more plan.pairs plan.done pair next
 
 pairs_left-next : (plan : Option OpenPlan) (pair : SpanId × SpanId) → next_pair plan ≡ Some pair → pairs_left (option_map with_next_done plan) < pairs_left plan
 pairs_left-next None pair next = absurd cc
@@ -68,20 +66,11 @@ module _ (old new : Option OpenPlan) (stepped : Stepped) (abandoned owned : Span
 
 -- ---- the marks above a place
 
-filter-range_more : (test : ℕ → Bool) (n : ℕ) → filter test (range_with_len 0 (n + 1)) ≡ filter test (range_with_len 0 n) ++ cond (test n) (n ∷ []) []
-filter-range_more test n =
-    ap (filter test) (sym (map-same (range_with_len 0 (n + 1)))) ∙ filter_of_map_range_with_len_more test (λ k. k) 0 n n (omega arith)
-    ∙ ap (λ ks. filter test ks ++ cond (test n) (n ∷ []) []) (map-same (range_with_len 0 n))
-  where
-    map-same : (ks : List ℕ) → map (λ k. k) ks ≡ ks
-    map-same [] = refl
-    map-same (k ∷ ks) = ap (λ js. k ∷ js) (map-same ks)
-
 marks_above-mark : (lines : List Line) (place : ℕ) → is_mark_at lines place ≡ true → marks_above lines (place + 1) ≡ marks_above lines place ++ place ∷ []
-marks_above-mark lines place is = filter-range_more (is_mark_at lines) place ∙ ap (λ b. marks_above lines place ++ cond b (place ∷ []) []) is
+marks_above-mark lines place is = filter-range_with_len_more (is_mark_at lines) place ∙ ap (λ b. marks_above lines place ++ cond b (place ∷ []) []) is
 
 pub marks_above-other : (lines : List Line) (place : ℕ) → is_mark_at lines place ≡ false → marks_above lines (place + 1) ≡ marks_above lines place
-marks_above-other lines place is = filter-range_more (is_mark_at lines) place ∙ ap (λ b. marks_above lines place ++ cond b (place ∷ []) []) is ∙ append-nil (marks_above lines place)
+marks_above-other lines place is = filter-range_with_len_more (is_mark_at lines) place ∙ ap (λ b. marks_above lines place ++ cond b (place ∷ []) []) is ∙ append-nil (marks_above lines place)
 
 count-mark : (lines : List Line) (place count after : ℕ) → is_mark_at lines place ≡ true → count ≡ length (marks_above lines place) → after ≡ count + 1 → after ≡ length (marks_above lines (place + 1))
 count-mark lines place count after is counted more =
@@ -228,10 +217,9 @@ take_while-stop test (y ∷ xs) (suc k) x here stops = rw (take_while-cons test 
     by_test false rest = omega arith
 
 is_barrier-mark : (l : Line) → is_mark l ≡ true → is_barrier l ≡ true
-is_barrier-mark line.Silent is = absurd cc
-is_barrier-mark (line.Call thread call) is = absurd cc
 is_barrier-mark (line.Adopt shard) is = refl
 is_barrier-mark line.Mark is = refl
+is_barrier-mark l is = absurd cc
 
 -- no barrier begins below the next mark
 pub barrier_from-mark : (lines : List Line) (from place : ℕ) (l : Line) → slice_get lines place ≡ Some l → is_mark l ≡ true → from ≤ place → barrier_from lines from ≤ place

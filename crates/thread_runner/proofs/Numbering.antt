@@ -16,16 +16,12 @@ marks-next : (lines : List Line) (place : ℕ) (l : Line) → slice_get lines pl
 marks-next lines place l here = ap marks (take_more lines place l here) ∙ marks-push (take place lines) l
 
 marks_at-mark : (l : Line) → is_mark l ≡ true → marks_at l ≡ 1
-marks_at-mark line.Silent is = absurd cc
-marks_at-mark (line.Call thread call) is = absurd cc
-marks_at-mark (line.Adopt shard) is = absurd cc
 marks_at-mark line.Mark is = refl
+marks_at-mark l is = absurd cc
 
 marks_at-other : (l : Line) → is_mark l ≡ false → marks_at l ≡ 0
-marks_at-other line.Silent is = refl
-marks_at-other (line.Call thread call) is = refl
-marks_at-other (line.Adopt shard) is = refl
 marks_at-other line.Mark is = absurd cc
+marks_at-other l is = refl
 
 -- from one place up to the other as many marks stand above each
 abbrev pub IsOneSection : List Line → (from place section : ℕ) → Type 0

@@ -1,6 +1,6 @@
 -- What diaries say, and the report that follows.
 use Rattle.span.specs.ReceiptLists.{kept_receipts}
-use Rattle.std.proofs.Common.{◌≡◌, ◌∙◌, ◌+◌, ◌++◌, ◌&&◌, ℕ, Bool, List, [], ◌∷◌, None, Option, Some, ap, arith, length, map, not, refl, slice_get, subst, sym}
+use Rattle.std.proofs.Common.{◌≡◌, ◌∙◌, ◌+◌, ◌++◌, ◌&&◌, ℕ, Bool, List, [], ◌∷◌, Option, Some, ap, arith, length, map, not, refl, slice_get, subst, sym}
 use Rattle.std.specs.Prelude.{◌==◌, codes, filter, option_map}
 use Rattle.std.specs.List.{flat_map}
 use Rattle.std.specs.List.Sorted.{IsNonDecreasingBy, IsPermutation, IsStableByKey, ties}
@@ -31,7 +31,7 @@ use Rattle.thread_runner.specs.Told.{Voice, diary_lines, voice_lines, voice_of}
 use Rattle.thread_runner.specs.declared.body.Note.{Note}
 use Rattle.thread_runner.specs.declared.diary.Diary.{Diary}
 use Rattle.thread_runner.specs.declared.error.ThreadsError.{ThreadsError}
-use Rattle.thread_runner.specs.declared.error.ThreadsError.TheVariants.{OutOfMemory, BadTrace, Doubled, AuditFault, SinkFailed}
+use Rattle.thread_runner.specs.declared.error.ThreadsError.TheVariants.{OutOfMemory, BadTrace, AuditFault, SinkFailed}
 
 -- numbers of which neither is less are equal
 ties-same : (a b : ℕ) → (not (is_lt (nat_cmp a b)) && not (is_lt (nat_cmp b a))) ≡ (b == a)
@@ -65,13 +65,12 @@ AreVoices-at : (lines : List Line) (shown : Bool) (given : GivenKeys) (thread : 
     → ((s : SeatState) (d : Diary) → seat ≡ Some s → diary ≡ Some d → IsDiaryOf lines shown given thread d (carried_by s))
     → option_map voice_of diary ≡ Some voice → option_map carried_by seat ≡ Some its
     → ∥ FollowsLines lines given thread (places_of thread lines) (marks lines + 1) shown voice its ∥₁
-AreVoices-at lines shown given thread voice its seat None each at sits = absurd cc
-AreVoices-at lines shown given thread voice its None (Some diary) each at sits = absurd cc
 AreVoices-at lines shown given thread voice its (Some seat) (Some diary) each at sits =
     let same : voice_of diary ≡ voice = same_Some _ _ at in
     let rings : carried_by seat ≡ its = same_Some _ _ sits in
     subst (λ v. ∥ FollowsLines lines given thread (places_of thread lines) (marks lines + 1) shown v its ∥₁) same
     (subst (λ c. ∥ FollowsLines lines given thread (places_of thread lines) (marks lines + 1) shown (voice_of diary) c ∥₁) rings (each seat diary refl refl).follows)
+AreVoices-at lines shown given thread voice its seat diary each at sits = absurd cc
 
 -- what the diaries of all threads have follows their lines
 pub AreVoices-diaries : (trace : Trace) (shown : Bool) (given : GivenKeys) (seats : List SeatState) (diaries : List Diary) → AreDiaries trace.lines.items shown given trace.header.shards seats diaries
@@ -116,15 +115,12 @@ IsRunStop-audit trace shown logs diaries lists OutOfMemory of_diaries of_lines s
 IsRunStop-audit trace shown logs diaries lists (AuditFault cause) of_diaries of_lines stop =
     let same : lists ≡ map (λ (voice : Voice). voice.receipts) (map voice_of diaries) = of_diaries ∙ sym (map-voices diaries) in
     (logs, map voice_of diaries, of_lines, subst (λ ls. IsAuditStop logs ls (AuditFault cause)) same stop)
-IsRunStop-audit trace shown logs diaries lists (BadTrace line cause) of_diaries of_lines stop = absurd stop
-IsRunStop-audit trace shown logs diaries lists Doubled of_diaries of_lines stop = absurd stop
-IsRunStop-audit trace shown logs diaries lists SinkFailed of_diaries of_lines stop = absurd stop
+IsRunStop-audit trace shown logs diaries lists error of_diaries of_lines stop = absurd stop
 
 -- where a run of the text's trace stops, so does the replay, with nothing taken
 pub StopsThreads-run : (text : List ℕ) (trace : Trace) (shown : Bool) (failures : ℕ) (taken : Option (List ℕ)) (error : ThreadsError) → IsTrace text trace → IsRunStop trace shown error
     → StopsThreads text shown failures failures taken taken error
-StopsThreads-run text trace shown failures taken OutOfMemory is stop = (refl, refl)
-StopsThreads-run text trace shown failures taken Doubled is stop = (refl, refl)
 StopsThreads-run text trace shown failures taken (AuditFault cause) is stop = ((trace, is, stop), refl, refl)
 StopsThreads-run text trace shown failures taken (BadTrace line cause) is stop = absurd stop
 StopsThreads-run text trace shown failures taken SinkFailed is stop = absurd stop
+StopsThreads-run text trace shown failures taken error is stop = (refl, refl)
