@@ -36,17 +36,15 @@ pub Frees-elsewhere : (old new : ShardState) (key : Key) (answer : Option (Key �
 Frees-elsewhere old new key answer told none = of told.0 told.1 told.2
   where
     of : (what : Freed) → Frees old key what new → answer ≡ free_told key what → IsElsewhere old.groups key.span
-    of (freed.Yes n) frees is = absurd (none-some _ (sym none ∙ is))
-    of (freed.No n) frees is = absurd (none-some _ (sym none ∙ is))
     of freed.NotHere frees is = frees.0
+    of what frees is = absurd (none-some _ (sym none ∙ is))
 
 pub FreesPooled-elsewhere : (old new : PoolState) (key : Key) (answer : Option (Key × Bool × ℕ)) → ((what : Freed) × FreesPooled old key what new × (answer ≡ free_told key what)) → answer ≡ None → IsElsewhere old.groups key.span
 FreesPooled-elsewhere old new key answer told none = of told.0 told.1 told.2
   where
     of : (what : Freed) → FreesPooled old key what new → answer ≡ free_told key what → IsElsewhere old.groups key.span
-    of (freed.Yes n) frees is = absurd (none-some _ (sym none ∙ is))
-    of (freed.No n) frees is = absurd (none-some _ (sym none ∙ is))
     of freed.NotHere frees is = frees.0
+    of what frees is = absurd (none-some _ (sym none ∙ is))
 
 -- whoever does not have the span has no group with it
 pub IsElsewhere-not_had : {Closed : Type 0} (groups : List (Group Closed)) (id : SpanId) (has : Bool) → IsTrue has ↔ (IsElsewhere groups id → ⊥) → has ≡ false → IsElsewhere groups id

@@ -21,9 +21,8 @@ push_each P xs n x long were one k d below =
 pub same_both : {A B C : Type 0} (f : A → C) (g : B → C) (xs : List A) (ys : List B) → length xs ≡ length ys
     → ((k : ℕ) (d : A) (e : B) → k < length xs → f (get_or xs k d) ≡ g (get_or ys k e)) → map f xs ≡ map g ys
 same_both f g [] [] long each = refl
-same_both f g [] (y ∷ ys) long each = absurd (omega arith)
-same_both f g (x ∷ xs) [] long each = absurd (omega arith)
 same_both f g (x ∷ xs) (y ∷ ys) long each = rw (each 0 x y (omega arith)) (ap (λ l. g y ∷ l) (same_both f g xs ys (omega arith) (λ k d e h. each (suc k) d e (omega arith))))
+same_both f g xs ys long each = absurd (omega arith)
 
 -- seats of the rows and columns of a table and its transpose are linked
 pub made_linked : {R C : Type 0} (outboxes : R → List Sending) (inboxes : C → List Taking) (seats : List SeatState) (rows : List R) (columns : List C) (n : ℕ)

@@ -6,5 +6,4 @@ pub map-set_first : {W : Type 0} (word : W → ℕ) (room : List W) (words : Lis
     → word first ≡ get_or words 0 0 → map word (set room 0 first) ≡ words ++ drop (length words) (map word room)
 map-set_first word (old ∷ room) (one ∷ []) first long fits is = ap (λ n. n ∷ map word room) is
 map-set_first word [] (one ∷ []) first long fits is = absurd (omega (arith, fits))
-map-set_first word room [] first long fits is = absurd (omega (arith, long))
-map-set_first word room (one ∷ other ∷ words) first long fits is = absurd (omega (arith, long))
+map-set_first word room words first long fits is = absurd (omega (arith, long))

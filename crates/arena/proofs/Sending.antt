@@ -23,19 +23,15 @@ sent_step outboxes i before after key (Err back) below is sent = (sent.0, map-se
 -- one entry of a list of numbers grows by what another list has less
 pub no_fewer_set : {A : Type 0} (f : A → ℕ) (xs : List A) (i : ℕ) (after d : A) → f (get_or xs i d) ≤ f after → (k : ℕ)
     → slice_index_or (map f xs) k 0 ≤ slice_index_or (map f (slice_set xs i after)) k 0
-no_fewer_set f [] i after d more k = omega arith
 no_fewer_set f (x ∷ xs) zero after d more zero = more
-no_fewer_set f (x ∷ xs) zero after d more (suc k) = omega arith
-no_fewer_set f (x ∷ xs) (suc i) after d more zero = omega arith
 no_fewer_set f (x ∷ xs) (suc i) after d more (suc k) = no_fewer_set f xs i after d more k
+no_fewer_set f xs i after d more k = omega arith
 
 -- one seat keeps its places
 pub KeepPlaces-set : (seats : List SeatState) (i : ℕ) (x d : SeatState) → AreNoFewer (free_places (get_or seats i d).outboxes) (free_places x.outboxes) → KeepPlaces seats (slice_set seats i x)
-KeepPlaces-set [] i x d more w s = omega arith
 KeepPlaces-set (y ∷ seats) zero x d more zero s = more s
-KeepPlaces-set (y ∷ seats) zero x d more (suc w) s = omega arith
-KeepPlaces-set (y ∷ seats) (suc i) x d more zero s = omega arith
 KeepPlaces-set (y ∷ seats) (suc i) x d more (suc w) s = KeepPlaces-set seats i x d more w s
+KeepPlaces-set seats i x d more w s = omega arith
 
 pub KeepPlaces-more : (a b c : List SeatState) → KeepPlaces a b → KeepPlaces b c → KeepPlaces a c
 KeepPlaces-more a b c one two w s = omega (arith, one w s, two w s)

@@ -181,8 +181,7 @@ take-suc [] at x here = absurd cc
 take-suc (y ∷ xs) zero x here = ap (λ z. z ∷ take 0 xs) (same_some here) ∙ ap (λ zs. x ∷ zs) (none xs)
   where
     none : {X : Type 0} (xs : List X) → take 0 xs ≡ []
-    none [] = refl
-    none (x ∷ xs) = refl
+    none xs = refl
 take-suc (y ∷ xs) (suc at) x here = ap (λ ys. y ∷ ys) (take-suc xs at x here)
 
 -- one more of the first

@@ -29,11 +29,9 @@ HaveSameIds-set guests place guest changed here same = record {
 
 -- a write leaves the other places
 pub get-set_other : {X : Type 0} (xs : List X) (at other : ℕ) (x y : X) → (other ≡ at → ⊥) → slice_get xs other ≡ Some x → slice_get (set xs at y) other ≡ Some x
-get-set_other [] at other x y apart there = there
 get-set_other (z ∷ zs) zero zero x y apart there = absurd (apart refl)
-get-set_other (z ∷ zs) zero (suc other) x y apart there = there
-get-set_other (z ∷ zs) (suc at) zero x y apart there = there
 get-set_other (z ∷ zs) (suc at) (suc other) x y apart there = get-set_other zs at other x y (λ e. apart (ap suc e)) there
+get-set_other xs at other x y apart there = there
 
 -- what stands in two lists that are appended
 get_behind : {X : Type 0} (xs ys : List X) (at : ℕ) (y : X) → slice_get ys at ≡ Some y → slice_get (xs ++ ys) (length xs + at) ≡ Some y

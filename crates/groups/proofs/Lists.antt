@@ -24,28 +24,25 @@ module _ {X : Type 0} (R : X → X → Type 0) (self : (x : X) → R x x) where
       → (old : X) × (slice_get xs other ≡ Some old) × R old new
   before-set [] at x y here r other new there = absurd cc
   before-set (z ∷ zs) zero x y here r zero new there = (x, here, subst (R x) (same_some there) r)
-  before-set (z ∷ zs) zero x y here r (suc other) new there = (new, there, self new)
-  before-set (z ∷ zs) (suc at) x y here r zero new there = (new, there, self new)
   before-set (z ∷ zs) (suc at) x y here r (suc other) new there = before-set zs at x y here r other new there
+  before-set xs at x y here r other new there = (new, there, self new)
 
   pub after-set : (xs : List X) (at : ℕ) (x y : X) → slice_get xs at ≡ Some x → R x y → (other : ℕ) (old : X) → slice_get xs other ≡ Some old
       → (new : X) × (slice_get (set xs at y) other ≡ Some new) × R old new
   after-set [] at x y here r other old there = absurd cc
   after-set (z ∷ zs) zero x y here r zero old there = (y, refl, subst (λ w. R w y) (same_some (sym here ∙ there)) r)
-  after-set (z ∷ zs) zero x y here r (suc other) old there = (old, there, self old)
-  after-set (z ∷ zs) (suc at) x y here r zero old there = (old, there, self old)
   after-set (z ∷ zs) (suc at) x y here r (suc other) old there = after-set zs at x y here r other old there
+  after-set xs at x y here r other old there = (old, there, self old)
 
 -- the new element, or an old one at another place
 pub cases-set : {X : Type 0} (xs : List X) (at : ℕ) (y : X) (other : ℕ) (z : X) → slice_get (set xs at y) other ≡ Some z → ((other ≡ at) × (y ≡ z)) ⊎ ((other ≡ at → ⊥) × (slice_get xs other ≡ Some z))
 cases-set [] at y other z there = absurd cc
 cases-set (w ∷ ws) zero y zero z there = inl (refl, same_some there)
-cases-set (w ∷ ws) zero y (suc other) z there = inr ((λ e. omega arith), there)
-cases-set (w ∷ ws) (suc at) y zero z there = inr ((λ e. omega arith), there)
 cases-set (w ∷ ws) (suc at) y (suc other) z there = elim (cases-set ws at y other z there) [
   | inl here ↦ inl (ap suc here.0, here.1)
   | inr old ↦ inr ((λ e. old.0 (omega arith)), old.1)
 ]
+cases-set xs at y other z there = inr ((λ e. omega arith), there)
 
 pub get-set : {X : Type 0} (xs : List X) (at : ℕ) (x y : X) → slice_get xs at ≡ Some x → slice_get (set xs at y) at ≡ Some y
 get-set [] at x y here = absurd cc

@@ -1,5 +1,5 @@
 -- The union of the live sets of a group's spans.
-use Rattle.std.proofs.Common.{zero, suc, ◌≡◌, ℕ, Bool, true, false, not, ◌&&◌, ◌||◌, List, [], ◌∷◌, Option, Some, None, IsSomeAnd, is_some, slice_get, set, ap, sym, ◌∙◌, subst, refl, inl, inr, eq-eqb}
+use Rattle.std.proofs.Common.{zero, suc, ◌≡◌, ℕ, true, false, not, ◌&&◌, ◌||◌, List, [], ◌∷◌, Option, Some, None, IsSomeAnd, is_some, slice_get, set, ap, sym, ◌∙◌, subst, refl, inl, inr, eq-eqb}
 use Rattle.std.specs.Ordering.{nat_cmp, eq_by_cmp}
 use Rattle.std.specs.Cmp.{nat_cmp_total, unsigned_tied}
 use Rattle.std.specs.FinSet.{contains, insert, remove, union, empty, contains-insert, contains-remove, contains-union, contains-empty}
@@ -8,6 +8,7 @@ use Rattle.std.proofs.lemmas.Bool.{cases_eq, false_from_ne_true, false≢true, n
 use Rattle.bitmap.specs.Slots.{SlotSet, AreDisjoint}
 use Rattle.bitmap.specs.Words.{same_slots}
 use Rattle.bitmap.specs.Operations.{AreDisjoint-at, AreDisjoint-by_slot}
+use Rattle.bitmap.proofs.Summaries.{was}
 use Rattle.span.specs.Log.{Value, live_slots, replay, Holds}
 use Rattle.std.specs.FinMap as map
 use Rattle.span.specs.declared.change.Change.{Change}
@@ -38,19 +39,11 @@ AreDisjoint-insert a b slot apart out = AreDisjoint-by_slot (insert a slot) b ea
       | inr more ↦ AreDisjoint-at a b apart q (sym (contains-insert nat_cmp_total a slot q ∙ rw (unsigned_tied q slot, ne_eqb q slot more) refl) ∙ inside) other
     ]
 
-gone : (s : SlotSet) (slot q : ℕ) → contains (remove s slot) q ≡ true → contains s q ≡ true
-gone s slot q h = second (not (eq_by_cmp nat_cmp slot q)) (contains s q) (eq_by_cmp nat_cmp q slot) (sym (contains-remove nat_cmp_total s slot q) ∙ h)
-  where
-    second : (a b c : Bool) → (not c && b) ≡ true → b ≡ true
-    second a true c h = refl
-    second a false true h = absurd cc
-    second a false false h = absurd cc
-
 pub AreDisjoint-remove_left : (a b : SlotSet) (slot : ℕ) → AreDisjoint a b → AreDisjoint (remove a slot) b
-AreDisjoint-remove_left a b slot apart = AreDisjoint-by_slot _ _ (λ q inside other. AreDisjoint-at a b apart q (gone a slot q inside) other)
+AreDisjoint-remove_left a b slot apart = AreDisjoint-by_slot _ _ (λ q inside other. AreDisjoint-at a b apart q (was a slot q inside) other)
 
 pub AreDisjoint-remove_right : (a b : SlotSet) (slot : ℕ) → AreDisjoint a b → AreDisjoint a (remove b slot)
-AreDisjoint-remove_right a b slot apart = AreDisjoint-by_slot _ _ (λ q inside other. AreDisjoint-at a b apart q inside (gone b slot q other))
+AreDisjoint-remove_right a b slot apart = AreDisjoint-by_slot _ _ (λ q inside other. AreDisjoint-at a b apart q inside (was b slot q other))
 
 pub union-remove_left : (a b : SlotSet) (slot : ℕ) → contains b slot ≡ false → union (remove a slot) b ≡ remove (union a b) slot
 union-remove_left a b slot out = same_slots _ _ (λ q.

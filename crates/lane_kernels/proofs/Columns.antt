@@ -76,11 +76,8 @@ four_words : (words : List ℕ) → length words ≡ 4 → get_or words 0 0 ∷ 
 four_words words long = same_number_lists (get_or words 0 0 ∷ get_or words 1 0 ∷ get_or words 2 0 ∷ get_or words 3 0 ∷ []) words (sym long) (λ k below. each k below)
   where
     each : (k : ℕ) → k < 4 → get_or (get_or words 0 0 ∷ get_or words 1 0 ∷ get_or words 2 0 ∷ get_or words 3 0 ∷ []) k 0 ≡ get_or words k 0
-    each zero below = refl
-    each (suc zero) below = refl
-    each (suc (suc zero)) below = refl
-    each (suc (suc (suc zero))) below = refl
     each (suc (suc (suc (suc k)))) below = absurd (omega arith)
+    each k below = refl
 
 -- each row goes on by a word of the set
 pub pushed : (p q r s p' q' r' s' words : List ℕ) (set : SlotSet) (sets : List SlotSet) → length q ≡ length p → length r ≡ length p → length s ≡ length p

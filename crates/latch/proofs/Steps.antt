@@ -12,11 +12,10 @@ use Rattle.latch.specs.Rule.{HasSlot, IsKept, took, gave}
 
 -- a slot that is there has a value
 pub slot_value : {T : Type 0} → (slots : List (ℕ × Option T)) → HasSlot slots → (value : T) × (slots ≡ (4, Some value) ∷ [])
-slot_value [] has = absurd cc
 slot_value ((number, None) ∷ slots) has = absurd (true≢false (ap (λ (slots : List (ℕ × Bool)). (get_or slots 0 (0, true)).1) (sym has)))
 slot_value ((number, Some value) ∷ []) has =
     let four : number ≡ 4 = ap (λ (slots : List (ℕ × Bool)). (get_or slots 0 (0, true)).0) has in (value, rw four refl)
-slot_value ((number, Some value) ∷ other ∷ slots) has = absurd cc
+slot_value slots has = absurd cc
 
 pub HasSlot-some : {T : Type 0} → (slots : List (ℕ × Option T)) (value : T) → slots ≡ (4, Some value) ∷ [] → HasSlot slots
 HasSlot-some slots value one = rw one refl

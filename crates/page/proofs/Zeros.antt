@@ -69,11 +69,9 @@ page_of-there None now is = ap Some is
 
 -- and it stays one where its words are as much in memory as before
 pub page_of-stays : (old new : Option Words) (blank : Bool) → is_some new ≡ is_some old → IsSome (page_of old blank) → page_of new blank ≡ Some (unwrap_or new blank_page)
-page_of-stays (Some old) (Some new) blank same there = refl
-page_of-stays None (Some new) blank same there = refl
 page_of-stays (Some old) None blank same there = absurd (false≢true same)
-page_of-stays None None true same there = refl
 page_of-stays None None false same there = absurd (false≢true there)
+page_of-stays old new blank same there = refl
 
 pub page_there : (page : Option Words) → IsSome page → page ≡ Some (unwrap_or page blank_page)
 page_there (Some words) there = refl

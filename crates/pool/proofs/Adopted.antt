@@ -19,8 +19,7 @@ use Rattle.groups.specs.Group.{Ascend, HasNoHead, IsHeadOf, spans_of}
 use Rattle.groups.proofs.Standing.{head_id}
 
 some_page : {X : Type 0} (o : Option X) → o ≡ None → IsSome o → ⊥
-some_page None is some = absurd cc
-some_page (Some page) is some = absurd cc
+some_page o is some = absurd cc
 
 -- one group is the lowest that has a page
 pub one_lowest : (pool : PoolState) → Ascend pool.groups → (i j : ℕ) (a b : PooledState) → IsLowestPaged pool i a → IsLowestPaged pool j b → a ≡ b

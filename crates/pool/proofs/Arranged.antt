@@ -18,11 +18,9 @@ remove-insert [] (suc at) x within = absurd (omega arith)
 remove-insert (y ∷ xs) (suc at) x within = ap (λ ys. y ∷ ys) (remove-insert xs at x (omega arith))
 
 pub get-set_other : {X : Type 0} (xs : List X) (at other : ℕ) (y : X) → (other ≡ at → ⊥) → slice_get (set xs at y) other ≡ slice_get xs other
-get-set_other [] at other y apart = refl
 get-set_other (x ∷ xs) zero zero y apart = absurd (apart refl)
-get-set_other (x ∷ xs) zero (suc other) y apart = refl
-get-set_other (x ∷ xs) (suc at) zero y apart = refl
 get-set_other (x ∷ xs) (suc at) (suc other) y apart = get-set_other xs at other y (λ e. apart (ap suc e))
+get-set_other xs at other y apart = refl
 
 module _ {X : Type 0} (key : X → ℕ) where
   -- the numbers ascend

@@ -26,9 +26,8 @@ get-push (z ∷ xs) x (suc at) y there = elim (get-push xs x at y there) [
 
 get-take : {X : Type 0} (xs : List X) (n at : ℕ) → at < n → slice_get (take n xs) at ≡ slice_get xs at
 get-take xs zero at low = absurd (omega arith)
-get-take [] (suc n) at low = refl
-get-take (x ∷ xs) (suc n) zero low = refl
 get-take (x ∷ xs) (suc n) (suc at) low = get-take xs n at (omega arith)
+get-take xs n at low = refl
 
 -- a row has as many groups as the list in order
 pub length-row : (groups : List PooledState) → length groups ≡ length (in_order groups)
@@ -215,10 +214,9 @@ module _ (groups : List PooledState) (place_of : ℕ → Option ℕ) (found : Ar
         (let s = length-set groups place last in omega (arith, s)) in let low = within in omega arith)
       where
         length-take : {X : Type 0} (n : ℕ) (xs : List X) → n ≤ length xs → length (take n xs) ≡ n
-        length-take zero [] most = refl
-        length-take zero (x ∷ xs) most = refl
         length-take (suc n) [] most = absurd (omega arith)
         length-take (suc n) (x ∷ xs) most = ap suc (length-take n xs (omega arith))
+        length-take n xs most = refl
 
     get-left_over : (at : ℕ) → at < length left → slice_get left at ≡ slice_get (set groups place last) at
     get-left_over at low = ap (λ (gs : List PooledState). slice_get gs at) left_is ∙ get-take (set groups place last) (length groups - 1) at (let e = shorter in omega arith)

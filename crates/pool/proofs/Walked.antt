@@ -121,9 +121,8 @@ module _ {X : Type 0} (p : X → Bool) where
       by_tests true true rest = IsPermutation-trans (x ∷ y ∷ filter p xs) (y ∷ x ∷ filter p xs) (y ∷ filter p (insert xs at x))
           (IsPermutation-sym (y ∷ x ∷ filter p xs) (x ∷ y ∷ filter p xs) (IsPermutation-middle (y ∷ []) x (filter p xs)))
           (IsPermutation-cons y (x ∷ filter p xs) (filter p (insert xs at x)) rest)
-      by_tests true false rest = rest
       by_tests false true rest = IsPermutation-cons y (filter p xs) (filter p (insert xs at x)) rest
-      by_tests false false rest = rest
+      by_tests b c rest = rest
 
   pub filter-arranged : (key : X → ℕ) (xs : List X) → IsPermutation (filter p xs) (filter p (arranged key xs))
   filter-arranged key [] = IsPermutation-refl []

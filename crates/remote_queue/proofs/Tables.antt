@@ -35,18 +35,16 @@ module _ {T : Type 0} where
 
   -- in the columns that go on by a row, an earlier place is as it was
   pub earlier : (cs : List (List T)) (row : List T) (n s w : ℕ) → length row ≡ length cs → AreLong n cs → w < n → cell (with_row cs row) s w ≡ cell cs s w
-  earlier [] row n s w same all below = refl
-  earlier (c ∷ cs) [] n s w same all below = refl
   earlier (c ∷ cs) (r ∷ row) n zero w same all below = get_front c (r ∷ []) w (omega (arith, all.0))
   earlier (c ∷ cs) (r ∷ row) n (suc s) w same all below = earlier cs row n s w (omega arith) all.1 below
+  earlier cs row n s w same all below = refl
 
   -- the new place has the row's entry
   pub newest : (cs : List (List T)) (row : List T) (n s : ℕ) → length row ≡ length cs → AreLong n cs → cell (with_row cs row) s n ≡ slice_get row s
   newest [] [] n s same all = refl
-  newest [] (r ∷ row) n s same all = absurd (omega arith)
-  newest (c ∷ cs) [] n s same all = absurd (omega arith)
   newest (c ∷ cs) (r ∷ row) n zero same all = ap (slice_get (c ++ r ∷ [])) (sym all.0) ∙ get_last c r
   newest (c ∷ cs) (r ∷ row) n (suc s) same all = newest cs row n s (omega arith) all.1
+  newest cs row n s same all = absurd (omega arith)
 
   -- past the new place there is nothing
   pub beyond : (cs : List (List T)) (row : List T) (n s w : ℕ) → length row ≡ length cs → AreLong n cs → n < w → cell (with_row cs row) s w ≡ None

@@ -34,8 +34,6 @@ rest_of x y xs ys e = cc
 
 pub alike : (old new : List GroupState) → map_list bare new ≡ map_list bare old → AreAlike old new
 alike [] [] e = record { stood = λ index group there. absurd cc; stands = λ index group there. absurd cc; spans = refl; many = refl }
-alike [] (y ∷ ys) e = absurd cc
-alike (x ∷ xs) [] e = absurd cc
 alike (x ∷ xs) (y ∷ ys) e =
     let head : bare y ≡ bare x = first_of (bare y) (bare x) (map_list bare ys) (map_list bare xs) e in
     let rest : AreAlike xs ys = alike xs ys (rest_of (bare y) (bare x) (map_list bare ys) (map_list bare xs) e) in
@@ -55,6 +53,7 @@ alike (x ∷ xs) (y ∷ ys) e =
         → (now : GroupState) × (slice_get (y ∷ ys) index ≡ Some now) × (bare now ≡ bare group)
     stands head rest zero group there = (y, refl, head ∙ ap bare (same_some there))
     stands head rest (suc index) group there = rest.stands index group there
+alike old new e = absurd cc
 
 -- a change of each group
 

@@ -10,27 +10,23 @@ module _ {X : Type 0} (change : X → X) where
   changed_below (suc at) (x ∷ xs) = change x ∷ changed_below at xs
 
   pub length-changed_below : (at : ℕ) (xs : List X) → length (changed_below at xs) ≡ length xs
-  length-changed_below zero xs = refl
-  length-changed_below (suc at) [] = refl
   length-changed_below (suc at) (x ∷ xs) = ap suc (length-changed_below at xs)
+  length-changed_below at xs = refl
 
   -- from the place on they are as they were
   pub get-changed_below : (at : ℕ) (xs : List X) → slice_get (changed_below at xs) at ≡ slice_get xs at
-  get-changed_below zero xs = refl
-  get-changed_below (suc at) [] = refl
   get-changed_below (suc at) (x ∷ xs) = get-changed_below at xs
+  get-changed_below at xs = refl
 
   next_below : (at : ℕ) (xs : List X) (x : X) → slice_get (changed_below at xs) at ≡ Some x → set (changed_below at xs) at (change x) ≡ changed_below (suc at) xs
-  next_below zero [] x here = absurd cc
   next_below zero (first ∷ xs) x here = ap (λ y. change y ∷ xs) (sym (same_some here))
-  next_below (suc at) [] x here = absurd cc
   next_below (suc at) (first ∷ xs) x here = ap (λ rest. change first ∷ rest) (next_below at xs x here)
+  next_below at xs x here = absurd cc
 
   pub changed_below-next : (at : ℕ) (xs : List X) (x : X) → slice_get (changed_below at xs) at ≡ Some x → set (changed_below at xs) at (change x) ≡ changed_below (at + 1) xs
   changed_below-next at xs x here = let next : at + 1 ≡ suc at = omega arith in rw next (next_below at xs x here)
 
   pub changed_below-all : (at : ℕ) (xs : List X) → at ≡ length xs → changed_below at xs ≡ map change xs
   changed_below-all zero [] all = refl
-  changed_below-all zero (x ∷ xs) all = absurd (omega arith)
-  changed_below-all (suc at) [] all = absurd (omega arith)
   changed_below-all (suc at) (x ∷ xs) all = ap (λ rest. change x ∷ rest) (changed_below-all at xs (omega arith))
+  changed_below-all at xs all = absurd (omega arith)

@@ -15,7 +15,7 @@ use Rattle.span.proofs.Widths.{width_of-injective}
 use Rattle.span.specs.declared.limits.TheConstants.{MOST_SHARDS, MOST_SPANS}
 use Rattle.span.specs.declared.receipt.Receipt.{Receipt}
 use Rattle.span.specs.declared.stored_receipt.StoredCall.{StoredCall}
-use Rattle.span.specs.declared.stored_receipt.StoredCall.TheVariants.{Put, CountedPut, Found, NotFound, Set, CountedSet, NotSet, Freed, NotFreed}
+use Rattle.span.specs.declared.stored_receipt.StoredCall.TheVariants.{Put, CountedPut, Found, Set, CountedSet}
 use Rattle.span.specs.declared.class.Class.{Class}
 use Rattle.span.specs.declared.class.Class.TheVariants.{C16}
 use Rattle.span.specs.declared.receipt.Call.TheVariants as call
@@ -176,7 +176,6 @@ next_start-last more len second (third ∷ runs) call = refl
 receipts_in-last : (words : List ℕ) (wide len start last : ℕ) (runs : List ReceiptRun) (run : ReceiptRun) (call : StoredCall) → AreRuns wide len start runs → IsLast runs len run last
     → run_receipts words (with_call run call) (len - run.start) ≡ run_receipts words run (len - run.start)
     → receipts_in words (len + 1) (with_last_call runs call) ≡ receipts_in words len runs ++ receipt_in words (with_call run call) (len - run.start) ∷ []
-receipts_in-last words wide len start last [] run call are is before = absurd (let at = is.at in cc)
 receipts_in-last words wide len start zero (first ∷ []) run call are is before =
     let same : first ≡ run = same_Some first run is.at in
     let more : (len + 1) - run.start ≡ suc (len - run.start) = let low = is.from in omega arith in
@@ -185,13 +184,13 @@ receipts_in-last words wide len start zero (first ∷ []) run call are is before
     ∙ ap (run_receipts words (with_call run call)) more
     ∙ (λ i. before i ++ receipt_in words (with_call run call) (len - run.start) ∷ [])
     ∙ (λ i. sym (append-nil (run_receipts words (sym same i) (len - (sym same i).start))) i ++ receipt_in words (with_call run call) (len - run.start) ∷ [])
-receipts_in-last words wide len start (suc last) (first ∷ []) run call are is before = absurd (let at = is.at in cc)
 receipts_in-last words wide len start zero (first ∷ second ∷ runs) run call are is before = absurd (let count = is.count in omega arith)
 receipts_in-last words wide len start (suc last) (first ∷ second ∷ runs) run call are is before =
     let rest : IsLast (second ∷ runs) len run last = record { count = let count = is.count in omega arith; at = is.at; from = is.from } in
     (λ i. run_receipts words first (next_start-last (len + 1) len second runs call i - first.start)
     ++ receipts_in-last words wide len second.start last (second ∷ runs) run call are.1 rest before i)
     ∙ sym (append_assoc (run_receipts words first (second.start - first.start)) (receipts_in words len (second ∷ runs)) (receipt_in words (with_call run call) (len - run.start) ∷ []))
+receipts_in-last words wide len start last runs run call are is before = absurd (let at = is.at in cc)
 
 next_start-push : (more len : ℕ) (runs : List ReceiptRun) (run : ReceiptRun) → run.start ≡ len → next_start more (runs ++ run ∷ []) ≡ next_start len runs
 next_start-push more len [] run last = last
@@ -209,18 +208,16 @@ receipts_in-push words wide len start (first ∷ runs) run are last =
 
 -- the calls of the last run so far are within these words
 within_last : (wide len start last : ℕ) (runs : List ReceiptRun) (run : ReceiptRun) → AreRuns wide len start runs → IsLast runs len run last → IsRunWithin wide run (len - run.start)
-within_last wide len start last [] run are is = absurd (let at = is.at in cc)
 within_last wide len start zero (first ∷ []) run are is =
     subst (λ (r : ReceiptRun). IsRunWithin wide r (len - r.start)) (same_Some first run is.at) (subst (λ s. IsRunWithin wide first (len - s)) (sym are.0.0) are.0.2)
-within_last wide len start (suc last) (first ∷ []) run are is = absurd (let at = is.at in cc)
 within_last wide len start zero (first ∷ second ∷ runs) run are is = absurd (let count = is.count in omega arith)
 within_last wide len start (suc last) (first ∷ second ∷ runs) run are is =
     within_last wide len second.start last (second ∷ runs) run are.1 (record { count = let count = is.count in omega arith; at = is.at; from = is.from })
+within_last wide len start last runs run are is = absurd (let at = is.at in cc)
 
 -- the same of what ties runs to words and places
 AreRuns-last : (wide more len start last : ℕ) (runs : List ReceiptRun) (run : ReceiptRun) (call : StoredCall) → AreRuns wide len start runs → wide ≤ more → IsLast runs len run last
     → IsRunWithin more (with_call run call) ((len - run.start) + 1) → AreRuns more (len + 1) start (with_last_call runs call)
-AreRuns-last wide more len start last [] run call are low is within = absurd (let at = is.at in cc)
 AreRuns-last wide more len start zero (first ∷ []) run call are low is within =
     let same : first ≡ run = same_Some first run is.at in
     let e = are.0.0 in
@@ -233,7 +230,6 @@ AreRuns-last wide more len start zero (first ∷ []) run call are low is within 
       ),
       refl,
     )
-AreRuns-last wide more len start (suc last) (first ∷ []) run call are low is within = absurd (let at = is.at in cc)
 AreRuns-last wide more len start zero (first ∷ second ∷ runs) run call are low is within = absurd (let count = is.count in omega arith)
 AreRuns-last wide more len start (suc last) (first ∷ second ∷ runs) run call are low is within =
     let rest : IsLast (second ∷ runs) len run last = record { count = let count = is.count in omega arith; at = is.at; from = is.from } in
@@ -246,16 +242,15 @@ AreRuns-last wide more len start (suc last) (first ∷ second ∷ runs) run call
       subst (λ n. AreRuns more (len + 1) n (with_last_call (second ∷ runs) call)) (sym next)
           (AreRuns-last wide more len second.start last (second ∷ runs) run call are.1 low rest within),
     )
+AreRuns-last wide more len start last runs run call are low is within = absurd (let at = is.at in cc)
 
 -- the last run is replaced by itself with this call
 set-with_call : (runs : List ReceiptRun) (last : ℕ) (run new : ReceiptRun) (call : StoredCall) → last + 1 ≡ length runs → run ≡ get_or runs last run → new ≡ with_call run call
     → slice_set runs last new ≡ with_last_call runs call
-set-with_call [] last run new call count read is = absurd (omega arith)
 set-with_call (first ∷ []) zero run new call count read is = (λ i. is i ∷ []) ∙ (λ i. with_call (read i) call ∷ [])
-set-with_call (first ∷ []) (suc last) run new call count read is = absurd (omega arith)
-set-with_call (first ∷ second ∷ runs) zero run new call count read is = absurd (omega arith)
 set-with_call (first ∷ second ∷ runs) (suc last) run new call count read is =
     ap (λ l. first ∷ l) (set-with_call (second ∷ runs) last run new call (omega arith) read is)
+set-with_call runs last run new call count read is = absurd (omega arith)
 
 -- the last run is written with this call, and with any proofs of what its numbers are
 pub with_last_call-set : (runs : List ReceiptRun) (last : ℕ) (run : ReceiptRun) (call : StoredCall) (shard : run.shard < MOST_SHARDS) (serial : run.serial < MOST_SPANS) (generation : 1 ≤ run.generation)
@@ -427,13 +422,7 @@ counted_if words run k (Set class) counted receipt form may is up follows =
       inside = up.inside;
       told = ap call.Set up.word ∙ is;
     })
-counted_if words run k CountedPut counted receipt form may is up follows = absurd cc
-counted_if words run k (Found class) counted receipt form may is up follows = absurd cc
-counted_if words run k NotFound counted receipt form may is up follows = absurd cc
-counted_if words run k CountedSet counted receipt form may is up follows = absurd cc
-counted_if words run k (NotSet class) counted receipt form may is up follows = absurd cc
-counted_if words run k Freed counted receipt form may is up follows = absurd cc
-counted_if words run k NotFreed counted receipt form may is up follows = absurd cc
+counted_if words run k call counted receipt form may is up follows = absurd cc
 
 -- the receipt at a place, by the run that was read at the number that has it
 pub record FoundRun (words : List ℕ) (len place i : ℕ) (runs : List ReceiptRun) (run : ReceiptRun) : Type 0 where

@@ -101,18 +101,15 @@ HasHeader-same h g lines below other a b = let same = BeginWith-same fields (num
 -- lines that begin with fields are not at fault in one of them
 fine_or_fault : (above more : List Field) (field : Field) (ns ms : List ℕ) (lines below rest : List (List ℕ)) (c : Cause)
     → BeginWith (above ++ field ∷ more) ns lines below → BeginWith above ms lines rest → IsAtFault field rest c → ⊥
-fine_or_fault [] more field [] ms lines below rest c all fine fault = all
 fine_or_fault [] more field (n ∷ ns) (m ∷ ms) lines below rest c all fine fault = fine
-fine_or_fault [] more field (n ∷ ns) [] [] below rest c all fine fault = all
 fine_or_fault [] more field (n ∷ ns) [] (line ∷ lines) below rest c all fine fault = go (subst (λ ls. IsAtFault field ls c) (sym fine) fault)
   where
     go : IsAtFault field (line ∷ lines) c → ⊥
     go (inl none) = none.1 n all.0.0
     go (inr (_, m, says, out)) = out (subst (IsWithin field) (says_one field line n m all.0.0 says) all.0.1)
-fine_or_fault (f ∷ fs) more field [] ms lines below rest c all fine fault = all
 fine_or_fault (f ∷ fs) more field (n ∷ ns) [] lines below rest c all fine fault = fine
-fine_or_fault (f ∷ fs) more field (n ∷ ns) (m ∷ ms) [] below rest c all fine fault = all
 fine_or_fault (f ∷ fs) more field (n ∷ ns) (m ∷ ms) (line ∷ lines) below rest c all fine fault = fine_or_fault fs more field ns ms lines below rest c all.1 fine.1 fault
+fine_or_fault above more field ns ms lines below rest c all fine fault = all
 
 -- so a header is not at fault
 pub HasHeader-fine : (h : Header) (lines below : List (List ℕ)) (number : ℕ) (c : Cause) → HasHeader h lines below → IsHeaderFault lines number c → ⊥
