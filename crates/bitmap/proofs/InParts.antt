@@ -1,10 +1,9 @@
 -- The numbers that parts of 256 have.
-use Rattle.std.proofs.Common.{◌≡◌, ℕ, ◌+◌, ◌-◌, ◌*◌, ◌/◌, ◌%◌, ◌<◌, ◌≤◌, ◌⊎◌, [], false, Option, Some, None, ◌&&◌, ◌||◌, not, nat_lt, List, length, get_or, set, get_or-set_same, get_or-set_other, ◌∙◌, ap, sym, refl, inl, inr, arith, lt-ltb, le-ltb, eq-eqb}
-use Rattle.std.specs.Ordering.{nat_cmp, eq_by_cmp}
-use Rattle.std.specs.Cmp.{nat_cmp_total, unsigned_tied}
+use Rattle.std.proofs.Common.{◌≡◌, ℕ, ◌+◌, ◌-◌, ◌*◌, ◌/◌, ◌%◌, ◌<◌, ◌≤◌, ◌⊎◌, [], false, Option, Some, None, ◌&&◌, nat_lt, List, length, get_or, set, get_or-set_same, get_or-set_other, ◌∙◌, ap, sym, refl, inl, inr, arith, lt-ltb, le-ltb}
+use Rattle.std.specs.Ordering.{nat_cmp}
 use Rattle.std.specs.FinSet.{contains, empty, insert, remove, contains-empty, contains-insert, contains-remove}
 use Rattle.std.proofs.Math.Bool.{and-true}
-use Rattle.std.proofs.lemmas.Bool.{cases_eq, cases_lt, ne_eqb, true≢false}
+use Rattle.std.proofs.lemmas.Bool.{cases_eq, cases_lt, true≢false}
 use Rattle.std.proofs.lemmas.List.{get_or_past}
 use Rattle.std.proofs.lemmas.Option.{get_or_from_slice_get, slice_get-get_or}
 use Rattle.std.specs.Prelude.{Err, IfSome, IsOk, MatchOption, Ok, Result, if◌then◌else◌, is_ok, replicate, take, ◌++◌}
@@ -12,6 +11,7 @@ use Rattle.bitmap.specs.Parts.{HasNoneIn, IsLowestIn, has_number, numbers_in}
 use Rattle.bitmap.specs.Slots.{SlotSet, IsLowest}
 use Rattle.bitmap.specs.Words.{contains-slots_where, same_slots}
 use Rattle.bitmap.specs.declared.bits.TheConstants.{SLOTS}
+use Rattle.bitmap.proofs.Summaries.{contains-insert_other, contains-insert_same, contains-remove_other, contains-remove_same}
 
 has_number-past : (parts : List SlotSet) (q : ℕ) → SLOTS * length parts ≤ q → has_number parts q ≡ false
 has_number-past parts q past = rw (get_or_past parts (q / SLOTS) empty (omega arith)) (contains-empty nat_cmp (q % SLOTS))
@@ -60,64 +60,29 @@ module _ (parts : List SlotSet) (index : ℕ) (within : index / SLOTS < length p
   same_place : (q : ℕ) → q / SLOTS ≡ index / SLOTS → q % SLOTS ≡ index % SLOTS → q ≡ index
   same_place q a b = omega (arith, a, b)
 
-  pub numbers_in-insert : numbers_in (set parts (index / SLOTS) (insert part (index % SLOTS))) ≡ insert (numbers_in parts) index
-  numbers_in-insert = same_slots _ _
-      (λ q. each q (cases_eq (q / SLOTS) (index / SLOTS)) (cases_eq q index) ∙ sym (contains-insert nat_cmp_total (numbers_in parts) index q))
+  -- the part of the number is written, with the number or without it
+  changed : (new after : SlotSet) → contains new (index % SLOTS) ≡ contains after index
+      → ((slot : ℕ) → (slot ≡ index % SLOTS → ⊥) → contains new slot ≡ contains part slot)
+      → ((q : ℕ) → (q ≡ index → ⊥) → contains after q ≡ contains (numbers_in parts) q) → numbers_in (set parts (index / SLOTS) new) ≡ after
+  changed new after this others rest = same_slots _ _ (λ q. each q (cases_eq q index) (cases_eq (q / SLOTS) (index / SLOTS)))
     where
-      each : (q : ℕ) → (q / SLOTS ≡ index / SLOTS) ⊎ (q / SLOTS ≡ index / SLOTS → ⊥) → (q ≡ index) ⊎ (q ≡ index → ⊥)
-          → contains (numbers_in (set parts (index / SLOTS) (insert part (index % SLOTS)))) q ≡ (eq_by_cmp nat_cmp q index || contains (numbers_in parts) q)
-      each q (inl here) (inl same) =
-          contains-set_same parts (index / SLOTS) within (insert part (index % SLOTS)) q here
-          ∙ contains-insert nat_cmp_total part (index % SLOTS) (q % SLOTS)
-          ∙ rw (
-            unsigned_tied (q % SLOTS) (index % SLOTS),
-            eq-eqb (q % SLOTS) (index % SLOTS) (ap (λ n. n % SLOTS) same),
-            unsigned_tied q index,
-            eq-eqb q index same,
-          ) refl
-      each q (inl here) (inr other) =
-          contains-set_same parts (index / SLOTS) within (insert part (index % SLOTS)) q here
-          ∙ contains-insert nat_cmp_total part (index % SLOTS) (q % SLOTS)
-          ∙ rw (
-            unsigned_tied (q % SLOTS) (index % SLOTS),
-            ne_eqb (q % SLOTS) (index % SLOTS) (λ e. other (same_place q here e)),
-            unsigned_tied q index,
-            ne_eqb q index other,
-          ) (part_at q here)
-      each q (inr apart) (inl same) = absurd (apart (ap (λ n. n / SLOTS) same))
-      each q (inr apart) (inr other) =
-          contains-set_other parts (index / SLOTS) within (insert part (index % SLOTS)) q apart
-          ∙ rw (unsigned_tied q index, ne_eqb q index other) refl
+      each : (q : ℕ) → (q ≡ index) ⊎ (q ≡ index → ⊥) → (q / SLOTS ≡ index / SLOTS) ⊎ (q / SLOTS ≡ index / SLOTS → ⊥)
+          → contains (numbers_in (set parts (index / SLOTS) new)) q ≡ contains after q
+      each q (inl same) part_is =
+          ap (contains (numbers_in (set parts (index / SLOTS) new))) same
+          ∙ contains-set_same parts (index / SLOTS) within new index refl ∙ this ∙ ap (contains after) (sym same)
+      each q (inr other) (inl here) =
+          contains-set_same parts (index / SLOTS) within new q here ∙ others (q % SLOTS) (λ e. other (same_place q here e))
+          ∙ part_at q here ∙ sym (rest q other)
+      each q (inr other) (inr apart) = contains-set_other parts (index / SLOTS) within new q apart ∙ sym (rest q other)
+
+  pub numbers_in-insert : numbers_in (set parts (index / SLOTS) (insert part (index % SLOTS))) ≡ insert (numbers_in parts) index
+  numbers_in-insert = changed _ _ (contains-insert_same part (index % SLOTS) ∙ sym (contains-insert_same (numbers_in parts) index))
+      (contains-insert_other part (index % SLOTS)) (contains-insert_other (numbers_in parts) index)
 
   pub numbers_in-remove : numbers_in (set parts (index / SLOTS) (remove part (index % SLOTS))) ≡ remove (numbers_in parts) index
-  numbers_in-remove = same_slots _ _
-      (λ q. each q (cases_eq (q / SLOTS) (index / SLOTS)) (cases_eq q index) ∙ sym (contains-remove nat_cmp_total (numbers_in parts) index q))
-    where
-      each : (q : ℕ) → (q / SLOTS ≡ index / SLOTS) ⊎ (q / SLOTS ≡ index / SLOTS → ⊥) → (q ≡ index) ⊎ (q ≡ index → ⊥)
-          → contains (numbers_in (set parts (index / SLOTS) (remove part (index % SLOTS)))) q
-          ≡ (not (eq_by_cmp nat_cmp q index) && contains (numbers_in parts) q)
-      each q (inl here) (inl same) =
-          contains-set_same parts (index / SLOTS) within (remove part (index % SLOTS)) q here
-          ∙ contains-remove nat_cmp_total part (index % SLOTS) (q % SLOTS)
-          ∙ rw (
-            unsigned_tied (q % SLOTS) (index % SLOTS),
-            eq-eqb (q % SLOTS) (index % SLOTS) (ap (λ n. n % SLOTS) same),
-            unsigned_tied q index,
-            eq-eqb q index same,
-          ) refl
-      each q (inl here) (inr other) =
-          contains-set_same parts (index / SLOTS) within (remove part (index % SLOTS)) q here
-          ∙ contains-remove nat_cmp_total part (index % SLOTS) (q % SLOTS)
-          ∙ rw (
-            unsigned_tied (q % SLOTS) (index % SLOTS),
-            ne_eqb (q % SLOTS) (index % SLOTS) (λ e. other (same_place q here e)),
-            unsigned_tied q index,
-            ne_eqb q index other,
-          ) (part_at q here)
-      each q (inr apart) (inl same) = absurd (apart (ap (λ n. n / SLOTS) same))
-      each q (inr apart) (inr other) =
-          contains-set_other parts (index / SLOTS) within (remove part (index % SLOTS)) q apart
-          ∙ rw (unsigned_tied q index, ne_eqb q index other) refl
+  numbers_in-remove = changed _ _ (contains-remove_same part (index % SLOTS) ∙ sym (contains-remove_same (numbers_in parts) index))
+      (contains-remove_other part (index % SLOTS)) (contains-remove_other (numbers_in parts) index)
 
 -- the least number of a part
 

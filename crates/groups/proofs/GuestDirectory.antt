@@ -91,6 +91,28 @@ module _ {G : Type 0} (head_of : G → SpanId) (guests_of : G → List SpanState
   }
 
   module _ (groups : List G) (entries : Entries) (is : IsDirectory head_of guests_of groups entries) where
+    -- a guest stays, in a group that is another now
+    still_there : (index : ℕ) (before after : G) → slice_get groups index ≡ Some before → head_of after ≡ head_of before
+        → ((place : ℕ) (guest : SpanState) → slice_get (guests_of before) place ≡ Some guest → (other : SpanState) × (slice_get (guests_of after) place ≡ Some other) × (other.id ≡ guest.id))
+        → (number : ℕ) (at : Place) → IsGuestAt head_of guests_of groups number at → IsGuestAt head_of guests_of (set groups index after) number at
+    still_there index before after here head forth number at was = elim (cases_eq was.index index) [
+      | inl same ↦
+          let one : was.group ≡ before = same_some (sym was.group_is ∙ ap (slice_get groups) same ∙ here) in
+          let now = forth was.place was.guest (ap (λ g. slice_get (guests_of g) was.place) (sym one) ∙ was.guest_is) in
+          record {
+            index = index;
+            place = was.place;
+            group = after;
+            guest = now.0;
+            group_is = get-set groups index before after here;
+            guest_is = now.1;
+            rank_is = ap rank now.2 ∙ was.rank_is;
+            head_is = was.head_is ∙ ap head_of one ∙ sym head;
+            place_is = was.place_is;
+          }
+      | inr apart ↦ stands_too groups (set groups index after) number at was was.index (get-set_other groups index was.index was.group after apart was.group_is)
+    ]
+
     -- a change of a group that leaves the ids of its spans
     pub IsDirectory-set : (index : ℕ) (before after : G) → slice_get groups index ≡ Some before → head_of after ≡ head_of before → HaveSameIds (guests_of before) (guests_of after)
         → IsDirectory head_of guests_of (set groups index after) entries
@@ -102,27 +124,8 @@ module _ {G : Type 0} (head_of : G → SpanId) (guests_of : G → List SpanState
             ∙ ap (λ i. Some (record { head = i; place = suc place })) (sym head ∙ ap head_of now.1)
         | inr old ↦ is.known other place group guest old.1 there
       ];
-      only = λ number at found. moved number at (is.only number at found);
+      only = λ number at found. still_there index before after here head ids.forth number at (is.only number at found);
     }
-      where
-        moved : (number : ℕ) (at : Place) → IsGuestAt head_of guests_of groups number at → IsGuestAt head_of guests_of (set groups index after) number at
-        moved number at was = elim (cases_eq was.index index) [
-          | inl same ↦
-              let one : was.group ≡ before = same_some (sym was.group_is ∙ ap (slice_get groups) same ∙ here) in
-              let now = ids.forth was.place was.guest (ap (λ g. slice_get (guests_of g) was.place) (sym one) ∙ was.guest_is) in
-              record {
-                index = index;
-                place = was.place;
-                group = after;
-                guest = now.0;
-                group_is = get-set groups index before after here;
-                guest_is = now.1;
-                rank_is = ap rank now.2 ∙ was.rank_is;
-                head_is = was.head_is ∙ ap head_of one ∙ sym head;
-                place_is = was.place_is;
-              }
-          | inr apart ↦ stands_too groups (set groups index after) number at was was.index (get-set_other groups index was.index was.group after apart was.group_is)
-        ]
 
     -- a group comes, whose guests are elsewhere
     pub IsDirectory-insert : (index : ℕ) (group : G) → index ≤ length groups → HaveOwnRanks (guests_of group)
@@ -211,7 +214,7 @@ module _ {G : Type 0} (head_of : G → SpanId) (guests_of : G → List SpanState
           head_is = head_is ∙ sym head;
           place_is = place_is ∙ (let next : suc (length (guests_of before)) + place ≡ suc (length (guests_of before) + place) = omega arith in next);
         }
-        | inr was ↦ moved number at (is.only number at was)
+        | inr was ↦ still_there index before after here head stays number at (is.only number at was)
       ];
     }
       where
@@ -231,20 +234,5 @@ module _ {G : Type 0} (head_of : G → SpanId) (guests_of : G → List SpanState
               ∙ ap (λ i. Some (record { head = i; place = suc place })) (sym head ∙ ap head_of now)
         ]
 
-        moved : (number : ℕ) (at : Place) → IsGuestAt head_of guests_of groups number at → IsGuestAt head_of guests_of (set groups index after) number at
-        moved number at was = elim (cases_eq was.index index) [
-          | inl same ↦
-              let one : was.group ≡ before = same_some (sym was.group_is ∙ ap (slice_get groups) same ∙ here) in
-              record {
-                index = index;
-                place = was.place;
-                group = after;
-                guest = was.guest;
-                group_is = get-set groups index before after here;
-                rank_is = was.rank_is;
-                place_is = was.place_is;
-                guest_is = ap (λ gs. slice_get gs was.place) guests ∙ get_left (guests_of before) more was.place was.guest (ap (λ x. slice_get (guests_of x) was.place) (sym one) ∙ was.guest_is);
-                head_is = was.head_is ∙ ap head_of one ∙ sym head;
-              }
-          | inr unlike ↦ stands_too groups (set groups index after) number at was was.index (get-set_other groups index was.index was.group after unlike was.group_is)
-        ]
+        stays : (place : ℕ) (guest : SpanState) → slice_get (guests_of before) place ≡ Some guest → (other : SpanState) × (slice_get (guests_of after) place ≡ Some other) × (other.id ≡ guest.id)
+        stays place guest there = (guest, ap (λ gs. slice_get gs place) guests ∙ get_left (guests_of before) more place guest there, refl)
