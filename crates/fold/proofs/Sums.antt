@@ -32,14 +32,7 @@ pub sum_by-Grafts : (w : SpanState → ℕ) (old new : ShardState) (head : SpanI
     → sum_by w (spans_in new.groups) ≡ sum_by w (spans_in old.groups) + sum_by w (spans_moved whole)
 sum_by-Grafts w old new head whole grafts =
     let into = spans_in-Grafts old new head whole grafts in
-    omega (
-      arith,
-      ap (sum_by w) into.with_is,
-      ap (sum_by w) into.without_is,
-      sum_by-append w into.left into.right,
-      sum_by-append w into.left (spans_moved whole ++ into.right),
-      sum_by-append w (spans_moved whole) into.right,
-    )
+    omega (arith, sum_by-append, ap (sum_by w) into.with_is, ap (sum_by w) into.without_is)
 
 module _ (pool : PoolState) (shard : ShardState) (a b : SpanId) (pool_new : PoolState) (shard_new : ShardState) (folds : Folds pool shard a b pool_new shard_new) where
   -- the shard has the spans of a's group more

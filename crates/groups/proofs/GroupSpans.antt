@@ -135,26 +135,12 @@ module _ {G : Type 0} (spans_of : G → List SpanState) where
         → count_by p (all_in groups) ≡ count_by p (spans_of group) + count_by p (all_in (remove groups index))
     count-spans_remove groups index group here =
         let out = taken_out groups index group here in
-        omega (
-          arith,
-          ap (count_by p) out.whole,
-          ap (count_by p) out.after,
-          count-append p out.left (spans_of group ++ out.right),
-          count-append p (spans_of group) out.right,
-          count-append p out.left out.right,
-        )
+        omega (arith, count-append, ap (count_by p) out.whole, ap (count_by p) out.after)
 
     pub count-spans_insert : (groups : List G) (index : ℕ) (group : G) → count_by p (all_in (insert groups index group)) ≡ count_by p (spans_of group) + count_by p (all_in groups)
     count-spans_insert groups index group =
         let round = put_in groups index group in
-        omega (
-          arith,
-          ap (count_by p) round.whole,
-          ap (count_by p) round.after,
-          count-append p round.left (spans_of group ++ round.right),
-          count-append p (spans_of group) round.right,
-          count-append p round.left round.right,
-        )
+        omega (arith, count-append, ap (count_by p) round.whole, ap (count_by p) round.after)
 
   -- how often an id stands
 

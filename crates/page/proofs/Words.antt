@@ -162,16 +162,7 @@ module _ (xs ys : List ℕ) (a n : ℕ) (within : a + n ≤ length xs) (long : l
 
 length-pasted : (xs ys : List ℕ) (a n : ℕ) → a + n ≤ length xs → length ys ≡ n → length (put_mid a n xs ys) ≡ length xs
 length-pasted xs ys a n within long =
-    omega (
-      arith,
-      length-append (take a xs) (ys ++ drop n (drop a xs)),
-      length-append ys (drop n (drop a xs)),
-      length-take-le a xs (omega (arith, within)),
-      length-drop n (drop a xs),
-      length-drop a xs,
-      within,
-      long,
-    )
+    omega (arith, length-append (take a xs) (ys ++ drop n (drop a xs)), length-append ys (drop n (drop a xs)), length-take-le a xs (omega (arith, within)), length-drop n (drop a xs), length-drop a xs)
 
 -- the words with an object written from the first word of a slot on
 pub set_object-run : (before words : Words) (class : Class) (slot first : ℕ) (object : List ℕ) → before ≡ words → first ≡ width_of class * slot → slot < slots_in class → length object ≡ width_of class

@@ -84,13 +84,7 @@ times-stayed id (g ∷ groups) =
     let rest = times-stayed id groups in
     let all = count-append (λ (s : SpanState). same_span s.id id) (spans_of g) (spans_in groups) in
     elim (cases_Bool (has_stayed g)) [
-      | inl is ↦ omega (
-        arith,
-        rest,
-        all,
-        ap (λ gs. times id (spans_in gs)) (filter-yes has_stayed g groups is),
-        count-append (λ (s : SpanState). same_span s.id id) (spans_of g) (spans_in (filter has_stayed groups)),
-      )
+      | inl is ↦ omega (arith, count-append, ap (λ gs. times id (spans_in gs)) (filter-yes has_stayed g groups is))
       | inr is ↦ omega (arith, rest, all, ap (λ gs. times id (spans_in gs)) (filter-no has_stayed g groups is))
     ]
 
