@@ -5,7 +5,7 @@ use Rattle.std.specs.Prelude.{Result, Ok, Err, Some}
 use Rattle.teurlaks_c.specs.declared.recorded.RecordedRun.{RecordedRun}
 use Rattle.teurlaks_c.specs.declared.recorded.RecordedSteward.{RecordedSteward as Recorder}
 use Rattle.teurlaks_c.specs.declared.share.Share.{Share}
-use Rattle.teurlaks_c.specs.declared.share.Share.TheVariants.{Nothing, Seat, Session, Steward, RecordedSeat, RecordedSteward, Run}
+use Rattle.teurlaks_c.specs.declared.share.Share.TheVariants.{Steward, RecordedSteward, Run}
 use Rattle.teurlaks_c.specs.Audits.{AuditsRun, Ends, EndsRun, Holds, SaysAuditedShare}
 
 -- the handle holds what the arena leaves, or its steward where that goes on
@@ -20,21 +20,13 @@ held old now new steward after (Err says) answer is is_now ends holds =
 
 -- a run that there is, is audited
 pub audited : (old new : Share) (u : Unit {0}) (says : ℕ) → EndsRun old (Ok u) new → SaysAuditedShare new says → AuditsRun (Some old) says (Some new)
-audited (Seat old) new u says ended said = absurd ended
-audited (Session old) new u says ended said = absurd ended
-audited (Steward old) new u says ended said = absurd ended
-audited Nothing new u says ended said = absurd ended
-audited (RecordedSeat old) new u says ended said = absurd ended
 audited (RecordedSteward old) new u says ended said =
     inl (ended.0, ap Some ended.1, ended.2, subst (λ share. SaysAuditedShare share says) ended.1 said)
 audited (Run old) new u says ended said = (ap Some ended.1, subst (λ share. SaysAuditedShare share says) ended.1 said)
+audited old new u says ended said = absurd ended
 
 -- where there is none, the arena goes on
 pub goes_on : (old new : Share) (says : ℕ) → EndsRun old (Err says) new → AuditsRun (Some old) says (Some new)
-goes_on (Seat old) new says ended = (ended.0, ap Some ended.1)
-goes_on (Session old) new says ended = (ended.0, ap Some ended.1)
-goes_on (Steward old) new says ended = (ended.0, ap Some ended.1)
-goes_on Nothing new says ended = (ended.0, ap Some ended.1)
-goes_on (RecordedSeat old) new says ended = (ended.0, ap Some ended.1)
 goes_on (RecordedSteward old) new says ended = inr (ended.0, ap Some ended.1, ended.2)
 goes_on (Run old) new says (wrong, same) = absurd cc
+goes_on old new says ended = (ended.0, ap Some ended.1)
