@@ -1,9 +1,8 @@
 -- An adoption: the lowest group that has a page, and what the shard asks of it.
-use Rattle.std.proofs.Common.{◌≡◌, ℕ, ◌≤◌, false, length, Option, Some, None, slice_get, ap, sym, subst, ◌∙◌, refl, inl, inr, arith}
+use Rattle.std.proofs.Common.{◌≡◌, ℕ, false, length, Option, Some, None, slice_get, ap, sym, subst, ◌∙◌, refl, inl, inr, arith, rules}
 use Rattle.std.specs.Prelude.{◌≢◌, MatchOption}
 use Rattle.std.specs.Option.{IsSome}
 use Rattle.std.proofs.lemmas.Bool.{cases_eq, cases_lt}
-use Rattle.span.specs.Ids.{rank}
 use Rattle.span.specs.declared.id.SpanId.{SpanId}
 use Rattle.shard.specs.Moves.{MayTakeIn, TakesIn, with_room}
 use Rattle.groups.specs.Whole.{WholeState, spans_moved, whole_of}
@@ -23,26 +22,11 @@ some_page o is some = absurd cc
 
 -- one group is the lowest that has a page
 pub one_lowest : (pool : PoolState) → Ascend pool.groups → (i j : ℕ) (a b : PooledState) → IsLowestPaged pool i a → IsLowestPaged pool j b → a ≡ b
-one_lowest pool ascend i j a b one other = elim (cases_lt i j) [
-  | inl less ↦ absurd (omega (arith, ascend i j a b less one.here other.here, other.lowest i a one.here one.paged))
-  | inr more ↦ elim (cases_eq i j) [
-    | inl same ↦ same_some (sym one.here ∙ ap (slice_get pool.groups) same ∙ other.here)
-    | inr apart ↦ absurd (omega (arith, ascend j i b a (omega arith) other.here one.here, one.lowest j b other.here other.paged))
-  ]
-]
+one_lowest pool ascend i j a b one other = search (rules, cases_lt, cases_eq, same_some)
 
 -- the first group that has a page is the lowest
 pub IsLowestPaged-first : (pool : PoolState) → Ascend pool.groups → (index : ℕ) (group : PooledState) → IsFirstPaged pool.groups index group → IsLowestPaged pool index group
-IsLowestPaged-first pool ascend index group first = record { here = first.here; paged = first.paged; lowest = lowest }
-  where
-    lowest : (other : ℕ) (paged : PooledState) → slice_get pool.groups other ≡ Some paged → IsSome paged.page → rank group.head.id ≤ rank paged.head.id
-    lowest other paged there some = elim (cases_lt other index) [
-      | inl less ↦ absurd (some_page paged.page (first.lower other paged less there) some)
-      | inr more ↦ elim (cases_eq other index) [
-        | inl same ↦ let one : paged ≡ group = same_some (sym there ∙ ap (slice_get pool.groups) same ∙ first.here) in omega (arith, ap (λ (g : PooledState). rank g.head.id) one)
-        | inr apart ↦ omega (arith, ascend index other group paged (omega arith) first.here there)
-      ]
-    ]
+IsLowestPaged-first pool ascend index group first = search (rules, cases_lt, some_page, cases_eq, same_some)
 
 pub lowest-first : (pool : PoolState) → Ascend pool.groups → (found : Option SpanId)
     → MatchOption found (HasNoPage pool.groups) (IsHeadOfFirstPaged pool.groups) → MatchOption found (HasNothingToAdopt pool) (IsHeadOfLowest pool)

@@ -1,5 +1,5 @@
 -- Elements by ascending numbers: which they are, and where one more would stand.
-use Rattle.std.proofs.Common.{zero, suc, ◌≡◌, ℕ, ◌<◌, ◌≤◌, Bool, true, false, cond, List, [], ◌∷◌, length, insert, Some, set, slice_get, ap, sym, subst, ◌∙◌, refl, inl, inr, ◌⊎◌, arith}
+use Rattle.std.proofs.Common.{zero, suc, ◌≡◌, ℕ, ◌<◌, ◌≤◌, Bool, true, false, cond, List, [], ◌∷◌, length, insert, Some, set, slice_get, ap, sym, subst, ◌∙◌, refl, inl, inr, ◌⊎◌, arith, rules}
 use Rattle.std.specs.Prelude.{nat_lt, remove}
 use Rattle.std.specs.List.Sorted.{IsPermutation}
 use Rattle.std.proofs.lemmas.Bool.{cases_eq, cases_lt}
@@ -36,13 +36,7 @@ module _ {X : Type 0} (key : X → ℕ) where
 
   -- in ascending order a number stands once
   pub one_place : (xs : List X) → AreUp xs → AreApart xs
-  one_place xs up i j a b at_i at_j same = elim (cases_lt i j) [
-    | inl less ↦ absurd (let low = up i j a b less at_i at_j in omega arith)
-    | inr more ↦ elim (cases_eq i j) [
-      | inl at ↦ at
-      | inr apart ↦ absurd (let low = up j i b a (omega arith) at_j at_i in omega arith)
-    ]
-  ]
+  one_place xs up i j a b at_i at_j same = search (rules, cases_lt, cases_eq)
 
   -- lists in ascending order with the same elements are one
   pub same_up : (xs ys : List X) → AreUp xs → AreUp ys → ((z : X) → IsIn xs z → IsIn ys z) → ((z : X) → IsIn ys z → IsIn xs z) → xs ≡ ys
@@ -133,12 +127,7 @@ module _ {X : Type 0} (key : X → ℕ) where
   -- where one would stand whose number is new, the others are higher
   pub place-after : (ys : List X) (x : X) → AreApart ys → ((z : X) → IsIn ys z → key z ≡ key x → ⊥) → (at : ℕ) (y : X)
       → lower key (key x) (arranged key ys) ≤ at → slice_get (arranged key ys) at ≡ Some y → key x < key y
-  place-after ys x apart new at y above there =
-      let least = lower-after (key x) (arranged key ys) (AreUp-arranged ys apart) at y above there in
-      elim (cases_eq (key y) (key x)) [
-        | inl same ↦ absurd (new y (arranged-in ys y (at, there)) same)
-        | inr other ↦ omega arith
-      ]
+  place-after ys x apart new at y above there = search (rules, lower-after, AreUp-arranged, cases_eq, arranged-in)
 
   -- one element more, whose number is new
   module _ (xs ys : List X) (x : X) (apart : AreApart xs) (apart' : AreApart ys) (new : (z : X) → IsIn ys z → key z ≡ key x → ⊥)
@@ -163,13 +152,7 @@ module _ {X : Type 0} (key : X → ℕ) where
   -- one element that gives way to another of its number
   module _ (xs : List X) (apart : AreApart xs) (place : ℕ) (x y : X) (here : slice_get xs place ≡ Some x) (same : key y ≡ key x) where
     pub AreApart-set : AreApart (set xs place y)
-    AreApart-set i j a b at_i at_j is = one (cases-set xs place y i a at_i) (cases-set xs place y j b at_j)
-      where
-        one : ((i ≡ place) × (y ≡ a)) ⊎ ((i ≡ place → ⊥) × (slice_get xs i ≡ Some a)) → ((j ≡ place) × (y ≡ b)) ⊎ ((j ≡ place → ⊥) × (slice_get xs j ≡ Some b)) → i ≡ j
-        one (inl p) (inl q) = p.0 ∙ sym q.0
-        one (inl p) (inr q) = absurd (q.0 (sym (apart place j x b here q.1 (sym same ∙ ap key p.1 ∙ is))))
-        one (inr p) (inl q) = absurd (p.0 (apart i place a x p.1 here (is ∙ ap key (sym q.1) ∙ same)))
-        one (inr p) (inr q) = apart i j a b p.1 q.1 is
+    AreApart-set i j a b at_i at_j is = search (rules, cases-set)
 
     pub arranged-set : (index : ℕ) → slice_get (arranged key xs) index ≡ Some x → arranged key (set xs place y) ≡ set (arranged key xs) index y
     arranged-set index there = same_up (arranged key (set xs place y)) (set (arranged key xs) index y) (AreUp-arranged (set xs place y) AreApart-set) up_set into from
@@ -178,14 +161,7 @@ module _ {X : Type 0} (key : X → ℕ) where
         up = AreUp-arranged xs apart
 
         up_set : AreUp (set (arranged key xs) index y)
-        up_set low high a b less at_low at_high = both (cases-set (arranged key xs) index y low a at_low) (cases-set (arranged key xs) index y high b at_high)
-          where
-            both : ((low ≡ index) × (y ≡ a)) ⊎ ((low ≡ index → ⊥) × (slice_get (arranged key xs) low ≡ Some a))
-                → ((high ≡ index) × (y ≡ b)) ⊎ ((high ≡ index → ⊥) × (slice_get (arranged key xs) high ≡ Some b)) → key a < key b
-            both (inl p) (inl q) = absurd (let e = p.0 in let f = q.0 in omega arith)
-            both (inl p) (inr q) = let e = ap key p.1 in let l = up index high x b (subst (λ n. n < high) p.0 less) there q.1 in omega arith
-            both (inr p) (inl q) = let e = ap key q.1 in let l = up low index a x (subst (λ n. low < n) q.0 less) p.1 there in omega arith
-            both (inr p) (inr q) = up low high a b less p.1 q.1
+        up_set low high a b less at_low at_high = search (rules, cases-set, up)
 
         into : (z : X) → IsIn (arranged key (set xs place y)) z → IsIn (set (arranged key xs) index y) z
         into z found = let at = arranged-in (set xs place y) z found in

@@ -1,5 +1,5 @@
 -- The groups of a shard that has ended stand in the pool whole, and so do those that were there before.
-use Rattle.std.proofs.Common.{zero, suc, ◌≡◌, ℕ, ◌+◌, List, [], ◌∷◌, length, Option, Some, None, map, slice_get, ap, sym, subst, ◌∙◌, refl, arith}
+use Rattle.std.proofs.Common.{zero, suc, ◌≡◌, ℕ, ◌+◌, List, [], ◌∷◌, length, Option, Some, None, map, slice_get, ap, sym, subst, ◌∙◌, refl, arith, rules}
 use Rattle.std.specs.Prelude.{IsSome, option_map}
 use Rattle.std.specs.FinSet as set
 use Rattle.std.proofs.lemmas.List.{length-map}
@@ -81,15 +81,7 @@ unpaged-sound pool sound index group here none = by_page group.page (λ some. so
 
 -- a group of a sound pool stands there whole
 pub IsPooled-here : (pool : PoolState) → IsSound pool → (index : ℕ) (group : PooledState) → slice_get pool.groups index ≡ Some group → IsPooled pool (whole_of group)
-IsPooled-here pool sound index group there = record {
-  index = index;
-  group = group;
-  here = there;
-  head = refl;
-  guests = refl;
-  words = λ live. refl;
-  unpaged = unpaged-sound pool sound index group there;
-}
+IsPooled-here pool sound index group there = search (rules, unpaged-sound)
 
 pub HasReceived-TakesAll : (old new : PoolState) (shard : ShardState) (groups spans : ℕ) → IsSound (with_rooms old groups spans)
     → TakesAll (with_rooms old groups spans) (map whole_of shard.groups) new → HasReceived old shard new

@@ -1,5 +1,5 @@
 -- A row of groups that forgets what can never be live again.
-use Rattle.std.proofs.Common.{zero, suc, ◌≡◌, ℕ, ◌+◌, ◌<◌, ◌≤◌, Bool, true, false, cond, List, [], ◌∷◌, length, insert, map, filter, is_some, Option, Some, None, slice_get, ap, sym, subst, ◌∙◌, refl, inl, inr, arith}
+use Rattle.std.proofs.Common.{zero, suc, ◌≡◌, ℕ, ◌+◌, ◌<◌, ◌≤◌, Bool, true, false, cond, List, [], ◌∷◌, length, insert, map, filter, is_some, Option, Some, None, slice_get, ap, sym, subst, ◌∙◌, refl, arith, rules}
 use Rattle.std.specs.FinSet.{empty}
 use Rattle.std.specs.List.{Contains}
 use Rattle.std.specs.Prelude.{IsSome, MatchOption, nat_lt}
@@ -77,10 +77,7 @@ was_below (suc at) (first ∷ groups) zero group there = (first, refl, ap (λ (g
 was_below (suc at) (first ∷ groups) (suc index) group there = was_below at groups index group there
 
 pub HaveOwnHeads-changed_below : (at : ℕ) (groups : List PooledState) → HaveOwnHeads groups → HaveOwnHeads (changed_below without_dead at groups)
-HaveOwnHeads-changed_below at groups heads i j a b at_i at_j same =
-    let x = was_below at groups i a at_i in
-    let y = was_below at groups j b at_j in
-    heads i j x.0 y.0 x.1 y.1 (sym x.2 ∙ same ∙ y.2)
+HaveOwnHeads-changed_below at groups heads i j a b at_i at_j same = search (rules, was_below)
 
 pub HaveOwnHeads-found : (groups : List PooledState) (place_of : ℕ → Option ℕ) → AreFound groups place_of → HaveOwnHeads groups
 HaveOwnHeads-found groups place_of found i j a b at_i at_j same = AreApart-found groups place_of found i j a b at_i at_j (ap rank same)
@@ -111,35 +108,14 @@ pub record IsDropping (first now : List PooledState) (place : ℕ) : Type 0 wher
   pub stay : (index : ℕ) (group : PooledState) → slice_get first index ≡ Some group → IsSome group.page → IsIn now group
 
 pub IsDropping-none : (groups : List PooledState) → IsDropping groups groups 0
-IsDropping-none groups = record {
-  low = λ at group less there. absurd (omega arith);
-  stood = λ index group there. (index, there);
-  stay = λ index group there paged. (index, there);
-}
+IsDropping-none groups = search (rules, paged)
 
 module _ (first now : List PooledState) (place : ℕ) (is : IsDropping first now place) (group : PooledState) (here : slice_get now place ≡ Some group) where
   pub IsDropping-paged : is_some group.page ≡ true → IsDropping first now (place + 1)
-  IsDropping-paged paged = record {
-    low = λ at other less there. elim (cases_lt at place) [
-      | inl before ↦ is.low at other before there
-      | inr after ↦
-          let same : at ≡ place = omega arith in
-          subst (λ (g : PooledState). IsSome g.page) (same_some (sym here ∙ ap (slice_get now) (sym same) ∙ there)) paged
-    ];
-    stood = is.stood;
-    stay = is.stay;
-  }
+  IsDropping-paged paged = search (rules, cases_lt, same_some)
 
   pub IsDropping-gone : is_some group.page ≡ false → (left : List PooledState) → LetsGo now place left → ((at : ℕ) → at < place → slice_get left at ≡ slice_get now at) → IsDropping first left place
-  IsDropping-gone unpaged left goes lower = record {
-    low = λ at other less there. is.low at other less (sym (lower at less) ∙ there);
-    stood = λ index other there. let was = goes.stood index other there in is.stood was.0 other was.2;
-    stay = λ index other there paged.
-        let was = is.stay index other there paged in
-        goes.stay was.0 other was.1 (λ same.
-        let one : other ≡ group = same_some (sym was.1 ∙ ap (slice_get now) same ∙ here) in
-        false≢true (sym unpaged ∙ subst (λ (g : PooledState). is_some g.page ≡ true) one paged));
-  }
+  IsDropping-gone unpaged left goes lower = search (rules, paged, same_some, false≢true)
 
 pub KeepsPaged-all : (first now : List PooledState) (place : ℕ) → IsDropping first now place → length now ≤ place → KeepsPaged first now
 KeepsPaged-all first now place is most = record {

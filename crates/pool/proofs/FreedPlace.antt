@@ -1,11 +1,10 @@
 -- A group after a free in one of its spans: its head, and its page.
-use Rattle.std.proofs.Common.{zero, suc, ◌≡◌, ℕ, Bool, true, false, Some, is_some, slice_get, ap, sym, subst, ◌∙◌, refl, inl, inr}
+use Rattle.std.proofs.Common.{zero, suc, ◌≡◌, ℕ, Bool, true, false, Some, slice_get, ap, refl, rules}
 use Rattle.std.specs.Bool.{OnFalse, OnTrue}
 use Rattle.std.specs.Prelude.{IsSome}
 use Rattle.std.proofs.lemmas.Bool.{false≢true}
 use Rattle.span.specs.State.{SpanState}
 use Rattle.groups.specs.Group.{spans_of, with_span}
-use Rattle.groups.specs.Spans.{union_of}
 use Rattle.groups.proofs.EmptySets.{empty_or_not}
 use Rattle.groups.proofs.ReplacedGroups.{head-alike}
 use Rattle.pool.specs.Calls.{GivesUp}
@@ -25,8 +24,4 @@ page-with_span group (suc place) changed = refl
 -- it has a page only where it had one
 pub paged-free : (b : Bool) (group now : PooledState) (place : ℕ) (changed : SpanState) → OnTrue b (GivesUp (with_span group place changed) now)
     → OnFalse b (now ≡ group) → IsSome now.page → IsSome group.page
-paged-free false group now place changed gives stays paged = subst (λ (g : PooledState). IsSome g.page) stays paged
-paged-free true group now place changed gives stays paged = elim (empty_or_not (union_of (spans_of (with_span group place changed)))) [
-  | inl none ↦ absurd (false≢true (sym (ap (λ (g : PooledState). is_some g.page) (gives.emptied none)) ∙ paged))
-  | inr live ↦ ap is_some (sym (ap (λ (g : PooledState). g.page) (gives.live live) ∙ page-with_span group place changed)) ∙ paged
-]
+paged-free b group now place changed gives stays paged = search (rules, empty_or_not, false≢true, page-with_span)

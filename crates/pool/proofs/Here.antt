@@ -1,5 +1,5 @@
 -- A span that was found, in the group that is lent with it.
-use Rattle.std.proofs.Common.{◌≡◌, ◌<◌, ℕ, List, length, Option, Some, ◌∙◌, ap, sym, subst, slice_get}
+use Rattle.std.proofs.Common.{◌≡◌, ◌<◌, ℕ, List, length, Option, Some, ◌∙◌, ap, sym, subst, slice_get, rules}
 use Rattle.std.specs.FinMap as map
 use Rattle.std.proofs.lemmas.Option.{slice_get_within}
 use Rattle.span.specs.Ids.{rank}
@@ -19,11 +19,7 @@ module _ (groups : List PooledState) (id : SpanId) (index place : ℕ) (group : 
   place_within = slice_get_within (spans_of group) place span here.span_is
 
   pub IsHere-read : (other : SpanState) → slice_get (spans_of group) place ≡ Some other → IsHere groups id index place group other
-  IsHere-read other at = record {
-    group_is = here.group_is;
-    span_is = at;
-    id_is = ap (λ (s : SpanState). s.id) (same_some (sym at ∙ here.span_is)) ∙ here.id_is;
-  }
+  IsHere-read other at = search (rules, same_some)
 
   -- its group stands there by its head
   pub IsHeadOf-here : (others : List PooledState) (head : SpanId) → others ≡ groups → head ≡ group.head.id → IsHeadOf others head index group

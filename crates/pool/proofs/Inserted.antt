@@ -1,5 +1,5 @@
 -- A pool stays sound where a sound group comes in at the place of its head.
-use Rattle.std.proofs.Common.{◌≡◌, ℕ, ◌<◌, ◌≤◌, Some, slice_get, subst, inl, inr, arith}
+use Rattle.std.proofs.Common.{◌≡◌, ℕ, ◌<◌, ◌≤◌, Some, slice_get, arith, rules}
 use Rattle.std.specs.Prelude.{◌≢◌, IsSome, insert}
 use Rattle.std.specs.FinSet as set
 use Rattle.span.specs.Ids.{rank, same_span}
@@ -19,11 +19,7 @@ module _ (old : PoolState) (sound : IsSound old) (group : PooledState) (index : 
   -- what holds of each group, and of the one that came, holds of each afterwards
   each_now : (P : PooledState → Type 0) → ((at : ℕ) (g : PooledState) → slice_get old.groups at ≡ Some g → P g) → P group → (at : ℕ) (g : PooledState)
       → slice_get (insert old.groups index group) at ≡ Some g → P g
-  each_now P each came at g there = elim (cases-insert old.groups index group place.within at g there) [
-    | inl low ↦ each at g low.1
-    | inr (inl now) ↦ subst P now.1 came
-    | inr (inr high) ↦ each high.0 g high.3
-  ]
+  each_now P each came at g there = search (rules, cases-insert)
 
   -- whatever room is left
   pub IsSound-inserted : (groups spans : ℕ) → IsSound (record old { groups = insert old.groups index group; group_room = groups; span_room = spans })

@@ -1,5 +1,5 @@
 -- The groups of a shard on their way to the pool, one after another, the last of them first.
-use Rattle.std.proofs.Common.{◌≡◌, ℕ, ◌+◌, List, [], ◌∷◌, ◌++◌, append_assoc, length, Some, map, slice_get, ap, sym, subst, ◌∙◌, refl, arith}
+use Rattle.std.proofs.Common.{◌≡◌, ℕ, ◌+◌, List, [], ◌∷◌, ◌++◌, append_assoc, length, Some, map, slice_get, ap, sym, subst, ◌∙◌, refl, arith, rules}
 use Rattle.std.proofs.lemmas.Grind.{flat_map-append}
 use Rattle.std.proofs.lemmas.List.{append-nil, length-append}
 use Rattle.span.specs.Ids.{same_span}
@@ -50,10 +50,7 @@ module _ (pool₀ pool next : PoolState) (shard₀ shard left : ShardState) (who
   same_spans = ap spans_moved lifted.3
 
   spans_were : spans_in shard.groups ≡ spans_in left.groups ++ spans_moved whole
-  spans_were =
-      ap spans_in lifted.2 ∙ flat_map-append spans_of groups_left (last ∷ [])
-      ∙ ap (λ xs. spans_in groups_left ++ xs) (append-nil (spans_of last) ∙ sym same_spans)
-      ∙ ap (λ gs. spans_in gs ++ spans_moved whole) (sym groups_are)
+  spans_were = search (rules, flat_map-append, append-nil, same_spans, groups_are)
 
   count_last : (id : SpanId) → times id (spans_in shard.groups) ≡ times id (spans_in left.groups) + times id (spans_moved whole)
   count_last id = ap (times id) spans_were ∙ count-append (λ (s : SpanState). same_span s.id id) (spans_in left.groups) (spans_moved whole)
@@ -73,11 +70,7 @@ module _ (pool₀ pool next : PoolState) (shard₀ shard left : ShardState) (who
   count_groups = ap length lifted.2 ∙ length-append groups_left (last ∷ []) ∙ ap (λ (gs : List GroupState). length gs + 1) (sym groups_are)
 
   pub MayTakeIn-moving : MayTakeIn pool whole
-  MayTakeIn-moving = record {
-    elsewhere = elsewhere_now;
-    group_room = omega (arith, is.room.groups, count_groups);
-    span_room = omega (arith, is.room.spans, length_last);
-  }
+  MayTakeIn-moving = search (rules, elsewhere_now, count_groups, length_last)
 
   pub IsMoving-next : TakesIn pool whole next → IsSound next → IsSoundShard left → IsMoving pool₀ shard₀ next left
   IsMoving-next takes sound_next sound_left = record {

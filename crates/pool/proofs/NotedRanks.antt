@@ -1,5 +1,5 @@
 -- Ranks that are noted, and the least of them.
-use Rattle.std.proofs.Common.{true, zero, suc, ◌≡◌, ℕ, ◌+◌, ◌<◌, ◌≤◌, false, List, [], ◌∷◌, ◌++◌, length, map, set, Some, None, take, get_or, slice_get, ap, sym, subst, ◌∙◌, refl, inl, inr, ◌⊎◌, arith}
+use Rattle.std.proofs.Common.{true, zero, suc, ◌≡◌, ℕ, ◌+◌, ◌<◌, ◌≤◌, false, List, [], ◌∷◌, ◌++◌, length, map, set, Some, None, take, get_or, slice_get, ap, sym, subst, ◌∙◌, refl, inl, inr, ◌⊎◌, arith, rules}
 use Rattle.std.specs.Prelude.{IfNone, IfSome, IsSome, Option, is_some}
 use Rattle.std.specs.BinaryHeap.{IsHeap, IsUpperBound, PopsGreatest}
 use Rattle.std.specs.List.{All, Contains}
@@ -41,10 +41,7 @@ Contains-top (y ∷ items) x some is = (0, omega arith, ap number (sym is))
 
 -- two that are least are one
 pub same_least : (numbers : List ℕ) (a b : ℕ) → IsLeastOf numbers a → IsLeastOf numbers b → a ≡ b
-same_least numbers a b least least' =
-    let low : a ≤ get_or numbers least'.0.0 b = least.1 least'.0.0 b least'.0.1 in
-    let low' : b ≤ get_or numbers least.0.0 a = least'.1 least.0.0 a least.0.1 in
-    omega (arith, low, low', least.0.2, least'.0.2)
+same_least numbers a b least least' = search rules
 
 pub Contains-cons : (numbers : List ℕ) (x n : ℕ) → Contains (x ∷ numbers) n → (n ≡ x) ⊎ Contains numbers n
 Contains-cons numbers x n (zero, low, is) = inl (sym is)
@@ -72,17 +69,11 @@ Contains-put numbers more x moved = Contains-permutation (x ∷ numbers) more x 
 
 pub AreNoted-push : (groups : List PooledState) (group : PooledState) (ranks more : List ℕ) → ((n : ℕ) → Contains ranks n → Contains more n)
     → (IsSome group.page → Contains more (head_rank group)) → AreNoted groups ranks → AreNoted (groups ++ group ∷ []) more
-AreNoted-push groups group ranks more grown its noted index other there paged = elim (get-push groups group index other there) [
-  | inl early ↦ grown (head_rank other) (noted index other early paged)
-  | inr last ↦ subst (λ (g : PooledState). Contains more (head_rank g)) last.1 (its (subst (λ (g : PooledState). IsSome g.page) (sym last.1) paged))
-]
+AreNoted-push groups group ranks more grown its noted index other there paged = search (rules, get-push)
 
 pub AreNoted-set : (groups : List PooledState) (place : ℕ) (group now : PooledState) → slice_get groups place ≡ Some group → now.head.id ≡ group.head.id
     → (IsSome now.page → IsSome group.page) → (ranks : List ℕ) → AreNoted groups ranks → AreNoted (set groups place now) ranks
-AreNoted-set groups place group now here same pages ranks noted index other there paged = elim (cases-set groups place now index other there) [
-  | inl is ↦ subst (Contains ranks) (sym (ap rank same) ∙ ap head_rank is.1) (noted place group here (pages (subst (λ (g : PooledState). IsSome g.page) (sym is.1) paged)))
-  | inr old ↦ noted index other old.1 paged
-]
+AreNoted-set groups place group now here same pages ranks noted index other there paged = search (rules, cases-set)
 
 -- of groups that all stood before
 pub AreNoted-stood : (groups left : List PooledState) → ((now : ℕ) (group : PooledState) → slice_get left now ≡ Some group → (was : ℕ) × (slice_get groups was ≡ Some group))
@@ -136,10 +127,7 @@ module _ (groups : List PooledState) (ranks : List ℕ) (noted : AreNoted groups
 
 -- where the group of a rank has no page, no group of the rank has one
 pub HasNoPageAt-unpaged : (groups : List PooledState) → AreApart head_rank groups → (n : ℕ) (group : PooledState) → HasRankAt groups n group → is_some group.page ≡ false → HasNoPageAt groups n
-HasNoPageAt-unpaged groups apart n group its off other its_too =
-    let at : its_too.0 ≡ its.0 = apart its_too.0 its.0 other group its_too.1 its.1 (its_too.2 ∙ sym its.2) in
-    let same : other ≡ group = same_some (sym its_too.1 ∙ ap (slice_get groups) at ∙ its.1) in
-    page_none other.page (λ paged. false≢true (sym off ∙ subst (λ (g : PooledState). is_some g.page ≡ true) same paged))
+HasNoPageAt-unpaged groups apart n group its off other its_too = search (rules, same_some, page_none, false≢true)
 
 -- all of the first
 pub AreNoted-all : (groups : List PooledState) (at : ℕ) → length groups ≤ at → (ranks : List ℕ) → AreNoted (take at groups) ranks → AreNoted groups ranks

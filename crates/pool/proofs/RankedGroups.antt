@@ -1,5 +1,5 @@
 -- Groups in a row, found by the ranks of their heads: one that comes, one that changes, and one that goes.
-use Rattle.std.proofs.Common.{zero, suc, ◌≡◌, ◌≢◌, ℕ, ◌-◌, ◌<◌, ◌≤◌, List, [], ◌∷◌, ◌++◌, length, length-set, get_or, insert, Option, Some, None, set, slice_get, take, ap, sym, subst, ◌∙◌, refl, inl, inr, ◌⊎◌, arith}
+use Rattle.std.proofs.Common.{zero, suc, ◌≡◌, ◌≢◌, ℕ, ◌-◌, ◌<◌, ◌≤◌, List, [], ◌∷◌, ◌++◌, length, length-set, get_or, insert, Option, Some, None, set, slice_get, take, ap, sym, subst, ◌∙◌, refl, inl, inr, ◌⊎◌, arith, rules}
 use Rattle.std.specs.Prelude.{remove, swap_remove}
 use Rattle.std.proofs.lemmas.Bool.{cases_eq, cases_lt}
 use Rattle.std.proofs.lemmas.List.Sorted.{length_permutation}
@@ -35,16 +35,10 @@ length-row groups = sym (length_permutation groups (in_order groups) (IsPermutat
 
 -- no group
 pub AreFound-none : (place_of : ℕ → Option ℕ) → ((number : ℕ) → place_of number ≡ None) → AreFound [] place_of
-AreFound-none place_of none = record {
-  known = λ place group there. absurd cc;
-  only = λ number place is. absurd (let e = sym (none number) ∙ is in cc);
-}
+AreFound-none place_of none = search rules
 
 pub AreFound-same : (groups : List PooledState) (place_of now : ℕ → Option ℕ) → ((number : ℕ) → now number ≡ place_of number) → AreFound groups place_of → AreFound groups now
-AreFound-same groups place_of now same found = record {
-  known = λ place group there. same (head_rank group) ∙ found.known place group there;
-  only = λ number place is. found.only number place (sym (same number) ∙ is);
-}
+AreFound-same groups place_of now same found = search rules
 
 -- a write at a rank, which is read as another number
 pub its : (old new : ℕ → Option ℕ) (value read : Option ℕ) (number key : ℕ) → number ≡ key → value ≡ read → Sets old new number value → Sets old new key read
@@ -77,10 +71,7 @@ in_order-left groups place_of found place gone here left goes now found_now = (
     new z there same = let stood = goes.stood there.0 z there.1 in stood.1 (apart stood.0 place z gone stood.2 here same)
 
     of : (z : PooledState) → IsIn groups z → (gone ≡ z) ⊎ IsIn left z
-    of z there = elim (cases_eq there.0 place) [
-      | inl same ↦ inl (same_some (sym here ∙ sym (ap (slice_get groups) same) ∙ there.1))
-      | inr away ↦ inr (goes.stay there.0 z there.1 away)
-    ]
+    of z there = search (rules, cases_eq, same_some)
 
     old : (z : PooledState) → IsIn left z → IsIn groups z
     old z there = let stood = goes.stood there.0 z there.1 in (stood.0, stood.2)
@@ -209,14 +200,7 @@ module _ (groups : List PooledState) (place_of : ℕ → Option ℕ) (found : Ar
     last_is = slice_get-get_or groups (length groups - 1) gone (let low = within in omega arith)
 
     pub shorter : suc (length left) ≡ length groups
-    shorter = ap (λ (gs : List PooledState). suc (length gs)) left_is
-        ∙ (let e = length-take (length groups - 1) (set groups place last)
-        (let s = length-set groups place last in omega (arith, s)) in let low = within in omega arith)
-      where
-        length-take : {X : Type 0} (n : ℕ) (xs : List X) → n ≤ length xs → length (take n xs) ≡ n
-        length-take (suc n) [] most = absurd (omega arith)
-        length-take (suc n) (x ∷ xs) most = ap suc (length-take n xs (omega arith))
-        length-take n xs most = refl
+    shorter = search (rules, length-set, within)
 
     get-left_over : (at : ℕ) → at < length left → slice_get left at ≡ slice_get (set groups place last) at
     get-left_over at low = ap (λ (gs : List PooledState). slice_get gs at) left_is ∙ get-take (set groups place last) (length groups - 1) at (let e = shorter in omega arith)

@@ -1,5 +1,5 @@
 -- The end of a shard: what its groups have in common with the pool's, and what it leaves.
-use Rattle.std.proofs.Common.{◌≡◌, true, [], None, subst, inl, inr, arith}
+use Rattle.std.proofs.Common.{◌≡◌, true, [], None, subst, inl, inr, arith, rules}
 use Rattle.span.specs.Ids.{same_span}
 use Rattle.span.specs.State.{SpanState}
 use Rattle.span.proofs.Ids.{same_id_from_test}
@@ -38,16 +38,4 @@ AreApart-receiving pool shard sound sound_shard apart id = elim (cases_eq (times
 -- an ended shard has no group and no reserved room
 pub ended_after : (old new : ShardState) → HasLetAllGo old new
     → ◌≡◌ {A = ShardState} (record new { ended = true; group_room = 0; span_room = 0; onto = None }) (record old { ended = true; groups = []; group_room = 0; span_room = 0; onto = None })
-ended_after old new is =
-    λ i. record {
-      number = is.number i;
-      page_limit = is.page_limit i;
-      span_limit = is.span_limit i;
-      gens = is.gens i;
-      opened = is.opened i;
-      ended = true;
-      groups = is.groups i;
-      group_room = 0;
-      span_room = 0;
-      onto = None;
-    }
+ended_after old new is = search rules

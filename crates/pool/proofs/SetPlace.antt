@@ -1,5 +1,5 @@
 -- A set in a group: it has a page, which the object fits, and it keeps its head.
-use Rattle.std.proofs.Common.{zero, suc, ◌≡◌, ◌<◌, ◌↔◌, ℕ, Option, Bool, true, false, is_some, length, Some, slice_get, ap, sym, subst, ◌∙◌, refl}
+use Rattle.std.proofs.Common.{zero, suc, ◌≡◌, ◌<◌, ◌↔◌, ℕ, Option, Bool, true, false, is_some, length, Some, slice_get, ap, sym, subst, ◌∙◌, refl, rules}
 use Rattle.std.specs.Bool.{OnFalse, OnTrue}
 use Rattle.std.specs.Prelude.{Err, IfOk, IsSome, IsTrue, Ok, OnErr, Result, unwrap_or}
 use Rattle.span.proofs.OfClass.{Holds-on_page}
@@ -61,19 +61,7 @@ pub set_in_place : (spans new : SpansState) (words now : Option Words) (blank : 
     → new ≡ with_span_at spans place (with_set_at span slot generation value)
     → unwrap_or now blank_page ≡ set_object (unwrap_or words blank_page) class slot value → is_some now ≡ is_some words → IsSome (page_of words blank)
     → group_of new (page_of now blank) ≡ set_group (group_of spans (page_of words blank)) place span slot generation value
-set_in_place spans new words now blank sound place span here slot generation value class class_is new_is set same there =
-    set_in_group spans new (page_of words blank) (page_of now blank) place span slot generation value new_is
-    (page_written words now blank class slot value set (page_of-stays words now blank same there) ∙ ap (λ (c : Class). with_object (page_of words blank) c slot value) of_span)
-  where
-    its : IsSpanOf spans.head.class span
-    its = sound.classes place span here
-
-    at_place : (place : ℕ) → (with_span_at spans place (with_set_at span slot generation value)).head.class ≡ span.class
-    at_place zero = refl
-    at_place (suc place) = sym its.class_is
-
-    of_span : class ≡ span.class
-    of_span = class_is ∙ ap (λ (s : SpansState). s.head.class) new_is ∙ at_place place
+set_in_place spans new words now blank sound place span here slot generation value class class_is new_is set same there = search (rules, set_in_group, page_written, page_of-stays)
 
 -- where they were not
 pub set_on_new_page : (spans new : SpansState) (words : Option Words) (page : Words) (blank : Bool) (place : ℕ) (span : SpanState) (slot generation : ℕ) (value : Value)

@@ -1,8 +1,8 @@
 -- A sound pool shows the map that its logs leave: what its calls do to the plain map.
-use Rattle.std.proofs.Common.{◌≡◌, ℕ, cond, None, is_some, slice_get, ◌∙◌, ap, sym, subst}
+use Rattle.std.proofs.Common.{◌≡◌, ℕ, cond, None, is_some, slice_get, ◌∙◌, ap, sym, rules}
 use Rattle.span.proofs.Values.{is_some-value_in}
 use Rattle.span.specs.Log.{Value, value_in}
-use Rattle.span.specs.PlainMap.{has_as_many, may_set, with_value, without}
+use Rattle.span.specs.PlainMap.{may_set, with_value, without}
 use Rattle.span.specs.State.{SpanState}
 use Rattle.span.specs.declared.key.Key.{Key}
 use Rattle.page.specs.Words.{object_in}
@@ -77,18 +77,11 @@ shown-Frees old new key freed.NotHere sound (elsewhere, new_is) = ap shown new_i
 -- a set
 
 pub IsSound-Sets : (old new : PoolState) (key : Key) (value : Value) (answer : Replaced) → IsSound old → Sets old key value answer new → IsSound new
-IsSound-Sets old new key value (replaced.Yes at) sound (index, place, group, span, here, settable, before, new_is) =
-    subst IsSound (sym new_is) (IsSound-set old sound index group here.group_is place span here.span_is key.slot key.generation value settable)
-IsSound-Sets old new key value (replaced.No at) sound (index, place, group, span, here, not, before, new_is) = subst IsSound (sym new_is) sound
-IsSound-Sets old new key value replaced.NotHere sound (elsewhere, new_is) = subst IsSound (sym new_is) sound
+IsSound-Sets old new key value answer sound sets = search (rules, IsSound-set)
 
 -- a set is done exactly where the plain map may be set
 pub was_replaced-Sets : (old new : PoolState) (key : Key) (value : Value) (answer : Replaced) → IsSound old → Sets old key value answer new → was_replaced answer ≡ may_set (shown old) key value
-was_replaced-Sets old new key value (replaced.Yes at) sound (index, place, group, span, here, settable, before, new_is) = sym
-    (may_set-settable old.groups sound.groups sound.once key index place group span here value settable)
-was_replaced-Sets old new key value (replaced.No at) sound (index, place, group, span, here, not, before, new_is) = sym
-    (may_set-not old.groups sound.groups sound.once key index place group span here value not)
-was_replaced-Sets old new key value replaced.NotHere sound (elsewhere, new_is) = sym (ap (has_as_many value) (value-elsewhere old sound key elsewhere))
+was_replaced-Sets old new key value answer sound sets = search (rules, may_set-settable, may_set-not, value-elsewhere)
 
 -- a set of the key is a set of the plain map
 pub shown-Sets : (old new : PoolState) (key : Key) (value : Value) (answer : Replaced) → IsSound old → Sets old key value answer new

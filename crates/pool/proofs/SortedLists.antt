@@ -1,5 +1,5 @@
 -- A list that is sorted by numbers of which each stands once is the list in ascending order.
-use Rattle.std.proofs.Common.{◌≡◌, ℕ, Bool, List, map, get_or, Some, ap, sym, subst, ◌∙◌, refl, inl, inr, arith, eq-eqb, nat_eq}
+use Rattle.std.proofs.Common.{◌≡◌, ℕ, Bool, List, map, get_or, Some, ap, sym, subst, ◌∙◌, refl, inl, inr, arith, eq-eqb, nat_eq, rules}
 use Rattle.std.specs.Prelude.{filter}
 use Rattle.std.specs.List.{Contains, IsDistinct}
 use Rattle.std.specs.List.Sorted.{IsNonDecreasingBy, IsPermutation}
@@ -28,10 +28,7 @@ module _ {X : Type 0} (key : X → ℕ) where
   same_key a b = nat_eq (key a) (key b)
 
   flip_key : (a b : X) → same_key a b ≡ same_key b a
-  flip_key a b = elim (cases_eq (key a) (key b)) [
-    | inl same ↦ eq-eqb (key a) (key b) same ∙ sym (eq-eqb (key b) (key a) (sym same))
-    | inr apart ↦ ne_eqb (key a) (key b) apart ∙ sym (ne_eqb (key b) (key a) (λ e. apart (sym e)))
-  ]
+  flip_key a b = search (rules, cases_eq, eq-eqb, ne_eqb)
 
   IsDistinct-up : (xs : List X) → AreUp key xs → IsDistinct same_key xs
   IsDistinct-up xs up = IsDistinct-from_apart same_key xs (λ i j d low within.
@@ -57,13 +54,7 @@ module _ {X : Type 0} (key : X → ℕ) where
 
 -- the numbers of what is told of elements in ascending order ascend
 pub AreUp-map : {X Y : Type 0} (key : X → ℕ) (other : Y → ℕ) (f : X → Y) → ((x : X) → other (f x) ≡ key x) → (xs : List X) → AreUp key xs → AreUp other (map f xs)
-AreUp-map key other f same xs up low high a b less at_low at_high =
-    let first = before-map f xs low a at_low in
-    let second = before-map f xs high b at_high in
-    let l = up low high first.0 second.0 less first.1 second.1 in
-    let e : other a ≡ key first.0 = ap other (sym first.2) ∙ same first.0 in
-    let e' : other b ≡ key second.0 = ap other (sym second.2) ∙ same second.0 in
-    omega arith
+AreUp-map key other f same xs up low high a b less at_low at_high = search (rules, before-map)
 
 -- the groups of a row, sorted by their heads
 pub groups-sorted : (row sorted : List PooledState) → Ascend (in_order row) → IsPermutation row sorted → IsNonDecreasingBy head_rank sorted → sorted ≡ in_order row

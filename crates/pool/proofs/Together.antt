@@ -1,5 +1,5 @@
 -- What pool and shard show together stays as groups move between them.
-use Rattle.std.proofs.Common.{◌≡◌, ℕ, ◌+◌, ◌≤◌, ◌⊎◌, Bool, true, false, cond, ◌||◌, List, [], ◌∷◌, ◌++◌, append_assoc, Option, Some, None, map, ap, sym, subst, ◌∙◌, refl, inl, inr, arith}
+use Rattle.std.proofs.Common.{◌≡◌, ℕ, ◌+◌, ◌≤◌, ◌⊎◌, Bool, true, false, cond, ◌||◌, List, [], ◌∷◌, ◌++◌, append_assoc, Option, Some, None, map, ap, sym, subst, ◌∙◌, refl, inl, inr, arith, rules}
 use Rattle.std.specs.List.{flat_map}
 use Rattle.std.proofs.Math.Bool.{or-false}
 use Rattle.std.proofs.lemmas.Bool.{cases_eq}
@@ -59,21 +59,10 @@ module _ (left middle right : List SpanState) (id : SpanId) (once : times id (le
   parts = times-append id left (middle ++ right) ∙ ap (λ n. times id left + n) (times-append id middle right)
 
   named-without_middle : times id middle ≡ 0 → span_named (left ++ (middle ++ right)) id ≡ span_named (left ++ right) id
-  named-without_middle none =
-      named-append left (middle ++ right) id
-      ∙ ap (first_span (span_named left id)) (named-append middle right id ∙ ap (λ o. first_span o (span_named right id)) (none_named middle id none))
-      ∙ sym (named-append left right id)
+  named-without_middle none = search (rules, named-append, none_named)
 
   named-middle : (times id middle ≡ 0 → ⊥) → (span_named (left ++ (middle ++ right)) id ≡ span_named middle id) × (span_named (left ++ right) id ≡ None)
-  named-middle some =
-      let whole = parts in
-      let no_left : span_named left id ≡ None = none_named left id (omega arith) in
-      let no_right : span_named right id ≡ None = none_named right id (omega arith) in (
-        named-append left (middle ++ right) id
-            ∙ ap (λ o. first_span o (span_named (middle ++ right) id)) no_left
-            ∙ named-append middle right id ∙ ap (first_span (span_named middle id)) no_right ∙ first_span-none (span_named middle id),
-        named-append left right id ∙ ap (λ o. first_span o (span_named right id)) no_left ∙ no_right,
-      )
+  named-middle some = search (rules, parts, none_named, named-append, first_span-none)
 
 -- the lists find the same spans
 abbrev pub Alike : List SpanState → List SpanState → Type 0
@@ -110,22 +99,10 @@ logged-together xs ys once = same_plain_map _ _ (λ key. issued key) (λ key. va
     ]
 
     issued : (key : Key) → (issued_by key (span_named xs key.span) || issued_by key (span_named ys key.span)) ≡ issued_by key (span_named (xs ++ ys) key.span)
-    issued key = elim (either key.span) [
-      | inl none ↦ ap (λ o. issued_by key o || issued_by key (span_named ys key.span)) none
-          ∙ ap (issued_by key) (sym (named-append xs ys key.span ∙ ap (λ o. first_span o (span_named ys key.span)) none))
-      | inr none ↦
-          ap (λ o. issued_by key (span_named xs key.span) || issued_by key o) none ∙ or-false _
-          ∙ ap (issued_by key) (sym (named-append xs ys key.span ∙ ap (first_span (span_named xs key.span)) none ∙ first_span-none (span_named xs key.span)))
-    ]
+    issued key = search (rules, either, named-append, or-false, first_span-none)
 
     value : (key : Key) → first_of (logged_by key (span_named xs key.span)) (logged_by key (span_named ys key.span)) ≡ logged_by key (span_named (xs ++ ys) key.span)
-    value key = elim (either key.span) [
-      | inl none ↦ ap (λ o. first_of (logged_by key o) (logged_by key (span_named ys key.span))) none
-          ∙ ap (logged_by key) (sym (named-append xs ys key.span ∙ ap (λ o. first_span o (span_named ys key.span)) none))
-      | inr none ↦
-          ap (λ o. first_of (logged_by key (span_named xs key.span)) (logged_by key o)) none ∙ first_of-none _
-          ∙ ap (logged_by key) (sym (named-append xs ys key.span ∙ ap (first_span (span_named xs key.span)) none ∙ first_span-none (span_named xs key.span)))
-    ]
+    value key = search (rules, either, logged_by, named-append, first_of-none, first_span-none)
 
 -- groups show what the logs of their spans leave
 pub shown_by-spans : {Closed : Type 0} (groups : List (Group Closed)) → AreSoundGroups groups → ((id : SpanId) → times id (spans_in groups) ≤ 1)
