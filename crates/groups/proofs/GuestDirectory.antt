@@ -1,5 +1,5 @@
 -- A directory of guests, as groups change, come and go.
-use Rattle.std.proofs.Common.{zero, suc, ◌≡◌, ℕ, ◌+◌, ◌≤◌, ◌⊎◌, List, [], ◌∷◌, ◌++◌, length, insert, set, nat_cmp, Some, None, slice_get, ◌∙◌, ap, sym, refl, inl, inr, arith}
+use Rattle.std.proofs.Common.{zero, suc, ◌≡◌, ℕ, ◌+◌, ◌≤◌, ◌⊎◌, List, [], ◌∷◌, ◌++◌, length, insert, set, nat_cmp, Some, None, slice_get, ◌∙◌, ap, sym, refl, inl, inr, arith, rules}
 use Rattle.std.specs.FinMap as map
 use Rattle.std.specs.Prelude.{remove}
 use Rattle.std.proofs.lemmas.Bool.{cases_eq}
@@ -59,17 +59,7 @@ module _ {G : Type 0} (head_of : G → SpanId) (guests_of : G → List SpanState
   -- the guest, among other groups
   pub stands_too : (groups others : List G) (number : ℕ) (at : Place) (was : IsGuestAt head_of guests_of groups number at) (index : ℕ)
       → slice_get others index ≡ Some was.group → IsGuestAt head_of guests_of others number at
-  stands_too groups others number at was index here = record {
-    index = index;
-    place = was.place;
-    group = was.group;
-    guest = was.guest;
-    group_is = here;
-    guest_is = was.guest_is;
-    rank_is = was.rank_is;
-    head_is = was.head_is;
-    place_is = was.place_is;
-  }
+  stands_too groups others number at was index here = search rules
 
   -- groups of which those that have guests are the same, in whatever order
   pub IsDirectory-left : (groups left : List G) (entries : Entries) → IsDirectory head_of guests_of groups entries
