@@ -1,5 +1,5 @@
 -- The classes, told apart, and the set that each has.
-use Rattle.std.proofs.Common.{◌≡◌, ◌⊎◌, ℕ, zero, suc, ◌+◌, Some, slice_get, subst, ◌<◌, ◌≤◌, List, length, refl, inl, inr, ap, arith, sym, ◌∙◌}
+use Rattle.std.proofs.Common.{◌≡◌, ◌⊎◌, ℕ, zero, suc, ◌+◌, Some, slice_get, subst, ◌<◌, ◌≤◌, List, length, refl, inl, inr, ap, arith, sym, ◌∙◌, rules}
 use Rattle.std.proofs.lemmas.Bool.{cases_eq, cases_lt, true≢false}
 use Rattle.std.specs.FinSet.{contains-empty}
 use Rattle.std.specs.Ordering.{nat_cmp}
@@ -16,10 +16,7 @@ use Rattle.shard.specs.Rooms.{HasRoomAt, set_at}
 use Rattle.shard.proofs.ListedSets.{set_at-past}
 
 pub cases_class : (a b : Class) → (a ≡ b) ⊎ (a ≡ b → ⊥)
-cases_class a b = elim (cases_eq (number_of a) (number_of b)) [
-  | inl same ↦ inl (number_of-injective a b same)
-  | inr apart ↦ inr (λ e. apart (ap number_of e))
-]
+cases_class a b = search (rules, cases_eq, number_of-injective)
 
 -- each number below that of the classes is that of a class
 class_numbered : (n : ℕ) → n < CLASSES → (class : Class) × (number_of class ≡ n)

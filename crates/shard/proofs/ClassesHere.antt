@@ -1,5 +1,5 @@
 -- The sets of the classes of groups have room, also where groups come, change and go.
-use Rattle.std.proofs.Common.{◌≡◌, ◌∙◌, ℕ, ◌<◌, ◌≤◌, ◌++◌, ◌∷◌, [], List, Some, true, ap, arith, inl, inr, insert, length, map, refl, set, slice_get, sym}
+use Rattle.std.proofs.Common.{◌≡◌, ◌∙◌, ℕ, ◌<◌, ◌≤◌, ◌++◌, ◌∷◌, [], List, Some, true, ap, arith, inl, inr, insert, length, map, refl, set, slice_get, sym, rules}
 use Rattle.std.specs.FinSet.{contains}
 use Rattle.std.specs.List.{filter}
 use Rattle.std.specs.Prelude.{remove}
@@ -35,10 +35,7 @@ module _ (groups : List GroupState) (rooms : List NumbersState) (count : ℕ) (h
   -- one has become another of its class
   pub HaveRoom-set : (index : ℕ) (group now : GroupState) → slice_get groups index ≡ Some group → now.head.class ≡ group.head.class → (after : List NumbersState) (fewer : ℕ) → fewer ≤ count
       → ((class : Class) → room_of rooms class ≤ room_of after class) → HaveRoom (set groups index now) after fewer
-  HaveRoom-set index group now here same after fewer low more = HaveRoom-from (set groups index now) after fewer low more (λ q other there. elim (cases-set groups index now q other there) [
-    | inl this ↦ (index, group, here, sym same ∙ ap (λ (g : GroupState). g.head.class) this.1)
-    | inr old ↦ (q, other, old.1, refl)
-  ])
+  HaveRoom-set index group now here same after fewer low more = search (rules, HaveRoom-from, cases-set)
 
   -- all have become others of their classes
   pub HaveRoom-map : (f : GroupState → GroupState) → ((group : GroupState) → (f group).head.class ≡ group.head.class) → (after : List NumbersState) (fewer : ℕ) → fewer ≤ count

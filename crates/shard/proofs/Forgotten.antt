@@ -1,12 +1,9 @@
 -- What stays where groups lose the guests in which no slot is live.
-use Rattle.std.proofs.Common.{zero, suc, ◌≡◌, ℕ, ◌+◌, ◌≤◌, List, [], ◌∷◌, Option, Some, slice_get, ◌∙◌, ap, sym, subst, arith, inl, inr, refl}
+use Rattle.std.proofs.Common.{zero, suc, ◌≡◌, ℕ, ◌≤◌, List, [], ◌∷◌, Option, Some, slice_get, ◌∙◌, ap, sym, subst, arith, refl, rules}
 use Rattle.std.specs.Prelude.{length, map as map_list}
-use Rattle.std.specs.FinSet.{union}
 use Rattle.std.proofs.lemmas.List.{length-map}
-use Rattle.bitmap.specs.Slots.{HasAllBelow, SlotSet}
-use Rattle.span.specs.Classes.{slots_in}
+use Rattle.bitmap.specs.Slots.{SlotSet}
 use Rattle.span.specs.Ids.{same_span}
-use Rattle.span.specs.Log.{worn_slots}
 use Rattle.span.specs.State.{SpanState}
 use Rattle.span.specs.declared.class.Class.{Class}
 use Rattle.span.specs.declared.id.SpanId.{SpanId}
@@ -28,10 +25,7 @@ use Rattle.shard.proofs.ChangedBelow.{changed_below}
 
 -- a group that takes no put takes none afterwards
 HasNoRoom-without_dead : (class : Class) (group : GroupState) → HasNoRoom class group → HasNoRoom class (without_dead group)
-HasNoRoom-without_dead class group (inl closed) = inl closed
-HasNoRoom-without_dead class group (inr (inl other)) = inr (inl other)
-HasNoRoom-without_dead class group (inr (inr full)) =
-    inr (inr (subst (λ (slots : SlotSet). HasAllBelow (union slots (worn_slots group.head.gens group.head.log)) (slots_in group.head.class)) (sym (occupied-without_dead group)) full))
+HasNoRoom-without_dead class group n = search (rules, occupied-without_dead)
 
 pub HasRooms-without_dead : (class : Class) (groups : List GroupState) (rooms : SlotSet) → HasRooms class groups rooms → HasRooms class (map_list without_dead groups) rooms
 HasRooms-without_dead class groups rooms has = record {
@@ -74,12 +68,7 @@ IsSound-without_dead old sound = record {
 }
 
 pub HasGuestRoom-without_dead : (groups : List GroupState) (onto : Option SpanId) (more room : ℕ) → HasGuestRoom groups onto more room → HasGuestRoom (map_list without_dead groups) onto more room
-HasGuestRoom-without_dead groups onto more room has head named index group here =
-    let before = before-map without_dead groups index group here.here in
-    let enough : length before.0.guests + more ≤ room = has head named index before.0 (record { here = before.1; head_is = sym (heads group before.0 before.2) ∙ here.head_is }) in
-    let few : length (without_dead before.0).guests ≤ length before.0.guests = omega (arith, length-live before.0.guests) in
-    let same : length (without_dead before.0).guests ≡ length group.guests = ap (λ (g : GroupState). length g.guests) before.2 in
-    omega arith
+HasGuestRoom-without_dead groups onto more room has head named index group here = search (rules, before-map, heads, length-live)
 
 -- a list of groups of which those below a place have lost such guests
 
@@ -91,10 +80,7 @@ was_below (suc at) (first ∷ groups) zero group there = (first, refl, ap (λ (g
 was_below (suc at) (first ∷ groups) (suc index) group there = was_below at groups index group there
 
 pub Ascend-changed_below : (at : ℕ) (groups : List GroupState) → Ascend groups → Ascend (changed_below without_dead at groups)
-Ascend-changed_below at groups ascend low high a b less at_low at_high =
-    let x = was_below at groups low a at_low in
-    let y = was_below at groups high b at_high in
-    rw (x.2, y.2) (ascend low high x.0 y.0 less x.1 y.1)
+Ascend-changed_below at groups ascend low high a b less at_low at_high = search (rules, was_below)
 
 -- no id stands twice among the guests of a group
 pub guests_once : (groups : List GroupState) → ((id : SpanId) → times id (spans_in groups) ≤ 1) → (index : ℕ) (group : GroupState)

@@ -1,5 +1,5 @@
 -- What a shard's directory says of its guests after a change that a shard alone makes.
-use Rattle.std.proofs.Common.{suc, ◌≡◌, ℕ, ◌≤◌, List, [], ◌++◌, length, drop, insert, set, map as map_list, Some, slice_get, ◌∙◌, ap, sym, refl, subst, arith}
+use Rattle.std.proofs.Common.{suc, ◌≡◌, ℕ, ◌≤◌, List, [], ◌++◌, length, drop, insert, set, map as map_list, Some, slice_get, ◌∙◌, ap, sym, refl, subst, rules}
 use Rattle.std.specs.Prelude.{count_by, ◌+◌}
 use Rattle.std.proofs.Math.Seq.{drop-append_seam}
 use Rattle.span.specs.Ids.{same_span}
@@ -20,11 +20,7 @@ use Rattle.shard.proofs.AlikeGroups.{alike, bare}
 pub entered-behind : (entries : Entries) (group : GroupState) (more : List SpanState) (head : SpanId) (first : ℕ) (guests : List SpanState)
     → guests ≡ group.guests ++ more → first ≡ length group.guests → group.head.id ≡ head
     → entered entries (drop first guests) head (first + 1) ≡ entered entries more group.head.id (suc (length group.guests))
-entered-behind entries group more head first guests all is head_is =
-    let next : first + 1 ≡ suc (length group.guests) = omega (arith, is) in
-    ap (entered entries (drop first guests) head) next
-    ∙ ap (λ (spans : List SpanState). entered entries spans head (suc (length group.guests))) (ap (λ n. drop n guests) is ∙ ap (drop (length group.guests)) all ∙ drop-append_seam group.guests more)
-    ∙ ap (λ i. entered entries more i (suc (length group.guests))) (sym head_is)
+entered-behind entries group more head first guests all is head_is = search (rules, drop-append_seam)
 
 module _ (groups : List GroupState) (entries : Entries) (knows : KnowsGuests groups entries) where
   -- a change of pages and flags

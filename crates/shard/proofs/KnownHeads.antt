@@ -1,5 +1,5 @@
 -- Where the heads that a shard opened stand, before and after each change.
-use Rattle.std.proofs.Common.{◌≡◌, ℕ, ◌+◌, ◌-◌, ◌*◌, ◌<◌, ◌≤◌, List, [], length, length-set, insert, set, None, Some, slice_get, get_or-set_other, get_or-set_same, ◌∙◌, ap, sym, subst, refl, inl, inr, arith}
+use Rattle.std.proofs.Common.{◌≡◌, ℕ, ◌+◌, ◌-◌, ◌<◌, ◌≤◌, List, [], length, length-set, insert, set, None, Some, slice_get, get_or-set_other, get_or-set_same, ◌∙◌, ap, sym, subst, refl, inl, inr, arith, rules}
 use Rattle.std.specs.Prelude.{map as map_list}
 use Rattle.std.specs.Prelude.{remove}
 use Rattle.std.specs.List.{filter}
@@ -8,7 +8,7 @@ use Rattle.std.proofs.lemmas.List.Edits.{length-remove}
 use Rattle.std.proofs.lemmas.Option.{get_or_from_slice_get, slice_get-get_or, slice_get_within}
 use Rattle.span.specs.Ids.{rank}
 use Rattle.span.specs.declared.id.SpanId.{SpanId}
-use Rattle.span.specs.declared.limits.TheConstants.{MOST_PAGES, MOST_SPANS}
+use Rattle.span.specs.declared.limits.TheConstants.{MOST_PAGES}
 use Rattle.groups.specs.Group.{Ascend, IsPlaceFor}
 use Rattle.groups.proofs.Lists.{cases-insert, cases-set, length_insert, pairs-insert, same_some}
 use Rattle.groups.proofs.Removed.{before-remove, cases-remove, pairs-remove}
@@ -35,10 +35,7 @@ module _ (number : ℕ) (groups : List GroupState) (window : HeadWindow) (knows 
       ap (λ (id : SpanId). entry_of window id.serial) was.2 ∙ knows index was.0 was.1 (subst (IsNoted number window.base) was.2 own)
 
   pub KnowsHeads-set : (index : ℕ) (before after : GroupState) → slice_get groups index ≡ Some before → after.head.id ≡ before.head.id → KnowsHeads number (set groups index after) window
-  KnowsHeads-set index before after here same = KnowsHeads-same (set groups index after) (λ q g there. elim (cases-set groups index after q g there) [
-    | inl now ↦ (before, ap (slice_get groups) now.0 ∙ here, ap (λ (x : GroupState). x.head.id) (sym now.1) ∙ same)
-    | inr old ↦ (g, old.1, refl)
-  ])
+  KnowsHeads-set index before after here same = search (rules, KnowsHeads-same, cases-set)
 
   -- more window
   pub KnowsHeads-more : (opened : ℕ) → ((index : ℕ) (group : GroupState) → slice_get groups index ≡ Some group → group.head.id.shard ≡ number → group.head.id.serial < opened)
@@ -51,23 +48,13 @@ module _ (number : ℕ) (groups : List GroupState) (window : HeadWindow) (knows 
 
   -- a group that comes, and one that goes: those before it stay
   pub KnowsBelow-insert : (index : ℕ) (group : GroupState) → index ≤ length groups → KnowsBelow number (insert groups index group) window index
-  KnowsBelow-insert index group within q g low there own = elim (cases-insert groups index group within q g there) [
-    | inl before ↦ knows q g before.1 own
-    | inr (inl here) ↦ absurd (let e = here.0 in omega (arith, e, low))
-    | inr (inr high) ↦ absurd (omega (arith, high.1, high.2, low))
-  ]
+  KnowsBelow-insert index group within q g low there own = search (rules, cases-insert)
 
   pub KnowsBelow-remove : (index : ℕ) → KnowsBelow number (remove groups index) window index
-  KnowsBelow-remove index q g low there own = elim (cases-remove groups index q g there) [
-    | inl before ↦ knows q g before.1 own
-    | inr high ↦ absurd (let from = high.0 in omega (arith, from, low))
-  ]
+  KnowsBelow-remove index q g low there own = search (rules, cases-remove)
 
   FitHeads-known : (index : ℕ) (group : GroupState) → slice_get groups index ≡ Some group → IsNoted number window.base group.head.id → group.head.id.serial < end_of window
-  FitHeads-known index group there own =
-      let low = slice_get_within window.entries (group.head.id.serial - window.base) index (knows index group there own) in
-      let from = own.1 in
-      omega (arith, low, from)
+  FitHeads-known index group there own = search (rules, slice_get_within)
 
   pub FitHeads-remove : (index : ℕ) → FitHeads number (remove groups index) window
   FitHeads-remove index q g there own = let was = before-remove groups index q g there in FitHeads-known was.0 g was.2 own
@@ -100,17 +87,7 @@ module _ (shard : ShardState) (sound : IsSound shard) (window : HeadWindow) (kno
   pub AreReady-arrived : (index : ℕ) (group : GroupState) → IsPlaceFor shard.groups group.head.id index → length shard.groups < shard.page_limit
       → (IsNoted shard.number window.base group.head.id → group.head.id.serial < end_of window) → shard.opened ≤ end_of window
       → AreReady shard.number (insert shard.groups index group) window index
-  AreReady-arrived index group place less fits enough = record {
-    ascend = pairs-insert (λ (a b : GroupState). rank a.head.id < rank b.head.id) shard.groups index group place.within sound.ascending
-        (λ other g low there. place.before other g low there) (λ other g high there. place.after other g high there);
-    few = let long = length_insert shard.groups index group in omega (arith, long, less, pages);
-    fit = λ q g there own. elim (cases-insert shard.groups index group place.within q g there) [
-      | inl low ↦ FitHeads-sound shard sound window enough q g low.1 own
-      | inr (inl here) ↦ subst (λ (x : GroupState). IsNoted shard.number window.base x.head.id → x.head.id.serial < end_of window) here.1 fits own
-      | inr (inr high) ↦ FitHeads-sound shard sound window enough high.0 g high.3 own
-    ];
-    below = KnowsBelow-insert shard.number shard.groups window knows index group place.within;
-  }
+  AreReady-arrived index group place less fits enough = search (rules, pairs-insert, length_insert, cases-insert, FitHeads-sound, KnowsBelow-insert)
 
   pub AreReady-departed : (index : ℕ) → index < length shard.groups → AreReady shard.number (remove shard.groups index) window index
   AreReady-departed index within = record {
@@ -135,12 +112,7 @@ module _ (number : ℕ) (groups : List GroupState) (ascend : Ascend groups) (win
   -- heads before it have other serials
   other_serial : IsNoted number window.base group.head.id → (q : ℕ) (g : GroupState) → q < at → slice_get groups q ≡ Some g → IsNoted number window.base g.head.id
       → g.head.id.serial - window.base ≡ group.head.id.serial - window.base → ⊥
-  other_serial mine q g low there own same =
-      let less : rank g.head.id < rank group.head.id = ascend q at g group low there here in
-      let equal : MOST_SPANS * g.head.id.shard ≡ MOST_SPANS * group.head.id.shard = ap (λ n. MOST_SPANS * n) (own.0 ∙ sym mine.0) in
-      let one = own.1 in
-      let other = mine.1 in
-      omega (arith, less, equal, same, one, other)
+  other_serial mine q g low there own same = search rules
 
   pub KnowsBelow-own : IsNoted number window.base group.head.id → group.head.id.serial < end_of window
       → KnowsBelow number groups (record window { entries = set window.entries (group.head.id.serial - window.base) at }) (at + 1)

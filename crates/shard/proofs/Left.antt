@@ -1,5 +1,5 @@
 -- A shard whose groups leave one after another, and whose places go at once.
-use Rattle.std.proofs.Common.{zero, suc, ◌≡◌, ℕ, ◌<◌, ◌≤◌, Bool, true, false, cond, ◌&&◌, not, List, [], ◌∷◌, length, length-set, None, Option, Some, set, slice_get, ◌∙◌, ap, sym, subst, refl, inl, inr, arith}
+use Rattle.std.proofs.Common.{zero, suc, ◌≡◌, ℕ, ◌<◌, ◌≤◌, Bool, true, false, cond, ◌&&◌, not, List, [], ◌∷◌, length, length-set, None, Option, Some, set, slice_get, ◌∙◌, ap, sym, subst, refl, inl, inr, arith, rules}
 use Rattle.std.specs.Prelude.{count_by, is_some, nat_eq, remove}
 use Rattle.std.specs.List.{filter, list_any}
 use Rattle.std.proofs.lemmas.Bool.{cases_Bool, false_from_ne_true, ne_eqb, true≢false}
@@ -211,11 +211,7 @@ module _ (old : ShardState) (sound : IsSound old) (index : ℕ) (group : GroupSt
 
   -- the head of a group that has left is that of no other
   pub HasNoHead-left : (head : SpanId) → group.head.id ≡ head → has_left group ≡ true → HasNoHead (filter has_stayed old.groups) head
-  HasNoHead-left head head_is gone at other there =
-      let was = before-filter has_stayed old.groups at other there.here in
-      let same = one_index old.groups sound.ascending was.0 index other group was.1 here (ap rank (there.head_is ∙ sym head_is)) in
-      let one : other ≡ group = same_some (sym was.1 ∙ ap (slice_get old.groups) same ∙ here) in
-      true≢false (sym was.2 ∙ ap has_stayed one ∙ ap not gone)
+  HasNoHead-left head head_is gone at other there = search (rules, before-filter, one_index, same_some, true≢false)
 
 pub HasNoHead-swept : (groups : List GroupState) (head : SpanId) → HasNoHead groups head → HasNoHead (filter has_stayed groups) head
 HasNoHead-swept groups head none at group there = let was = before-filter has_stayed groups at group there.here in none was.0 group (record { here = was.1; head_is = there.head_is })

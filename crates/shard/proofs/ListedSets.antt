@@ -1,8 +1,7 @@
 -- Sets in a list, changed one after another.
-use Rattle.std.proofs.Common.{zero, suc, ◌≡◌, ℕ, ◌+◌, ◌<◌, ◌≤◌, Bool, List, [], ◌∷◌, length, set, Option, None, Some, is_some, not, true, false, ◌∙◌, ap, sym, refl, inl, inr, arith}
+use Rattle.std.proofs.Common.{zero, suc, ◌≡◌, ℕ, ◌<◌, ◌≤◌, Bool, List, [], ◌∷◌, length, set, Option, None, Some, is_some, not, true, false, ◌∙◌, ap, sym, refl, arith, rules}
 use Rattle.std.specs.Prelude.{MatchOption}
 use Rattle.std.specs.FinSet.{contains, empty, contains-empty}
-use Rattle.std.specs.Ordering.{nat_cmp}
 use Rattle.std.proofs.lemmas.Bool.{cases_lt, true≢false}
 use Rattle.bitmap.specs.Numbers.{NumbersState}
 use Rattle.shard.specs.Rooms.{IsNoLess, IsShiftedDown, IsShiftedUp, no_numbers, set_at}
@@ -23,29 +22,14 @@ module _ (R : NumbersState → NumbersState → Type 0) where
 
   -- in the end all have
   pub AreChanged-all : (old now : List NumbersState) (at : ℕ) → AreChanged old now at → length old ≤ at → R no_numbers no_numbers → (n : ℕ) → R (set_at old n) (set_at now n)
-  AreChanged-all old now at changed end none n = elim (cases_lt n at) [
-    | inl low ↦ changed.done n low
-    | inr high ↦
-        let past : set_at old n ≡ no_numbers = set_at-past old n (omega (arith, end, high)) in
-        let past_now : set_at now n ≡ no_numbers = changed.rest n high ∙ past in
-        rw (past, past_now) none
-  ]
+  AreChanged-all old now at changed end none n = search (rules, cases_lt, set_at-past)
 
 -- a set that has no number is moved
 pub IsShiftedDown-none : (number : ℕ) (s : NumbersState) → s.numbers ≡ empty → IsShiftedDown number s s
-IsShiftedDown-none number s none = record {
-  below = λ n low. refl;
-  above = λ n from. ap (λ t. contains t n) none ∙ contains-empty nat_cmp n ∙ sym (contains-empty nat_cmp (n + 1)) ∙ ap (λ t. contains t (n + 1)) (sym none);
-  room = refl;
-}
+IsShiftedDown-none number s none = search (rules, contains-empty)
 
 pub IsShiftedUp-none : (number : ℕ) (s : NumbersState) → s.numbers ≡ empty → IsShiftedUp number s s
-IsShiftedUp-none number s none = record {
-  below = λ n low. refl;
-  this = ap (λ t. contains t number) none ∙ contains-empty nat_cmp number;
-  above = λ n from. ap (λ t. contains t (n + 1)) none ∙ contains-empty nat_cmp (n + 1) ∙ sym (contains-empty nat_cmp n) ∙ ap (λ t. contains t n) (sym none);
-  room = refl;
-}
+IsShiftedUp-none number s none = search (rules, contains-empty)
 
 -- a set that has enough room now
 pub record IsEnough (count : ℕ) (old now : NumbersState) : Type 0 where

@@ -1,7 +1,6 @@
 -- What a shard notes of its guests, before and after each change of its directory.
-use Rattle.std.proofs.Common.{zero, suc, ◌≡◌, ℕ, ◌+◌, ◌-◌, ◌*◌, ◌%◌, ◌<◌, ◌≤◌, ◌==◌, ◌&&◌, Bool, true, false, cond, eqb, eq-eqb, eqb-true, List, [], ◌∷◌, ◌++◌, length, drop, get_or, is_some, nat_cmp, nat_lt, Option, Some, None, slice_get, ◌∙◌, ap, sym, refl, subst, arith, inl, inr}
+use Rattle.std.proofs.Common.{zero, suc, ◌≡◌, ℕ, ◌+◌, ◌-◌, ◌<◌, ◌≤◌, Bool, true, false, cond, eqb, eq-eqb, eqb-true, List, [], ◌∷◌, ◌++◌, length, drop, get_or, is_some, nat_cmp, nat_lt, Option, Some, None, slice_get, ◌∙◌, ap, sym, refl, subst, arith, rules}
 use Rattle.std.specs.FinMap as map
-use Rattle.std.specs.Prelude.{if◌then◌else◌}
 use Rattle.std.proofs.lemmas.Bool.{cases_lt}
 use Rattle.std.proofs.lemmas.List.{drop_all, get_or_past}
 use Rattle.groups.proofs.Entered.{struck-was}
@@ -25,7 +24,6 @@ use Rattle.shard.specs.HeadWindow.{HeadWindow, end_of}
 use Rattle.shard.specs.Heads.{IsNoted}
 use Rattle.shard.specs.Moves.{MayGraft, groups_for}
 use Rattle.shard.specs.State.{ShardState}
-use Rattle.shard.specs.declared.guest_notes.TheConstants.{FAR, HEADS, PLACES}
 
 -- a directory of these entries
 abbrev pub directory_of : Entries → DirectoryState
@@ -36,22 +34,7 @@ module _ (number : ℕ) (entries : Entries) (window : HeadWindow) (knows : Knows
     (others : (serial : ℕ) → window.base ≤ serial → (span.shard ≡ number → serial ≡ span.serial → ⊥) → note_in now serial ≡ note_in window serial) where
   KnowsNotes-written : (after : Entries) (value : Option Place) → ((q : ℕ) → map.get after q ≡ cond (eqb q (rank span)) value (map.get entries q))
       → (IsNoted number window.base span → note_in now span.serial ≡ note_of number value) → KnowsNotes number after now
-  KnowsNotes-written after value get this id own = by_test (eqb (rank id) (rank span)) refl
-    where
-      noted : IsNoted number window.base id
-      noted = (own.0, let low = own.1 in omega (arith, low, base))
-
-      by_test : (b : Bool) → eqb (rank id) (rank span) ≡ b → note_in now id.serial ≡ note_of number (map.get after (rank id))
-      by_test true same =
-          let one : id ≡ span = id_from_rank id span (eqb-true (rank id) (rank span) same) in
-          ap (λ (i : SpanId). note_in now i.serial) one ∙ this (subst (IsNoted number window.base) one noted)
-          ∙ ap (note_of number) (sym (get (rank id) ∙ ap (λ b. cond b value (map.get entries (rank id))) same))
-      by_test false apart =
-          others id.serial noted.1
-          (λ shard serial. let same = eq-eqb (rank id) (rank span) (ap rank (same_id id span (own.0 ∙ sym shard) serial)) in
-          let no : true ≡ false = sym same ∙ apart in cc)
-          ∙ knows id noted
-          ∙ ap (note_of number) (sym (get (rank id) ∙ ap (λ b. cond b value (map.get entries (rank id))) apart))
+  KnowsNotes-written after value get this id own = search (rules, eqb, id_from_rank, eqb-true, eq-eqb, same_id)
 
   pub KnowsNotes-insert : (at : Place) → (IsNoted number window.base span → note_in now span.serial ≡ note_at number at)
       → KnowsNotes number (map.insert entries (rank span) at) now
@@ -64,13 +47,7 @@ module _ (number : ℕ) (entries : Entries) (window : HeadWindow) (knows : Knows
 pub entered-next : (entries : Entries) (guests : List SpanState) (head : SpanId) (place : ℕ) (guest : SpanState) → slice_get guests place ≡ Some guest
     → entered (map.insert entries (rank guest.id) (record { head = head; place = place + 1 })) (drop (place + 1) guests) head (place + 1 + 1)
     ≡ entered entries (drop place guests) head (place + 1)
-entered-next entries guests head place guest here =
-    let next : place + 1 ≡ suc place = omega arith in
-    let after : place + 1 + 1 ≡ suc (place + 1) = omega arith in
-    let with_it = map.insert entries (rank guest.id) (record { head = head; place = place + 1 }) in
-    ap (entered with_it (drop (place + 1) guests) head) after
-    ∙ ap (λ n. entered with_it (drop n guests) head (suc (place + 1))) next
-    ∙ ap (λ rest. entered entries rest head (place + 1)) (sym (drop_step guests place guest here))
+entered-next entries guests head place guest here = search (rules, drop_step)
 
 -- and none is left
 pub entered-all : (entries : Entries) (guests : List SpanState) (head : SpanId) (place : ℕ) → length guests ≤ place → entered entries (drop place guests) head (place + 1) ≡ entries
@@ -90,18 +67,11 @@ KnowsNotes-more number entries window knows now base same id own = same id.seria
 -- a note that is struck is none, also where there was none
 pub note_in-struck : (window now : HeadWindow) (serial : ℕ) → window.base ≤ serial → (serial < end_of window → note_in now serial ≡ 0) → (end_of window ≤ serial → now ≡ window)
     → note_in now serial ≡ 0
-note_in-struck window now serial low this past = elim (cases_lt serial (end_of window)) [
-  | inl within ↦ this within
-  | inr beyond ↦ ap (λ (w : HeadWindow). note_in w serial) (past beyond) ∙ get_or_past window.entries (serial - window.base) 0 (omega (arith, low, beyond))
-]
+note_in-struck window now serial low this past = search (rules, cases_lt, get_or_past)
 
 -- a guest has a place behind its head, and so is noted
 pub note_at-some : (number : ℕ) (at : Place) → 1 ≤ at.place → note_at number at ≡ 0 → ⊥
-note_at-some number at behind none = by_test ((at.head.shard == number) && nat_lt at.place PLACES) none
-  where
-    by_test : (b : Bool) → (if b then at.place * HEADS + at.head.serial % HEADS else FAR) ≡ 0 → ⊥
-    by_test true e = omega (arith, e, behind)
-    by_test false e = absurd cc
+note_at-some number at behind none = search (rules, nat_lt)
 
 -- each entry is of a place behind its head
 abbrev pub ArePlaced : Entries → Type 0
@@ -116,15 +86,7 @@ ArePlaced-struck spans entries placed q at found = placed q at (struck-was spans
 -- what is noted has room
 pub within_notes : (number : ℕ) (entries : Entries) (window : HeadWindow) → KnowsNotes number entries window → ArePlaced entries → (id : SpanId)
     → is_some (map.get entries (rank id)) ≡ true → IsNoted number window.base id → id.serial < end_of window
-within_notes number entries window knows placed id there own = elim (cases_lt id.serial (end_of window)) [
-  | inl within ↦ within
-  | inr beyond ↦ absurd (by_entry (map.get entries (rank id)) refl there
-      (sym (knows id own) ∙ get_or_past window.entries (id.serial - window.base) 0 (let low = own.1 in omega (arith, low, beyond))))
-]
-  where
-    by_entry : (o : Option Place) → map.get entries (rank id) ≡ o → is_some o ≡ true → note_of number o ≡ 0 → ⊥
-    by_entry None is some none = absurd cc
-    by_entry (Some at) is some none = note_at-some number at (placed (rank id) at is) none
+within_notes number entries window knows placed id there own = search (rules, cases_lt, get_or_past, note_at-some)
 
 -- a span of which nothing is noted is no guest
 pub HasNoSpan-noted : (number : ℕ) (groups : List GroupState) (entries : Entries) (window : HeadWindow) → KnowsGuests groups entries → KnowsNotes number entries window
@@ -145,54 +107,25 @@ IsElsewhere-no_guest groups id no_head no_guest index group here (suc place) (sp
 module _ (number : ℕ) (entries : Entries) (window : HeadWindow) (opened group_room : ℕ) (onto : Option SpanId) (noted : AreNoted number entries window opened group_room onto) where
   -- guests have gone, or come in all the room that was reserved for them
   pub AreNoted-changed : (after : Entries) (now : HeadWindow) → KnowsNotes number after now → end_of now ≡ end_of window → AreNoted number after now opened group_room None
-  AreNoted-changed after now known end = record {
-    known = known;
-    one_group = noted.one_group;
-    for_group = λ some. let enough = noted.for_group some in omega (arith, enough, end);
-    for_guests = λ head named. absurd cc;
-  }
+  AreNoted-changed after now known end = search rules
 
   -- guests were forgotten
   pub AreNoted-forgotten : (after : Entries) (now : HeadWindow) → KnowsNotes number after now → end_of now ≡ end_of window → AreNoted number after now opened group_room onto
-  AreNoted-forgotten after now known end = record {
-    known = known;
-    one_group = noted.one_group;
-    for_group = λ some. let enough = noted.for_group some in omega (arith, enough, end);
-    for_guests = λ head named. let enough = noted.for_guests head named in omega (arith, enough, end);
-  }
+  AreNoted-forgotten after now known end = search rules
 
   -- a group has come, or a span was opened
   pub AreNoted-come : (after : Entries) (now : HeadWindow) → KnowsNotes number after now → (count room : ℕ) → room ≡ group_room - 1 → AreNoted number after now count room None
-  AreNoted-come after now known count room is = record {
-    known = known;
-    one_group = omega (arith, is, noted.one_group);
-    for_group = λ some. absurd (omega (arith, is, some, noted.one_group));
-    for_guests = λ head named. absurd cc;
-  }
+  AreNoted-come after now known count room is = search rules
 
   -- there is more room
   pub AreNoted-more : (now : HeadWindow) → window.base ≤ now.base → ((serial : ℕ) → now.base ≤ serial → note_in now serial ≡ note_in window serial)
       → end_of window ≤ end_of now → AreNoted number entries now opened group_room onto
-  AreNoted-more now base same more = record {
-    known = KnowsNotes-more number entries window noted.known now base same;
-    one_group = noted.one_group;
-    for_group = λ some. let enough = noted.for_group some in omega (arith, enough, more);
-    for_guests = λ head named. let enough = noted.for_guests head named in omega (arith, enough, more);
-  }
+  AreNoted-more now base same more = search (rules, KnowsNotes-more)
 
   -- and as much as is needed
   pub AreNoted-reserved : (now : HeadWindow) → window.base ≤ now.base → ((serial : ℕ) → now.base ≤ serial → note_in now serial ≡ note_in window serial)
       → opened ≤ end_of now → (target : Option SpanId) → AreNoted number entries now opened (groups_for target) target
-  AreNoted-reserved now base same enough target = record {
-    known = KnowsNotes-more number entries window noted.known now base same;
-    one_group = few target;
-    for_group = λ some. enough;
-    for_guests = λ head named. enough;
-  }
-    where
-      few : (o : Option SpanId) → groups_for o ≤ 1
-      few None = omega arith
-      few (Some head) = omega arith
+  AreNoted-reserved now base same enough target = search (rules, KnowsNotes-more)
 
 -- guests were struck from both
 pub KnowsNotes-struck : (number : ℕ) (entries after : Entries) (now : HeadWindow) (guests others : List SpanState) → KnowsNotes number (struck entries guests) now
@@ -236,8 +169,4 @@ module _ (shard : ShardState) (head : SpanId) (whole : WholeState) (may : MayGra
     (enough : (onto : SpanId) → shard.onto ≡ Some onto → shard.opened ≤ end_of window) where
   pub within_notes-grafted : (group : GroupState) (guests : List SpanState) → guests ≡ group.guests ++ spans_moved whole → (first : ℕ) → first ≡ length group.guests
       → (place : ℕ) (guest : SpanState) → slice_get guests place ≡ Some guest → first ≤ place → IsNoted shard.number window.base guest.id → guest.id.serial < end_of window
-  within_notes-grafted group guests all first first_is place guest there behind own =
-      let later = get_behind group.guests (spans_moved whole) place guest (ap (λ (spans : List SpanState). slice_get spans place) (sym all) ∙ there) (omega (arith, first_is, behind)) in
-      let low = may.opened later.0 guest later.1 own.0 in
-      let most = enough head may.onto in
-      omega (arith, low, most)
+  within_notes-grafted group guests all first first_is place guest there behind own = search (rules, get_behind)

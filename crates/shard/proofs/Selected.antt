@@ -1,5 +1,5 @@
 -- The first of those that would stand in order, which alone are put into order.
-use Rattle.std.proofs.Common.{zero, suc, ◌≡◌, ℕ, ◌+◌, ◌<◌, ◌≤◌, ◌⊎◌, List, [], ◌∷◌, ◌++◌, length, length-append, insert, map, take, Some, slice_get, ◌∙◌, ap, sym, subst, refl, inl, inr, arith}
+use Rattle.std.proofs.Common.{zero, suc, ◌≡◌, ℕ, ◌+◌, ◌<◌, ◌≤◌, ◌⊎◌, List, [], ◌∷◌, ◌++◌, length, length-append, insert, map, take, Some, slice_get, ◌∙◌, ap, sym, subst, refl, inl, inr, arith, rules}
 use Rattle.std.specs.List.{filter}
 use Rattle.std.specs.List.Sorted.{IsPermutation}
 use Rattle.std.proofs.lemmas.Bool.{cases_lt}
@@ -20,19 +20,10 @@ use Rattle.shard.specs.declared.shard.retiring.LiveGroup.{LiveGroup}
 use Rattle.shard.proofs.Sparse.{AreSparsestFirst-sorted, in_order, key_cmp, key_of, moved}
 
 either_way : (a b : LiveGroup) → IsNotAfter a b ⊎ IsNotAfter b a
-either_way a b = elim (cases_lt a.live b.live) [
-  | inl fewer ↦ inl (inl fewer)
-  | inr not_fewer ↦ elim (cases_lt b.live a.live) [
-    | inl more ↦ inr (inl more)
-    | inr not_more ↦ elim (cases_lt (rank b.head) (rank a.head)) [ inl lower ↦ inr (inr (omega arith, omega arith)) | inr higher ↦ inl (inr (omega arith, higher)) ]
-  ]
-]
+either_way a b = search (rules, cases_lt)
 
 both_ways : (a b c : LiveGroup) → IsNotAfter a b → IsNotAfter b c → IsNotAfter a c
-both_ways a b c (inl p) (inl q) = inl (omega arith)
-both_ways a b c (inl p) (inr q) = inl (omega (arith, q.0))
-both_ways a b c (inr p) (inl q) = inl (omega (arith, p.0))
-both_ways a b c (inr p) (inr q) = inr (p.0 ∙ q.0, omega (arith, p.1, q.1))
+both_ways a b c n k = search rules
 
 -- what a selection around one ensures
 pub AreBefore-split : (front : List LiveGroup) (one : LiveGroup) (back : List LiveGroup) → IsSplitAroundByKey key_of key_cmp front one back → AreBefore front (one ∷ back)
@@ -114,14 +105,7 @@ cases-append (x ∷ xs) ys (suc at) y there = elim (cases-append xs ys at y ther
 
 -- two lists in order, none of the first after one of the second
 order-append : (first second : List LiveGroup) → AreInOrder first → AreInOrder second → AreBefore first second → AreInOrder (first ++ second)
-order-append first second in_first in_second before low high a b less at_low at_high = by_place (cases-append first second low a at_low) (cases-append first second high b at_high)
-  where
-    by_place : (slice_get first low ≡ Some a) ⊎ ((later : ℕ) × (low ≡ length first + later) × (slice_get second later ≡ Some a))
-        → (slice_get first high ≡ Some b) ⊎ ((later : ℕ) × (high ≡ length first + later) × (slice_get second later ≡ Some b)) → IsNotAfter a b
-    by_place (inl p) (inl q) = in_first low high a b less p q
-    by_place (inl p) (inr q) = before low q.0 a b p q.2
-    by_place (inr p) (inl q) = absurd (omega (arith, p.1, slice_get_within first high b q))
-    by_place (inr p) (inr q) = in_second p.0 q.0 a b (omega (arith, p.1, q.1)) p.2 q.2
+order-append first second in_first in_second before low high a b less at_low at_high = search (rules, cases-append, slice_get_within)
 
 append_none : (xs ys : List LiveGroup) → length ys ≡ 0 → xs ++ ys ≡ xs
 append_none [] [] none = refl
@@ -153,26 +137,13 @@ AreSparsestFirst-selected groups live told rest ordered most ascend live_is sele
     )
   where
     by_cut : (others : List LiveGroup) → length others ≡ length rest → length ordered ≡ length told → IsCut most told rest → ordered ≡ take most (ordered ++ others)
-    by_cut others long_others long (inl full) =
-        let enough : most ≤ length ordered = omega arith in
-        sym (take-append-le most ordered others enough ∙ take_all most ordered (omega arith))
-    by_cut others long_others long (inr all) = sym (take_all most (ordered ++ others) (omega (arith, all.0, all.1, length-append ordered others)) ∙ append_none ordered others (omega (arith, all.1)))
+    by_cut others long_others long n = search (rules, take-append-le, take_all, length-append, append_none)
 
 -- none goes
 pub AreSelected-all : (told : List LiveGroup) (most : ℕ) → length told ≤ most → AreSelected most told told
-AreSelected-all told most few = record {
-  rest = [];
-  permutation = subst (IsPermutation told) (sym (append_none told [] refl)) (IsPermutation-refl told);
-  before = λ low high a b at_low at_high. absurd cc;
-  cut = inr (few, refl);
-}
+AreSelected-all told most few = search (rules, append_none, IsPermutation-refl)
 
 -- those stay that a selection puts first
 pub AreSelected-split : (told front : List LiveGroup) (one : LiveGroup) (back kept : List LiveGroup) (most : ℕ) → IsPermutation told (front ++ one ∷ back) → length front ≡ most
     → IsSplitAroundByKey key_of key_cmp front one back → kept ≡ front → AreSelected most told kept
-AreSelected-split told front one back kept most permutation long split same = rw same (record {
-  rest = one ∷ back;
-  permutation = permutation;
-  before = AreBefore-split front one back split;
-  cut = inl long;
-})
+AreSelected-split told front one back kept most permutation long split same = search (rules, AreBefore-split)

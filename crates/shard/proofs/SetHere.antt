@@ -1,8 +1,6 @@
 -- A group gets no room by a set.
-use Rattle.std.proofs.Common.{zero, suc, ◌≡◌, ℕ, Some, slice_get, ◌∙◌, ap, sym, subst, refl, inl, inr}
+use Rattle.std.proofs.Common.{zero, suc, ◌≡◌, ℕ, Some, slice_get, ◌∙◌, ap, sym, refl, rules}
 use Rattle.std.specs.FinSet.{union}
-use Rattle.bitmap.specs.Slots.{HasAllBelow, SlotSet}
-use Rattle.span.specs.Classes.{slots_in}
 use Rattle.span.specs.Log.{Value, worn_slots}
 use Rattle.span.specs.State.{IsSettable, SpanState}
 use Rattle.span.specs.declared.class.Class.{Class}
@@ -39,8 +37,4 @@ module _ (group : GroupState) (span : SpanState) (slot generation : ℕ) (value 
 
     -- a group with no room has none after the set
     pub HasNoRoom-set : (class : Class) → HasNoRoom class group → HasNoRoom class (after place)
-    HasNoRoom-set class (inl closed) = inl (closed-set_group place ∙ closed)
-    HasNoRoom-set class (inr (inl differs)) = inr (inl (λ same. differs (sym (class-set_group place here) ∙ same)))
-    HasNoRoom-set class (inr (inr full)) = inr
-        (inr (subst (λ (c : Class). HasAllBelow (unusable (after place)) (slots_in c)) (sym (class-set_group place here))
-        (subst (λ (s : SlotSet). HasAllBelow s (slots_in group.head.class)) (sym unusable-set_group) full)))
+    HasNoRoom-set class n = search (rules, closed-set_group, class-set_group, unusable-set_group)

@@ -1,5 +1,5 @@
 -- The groups with a live key, in the order in which they go.
-use Rattle.std.proofs.Common.{zero, suc, ◌≡◌, ℕ, ◌<◌, ◌≤◌, ◌⊎◌, Bool, true, false, cond, List, [], ◌∷◌, length, map, remove, Some, get_or, slice_get, ◌∙◌, ap, sym, subst, refl, inl, inr, arith, eqb, eq-eqb, lt-ltb, ltb-true, option_map}
+use Rattle.std.proofs.Common.{zero, suc, ◌≡◌, ℕ, ◌<◌, ◌≤◌, ◌⊎◌, Bool, true, false, cond, List, [], ◌∷◌, length, map, remove, Some, get_or, slice_get, ◌∙◌, ap, sym, subst, refl, inl, inr, arith, eqb, eq-eqb, lt-ltb, ltb-true, option_map, rules}
 use Rattle.std.specs.Cmp.{IsTotalOrder, nat_cmp_total}
 use Rattle.std.specs.List.{IsDistinct, filter}
 use Rattle.std.specs.List.Sorted.{IsPermutation, IsSortedByKey}
@@ -32,10 +32,7 @@ key_total : IsTotalOrder key_cmp
 key_total = then_total (on_total (λ (k : ℕ × ℕ). k.0) nat_cmp_total) (on_total (λ (k : ℕ × ℕ). k.1) nat_cmp_total)
 
 pub in_order : (a b c d : ℕ) → is_lt (ordering_then (nat_cmp b a) (nat_cmp d c)) ≡ false → (a < b) ⊎ ((a ≡ b) × (c ≤ d))
-in_order a b c d h = by_ranked (b < a) (b ≡ a) (a < b) (nat_cmp b a) (ranked b a _ refl)
-    (λ e less. absurd (true≢false (sym (ap (λ o. is_lt (ordering_then o (nat_cmp d c))) e) ∙ h)))
-    (λ e same. inr (sym same, ge_from_not_lt d c (sym (ap (λ o. is_lt (ordering_then o (nat_cmp d c))) e) ∙ h)))
-    (λ e less. inl less)
+in_order a b c d h = search (rules, by_ranked, ranked, true≢false, ge_from_not_lt)
 
 pub AreInOrder-sorted : (told : List LiveGroup) → IsSortedByKey key_of key_cmp told → AreInOrder told
 AreInOrder-sorted told sorted low high a b less at_low at_high =
@@ -110,19 +107,13 @@ abbrev Rises : LiveGroup → LiveGroup → Type 0
 Rises a b = rank a.head < rank b.head
 
 rises-told : (groups : List GroupState) → Ascend groups → Pairs Rises (map told_of groups)
-rises-told groups ascend low high a b less at_low at_high =
-    let first = before-map told_of groups low a at_low in
-    let second = before-map told_of groups high b at_high in
-    omega (arith, ascend low high first.0 second.0 less first.1 second.1, ap (λ (x : LiveGroup). rank x.head) first.2, ap (λ (x : LiveGroup). rank x.head) second.2)
+rises-told groups ascend low high a b less at_low at_high = search (rules, before-map)
 
 abbrev same_head : LiveGroup → LiveGroup → Bool
 same_head a b = eqb (rank a.head) (rank b.head)
 
 same_head-flip : (a b : LiveGroup) → same_head a b ≡ same_head b a
-same_head-flip a b = elim (cases_eq (rank a.head) (rank b.head)) [
-  | inl same ↦ eq-eqb (rank a.head) (rank b.head) same ∙ sym (eq-eqb (rank b.head) (rank a.head) (sym same))
-  | inr differ ↦ ne_eqb (rank a.head) (rank b.head) differ ∙ sym (ne_eqb (rank b.head) (rank a.head) (λ same. differ (sym same)))
-]
+same_head-flip a b = search (rules, cases_eq, eq-eqb, ne_eqb)
 
 distinct-rises : (told : List LiveGroup) → Pairs Rises told → IsDistinct same_head told
 distinct-rises told rises = IsDistinct-from_apart same_head told (λ i j d less within.
@@ -185,13 +176,7 @@ AreSparsestFirst-sorted groups live told ascend live_is permutation order =
 module _ (groups : List GroupState) (ascend : Ascend groups) where
   -- a head is that of one group
   pub one_index : (i j : ℕ) (a b : GroupState) → slice_get groups i ≡ Some a → slice_get groups j ≡ Some b → rank a.head.id ≡ rank b.head.id → i ≡ j
-  one_index i j a b at_i at_j same = elim (cases_eq i j) [
-    | inl is ↦ is
-    | inr differ ↦ elim (cases_lt i j) [
-      | inl less ↦ absurd (omega (arith, ascend i j a b less at_i at_j))
-      | inr more ↦ absurd (omega (arith, ascend j i b a (omega arith) at_j at_i))
-    ]
-  ]
+  one_index i j a b at_i at_j same = search (rules, cases_eq, cases_lt)
 
   module _ (one : LiveGroup) (told : List LiveGroup) (are : AreSparsestFirst groups (one ∷ told)) where
     -- a group with a live key is this one, or comes after it
@@ -250,7 +235,4 @@ module _ (groups : List GroupState) (ascend : Ascend groups) where
         later was g at apart (suc place) found = (place, found)
 
 pub HasNoLive-none : (groups : List GroupState) → AreSparsestFirst groups [] → HasNoLive groups
-HasNoLive-none groups are index group there = elim (cases_lt 0 (live_of group)) [
-  | inl some ↦ let found = are.each index group there some in absurd cc
-  | inr not_some ↦ omega arith
-]
+HasNoLive-none groups are index group there = search (rules, cases_lt)

@@ -1,5 +1,5 @@
 -- The groups that may have a usable slot, as the places of those that have left go one after another.
-use Rattle.std.proofs.Common.{zero, suc, ◌≡◌, ℕ, ◌+◌, ◌<◌, ◌≤◌, ◌⊎◌, Bool, true, false, not, List, [], ◌∷◌, ◌++◌, length, Some, slice_get, drop, ◌∙◌, ap, sym, subst, refl, inl, inr, arith}
+use Rattle.std.proofs.Common.{zero, suc, ◌≡◌, ℕ, ◌+◌, ◌<◌, ◌≤◌, ◌⊎◌, Bool, true, false, not, List, [], ◌∷◌, ◌++◌, length, Some, slice_get, drop, ◌∙◌, ap, sym, subst, refl, inl, inr, arith, rules}
 use Rattle.std.specs.List.{filter}
 use Rattle.std.specs.FinSet as finset
 use Rattle.std.specs.FinSet.{contains}
@@ -66,10 +66,7 @@ module _ (class : Class) (groups : List GroupState) (old now : SlotSet) (has : H
     (group : GroupState) (here : slice_get groups index ≡ Some group) where
   -- a group of another class has no index here
   pub none_here : (group.head.class ≡ class → ⊥) → contains now index ≡ false
-  none_here apart = elim (cases_Bool (contains now index)) [
-    | inl member ↦ absurd (apart (has.of_class index group here (sym (swept.rest index (omega arith)) ∙ member)))
-    | inr none ↦ none
-  ]
+  none_here apart = search (rules, cases_Bool)
 
   next_is : suc index ≡ index + 1
   next_is = omega arith
@@ -98,10 +95,7 @@ module _ (class : Class) (groups : List GroupState) (old now : SlotSet) (has : H
 
     -- the next index is free
     pub free_next : contains after next ≡ false
-    free_next = elim (cases_eq next index) [
-      | inl is ↦ ap (contains after) is ∙ none
-      | inr apart ↦ same next apart ∙ swept.between next (omega arith) (let few = swept.few in omega (arith, few, apart))
-    ]
+    free_next = search (rules, cases_eq)
 
     -- one that has stayed
     pub IsSwept-stayed : has_stayed group ≡ true → (last : SlotSet) → ((q : ℕ) → (q ≡ next → ⊥) → contains last q ≡ contains after q)
@@ -133,19 +127,13 @@ module _ (class : Class) (groups : List GroupState) (old now : SlotSet) (has : H
 module _ (rooms after : List NumbersState) (mine : Class) (index : ℕ) (this : rooms_of after mine ≡ finset.remove (rooms_of rooms mine) index)
     (others : (other : Class) → (other ≡ mine → ⊥) → rooms_of after other ≡ rooms_of rooms other) where
   pub kept-apart : (class : Class) (q : ℕ) → (q ≡ index → ⊥) → contains (rooms_of after class) q ≡ contains (rooms_of rooms class) q
-  kept-apart class q apart = elim (cases_class class mine) [
-    | inl is ↦ ap (λ k. contains (rooms_of after k) q) is ∙ ap (λ s. contains s q) this ∙ contains-remove_other _ index q apart ∙ ap (λ k. contains (rooms_of rooms k) q) (sym is)
-    | inr differs ↦ ap (λ s. contains s q) (others class differs)
-  ]
+  kept-apart class q apart = search (rules, cases_class, contains-remove_other)
 
   pub out-same : contains (rooms_of after mine) index ≡ false
   out-same = ap (λ s. contains s index) this ∙ contains-remove_same _ index
 
   pub out-everywhere : (class : Class) → ((mine ≡ class → ⊥) → contains (rooms_of rooms class) index ≡ false) → contains (rooms_of after class) index ≡ false
-  out-everywhere class elsewhere = elim (cases_class class mine) [
-    | inl is ↦ ap (λ k. contains (rooms_of after k) index) is ∙ out-same
-    | inr differs ↦ ap (λ s. contains s index) (others class differs) ∙ elsewhere (λ e. differs (sym e))
-  ]
+  out-everywhere class elsewhere = search (rules, cases_class, out-same)
 
 -- the sets at one more index
 module _ (groups : List GroupState) (old rooms after : List NumbersState) (has : (class : Class) → HasRooms class groups (rooms_of old class)) (index next : ℕ)
@@ -165,10 +153,7 @@ module _ (groups : List GroupState) (old rooms after : List NumbersState) (has :
       (noted : contains (rooms_of last mine) next ≡ had) (kept : (n : ℕ) → (n ≡ next → ⊥) → contains (rooms_of last mine) n ≡ contains (rooms_of after mine) n)
       (alike : (other : Class) → (other ≡ mine → ⊥) → rooms_of last other ≡ rooms_of after other) where
     kept_in : (class : Class) (n : ℕ) → (n ≡ next → ⊥) → contains (rooms_of last class) n ≡ contains (rooms_of after class) n
-    kept_in class n apart = elim (cases_class class mine) [
-      | inl is ↦ ap (λ k. contains (rooms_of last k) n) is ∙ kept n apart ∙ ap (λ k. contains (rooms_of after k) n) (sym is)
-      | inr differs ↦ ap (λ s. contains s n) (alike class differs)
-    ]
+    kept_in class n apart = search (rules, cases_class)
 
     -- the bit that the group had is the bit that it has
     bit : (class : Class) → class ≡ mine → contains (rooms_of last class) next ≡ contains (rooms_of old class) index
@@ -176,22 +161,13 @@ module _ (groups : List GroupState) (old rooms after : List NumbersState) (has :
         ap (λ k. contains (rooms_of last k) next) is ∙ noted ∙ had_is ∙ ap (λ k. contains (rooms_of rooms k) index) (sym is) ∙ (swept class).rest index (omega arith)
 
     no_bit : (class : Class) → (class ≡ mine → ⊥) → contains (rooms_of last class) next ≡ false
-    no_bit class differs =
-        ap (λ s. contains s next) (alike class differs)
-        ∙ free_next class groups (rooms_of old class) (rooms_of rooms class) (has class) index next (swept class) group here (rooms_of after class)
-        (kept-apart rooms after mine index this others class) (out class)
+    no_bit class differs = search (rules, free_next, kept-apart, out)
 
     out_is : (class : Class) → contains (rooms_of last class) next ≡ false → HasNoRoom class group
-    out_is class none = elim (cases_class class mine) [
-      | inl is ↦ (has class).others index group here (sym (bit class is) ∙ none)
-      | inr differs ↦ inr (inl (λ e. differs (sym e ∙ sym mine_is)))
-    ]
+    out_is class none = search (rules, cases_class, bit)
 
     member_is : (class : Class) → contains (rooms_of last class) next ≡ true → group.head.class ≡ class
-    member_is class member = elim (cases_class class mine) [
-      | inl is ↦ sym mine_is ∙ sym is
-      | inr differs ↦ absurd (true≢false (sym member ∙ no_bit class differs))
-    ]
+    member_is class member = search (rules, cases_class, true≢false, no_bit)
 
     pub sweep-stayed : (class : Class) → IsSwept class groups (rooms_of old class) (rooms_of last class) (index + 1) (next + 1)
     sweep-stayed class =

@@ -1,5 +1,5 @@
 -- What stays where groups with no live slot give their pages back.
-use Rattle.std.proofs.Common.{◌≡◌, true, false, Bool, cond, ◌&&◌, List, None, not, nat_eq, is_some, eqb-true, ◌∙◌, ap, sym, subst, refl}
+use Rattle.std.proofs.Common.{◌≡◌, true, ◌&&◌, List, None, not, nat_eq, is_some, eqb-true, ◌∙◌, ap, sym, subst, rules}
 use Rattle.std.specs.Prelude.{map as map_list}
 use Rattle.std.specs.FinSet.{empty, empty_of_len}
 use Rattle.std.proofs.lemmas.Bool.{and_parts}
@@ -22,11 +22,7 @@ abbrev unpaged : GroupState → GroupState
 unpaged group = record group { page = None }
 
 bare-trimmed : (group : GroupState) → bare (trimmed group) ≡ bare group
-bare-trimmed group = by_test (is_idle group)
-  where
-    by_test : (b : Bool) → bare (cond b (unpaged group) group) ≡ bare group
-    by_test true = refl
-    by_test false = refl
+bare-trimmed group = search (rules, bare)
 
 pub class-trimmed : (group : GroupState) → (trimmed group).head.class ≡ group.head.class
 class-trimmed group = ap (λ (g : GroupState). g.head.class) (bare-trimmed group)
@@ -39,11 +35,7 @@ none_live group sound idle =
     empty_of_len (union_of (spans_of group)) (len-union_of (spans_of group) sound.apart ∙ eqb-true (live_count (spans_of group)) 0 none)
 
 IsSoundGroup-trimmed : (group : GroupState) → IsSoundGroup group → IsSoundGroup (trimmed group)
-IsSoundGroup-trimmed group sound = by_test (is_idle group) refl
-  where
-    by_test : (b : Bool) → is_idle group ≡ b → IsSoundGroup (cond b (unpaged group) group)
-    by_test true idle = IsSoundGroup-unpaged group sound (none_live group sound idle)
-    by_test false used = sound
+IsSoundGroup-trimmed group sound = search (rules, IsSoundGroup-unpaged, none_live)
 
 pub map_bare-trimmed : (groups : List GroupState) → map_list bare (map_list trimmed groups) ≡ map_list bare groups
 map_bare-trimmed groups = map_bare-map trimmed bare-trimmed groups
@@ -53,11 +45,7 @@ AreSoundGroups-trimmed groups sound = AreSoundGroups-map trimmed IsSoundGroup-tr
 
 -- a group that takes no put takes none afterwards
 HasNoRoom-trimmed : (class : Class) (group : GroupState) → HasNoRoom class group → HasNoRoom class (trimmed group)
-HasNoRoom-trimmed class group none = by_test (is_idle group)
-  where
-    by_test : (b : Bool) → HasNoRoom class (cond b (unpaged group) group)
-    by_test true = none
-    by_test false = none
+HasNoRoom-trimmed class group none = search rules
 
 pub HasRooms-trimmed : (class : Class) (groups : List GroupState) (rooms : SlotSet) → HasRooms class groups rooms → HasRooms class (map_list trimmed groups) rooms
 HasRooms-trimmed class groups rooms has = record {

@@ -1,5 +1,5 @@
 -- Pages of zeros, which need no words in memory.
-use Rattle.std.proofs.Common.{zero, suc, ◌≡◌, ℕ, ◌<◌, ◌∙◌, Bool, true, false, if◌then◌else◌, List, length, Option, None, Some, is_some, slice_get, ap, subst, sym, refl}
+use Rattle.std.proofs.Common.{zero, suc, ◌≡◌, ℕ, ◌<◌, ◌∙◌, Bool, true, false, if◌then◌else◌, List, length, Option, None, Some, is_some, slice_get, ap, subst, sym, refl, rules}
 use Rattle.std.specs.Bool.{OnTrue}
 use Rattle.std.specs.Prelude.{◌↔◌, IsSome, IsTrue, MatchOption, unwrap_or}
 use Rattle.std.proofs.lemmas.Bool.{false≢true}
@@ -83,10 +83,7 @@ pub set_in_place : (spans new : SpansState) (words now : Option Words) (blank cl
     → new ≡ with_span_at spans place (with_set_at span slot generation value)
     → unwrap_or now blank_page ≡ set_object (unwrap_or words blank_page) class slot value → is_some now ≡ is_some words → IsSome (page_of words blank)
     → group_of new (page_of now blank) closed ≡ set_group (group_of spans (page_of words blank) closed) place span slot generation value
-set_in_place spans new words now blank closed sound place span here slot generation value class class_is new_is set same there =
-    let of_span : class ≡ span.class = class_is ∙ sym (sound.classes place span here).class_is in
-    set_in_group spans new (page_of words blank) (page_of now blank) closed place span slot generation value new_is
-    (page_written words now blank class slot value set (page_of-stays words now blank same there) ∙ ap (λ (c : Class). with_object (page_of words blank) c slot value) of_span)
+set_in_place spans new words now blank closed sound place span here slot generation value class class_is new_is set same there = search (rules, set_in_group, page_written, page_of-stays)
 
 -- words that are not in memory are zeros
 pub zeros_alone : (words : Option Words) → is_some words ≡ false → unwrap_or words blank_page ≡ blank_page
