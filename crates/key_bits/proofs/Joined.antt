@@ -1,5 +1,5 @@
 -- The parts of a number: they fit, and no others make the number.
-use Rattle.std.proofs.Common.{ℕ, ◌+◌, ◌*◌, ◌/◌, ◌%◌, ◌^◌, ◌<◌, ◌≤◌, ◌≡◌, Option, Some, None, sym, subst, ◌∙◌, ap, arith}
+use Rattle.std.proofs.Common.{ℕ, ◌+◌, ◌*◌, ◌/◌, ◌%◌, ◌^◌, ◌<◌, ◌≤◌, ◌≡◌, Option, Some, None, sym, subst, ◌∙◌, ap, arith, rules}
 use Rattle.std.specs.Prelude.{IfNone}
 use Rattle.std.proofs.lemmas.Nat.{div-add-mod', div-mul-add, mod-mul-add, mul-add-lt, pow-add}
 use Rattle.std.proofs.Math.Pow.{pow_mono}
@@ -11,11 +11,7 @@ use Rattle.key_bits.specs.Numbers.{HasParts, HaveRoom, IsNumberOf, number_of_par
 
 -- the number of a part behind others takes the bits of all
 pub appended-below : (number part front width : ℕ) → number < 2 ^ front → part < 2 ^ width → number * 2 ^ width + part < 2 ^ (front + width)
-appended-below number part front width few low =
-    let below : number * 2 ^ width + part < 2 ^ width * 2 ^ front = mul-add-lt number (2 ^ width) part (2 ^ front) few low in
-    let all : 2 ^ (width + front) ≡ 2 ^ width * 2 ^ front = pow-add 2 width front in
-    let turned : width + front ≡ front + width = omega arith in
-    subst (λ n. number * 2 ^ width + part < n) (sym all ∙ ap (λ n. 2 ^ n) turned) below
+appended-below number part front width few low = search (rules, mul-add-lt, pow-add)
 
 -- a number of few bits is one of 64
 pub few-bits : (number width : ℕ) → number < 2 ^ width → width ≤ 64 → number < 2 ^ 64
@@ -63,12 +59,7 @@ number_of_parts-alone bits generation shard serial slot generation2 shard2 seria
 -- the parts of a number make it
 pub number_of_parts-parted : (bits : KeyBits) (number : ℕ)
     → number ≡ number_of_parts bits (number / 2 ^ 8 / 2 ^ bits.serial / 2 ^ bits.shard) (number / 2 ^ 8 / 2 ^ bits.serial % 2 ^ bits.shard) (number / 2 ^ 8 % 2 ^ bits.serial) (number % 2 ^ 8)
-number_of_parts-parted bits number =
-    let span : ℕ = number / 2 ^ 8 in
-    let front : ℕ = span / 2 ^ bits.serial in
-    sym (div-add-mod' number (2 ^ 8))
-    ∙ ap (λ n. n * 2 ^ 8 + number % 2 ^ 8) (sym (div-add-mod' span (2 ^ bits.serial)))
-    ∙ ap (λ n. (n * 2 ^ bits.serial + span % 2 ^ bits.serial) * 2 ^ 8 + number % 2 ^ 8) (sym (div-add-mod' front (2 ^ bits.shard)))
+number_of_parts-parted bits number = search (rules, div-add-mod')
 
 -- no other key has the number
 pub IsNumberOf-alone : (bits : KeyBits) (key other : Key) (number : ℕ) → IsNumberOf bits key number → IsNumberOf bits other number → other ≡ key

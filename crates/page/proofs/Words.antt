@@ -1,6 +1,6 @@
 -- The objects of a page after one was written.
 use borrow.Rule.Slice.PartMut.{put_mid}
-use Rattle.std.proofs.Common.{suc, ◌≡◌, ◌⊎◌, ℕ, ◌+◌, ◌-◌, ◌*◌, ◌/◌, ◌%◌, ◌<◌, ◌≤◌, ◌==◌, ◌++◌, if◌then◌else◌, List, length, get_or, set, take, drop, ap, sym, ◌∙◌, refl, inl, inr, arith, eq-eqb}
+use Rattle.std.proofs.Common.{suc, ◌≡◌, ◌⊎◌, ℕ, ◌+◌, ◌-◌, ◌*◌, ◌/◌, ◌%◌, ◌<◌, ◌≤◌, ◌==◌, ◌++◌, if◌then◌else◌, List, length, get_or, set, take, drop, ap, sym, ◌∙◌, refl, inl, inr, arith, eq-eqb, rules}
 use Rattle.std.specs.List.{between}
 use Rattle.std.proofs.Math.Nat.{div-add-mod, mod-lt, mul_comm, mul-le-mul_left, mul-suc, one-mul}
 use Rattle.std.proofs.lemmas.Bool.{cases_eq, cases_lt, ne_eqb}
@@ -99,25 +99,11 @@ object_in-one words class slot one low =
 
 -- a word of the page that lies in a slot
 in_slot : (class : Class) (slot j : ℕ) → j / width_of class ≡ slot → (width_of class * slot ≤ j) × (j < width_of class * slot + width_of class) × (j % width_of class ≡ j - width_of class * slot)
-in_slot class slot j is =
-    let whole : width_of class * slot + j % width_of class ≡ j = ap (λ q. width_of class * q + j % width_of class) (sym is) ∙ div-add-mod j (width_of class) in
-    let place : j % width_of class < width_of class = mod-lt j (width_of-least class) in
-    (omega (arith, whole), omega (arith, whole, place), omega (arith, whole))
+in_slot class slot j is = search (rules, div-add-mod, mod-lt, width_of-least)
 
 -- and one that lies outside
 out_of_slot : (class : Class) (slot j : ℕ) → (j / width_of class ≡ slot → ⊥) → (j < width_of class * slot) ⊎ (width_of class * slot + width_of class ≤ j)
-out_of_slot class slot j apart = elim (cases_lt j (width_of class * slot)) [
-  | inl before ↦ inl before
-  | inr from ↦ elim (cases_lt j (width_of class * slot + width_of class)) [
-    | inl inside ↦ absurd (apart (within class slot j from inside))
-    | inr after ↦ inr after
-  ]
-]
-  where
-    within : (class : Class) (slot j : ℕ) → width_of class * slot ≤ j → j < width_of class * slot + width_of class → j / width_of class ≡ slot
-    within class slot j from inside =
-        let place : width_of class * slot + (j - width_of class * slot) ≡ j = omega (arith, from) in
-        ap (λ n. n / width_of class) (sym place) ∙ slot_of_word class slot (j - width_of class * slot) (omega (arith, from, inside))
+out_of_slot class slot j apart = search (rules, cases_lt, slot_of_word)
 
 -- the words with one of them written, where an object is one word
 pub set_object-word : (before words : Words) (class : Class) (slot first : ℕ) (object : List ℕ) (x : ℕ) → before ≡ words → width_of class ≡ 1 → first ≡ slot
@@ -153,12 +139,7 @@ module _ (xs ys : List ℕ) (a n : ℕ) (within : a + n ≤ length xs) (long : l
   get_or-inside from below = get_or-append_right (take a xs) _ a j 0 long_front from ∙ get_or_append_left ys _ 0 (j - a) (omega (arith, from, below, long))
 
   pub get_or-after : a + n ≤ j → get_or pasted j 0 ≡ get_or xs j 0
-  get_or-after from =
-      get_or-append_right (take a xs) _ a j 0 long_front (omega (arith, from))
-      ∙ get_or-append_right ys _ n (j - a) 0 long (omega (arith, from))
-      ∙ get_or-drop n (drop a xs) (j - a - n) 0
-      ∙ get_or-drop a xs (n + (j - a - n)) 0
-      ∙ ap (λ q. get_or xs q 0) (omega (arith, from))
+  get_or-after from = search (rules, get_or-append_right, long_front, get_or-drop)
 
 length-pasted : (xs ys : List ℕ) (a n : ℕ) → a + n ≤ length xs → length ys ≡ n → length (put_mid a n xs ys) ≡ length xs
 length-pasted xs ys a n within long =

@@ -1,5 +1,5 @@
 -- Keys that were drawn in one block, and of which the first are taken.
-use Rattle.std.proofs.Common.{◌≡◌, ℕ, ◌+◌, ◌-◌, ◌≤◌, List, ◌++◌, length, take, drop, ap, sym, subst, ◌∙◌, arith, length-append, length-drop, length-take-le, append_assoc}
+use Rattle.std.proofs.Common.{◌≡◌, ℕ, ◌+◌, ◌-◌, ◌≤◌, List, ◌++◌, length, take, drop, ap, sym, subst, ◌∙◌, arith, length-append, length-drop, length-take-le, append_assoc, rules}
 use Rattle.std.proofs.lemmas.List.{drop-drop, drop-take, take-append-drop, take-append-le}
 use Rattle.std.proofs.Math.Seq.{take-append-add}
 use Rattle.remote_queue.specs.Drawn.{drawn_keys, without_last}
@@ -41,9 +41,4 @@ module _ {T : Type 0} where
   pub taken_of_drawn : (received block known : List T) (next end count : ℕ) → received ≡ without_last (end - next) received ++ drawn_keys next end block
       → length (drawn_keys next end block) ≡ end - next → next + count ≤ end
       → without_last (end - (next + count)) received ≡ without_last (end - next) received ++ take count (drawn_keys next end block ++ known)
-  taken_of_drawn received block known next end count is long within =
-      let keys = drawn_keys next end block in
-      let fewer : end - (next + count) ≡ (end - next) - count = omega arith in
-      subst (λ k. without_last k received ≡ without_last (end - next) received ++ take count (keys ++ known)) (sym fewer)
-      (without_last-take received keys (end - next) count is long (omega arith)
-      ∙ ap (λ l. without_last (end - next) received ++ l) (sym (take-append-le count keys known (omega (arith, long)))))
+  taken_of_drawn received block known next end count is long within = search (rules, without_last-take, take-append-le)

@@ -1,5 +1,5 @@
 -- Tables by rows and by columns.
-use Rattle.std.proofs.Common.{All, ◌≡◌, ℕ, zero, suc, ◌+◌, ◌<◌, ◌≤◌, List, [], ◌∷◌, ◌++◌, length, map, slice_index_or, slice_set, Some, None, ap, sym, ◌∙◌, refl, arith, length-append, inl, inr, subst}
+use Rattle.std.proofs.Common.{All, ◌≡◌, ℕ, zero, suc, ◌+◌, ◌<◌, ◌≤◌, List, [], ◌∷◌, ◌++◌, length, map, slice_index_or, slice_set, Some, None, ap, sym, ◌∙◌, refl, arith, length-append, rules}
 use Rattle.std.specs.List.{slice_get}
 use Rattle.std.proofs.lemmas.List.{get_or_append_left, get_or_past, get_or-map, map-set, map-append}
 use Rattle.std.proofs.lemmas.Bool.{cases_order}
@@ -62,16 +62,7 @@ module _ {T : Type 0} where
   -- a table with one more row is still the other's transpose
   pub one_more : (rows cs : List (List T)) (row : List T) → length row ≡ length cs → AreLong (length rows) cs
       → ((w s : ℕ) → cell rows w s ≡ cell cs s w) → (w s : ℕ) → cell (rows ++ row ∷ []) w s ≡ cell (with_row cs row) s w
-  one_more rows cs row same all before w s =
-      elim (cases_order w (length rows)) [
-        | inl at ↦
-            ap (λ k. cell (rows ++ row ∷ []) k s) at ∙ ap (λ r. slice_get r s) (get_or-append_seam rows row [] []) ∙ sym (newest cs row (length rows) s same all)
-            ∙ ap (cell (with_row cs row) s) (sym at)
-        | inr (inl below) ↦ ap (λ r. slice_get r s) (get_or_append_left rows (row ∷ []) [] w below) ∙ before w s ∙ sym (earlier cs row (length rows) s w same all below)
-        | inr (inr past) ↦
-            let out : length (rows ++ row ∷ []) ≤ w = omega (arith, length-append rows (row ∷ [])) in
-            ap (λ r. slice_get r s) (get_or_past (rows ++ row ∷ []) w [] out) ∙ sym (beyond cs row (length rows) s w same all past)
-      ]
+  one_more rows cs row same all before w s = search (rules, cases_order, get_or-append_seam, newest, get_or_append_left, earlier, length-append, get_or_past, beyond)
 
   -- one more row of the same length
   pub long_more : (n : ℕ) (cs : List (List T)) (c : List T) → AreLong n cs → length c ≡ n → AreLong n (cs ++ c ∷ [])
@@ -91,31 +82,19 @@ mapped_more f after before x is = ap (map f) is ∙ map-append f before (x ∷ [
 -- a list within a list goes on by one
 pub mapped_within : {V A B : Type 0} (items : V → List A) (f : A → B) (vs : List V) (i : ℕ) (v d : V) (x : A) → i < length vs → items v ≡ items (slice_index_or vs i d) ++ x ∷ []
     → map (λ v. map f (items v)) (slice_set vs i v) ≡ slice_set (map (λ v. map f (items v)) vs) i (slice_index_or (map (λ v. map f (items v)) vs) i [] ++ f x ∷ [])
-mapped_within items f vs i v d x below is =
-    map-set (λ v. map f (items v)) vs i v
-    ∙ ap (slice_set (map (λ v. map f (items v)) vs) i)
-    (mapped_more f (items v) (items (slice_index_or vs i d)) x is ∙ ap (λ l. l ++ f x ∷ []) (sym (get_or-map (λ v. map f (items v)) vs i d [] below)))
+mapped_within items f vs i v d x below is = search (rules, map-set, slice_set, mapped_more, slice_index_or, get_or-map)
 
 module _ {T : Type 0} where
   pub row_step : (x after old : List (List T)) (row more : List T) (s : ℕ) (r q : T) → old ≡ with_row x row → length row ≡ s → s < length x → q ≡ r
       → after ≡ slice_set old s (slice_index_or old s [] ++ r ∷ []) → more ≡ row ++ q ∷ [] → after ≡ with_row x more
-  row_step x after old row more s r q was long below same now goes =
-      let P : ℕ → List (List T) → Type 0 = λ k t. after ≡ slice_set t k (slice_index_or t k [] ++ r ∷ []) in
-      let at : after ≡ slice_set (with_row x row) (length row) (slice_index_or (with_row x row) (length row) [] ++ r ∷ []) =
-      subst (λ k. P k (with_row x row)) (sym long) (subst (λ t. P s t) was now)
-      in
-      at ∙ with_next x row r (omega arith) ∙ ap (λ e. with_row x (row ++ e ∷ [])) (sym same) ∙ ap (with_row x) (sym goes)
+  row_step x after old row more s r q was long below same now goes = search (rules, slice_set, slice_index_or, with_next)
 
   pub none_linked : (rows cols : List (List T)) → rows ≡ [] → AreLong 0 cols → (w s : ℕ) → cell rows w s ≡ cell cols s w
   none_linked rows cols none all w s = ap (λ t. cell t w s) none ∙ sym (nothing_in cols s w all)
 
   pub link_step : (rows rows' cols cols' : List (List T)) (row : List T) (n : ℕ) → rows' ≡ rows ++ row ∷ [] → cols' ≡ with_row cols row → length row ≡ length cols → length rows ≡ n
       → AreLong n cols → ((w s : ℕ) → cell rows w s ≡ cell cols s w) → AreLong (n + 1) cols' × ((w s : ℕ) → cell rows' w s ≡ cell cols' s w)
-  link_step rows rows' cols cols' row n more goes same count all before =
-      let long = subst (λ k. AreLong k cols) (sym count) all in (
-        subst (AreLong (n + 1)) (sym goes) (longer cols row n same all),
-        λ w s. ap (λ t. cell t w s) more ∙ one_more rows cols row same long before w s ∙ ap (λ t. cell t s w) (sym goes),
-      )
+  link_step rows rows' cols cols' row n more goes same count all before = search (rules, longer, one_more)
 
 -- where each row of a table has n entries, what is as long as its row has n
 pub all_long : {V T : Type 0} (row : V → List T) (long : V → ℕ) (vs : List V) (n : ℕ) → ((v : V) → length (row v) ≡ long v) → AreLong n (map row vs) → All (λ v. long v ≡ n) vs

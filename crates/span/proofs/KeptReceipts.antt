@@ -1,5 +1,5 @@
 -- A list of receipts by runs: what is added leaves the earlier receipts as they were, and where a receipt stands.
-use Rattle.std.proofs.Common.{zero, suc, ◌≡◌, ℕ, ◌+◌, ◌-◌, ◌*◌, ◌^◌, ◌<◌, ◌≤◌, ◌==◌, Bool, true, false, eqb, eqb-true, if◌then◌else◌, None, List, [], ◌∷◌, ◌++◌, get_or, length, Some, slice_get, slice_set, ap, sym, subst, ◌∙◌, refl, inl, inr, arith}
+use Rattle.std.proofs.Common.{zero, suc, ◌≡◌, ℕ, ◌+◌, ◌-◌, ◌*◌, ◌^◌, ◌<◌, ◌≤◌, ◌==◌, Bool, true, false, eqb, eqb-true, if◌then◌else◌, None, List, [], ◌∷◌, ◌++◌, get_or, length, Some, slice_get, slice_set, ap, sym, subst, ◌∙◌, refl, inl, inr, arith, rules}
 use mathlib.Core.HLevel.{is_prop→PathP}
 use native.Mathlib.Bridge.{le_prop}
 use Rattle.std.proofs.lemmas.Bool.{cases_lt}
@@ -35,14 +35,7 @@ IsRunWithin-push words run n within has k low = elim (cases_lt k n) [
 ]
 
 receipt_in-more : (words more : List ℕ) (run : ReceiptRun) (k : ℕ) → HasCall (length words) run k → receipt_in (words ++ more) run k ≡ receipt_in words run k
-receipt_in-more words more run k has =
-    λ i. record {
-      key = key_in run k;
-      worker = run.worker;
-      section = run.section;
-      at = run.at + k;
-      call = call_in run.call k (run_from-more words more (first_in run k) (call_width run.call) has.2 i);
-    }
+receipt_in-more words more run k has = search (rules, run_from-more)
 
 run_receipts-more : (words more : List ℕ) (run : ReceiptRun) (n : ℕ) → IsRunWithin (length words) run n → run_receipts (words ++ more) run n ≡ run_receipts words run n
 run_receipts-more words more run zero within = refl
@@ -306,11 +299,7 @@ module _ (words : List ℕ) (len first : ℕ) (runs : List ReceiptRun) (call : S
 
   -- the next call of a run is within the words
   has_next : (run : ReceiptRun) (k : ℕ) → IsNextOf run k first call receipt → HasCall (length all_words) run k
-  has_next run k next = (
-    next.follows.slot_fits,
-    next.follows.place_fits,
-    let w = next.words in let c : call_width run.call ≡ call_width call = ap call_width next.call_is in omega (arith, long),
-  )
+  has_next run k next = search (rules, long)
 
   shown : (run : ReceiptRun) (k : ℕ) → IsNextOf run k first call receipt → receipt_in all_words run k ≡ receipt
   shown run k next = receipt_in-next all_words run k first call receipt next (told_last words k first call receipt last wide (is k))
@@ -373,14 +362,7 @@ module _ (words : List ℕ) (len : ℕ) (runs : List ReceiptRun) (call : StoredC
 before_shown : (words : List ℕ) (run : ReceiptRun) (k : ℕ) (call counted : StoredCall) → MayCount run.call k call counted
     → call_in counted 0 (run_from words (first_in (with_call run counted) 0) (call_width counted)) ≡ call_in call 0 (run_from words (first_in (with_call run call) 0) (call_width call))
     → run_receipts words (with_call run counted) k ≡ run_receipts words run k
-before_shown words run k call counted may shown = elim may [
-  | inl so ↦ ap (λ (c : StoredCall). run_receipts words (with_call run c) k) (sym so)
-  | inr one ↦ subst (λ n. run_receipts words (with_call run counted) n ≡ run_receipts words run n) (sym one.0)
-      (first_shown ∙ ap (λ (c : StoredCall). run_receipts words (with_call run c) 1) (sym one.1))
-]
-  where
-    first_shown : run_receipts words (with_call run counted) 1 ≡ run_receipts words (with_call run call) 1
-    first_shown i = record { key = key_in run 0; worker = run.worker; section = run.section; at = run.at + 0; call = shown i } ∷ []
+before_shown words run k call counted may shown = search rules
 
 own_at : (words : List ℕ) (first : ℕ) → counted_up 0 (run_from words first 1) ≡ run_from words first 1 → counted_up 0 (run_from words (first + 0) 1) ≡ run_from words (first + 0) 1
 own_at words first own = let same : first ≡ first + 0 = omega arith in subst (λ n. counted_up 0 (run_from words n 1) ≡ run_from words n 1) same own

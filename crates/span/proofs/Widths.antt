@@ -1,29 +1,13 @@
 -- Which class so many words are of, and what all classes have in common.
-use Rattle.std.proofs.Common.{zero, suc, ◌≡◌, ◌&&◌, Bool, true, eqb, eqb-true, inl, inr, ◌≤◌, ◌<◌, ◌+◌, ◌*◌, ℕ, List, length, ap, sym, ◌∙◌, refl, arith}
+use Rattle.std.proofs.Common.{zero, suc, ◌≡◌, ◌&&◌, Bool, true, eqb, eqb-true, inl, inr, ◌≤◌, ◌<◌, ◌+◌, ◌*◌, ℕ, List, length, ap, sym, ◌∙◌, refl, arith, rules}
 use Rattle.std.proofs.lemmas.Bool.{cases_eq}
 use Rattle.std.specs.Cmp.{first_so, second_so}
 use Rattle.std.proofs.Math.Nat.{mul-le-mul_right}
 use Rattle.span.specs.Classes.{IsObject, class_of, class_with, number_of, slots_in, width_of}
 use Rattle.span.specs.declared.class.Class.{Class}
-use Rattle.span.specs.declared.class.Class.TheVariants.{C16, C32, C48, C64, C80, C96, C112, C128, C144, C160, C176, C192, C208, C224, C240, C256}
 
 pub class_with-width : (class : Class) → class_with (width_of class) ≡ class
-class_with-width C16 = refl
-class_with-width C32 = refl
-class_with-width C48 = refl
-class_with-width C64 = refl
-class_with-width C80 = refl
-class_with-width C96 = refl
-class_with-width C112 = refl
-class_with-width C128 = refl
-class_with-width C144 = refl
-class_with-width C160 = refl
-class_with-width C176 = refl
-class_with-width C192 = refl
-class_with-width C208 = refl
-class_with-width C224 = refl
-class_with-width C240 = refl
-class_with-width C256 = refl
+class_with-width class = search rules
 
 -- the test holds of each number below
 abbrev tests_below : (ℕ → Bool) → ℕ → Bool
@@ -54,22 +38,7 @@ pub width_of-injective : (a b : Class) → width_of a ≡ width_of b → a ≡ b
 width_of-injective a b same = sym (class_with-width a) ∙ ap class_with same ∙ class_with-width b
 
 pub number_of-width : (class : Class) → number_of class + 1 ≡ width_of class
-number_of-width C16 = refl
-number_of-width C32 = refl
-number_of-width C48 = refl
-number_of-width C64 = refl
-number_of-width C80 = refl
-number_of-width C96 = refl
-number_of-width C112 = refl
-number_of-width C128 = refl
-number_of-width C144 = refl
-number_of-width C160 = refl
-number_of-width C176 = refl
-number_of-width C192 = refl
-number_of-width C208 = refl
-number_of-width C224 = refl
-number_of-width C240 = refl
-number_of-width C256 = refl
+number_of-width class = search rules
 
 pub number_of-injective : (a b : Class) → number_of a ≡ number_of b → a ≡ b
 number_of-injective a b same = width_of-injective a b (sym (number_of-width a) ∙ ap (λ n. n + 1) same ∙ number_of-width b)
@@ -79,63 +48,18 @@ pub width_of-least : (class : Class) → 1 ≤ width_of class
 width_of-least class = omega (arith, number_of-width class)
 
 pub width_of-most : (class : Class) → width_of class ≤ 16
-width_of-most C16 = omega arith
-width_of-most C32 = omega arith
-width_of-most C48 = omega arith
-width_of-most C64 = omega arith
-width_of-most C80 = omega arith
-width_of-most C96 = omega arith
-width_of-most C112 = omega arith
-width_of-most C128 = omega arith
-width_of-most C144 = omega arith
-width_of-most C160 = omega arith
-width_of-most C176 = omega arith
-width_of-most C192 = omega arith
-width_of-most C208 = omega arith
-width_of-most C224 = omega arith
-width_of-most C240 = omega arith
-width_of-most C256 = omega arith
+width_of-most class = search rules
 
 pub number_of-most : (class : Class) → number_of class < 16
 number_of-most class = omega (arith, number_of-width class, width_of-most class)
 
 -- the slots of a page fit into its 256 words
 pub slots_in-fit : (class : Class) → width_of class * slots_in class ≤ 256
-slots_in-fit C16 = omega arith
-slots_in-fit C32 = omega arith
-slots_in-fit C48 = omega arith
-slots_in-fit C64 = omega arith
-slots_in-fit C80 = omega arith
-slots_in-fit C96 = omega arith
-slots_in-fit C112 = omega arith
-slots_in-fit C128 = omega arith
-slots_in-fit C144 = omega arith
-slots_in-fit C160 = omega arith
-slots_in-fit C176 = omega arith
-slots_in-fit C192 = omega arith
-slots_in-fit C208 = omega arith
-slots_in-fit C224 = omega arith
-slots_in-fit C240 = omega arith
-slots_in-fit C256 = omega arith
+slots_in-fit class = search rules
 
 -- and one more does not
 pub slots_in-full : (class : Class) → 256 < width_of class * (slots_in class + 1)
-slots_in-full C16 = omega arith
-slots_in-full C32 = omega arith
-slots_in-full C48 = omega arith
-slots_in-full C64 = omega arith
-slots_in-full C80 = omega arith
-slots_in-full C96 = omega arith
-slots_in-full C112 = omega arith
-slots_in-full C128 = omega arith
-slots_in-full C144 = omega arith
-slots_in-full C160 = omega arith
-slots_in-full C176 = omega arith
-slots_in-full C192 = omega arith
-slots_in-full C208 = omega arith
-slots_in-full C224 = omega arith
-slots_in-full C240 = omega arith
-slots_in-full C256 = omega arith
+slots_in-full class = search rules
 
 pub slots_in-most : (class : Class) → slots_in class ≤ 256
 slots_in-most class = omega (arith, slots_in-fit class, mul-le-mul_right (slots_in class) (width_of-least class))
