@@ -34,11 +34,7 @@ find_log (x ∷ xs) span = by_test (same_span x.span span) refl (find_log xs spa
     by_test false is (inl none) = inl (ap (λ b. cond b (kept_changes x.log) (log_of xs span)) is ∙ none.0, λ j. other j)
       where
         other : (j : ℕ) (log : SpanLog) → slice_get (x ∷ xs) j ≡ Some log → log.span ≡ span → ⊥
-        other zero log at same =
-            let here : x ≡ log = same_Some x log at in
-            let e : false ≡ true = sym is ∙ test_from_same_id x.span span (ap (λ (l : SpanLog). l.span) here ∙ same) in
-            cc
-        other (suc j) log at same = none.1 j log at same
+        other j log at same = search (rules, same_Some, test_from_same_id)
     by_test false is (inr found) = inr (suc found.0, (found.1.0, found.1.1, found.1.2, ap (λ b. cond b (kept_changes x.log) (log_of xs span)) is ∙ found.1.3))
 
 -- no span has two logs, since no two places are of one span

@@ -88,23 +88,13 @@ after_call _ key m = m
 
 pub Shows-change : (span : SpanId) (gens : ℕ) (changes : List Change) (m : PlainMap) (call : Call) (key : Key) (change : Change) → Shows span changes m → key.span ≡ span
     → IsLegalAfter gens changes change → CallMakes call key change → Shows span (changes ++ change ∷ []) (after_call call key m)
-Shows-change span gens changes m (Call.Put value) key (Change.Put slot generation put_value) shows same legal makes = search (rules, Shows-put)
-Shows-change span gens changes m (Call.Set value) key (Change.Set slot generation set_value) shows same legal makes = search (rules, held_at, Shows-set)
-Shows-change span gens changes m Call.Freed key (Change.Free slot generation) shows same legal makes = search (rules, Shows-free)
-Shows-change span gens changes m call key change shows same legal makes = absurd makes
+Shows-change span gens changes m call key change shows same legal makes = search (rules, Shows-put, held_at, Shows-set, Shows-free)
 
 -- a call that makes no change is a step that leaves the map
 pub IsStep-quiet : (m : PlainMap) (call : Call) (key : Key) → IsAnswered call (m.value_of key) → is_change call ≡ false → IsStep m call key m
-IsStep-quiet m (Call.Put value) key is quiet = absurd cc
-IsStep-quiet m (Call.Set value) key is quiet = absurd cc
-IsStep-quiet m Call.Freed key is quiet = absurd cc
-IsStep-quiet m call key is quiet = (is, refl)
+IsStep-quiet m call key is quiet = search rules
 
 -- a call that makes a legal change is a step to the map after it
 pub IsStep-change : (span : SpanId) (gens : ℕ) (changes : List Change) (m : PlainMap) (call : Call) (key : Key) (change : Change) → Shows span changes m → key.span ≡ span
     → IsLegalAfter gens changes change → CallMakes call key change → IsAnswered call (m.value_of key) → is_change call ≡ true → IsStep m call key (after_call call key m)
-IsStep-change span gens changes m (Call.Put value) key (Change.Put slot generation put_value) shows same legal makes is done = search (rules)
-IsStep-change span gens changes m (Call.Put value) key change shows same legal makes is done = absurd makes
-IsStep-change span gens changes m (Call.Set value) key change shows same legal makes is done = (is, refl)
-IsStep-change span gens changes m Call.Freed key change shows same legal makes is done = (is, refl)
-IsStep-change span gens changes m call key change shows same legal makes is done = absurd cc
+IsStep-change span gens changes m call key change shows same legal makes is done = search rules

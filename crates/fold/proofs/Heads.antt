@@ -1,5 +1,5 @@
 -- Groups by their heads.
-use Rattle.std.proofs.Common.{zero, suc, ◌≡◌, ℕ, ◌⊎◌, Bool, true, false, List, [], ◌∷◌, ◌∙◌, ap, sym, refl, inl, inr}
+use Rattle.std.proofs.Common.{suc, ◌≡◌, ℕ, ◌⊎◌, Bool, true, false, List, [], ◌∷◌, refl, inl, inr, rules}
 use Rattle.span.proofs.Ids.{same_id_from_test, test_from_same_id}
 use Rattle.span.specs.Ids.{same_span}
 use Rattle.span.specs.declared.id.SpanId.{SpanId}
@@ -19,8 +19,4 @@ none_or_head (first ∷ groups) head = by_test (same_span first.head.id head) re
     by_test false fails (inl none) = inl none_here
       where
         none_here : HasNoHead (first ∷ groups) head
-        none_here zero group here =
-            let passes : same_span first.head.id head ≡ true = test_from_same_id first.head.id head (ap (λ (g : GroupState). g.head.id) (same_some here.here) ∙ here.head_is) in
-            let e : true ≡ false = sym passes ∙ fails in
-            absurd cc
-        none_here (suc index) group here = none index group (record { here = here.here; head_is = here.head_is })
+        none_here n group here = search (rules, test_from_same_id, same_some)

@@ -1,5 +1,5 @@
 -- What a fold does to the spans of pool and shard.
-use Rattle.std.proofs.Common.{◌≡◌, ℕ, ◌+◌, ◌++◌, true, Bool, length, length-set, Some, ◌∙◌, ap, sym, arith, is_some, cond, set}
+use Rattle.std.proofs.Common.{◌≡◌, ℕ, ◌+◌, ◌++◌, true, Bool, length, length-set, Some, ◌∙◌, ap, sym, arith, is_some, cond, set, rules}
 use Rattle.std.specs.Prelude.{remove, sum_by}
 use Rattle.std.proofs.lemmas.List.Sums.{length-filter, sum_by-append}
 use Rattle.span.specs.State.{SpanState}
@@ -10,7 +10,6 @@ use Rattle.groups.specs.Whole.{WholeState, spans_moved}
 use Rattle.shard.specs.Sound.{IsSound as IsSoundShard}
 use Rattle.shard.specs.State.{ShardState}
 use Rattle.groups.proofs.Lists.{count-set}
-use Rattle.shard.specs.Group.{GroupState}
 use Rattle.shard.proofs.HeadsHere.{same_group}
 use Rattle.pool.specs.Calls.{Lifts}
 use Rattle.pool.specs.State.{PoolState, PooledState, paged_groups}
@@ -72,17 +71,7 @@ module _ (pool : PoolState) (shard : ShardState) (a b : SpanId) (pool_new : Pool
 
   -- and as many with a page, where the one that takes the spans has one
   pub length_shard_pages-Folds : IsSoundShard shard → HasPagedHead shard.groups b → length (paged_in shard_new.groups) ≡ length (paged_in shard.groups)
-  length_shard_pages-Folds sound (index, group, at, some) =
-      let same : group ≡ folds.grafts.group = same_group shard.groups sound.ascending b index folds.grafts.index group folds.grafts.group at folds.grafts.here in
-      let now : GroupState = with_guests folds.grafts.group (spans_moved folds.whole) folds.grafts.words in
-      let paged : is_some folds.grafts.group.page ≡ true = ap (λ (g : GroupState). is_some g.page) (sym same) ∙ some in
-      ap (λ (s : ShardState). length (paged_in s.groups)) folds.grafts.after
-      ∙ length-filter is_paged_here (set shard.groups folds.grafts.index now)
-      ∙ count-set is_paged_here shard.groups folds.grafts.index folds.grafts.group now folds.grafts.here.here paged
-      ∙ sym (length-filter is_paged_here shard.groups)
-    where
-      is_paged_here : GroupState → Bool
-      is_paged_here group = is_some group.page
+  length_shard_pages-Folds sound n = search (rules, same_group, length-filter, count-set)
 
   -- and the pool has one page less
   pub length_paged-Folds : length (paged_groups pool_new) + 1 ≡ length (paged_groups pool)

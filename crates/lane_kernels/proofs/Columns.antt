@@ -1,5 +1,5 @@
 -- Columns of four words as sets.
-use Rattle.std.proofs.Common.{◌≡◌, ℕ, zero, suc, ◌+◌, ◌<◌, ◌≤◌, ◌^◌, ◌==◌, Bool, true, false, List, [], ◌∷◌, ◌++◌, ◌||◌, length, map, get_or, ◌↔◌, ap, sym, ◌∙◌, refl, inl, inr, arith, zero-add, length-append, eqb-true, eq-eqb, subst, if◌then◌else◌, ◌*◌, ◌/◌, ◌%◌}
+use Rattle.std.proofs.Common.{◌≡◌, ℕ, zero, ◌+◌, ◌<◌, ◌≤◌, ◌^◌, ◌==◌, Bool, true, false, List, [], ◌∷◌, ◌++◌, ◌||◌, length, map, get_or, ◌↔◌, ap, sym, ◌∙◌, refl, inl, inr, arith, zero-add, length-append, eqb-true, eq-eqb, subst, if◌then◌else◌, ◌*◌, ◌/◌, ◌%◌, rules}
 use Rattle.std.proofs.lemmas.Grind.{same_number_lists}
 use Rattle.std.proofs.lemmas.Nat.Bits.{bit_at-zero}
 use Rattle.std.proofs.Math.Seq.{get_or-append_seam}
@@ -10,7 +10,6 @@ use Rattle.std.proofs.lemmas.List.FromFn.{length-map-range_with_len, get_or-map-
 use Rattle.bitmap.specs.Slots.{AreDisjoint, AreWords, SlotSet, has_bit, slots_of_words}
 use Rattle.bitmap.proofs.Disjoint.{AreDisjoint-shared, shared-AreDisjoint}
 use Rattle.std.specs.FinSet.{contains, contains-empty, contains-union, union, empty, len}
-use Rattle.std.specs.Cmp.{nat_cmp_total}
 use Rattle.std.specs.Ordering.{nat_cmp}
 use Rattle.std.specs.List.{list_any}
 use Rattle.lane_kernels.specs.Planes.{column, is_apart, IsUnionOf, sets_of}
@@ -26,20 +25,10 @@ module _ (p q r s : List ℕ) where
 
   module _ (a b c e : ℕ) (long_q : length q ≡ length p) (long_r : length r ≡ length p) (long_s : length s ≡ length p) where
     earlier : (k : ℕ) → k < length p → column (p ++ a ∷ []) (q ++ b ∷ []) (r ++ c ∷ []) (s ++ e ∷ []) k ≡ column p q r s k
-    earlier k below =
-        let in_p = get_or_append_left p (a ∷ []) 0 k below in
-        let in_q = get_or_append_left q (b ∷ []) 0 k (omega arith) in
-        let in_r = get_or_append_left r (c ∷ []) 0 k (omega arith) in
-        let in_s = get_or_append_left s (e ∷ []) 0 k (omega arith) in
-        rw (in_p, in_q, in_r, in_s) refl
+    earlier k below = search (rules, get_or_append_left)
 
     newest : column (p ++ a ∷ []) (q ++ b ∷ []) (r ++ c ∷ []) (s ++ e ∷ []) (length p) ≡ a ∷ b ∷ c ∷ e ∷ []
-    newest =
-        let in_p = get_or-append_seam p a [] 0 in
-        let in_q : get_or (q ++ b ∷ []) (length p) 0 ≡ b = ap (λ k. get_or (q ++ b ∷ []) k 0) (sym long_q) ∙ get_or-append_seam q b [] 0 in
-        let in_r : get_or (r ++ c ∷ []) (length p) 0 ≡ c = ap (λ k. get_or (r ++ c ∷ []) k 0) (sym long_r) ∙ get_or-append_seam r c [] 0 in
-        let in_s : get_or (s ++ e ∷ []) (length p) 0 ≡ e = ap (λ k. get_or (s ++ e ∷ []) k 0) (sym long_s) ∙ get_or-append_seam s e [] 0 in
-        rw (in_p, in_q, in_r, in_s) refl
+    newest = search (rules, get_or-append_seam)
 
 -- one more column is one more set
 pub sets_of-push : (p q r s : List ℕ) (a b c e : ℕ) (set : SlotSet) → length q ≡ length p → length r ≡ length p → length s ≡ length p → slots_of_words (a ∷ b ∷ c ∷ e ∷ []) ≡ set
@@ -73,20 +62,13 @@ unfolding sets_of
 sets_of-none p q r s none = rw none refl
 
 four_words : (words : List ℕ) → length words ≡ 4 → get_or words 0 0 ∷ get_or words 1 0 ∷ get_or words 2 0 ∷ get_or words 3 0 ∷ [] ≡ words
-four_words words long = same_number_lists (get_or words 0 0 ∷ get_or words 1 0 ∷ get_or words 2 0 ∷ get_or words 3 0 ∷ []) words (sym long) (λ k below. each k below)
-  where
-    each : (k : ℕ) → k < 4 → get_or (get_or words 0 0 ∷ get_or words 1 0 ∷ get_or words 2 0 ∷ get_or words 3 0 ∷ []) k 0 ≡ get_or words k 0
-    each (suc (suc (suc (suc k)))) below = absurd (omega arith)
-    each k below = refl
+four_words words long = search (rules, same_number_lists)
 
 -- each row goes on by a word of the set
 pub pushed : (p q r s p' q' r' s' words : List ℕ) (set : SlotSet) (sets : List SlotSet) → length q ≡ length p → length r ≡ length p → length s ≡ length p
     → length words ≡ 4 → slots_of_words words ≡ set → sets_of p q r s ≡ sets
     → p' ≡ p ++ get_or words 0 0 ∷ [] → q' ≡ q ++ get_or words 1 0 ∷ [] → r' ≡ r ++ get_or words 2 0 ∷ [] → s' ≡ s ++ get_or words 3 0 ∷ [] → sets_of p' q' r' s' ≡ sets ++ set ∷ []
-pushed p q r s p' q' r' s' words set sets long_q long_r long_s four is view in_p in_q in_r in_s =
-    rw (in_p, in_q, in_r, in_s)
-    (sets_of-push p q r s (get_or words 0 0) (get_or words 1 0) (get_or words 2 0) (get_or words 3 0) set long_q long_r long_s (ap slots_of_words (four_words words four) ∙ is)
-    ∙ ap (λ l. l ++ set ∷ []) view)
+pushed p q r s p' q' r' s' words set sets long_q long_r long_s four is view in_p in_q in_r in_s = search (rules, sets_of-push, four_words)
 
 pub bit_tells : (bit : ℕ) (b : Bool) → bit ≡ (if b then 1 else 0) → (bit == 1) ≡ b
 bit_tells bit true is = rw is refl
@@ -106,11 +88,7 @@ row_tells words p q r s set sets bit j d are is view below tells =
 
 -- past the sets no bit is set
 pub row_ends : (row : List ℕ) (n j : ℕ) → n ≤ j → length row ≡ (n + 63) / 64 → ((j : ℕ) → n ≤ j → j < 64 * length row → get_or row (j / 64) 0 / 2 ^ (j % 64) % 2 ≡ 0) → has_bit row j ≡ false
-row_ends row n j past long rest =
-    elim (cases_lt j (64 * length row)) [
-      | inl inside ↦ let none = rest j past inside in rw none refl
-      | inr beyond ↦ let none = get_or_past row (j / 64) 0 (omega arith) in let zeros = bit_at-zero (j % 64) in rw none (rw zeros refl)
-    ]
+row_ends row n j past long rest = search (rules, cases_lt, get_or_past, bit_at-zero)
 
 -- no set has no slot
 pub union_of_none : (sets : List SlotSet) → sets ≡ [] → IsUnionOf (empty {R = nat_cmp}) sets
@@ -126,10 +104,7 @@ any_more test sets set = list_any-append test sets (set ∷ []) ∙ one_more (li
 
 -- one more set is one more in the union
 pub union_of_more : (all set : SlotSet) (sets : List SlotSet) → IsUnionOf all sets → IsUnionOf (union all set) (sets ++ set ∷ [])
-union_of_more all set sets is = λ slot.
-    contains-union nat_cmp_total all set slot
-    ∙ ap (λ b. b || contains set slot) (is slot)
-    ∙ sym (any_more (λ s. contains s slot) sets set)
+union_of_more all set sets is = search (rules, contains-union, any_more)
 
 -- counts that are those of each column are those of each set
 pub counts_are : (p q r s : List ℕ) (sets : List SlotSet) (counts : List ℕ) → sets_of p q r s ≡ sets → length counts ≡ length p

@@ -1,5 +1,5 @@
 -- The counts of a block of columns.
-use Rattle.std.proofs.Common.{◌≡◌, ℕ, zero, suc, ◌+◌, ◌-◌, ◌^◌, ◌%◌, ◌<◌, ◌≤◌, List, map, length, get_or, count_ones, ap, sym, ◌∙◌, arith, refl, Fits, w32}
+use Rattle.std.proofs.Common.{◌≡◌, ℕ, ◌+◌, ◌-◌, ◌^◌, ◌%◌, ◌<◌, ◌≤◌, List, map, length, get_or, count_ones, ap, sym, ◌∙◌, arith, refl, Fits, w32, rules}
 use Rattle.std.specs.Prelude.{slice_index}
 use Rattle.std.specs.List.{range_with_len}
 use Rattle.std.specs.Simd.Lanes.{Each1, zip2, chunk, put_chunk}
@@ -37,16 +37,7 @@ module _ (p q r s : List ℕ) (at : ℕ) (in_p : at + 8 ≤ length p) (in_q : at
   few k = omega (arith, ones-le 64 _ (fit_p k), ones-le 64 _ (fit_q k), ones-le 64 _ (fit_r k), ones-le 64 _ (fit_s k))
 
   pub lanes-are : lanes ≡ map (ones_of p q r s) (range_with_len at 8)
-  lanes-are =
-      let V = range_with_len at 8 in
-      let op : ℕ → ℕ = λ k. count_ones (slice_index p k) in
-      let oq : ℕ → ℕ = λ k. count_ones (slice_index q k) in
-      let or : ℕ → ℕ = λ k. count_ones (slice_index r k) in
-      let os : ℕ → ℕ = λ k. count_ones (slice_index s k) in
-      let pq = zip2_of_maps plus op oq V (ones p at in_p) (ones q at in_q) in
-      let pqr = zip2_of_maps plus (λ k. plus (op k) (oq k)) or V pq (ones r at in_r) in
-      zip2_of_maps plus (λ k. plus (plus (op k) (oq k)) (or k)) os V pqr (ones s at in_s)
-      ∙ ap (λ (f : ℕ → ℕ). map f V) (λ i k. summed k i)
+  lanes-are = search (rules, count_ones, zip2_of_maps, ones, summed)
 
   -- the counts that were written
   pub written : (counts : List ℕ) → at + 8 ≤ length counts → (k : ℕ) → at ≤ k → k < at + 8 → get_or (put_chunk at counts (map (λ x. x) lanes)) k 0 ≡ ones_of p q r s k
@@ -69,8 +60,4 @@ pub ones-len : (p q r s : List ℕ) (k : ℕ) → slice_index p k < 2 ^ 64 → s
 ones-len p q r s k in_p in_q in_r in_s = len-slots_of_words (column p q r s k) (record { four = refl; fit = fit })
   where
     fit : (i : ℕ) → slice_index (column p q r s k) i < 2 ^ 64
-    fit zero = in_p
-    fit (suc zero) = in_q
-    fit (suc (suc zero)) = in_r
-    fit (suc (suc (suc zero))) = in_s
-    fit (suc (suc (suc (suc i)))) = omega arith
+    fit i = search rules

@@ -1,5 +1,5 @@
 -- The lanes of a block of columns.
-use Rattle.std.proofs.Common.{◌≡◌, eq-eqb, inl, inr, ℕ, ◌+◌, ◌*◌, ◌-◌, ◌^◌, ◌%◌, ◌≤◌, List, map, length, bit_and, bit_or, Bool, ◌==◌, cond, ap, sym, ◌∙◌, arith, w64, refl, lit≤, pow-suc, add-one, ◌<◌, ◌/◌, if◌then◌else◌, false}
+use Rattle.std.proofs.Common.{◌≡◌, eq-eqb, ℕ, ◌+◌, ◌*◌, ◌-◌, ◌^◌, ◌%◌, ◌≤◌, List, map, length, bit_and, bit_or, Bool, ◌==◌, cond, ap, sym, ◌∙◌, arith, w64, refl, lit≤, pow-suc, add-one, ◌<◌, ◌/◌, if◌then◌else◌, false, rules}
 use Rattle.std.specs.Prelude.{replicate, slice_index}
 use Rattle.std.specs.List.{range_with_len}
 use Rattle.std.specs.Simd.Lanes.{mask_l, top, zip2, chunk}
@@ -59,15 +59,7 @@ doubled test first n few = let b = bound test first n in let m : 2 ^ (n + 1) ≤
     omega (arith, pow-suc 2 n, ap (λ k. 2 ^ k) e)
 
 has_one : (x k : ℕ) → (bit_and x (2 ^ k) == 2 ^ k) ≡ (x / 2 ^ k % 2 == 1)
-has_one x k = elim (cases_eq (x / 2 ^ k % 2) 1) [
-  | inl one ↦ let is : bit_and x (2 ^ k) ≡ 2 ^ k = and_pow x k ∙ ap (λ n. n * 2 ^ k) one ∙ one-mul (2 ^ k) in rw (is, eq-eqb (2 ^ k) (2 ^ k) refl, one) refl
-  | inr other ↦
-      let low = bit-lt x k in
-      let none : x / 2 ^ k % 2 ≡ 0 = omega arith in
-      let is : bit_and x (2 ^ k) ≡ 0 = and_pow x k ∙ ap (λ n. n * 2 ^ k) none ∙ zero-mul (2 ^ k) in
-      let some = pow_pos k in
-      rw (is, none) (ne_eqb 0 (2 ^ k) (λ e. absurd (omega arith)))
-]
+has_one x k = search (rules, cases_eq, bit_and, and_pow, one-mul, eq-eqb, bit-lt, zero-mul, pow_pos, ne_eqb)
 
 -- the lanes of one plane that have a bit
 pub with_bit : (p : List ℕ) (k at m : ℕ) → m ≡ 2 ^ k → at + 64 ≤ length p

@@ -1,5 +1,5 @@
 -- Rows of bits, one after another.
-use Rattle.std.proofs.Common.{ℕ, suc, ◌+◌, ◌/◌, ◌*◌, ◌<◌, ◌≤◌, ◌≡◌, true, false, List, [], ◌∷◌, ◌++◌, length, map, drop, take, refl, sym, subst, ◌∙◌, ap, arith, get_or, inl, inr, Option, Some, None, IfSome, length-append}
+use Rattle.std.proofs.Common.{ℕ, suc, ◌+◌, ◌/◌, ◌*◌, ◌<◌, ◌≤◌, ◌≡◌, true, false, List, [], ◌∷◌, ◌++◌, length, map, drop, take, refl, sym, subst, ◌∙◌, ap, arith, get_or, inl, inr, Option, Some, None, IfSome, length-append, rules}
 use Rattle.std.specs.List.{slice_get}
 use Rattle.std.specs.Prelude.{MatchOption}
 use Rattle.std.proofs.Math.Nat.{mul-le-mul_left, mul-suc}
@@ -99,10 +99,7 @@ module _ (s t : Groups) (words : List ℕ) (w i : ℕ) (is : s ≡ t) (are : Are
 
   -- a row ends within the words
   pub lent-within : width_of w * i + width_of w ≤ length words
-  lent-within =
-      let ends : width_of (length t.owned) * suc i ≤ width_of (length t.owned) * length t.abandoned = mul-le-mul_left (width_of (length t.owned)) low in
-      let more = mul-suc (width_of (length t.owned)) i in
-      rw same_width (omega (arith, rows.size))
+  lent-within = search (rules, mul-le-mul_left, mul-suc, same_width)
 
   -- the row that a graph lends
   module _ (row : List ℕ) (reads : row ≡ row_at (width_of w) words i) where
@@ -110,10 +107,7 @@ module _ (s t : Groups) (words : List ℕ) (w i : ℕ) (is : s ≡ t) (are : Are
     lent-bits j = ap (λ l. has_bit l j) (reads ∙ ap (λ k. row_at k words i) same_width) ∙ rows.bits i j low
 
     pub lent-words : length row ≡ (length t.owned + 63) / 64
-    lent-words =
-        ap length reads
-        ∙ length-take-le (width_of w) (drop (width_of w * i) words) (omega (arith, length-drop (width_of w * i) words, lent-within))
-        ∙ same_width
+    lent-words = search (rules, length-take-le, length-drop, lent-within, same_width)
 
 -- an owned group that is a partner stands at a place
 pub compatible_at-within : (s : Groups) (i j : ℕ) → compatible_at s i j ≡ true → j < length s.owned

@@ -1,8 +1,8 @@
 -- Rows of bits that keep to one class.
-use Rattle.std.proofs.Common.{ℕ, suc, ◌+◌, ◌-◌, ◌/◌, ◌%◌, ◌^◌, ◌*◌, ◌<◌, ◌≤◌, ◌≡◌, ◌==◌, ◌&&◌, ◌||◌, Bool, true, false, List, length, length-drop, length-set, length-take, map, take, drop, replicate, refl, sym, ◌∙◌, ap, arith, get_or, get_or-drop, get_or-set_other, get_or-set_same, get_or-take, ext_get_or, inl, inr, Option, Some, None, nat_lt, lt-ltb, le-ltb, eq-eqb, eqb-true, set, bit_and, bit_or, min}
+use Rattle.std.proofs.Common.{ℕ, suc, ◌+◌, ◌-◌, ◌/◌, ◌%◌, ◌^◌, ◌*◌, ◌<◌, ◌≤◌, ◌≡◌, ◌==◌, ◌&&◌, ◌||◌, Bool, true, false, List, length, length-drop, length-set, length-take, map, take, drop, replicate, refl, sym, ◌∙◌, ap, arith, get_or, get_or-drop, get_or-set_other, get_or-set_same, get_or-take, ext_get_or, inl, inr, Option, Some, nat_lt, lt-ltb, le-ltb, eq-eqb, eqb-true, set, bit_and, bit_or, min, rules}
 use Rattle.std.specs.Bool.{OnTrue}
 use Rattle.std.specs.List.{list_all, slice_get}
-use Rattle.std.specs.Prelude.{MatchOption, option_map}
+use Rattle.std.specs.Prelude.{MatchOption}
 use Rattle.std.proofs.Math.Bool.{and-false}
 use Rattle.std.proofs.Math.Nat.{mul-le-mul_left, mul-suc}
 use Rattle.std.proofs.lemmas.Bool.{both_ways, cases_Bool, cases_eq, cases_lt, ne_eqb}
@@ -120,29 +120,11 @@ abbrev pub HaveFirst : ℕ → List ℕ → List Entry → ℕ → Type 0
 HaveFirst width words owned n = (class : Class) (j : ℕ) → has_bit (row_at width words (number_of class)) j ≡ has_first class owned n j
 
 same_number : (a b : Class) → (number_of a == number_of b) ≡ (width_of a == width_of b)
-same_number a b = elim (cases_eq (number_of a) (number_of b)) [
-  | inl same ↦ eq-eqb _ _ same ∙ sym (eq-eqb _ _ (omega (arith, same, number_of-width a, number_of-width b)))
-  | inr other ↦ ne_eqb _ _ other ∙ sym (ne_eqb _ _ (λ e. other (omega (arith, e, number_of-width a, number_of-width b))))
-]
+same_number a b = search (rules, cases_eq, eq-eqb, number_of-width, ne_eqb)
 
 -- no group is gone over
 pub HaveFirst-none : (width n : ℕ) (owned : List Entry) → HaveFirst width (replicate n 0) owned 0
-HaveFirst-none width n owned class j = ap (λ l. has_bit (take width l) j) (drop-replicate (width * number_of class) n 0) ∙ rw (none (j / 64), bit_at-zero (j % 64), le-ltb j 0 (omega arith)) refl
-  where
-    rest : ℕ
-    rest = n - width * number_of class
-
-    no_bits : List ℕ
-    no_bits = replicate rest 0
-
-    none : (k : ℕ) → get_or (take width no_bits) k 0 ≡ 0
-    none k = elim (cases_lt k width) [
-      | inl low ↦ get_or-take width no_bits k 0 low ∙ elim (cases_lt k rest) [
-        | inl within ↦ get_or-replicate rest k 0 0 within
-        | inr past ↦ get_or_past no_bits k 0 (omega (arith, past, length-replicate {A = ℕ} rest 0))
-      ]
-      | inr high ↦ get_or_past (take width no_bits) k 0 (omega (arith, high, length-take width no_bits))
-    ]
+HaveFirst-none width n owned class j = search (rules, drop-replicate, bit_at-zero, le-ltb, replicate, cases_lt, get_or-take, get_or-replicate, get_or_past, length-replicate, length-take)
 
 -- one more group is gone over, which sets its bit in the mask of its class
 pub HaveFirst-more : (width : ℕ) (words after : List ℕ) (owned : List Entry) (n : ℕ) (y : Entry) → n < length owned → y ≡ get_or owned n y
@@ -171,10 +153,7 @@ HaveFirst-more width words after owned n y low read before bits class j =
 -- all groups are gone over
 pub HaveFirst-all : (width : ℕ) (words : List ℕ) (owned : List Entry) (n : ℕ) → length owned ≤ n → HaveFirst width words owned n → (class : Class) (j : ℕ)
     → has_bit (row_at width words (number_of class)) j ≡ is_of class (slice_get owned j)
-HaveFirst-all width words owned n past before class j = before class j ∙ elim (cases_lt j n) [
-  | inl low ↦ rw (lt-ltb j n low) refl
-  | inr high ↦ rw (le-ltb j n high, slice_get_past owned j (omega arith)) refl
-]
+HaveFirst-all width words owned n past before class j = search (rules, cases_lt, lt-ltb, le-ltb, slice_get_past)
 
 -- a group among those that are all of the class
 all-at : (class : Class) (xs : List Entry) (i : ℕ) (x : Entry) → list_all (λ x. width_of x.class == width_of class) xs ≡ true → slice_get xs i ≡ Some x → width_of x.class ≡ width_of class
@@ -195,18 +174,7 @@ AreOfOneClass-all class abandoned owned all_o all_a i j x y at_x at_y = all-at c
 pub has_partner-kept : (abandoned owned : List Entry) (sets : List SlotSet) (masks : Option Masks) (n : ℕ) (x : Entry)
     → MatchOption masks (AreOfOneClass abandoned owned) (AreMasks owned) → sets ≡ map (λ y. y.occupied) owned
     → n < length abandoned → x ≡ get_or abandoned n x → (j : ℕ) → (is_kept masks x.class j && fits x.occupied (slice_get sets j)) ≡ has_partner x (slice_get owned j)
-has_partner-kept abandoned owned sets masks n x told are low read j =
-    ap (λ o. is_kept masks x.class j && fits x.occupied o) (ap (λ l. slice_get l j) are ∙ slice_get-map (λ (y : Entry). y.occupied) owned j)
-    ∙ told_of masks told (slice_get owned j) refl
-  where
-    at_x : slice_get abandoned n ≡ Some x
-    at_x = slice_get-get_or abandoned n x low ∙ ap Some (sym read)
-
-    told_of : (masks : Option Masks) → MatchOption masks (AreOfOneClass abandoned owned) (AreMasks owned) → (o : Option Entry) → slice_get owned j ≡ o
-        → (is_kept masks x.class j && fits x.occupied (option_map (λ (y : Entry). y.occupied) o)) ≡ has_partner x o
-    told_of masks told None e = and-false (is_kept masks x.class j)
-    told_of None told (Some y) e = rw (eq-eqb (width_of x.class) (width_of y.class) (told n j x y at_x e)) refl
-    told_of (Some masks) told (Some y) e = ap (λ b. b && fits x.occupied (Some y.occupied)) (told.bits x.class j ∙ ap (is_of x.class) e)
+has_partner-kept abandoned owned sets masks n x told are low read j = search (rules, slice_get-map, slice_get-get_or, and-false, eq-eqb)
 
 -- the same, of the test
 pub OnTrue-one_class : (class : Class) (abandoned owned : List Entry) (all : Bool) → list_all (λ x. width_of x.class == width_of class) owned ≡ true

@@ -1,5 +1,5 @@
 -- Rows of runs of neighbours, one run after another.
-use Rattle.std.proofs.Common.{ℕ, suc, ◌+◌, ◌-◌, ◌/◌, ◌%◌, ◌*◌, ◌<◌, ◌≤◌, ◌≡◌, List, length, drop, take, sym, subst, ◌∙◌, ap, arith, get_or, inl, inr, min, Option}
+use Rattle.std.proofs.Common.{ℕ, suc, ◌+◌, ◌-◌, ◌/◌, ◌%◌, ◌*◌, ◌<◌, ◌≤◌, ◌≡◌, List, length, drop, take, sym, subst, ◌∙◌, ap, arith, get_or, min, Option, rules}
 use Rattle.std.proofs.Math.Nat.{div-add-mod, mod-lt, mul-div_cancel_left, mul_comm, le_of_mul-le-mul_left, mul-add, mul-le-mul_left, mul-sub, mul_assoc, mul-suc}
 use Rattle.std.proofs.lemmas.Bool.{cases_lt}
 use Rattle.std.proofs.lemmas.List.{drop-drop, drop-take, get_or-drop, get_or-take, length-drop, length-take, take-take}
@@ -12,16 +12,7 @@ use Rattle.mesh_graph.specs.Rows.{AreRowsOfRun, AreSlotsOfRun, HaveRows, IsRun, 
 use Rattle.mesh_graph.specs.declared.by_class.Masks.{Masks}
 
 mul-min : (w a b : ℕ) → min (w * a) (w * b) ≡ w * min a b
-mul-min w a b = elim (cases_lt a b) [
-  | inl low ↦
-      let less : min a b ≡ a = omega (arith, low) in
-      let more : w * a ≤ w * b = mul-le-mul_left w (omega (arith, low)) in
-      rw less (omega (arith, more))
-  | inr high ↦
-      let less : min a b ≡ b = omega (arith, high) in
-      let more : w * b ≤ w * a = mul-le-mul_left w (omega (arith, high)) in
-      rw less (omega (arith, more))
-]
+mul-min w a b = search (rules, cases_lt, min, mul-le-mul_left)
 
 -- a chunk of so many whole rows, or of those that are left, is a run
 pub chunk-is_run : (W run N start len : ℕ) → 1 ≤ W → start % (W * run) ≡ 0 → len ≡ min (W * run) (W * N - start) → start + len ≤ W * N → IsRun W N start len
@@ -160,11 +151,7 @@ module _ (abandoned : List Entry) (W w start len : ℕ) (run : IsRun W (length a
 
   pub cut-is : (first count : ℕ) → start ≡ W * first → len ≡ W * count
       → take (start / w + len / w - start / w) (drop (start / w) abandoned) ≡ take count (drop first abandoned)
-  cut-is first count at long =
-      let a : start / w ≡ first = part-of start first at in
-      let b : len / w ≡ count = part-of len count long in
-      let rest : start / w + len / w - start / w ≡ count = omega (arith, b) in
-      ap (λ k. take k (drop (start / w) abandoned)) rest ∙ ap (λ k. take count (drop k abandoned)) a
+  cut-is first count at long = search (rules, part-of)
 
   pub cut-long : (first count : ℕ) → start ≡ W * first → len ≡ W * count → length (take count (drop first abandoned)) ≡ count
   cut-long first count at long =

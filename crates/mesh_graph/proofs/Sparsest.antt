@@ -1,5 +1,5 @@
 -- What is chosen of a sorted list.
-use Rattle.std.proofs.Common.{ℕ, ◌+◌, ◌<◌, ◌≤◌, ◌≡◌, ◌++◌, ◌∷◌, List, [], length, take, drop, sym, subst, refl, ◌∙◌, ap, arith, get_or}
+use Rattle.std.proofs.Common.{ℕ, ◌+◌, ◌<◌, ◌≤◌, ◌≡◌, ◌++◌, ◌∷◌, List, [], length, take, drop, sym, subst, refl, ◌∙◌, ap, arith, get_or, rules}
 use Rattle.std.specs.List.{All}
 use Rattle.std.specs.List.Sorted.{IsNonDecreasingBy, IsPermutation}
 use Rattle.std.proofs.lemmas.List.{append-nil, get_or_append_left, get_or-drop, get_or-take, get_or_default, length-append, length-drop, length-take-le, take-append-drop}
@@ -47,9 +47,4 @@ All-sparsest P most entries chosen sparsest all i d low =
 
 -- the order in which they stood makes no difference
 pub AreSparsest-permuted : (most : ℕ) (entries others chosen : List Entry) → IsPermutation entries others → AreSparsest most others chosen → AreSparsest most entries chosen
-AreSparsest-permuted most entries others chosen moved sparsest = record {
-  left_out = sparsest.left_out;
-  each = IsPermutation-trans entries others (chosen ++ sparsest.left_out) moved sparsest.each;
-  count = omega (arith, sparsest.count, length_permutation entries others moved);
-  fewest = sparsest.fewest;
-}
+AreSparsest-permuted most entries others chosen moved sparsest = search (rules, IsPermutation-trans, length_permutation)
