@@ -1,6 +1,5 @@
 -- Plans that are carried out, closed and made.
-use Rattle.std.proofs.Common.{◌≡◌, ◌+◌, ◌<◌, ℕ, true, false, List, [], ◌∷◌, ◌++◌, map, replicate, nat_lt, slice_get, Option, Some, None, option_map, refl, sym, ap, subst, ◌∙◌, arith}
-use Rattle.std.specs.Option.{option_map_or}
+use Rattle.std.proofs.Common.{◌≡◌, ◌+◌, ◌<◌, ℕ, List, [], ◌∷◌, ◌++◌, map, replicate, nat_lt, slice_get, Option, Some, None, option_map, refl, sym, ap, subst, rules}
 use Rattle.std.proofs.lemmas.Bool.Decides.{nat_tests}
 use Rattle.std.proofs.lemmas.Option.{slice_get-map}
 use Rattle.std.proofs.lemmas.Grind.{replicate_next}
@@ -31,11 +30,7 @@ ended-Folds pool pool_new old new abandoned owned folds = ap (λ (s : ShardState
 
 ended_in-map : (f : ShardState → ShardState) → ((shard : ShardState) → (f shard).ended ≡ shard.ended) → (shards : List ShardState) (number : ℕ)
     → ended_in (map f shards) number ≡ ended_in shards number
-ended_in-map f same shards number = ap (λ o. option_map_or (λ (shard : ShardState). shard.ended) o false) (slice_get-map f shards number) ∙ at (slice_get shards number)
-  where
-    at : (o : Option ShardState) → option_map_or (λ (shard : ShardState). shard.ended) (option_map f o) false ≡ option_map_or (λ (shard : ShardState). shard.ended) o false
-    at None = refl
-    at (Some shard) = same shard
+ended_in-map f same shards number = search (rules, slice_get-map, option_map)
 
 pub KeepsShards-stepped : (old new : CoreState) (abandoned owned : SpanId) (outcome : Step) → CoreStep old event.Step (reply.Stepped abandoned owned outcome) new → KeepsShards old new
 KeepsShards-stepped old new abandoned owned Folded step =
@@ -62,11 +57,7 @@ Carries-next taken a b c x y z before more =
 -- ---- the open plan, of which the run knows how many pairs are left
 
 pub stepping-some : (plan : Option OpenPlan) (left : ℕ) → Some left ≡ option_map pairs_left_of plan → 0 < left → stepping plan ≡ Calls event.Step ∷ []
-stepping-some None left knows some = cc
-stepping-some (Some plan) left knows some =
-    let is : left ≡ pairs_left_of plan = cc in
-    let more : nat_lt 0 (pairs_left_of plan) ≡ true = rw (← is) (grind (arith, nat_tests)) in
-    rw more refl
+stepping-some plan left knows some = search (rules, nat_lt, nat_tests)
 
 pub finishing-some : (plan : Option OpenPlan) (left : ℕ) → Some left ≡ option_map pairs_left_of plan → finishing plan ≡ replicate left (Calls event.Step) ++ Calls event.Close ∷ []
 finishing-some None left knows = cc

@@ -1,8 +1,7 @@
 -- What a run keeps of its replies, one line more, and how a key is found in it.
-use Rattle.std.proofs.Common.{zero, suc, ◌≡◌, ℕ, ◌+◌, ◌<◌, Bool, true, false, cond, not, List, [], ◌∷◌, ◌++◌, map, length, take, drop, filter, Option, Some, None, slice_get, refl, sym, ap, subst, ◌∙◌, ◌-◌, append_assoc, arith, inl, inr, length-append, add-zero, unwrap_or, option_map, option_and_then}
+use Rattle.std.proofs.Common.{zero, suc, ◌≡◌, ℕ, ◌+◌, ◌<◌, Bool, true, false, cond, not, List, [], ◌∷◌, ◌++◌, map, length, take, drop, filter, Option, Some, None, slice_get, refl, sym, ap, subst, ◌∙◌, ◌-◌, append_assoc, arith, inl, inr, length-append, add-zero, unwrap_or, option_map, option_and_then, rules}
 use Rattle.std.specs.List.{flat_map, range_with_len}
 use Rattle.std.specs.Option.{option_map_or, option_or}
-use Rattle.std.specs.Str.{bytes_eq}
 use Rattle.std.proofs.lemmas.Bool.Decides.{nat_tests}
 use Rattle.std.proofs.lemmas.Grind.{flat_map-append}
 use Rattle.std.proofs.lemmas.List.{append-nil, length-map, map-append, take-append-drop}
@@ -15,11 +14,9 @@ use Rattle.span.specs.declared.key.Key.{Key}
 use Rattle.arena_core.specs.State.{CoreState}
 use Rattle.arena_core.specs.declared.event.Event.{Event}
 use Rattle.arena_core.specs.declared.event.Event.TheVariants as event
-use Rattle.arena_core.specs.declared.reply.Refusal.TheVariants.{RingFull}
 use Rattle.arena_core.specs.declared.reply.Reply.{Reply}
-use Rattle.arena_core.specs.declared.reply.Reply.TheVariants.{Found, Freed, Refused, Replaced}
 use Rattle.trace_runner.specs.Kept.{FindsAt, FindsOne, Kept, Recalls, is_put, keeping, kept_none, kept_of, keys_of}
-use Rattle.trace_runner.specs.Made.{Asked, Calls, Did, Made, asked_of, one_call}
+use Rattle.trace_runner.specs.Made.{Asked, Did, Made, asked_of, one_call}
 use Rattle.trace_runner.specs.Answers.{answer_told, on_line, put_told, told_of}
 use Rattle.trace_runner.specs.declared.report.Answer.{Answer}
 use Rattle.trace_runner.specs.declared.report.Answer.TheVariants as answer
@@ -31,7 +28,6 @@ use Rattle.trace_text.specs.Earlier.{key_count}
 use Rattle.trace_text.specs.Places.{first_of, place_at}
 use Rattle.trace_text.specs.declared.header.Header.{Header}
 use Rattle.trace_text.specs.declared.line.Binding.{Binding}
-use Rattle.trace_text.specs.Objects.{counted_from}
 use Rattle.trace_text.specs.declared.line.Call.TheVariants.{Put, Fill, Get, Set, Free, Sweep, Later}
 use Rattle.trace_text.specs.declared.line.Keys.{Keys}
 use Rattle.trace_text.specs.declared.line.Keys.TheVariants.{One, Many}
@@ -121,11 +117,7 @@ answer_key-put_told None = refl
 
 -- the key that an answer names is that of the put
 pub answer_key-told : (event : Event) (reply : Reply) (core : CoreState) → answer_key (answer_told reply) ≡ key_made (one_call event reply core)
-answer_key-told event (Found (Some value)) core = refl
-answer_key-told event (Replaced true) core = refl
-answer_key-told event (Freed true) core = refl
-answer_key-told event (Refused RingFull) core = refl
-answer_key-told event reply core = refl
+answer_key-told event reply core = search rules
 
 keys_of-push : (done : List Did) (did : Did) → flat_map (λ (d : Did). keys_of d.calls) (done ++ did ∷ []) ≡ flat_map (λ (d : Did). keys_of d.calls) done ++ keys_of did.calls
 keys_of-push done did = flat_map-append (λ (d : Did). keys_of d.calls) done (did ∷ []) ∙ ap (λ l. flat_map (λ (d : Did). keys_of d.calls) done ++ l) (append-nil (keys_of did.calls))
@@ -139,12 +131,7 @@ calls-push done did =
 pub kept_of-push : (replies : Bool) (done : List Did) (did : Did) (number : ℕ) (settled : List ℕ) (called after : Kept)
     → called ≡ keeping number (record (kept_of replies done) { text = settled }) did.calls
     → after ≡ record called { text = after.text } → after.text ≡ (news_of replies (done ++ did ∷ [])).text → after ≡ kept_of replies (done ++ did ∷ [])
-kept_of-push replies done did number settled called after calls rest told =
-    let keys : called.keys ≡ flat_map (λ (d : Did). keys_of d.calls) (done ++ did ∷ []) = ap (λ (k : Kept). k.keys) calls ∙ sym (keys_of-push done did) in
-    let count : called.count ≡ length (flat_map (λ (d : Did). d.calls) (done ++ did ∷ [])) = ap (λ (k : Kept). k.count) calls ∙ sym (calls-push done did) in
-    let asked : called.asked ≡ replies = ap (λ (k : Kept). k.asked) calls in
-    let same : record called { text = after.text } ≡ kept_of replies (done ++ did ∷ []) = λ i. record { keys = keys i; count = count i; asked = asked i; text = told i } in
-    rest ∙ same
+kept_of-push replies done did number settled called after calls rest told = search (rules, keys_of-push, calls-push, text)
 
 -- ---- the keys of a line
 
@@ -203,19 +190,7 @@ asks_none : (made : List Made) (asked : List Asked) → map asked_of made ≡ as
 asks_none made asked is puts = keys_of-no made (subst NoPuts (sym is) puts)
 
 pub Keyed-asked : (shards : ℕ) (all : List Line) (done : List Did) (l : Line) (made : List Made) → map asked_of made ≡ asked_by shards all done l → Keyed l made
-Keyed-asked shards all done line.Silent made is = asks_none made [] is tt
-Keyed-asked shards all done line.Mark made is = asks_none made [] is tt
-Keyed-asked shards all done (line.Call t (Put name class v)) made is = (asks_some made _ is (refl, tt), sym (length-map made asked_of) ∙ ap length is)
-Keyed-asked shards all done (line.Call t (Fill name class n v)) made is = (
-  asks_some made _ is (AllPuts-map (λ i. Calls (event.Put t (counted_from class (v + i)))) (λ i. refl) (range_with_len 0 n)),
-  sym (length-map made asked_of) ∙ ap length is ∙ length-map (range_with_len 0 n) (λ i. Calls (event.Put t (counted_from class (v + i)))) ∙ length-range_with_len 0 n,
-)
-Keyed-asked shards all done (line.Call t (Get key)) made is = asks_none made _ is (get_is_no_put _, tt)
-Keyed-asked shards all done (line.Call t (Set key class v)) made is = asks_none made _ is (set_is_no_put (counted_from class v) _, tt)
-Keyed-asked shards all done (line.Call t (Free key)) made is = asks_none made _ is (free_is_no_put _, tt)
-Keyed-asked shards all done (line.Call t (Sweep name from to)) made is = asks_none made _ is (NoPuts-map _ (λ place. free_is_no_put _) (range_with_len from (to - from)))
-Keyed-asked shards all done (line.Call t (Later key)) made is = asks_none made _ is (later_is_no_put t _, tt)
-Keyed-asked shards all done l made is = asks_none made _ is (refl, tt)
+Keyed-asked shards all done l made is = search (rules, asks_none, asks_some, length-map, AllPuts-map, length-range_with_len, get_is_no_put, set_is_no_put, free_is_no_put, NoPuts-map, later_is_no_put)
 
 as_many : (made : List Made) (n : ℕ) → (keys_of made ≡ map key_made made) × (length made ≡ n) → length (keys_of made) ≡ n
 as_many made n keyed = ap length keyed.0 ∙ length-map made key_made ∙ keyed.1
@@ -246,22 +221,10 @@ record IsBound (place first : ℕ) (made : List Made) (b : Binding) : Type 0 whe
 by_record : (place section first thread n : ℕ) (class : Class) (keys : Keys) (made : List Made) (b : Binding)
     → Some (record { keys = keys; class = class; thread = thread; section = section; line = place; first = first }) ≡ Some b
     → key_count keys ≡ n → (keys_of made ≡ map key_made made) × (length made ≡ n) → IsBound place first made b
-by_record place section first thread n class keys made b is count keyed =
-    let line_is : place ≡ b.line = ap (λ o. option_map_or (λ (x : Binding). x.line) o place) is in
-    let first_is : first ≡ b.first = ap (λ o. option_map_or (λ (x : Binding). x.first) o first) is in
-    let keys_is : keys ≡ b.keys = ap (λ o. option_map_or (λ (x : Binding). x.keys) o keys) is in
-    record { line_is = sym line_is; first_is = sym first_is; count_is = ap key_count (sym keys_is) ∙ count ∙ sym keyed.1; keys_are = keyed.0 }
+by_record place section first thread n class keys made b is count keyed = search rules
 
 IsBound-at : (place section first : ℕ) (name : List ℕ) (l : Line) (made : List Made) (b : Binding) → Keyed l made → binding_at place section first name l ≡ Some b → IsBound place first made b
-IsBound-at place section first name (line.Call t (Put bound class v)) made b keyed e = elim (chosen (bytes_eq bound name) _ _ (Some b) e) [
-  | inl p ↦ by_record place section first t 1 class One made b p.1 refl keyed
-  | inr p ↦ cc p.1
-]
-IsBound-at place section first name (line.Call t (Fill bound class n v)) made b keyed e = elim (chosen (bytes_eq bound name) _ _ (Some b) e) [
-  | inl p ↦ by_record place section first t n class (Many n) made b p.1 refl keyed
-  | inr p ↦ cc p.1
-]
-IsBound-at place section first name l made b keyed e = cc
+IsBound-at place section first name l made b keyed e = search (rules, chosen, by_record)
 
 pub Recalls-none : (keys : List (Option Key)) → Recalls [] [] keys
 Recalls-none keys name b place is less = cc
@@ -270,11 +233,7 @@ module _ (above : List Line) (l : Line) (done : List Did) (did : Did) (keys : Li
     (count : length done ≡ length above) (long : length keys ≡ keys_in above) (keyed : Keyed l did.calls) where
   earlier : (b : Binding) (place : ℕ) → (b.line < length done) × (slice_get keys (b.first + place) ≡ Some (key_bound done place b))
       → (b.line < length (done ++ did ∷ [])) × (slice_get (keys ++ keys_of did.calls) (b.first + place) ≡ Some (key_bound (done ++ did ∷ []) place b))
-  earlier b place known =
-      let same : key_bound (done ++ did ∷ []) place b
-      ≡ key_bound done place b = ap (λ o. option_and_then (λ (d : Did). option_and_then key_made (slice_get d.calls place)) o)
-      (get_left done (did ∷ []) b.line known.0) in
-      (omega (arith, known.0, length-append done (did ∷ [])), get_left keys (keys_of did.calls) (b.first + place) (slice_get_within keys (b.first + place) _ known.1) ∙ known.1 ∙ ap Some (sym same))
+  earlier b place known = search (rules, option_and_then, get_left, length-append, slice_get_within)
 
   latest : (b : Binding) (place : ℕ) → place < key_count b.keys → IsBound (length above) (keys_in above) did.calls b
       → (b.line < length (done ++ did ∷ [])) × (slice_get (keys ++ keys_of did.calls) (b.first + place) ≡ Some (key_bound (done ++ did ∷ []) place b))
@@ -323,12 +282,7 @@ binding_of-take : (lines : List Line) (n : ℕ) (name : List ℕ) (b : Binding) 
 binding_of-take lines n name b is = ap (binding_of name) (sym (take-append-drop n lines)) ∙ binding_from-front 0 0 0 name (take n lines) (drop n lines) b is
 
 known : (test : Keys → Bool) (o : Option Binding) → not (option_map_or (λ (b : Binding). test b.keys) o false) ≡ false → (b : Binding) × (o ≡ Some b) × (test b.keys ≡ true)
-known test None e = cc
-known test (Some b) e = (b, refl, is_true (test b.keys) e)
-  where
-    is_true : (t : Bool) → not t ≡ false → t ≡ true
-    is_true true e = refl
-    is_true false e = cc
+known test o e = search rules
 
 below_count : (index : Option ℕ) (keys : Keys) → has_key index keys ≡ true → unwrap_or index 0 < key_count keys
 below_count None One e = omega arith

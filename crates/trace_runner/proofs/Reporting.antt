@@ -1,6 +1,5 @@
 -- The start of a run, and the report of one.
-use Rattle.std.proofs.Common.{◌≡◌, ◌++◌, ℕ, Bool, false, List, Option, Some, None, option_map, refl, ap, subst, ◌∙◌, arith, slice_get}
-use Rattle.std.specs.List.{range_with_len}
+use Rattle.std.proofs.Common.{◌≡◌, ◌++◌, ℕ, Bool, false, List, Option, Some, None, option_map, refl, ap, slice_get, rules}
 use Rattle.std.specs.Option.{option_map_or}
 use Rattle.std.proofs.lemmas.Option.{slice_get-map}
 use Rattle.span.specs.PlainMap.{empty_map}
@@ -8,10 +7,9 @@ use Rattle.shard.specs.State.{ShardState}
 use Rattle.arena_core.specs.State.{CoreState, HasKeys, live_keys, new_shard, pages, shown}
 use Rattle.trace_runner.specs.News.{News}
 use Rattle.trace_runner.specs.Recalls.{Serves}
-use Rattle.trace_runner.specs.Replay.{IsReportOf, ending_of, start_of}
+use Rattle.trace_runner.specs.Replay.{IsReportOf, start_of}
 use Rattle.trace_runner.specs.Report.{end_line}
 use Rattle.trace_runner.specs.Runs.{IsRun}
-use Rattle.trace_runner.specs.declared.replay.TheConstants.{TRACE_SPANS}
 use Rattle.trace_runner.specs.declared.report.Ending.{Ending}
 use Rattle.trace_text.specs.declared.header.Header.{Header}
 use Rattle.trace_text.specs.declared.trace.Trace.{Trace}
@@ -23,28 +21,11 @@ not_ended page_limit span_limit gens (Some number) = refl
 
 -- the core that a run starts with has the header's shards, and none has ended
 pub Serves-start : (header : Header) → Serves header.shards (start_of header)
-Serves-start header = record {
-  unplanned = refl;
-  enough = omega arith;
-  running = λ number below.
-      ap (λ o. option_map_or (λ (shard : ShardState). shard.ended) o false) (slice_get-map (new_shard header.pages TRACE_SPANS header.gens) (range_with_len 0 header.shards) number)
-      ∙ not_ended header.pages TRACE_SPANS header.gens (slice_get (range_with_len 0 header.shards) number);
-}
+Serves-start header = search (rules, slice_get-map, not_ended)
 
 module _ (trace : Trace) (replies : Bool) (start last : CoreState) (ending : Ending) (news : News) where
   -- what is written of a run is its report
   pub IsReportOf-run : start ≡ start_of trace.header → shown (start_of trace.header) ≡ empty_map → IsRun trace.header.shards replies trace.lines.items start last ending.calls news
       → ending.pages ≡ pages last → ending.live ≡ live_keys last → HasKeys (shown last) ending.live
       → (bytes certificate : List ℕ) → bytes ≡ news.text ++ end_line ending → certificate ≡ news.certificate → IsReportOf trace replies bytes certificate
-  IsReportOf-run starts empty run pages_are live_are keys bytes certificate spelled certified =
-      let same : ending ≡ ending_of last ending.calls = λ i. record { pages = pages_are i; live = live_are i; calls = ending.calls } in
-      record {
-        last = last;
-        calls = ending.calls;
-        news = news;
-        empty = empty;
-        run = subst (λ (c : CoreState). IsRun trace.header.shards replies trace.lines.items c last ending.calls news) starts run;
-        live = subst (HasKeys (shown last)) live_are keys;
-        spelled = spelled ∙ ap (λ (e : Ending). news.text ++ end_line e) same;
-        certificate_is = certified;
-      }
+  IsReportOf-run starts empty run pages_are live_are keys bytes certificate spelled certified = search rules

@@ -1,5 +1,5 @@
 -- Which shards have ended, one step later.
-use Rattle.std.proofs.Common.{◌≡◌, ◌==◌, ℕ, zero, suc, Bool, true, false, cond, List, [], ◌∷◌, Some, refl, sym, ap, subst, ◌∙◌, arith, inl, inr, is_some, slice_get, set, Result, Ok, Err, MatchResult}
+use Rattle.std.proofs.Common.{◌≡◌, ◌==◌, ℕ, zero, suc, Bool, true, false, cond, List, [], ◌∷◌, Some, refl, sym, ap, subst, ◌∙◌, arith, inl, inr, is_some, slice_get, set, Result, Ok, Err, MatchResult, rules}
 use Rattle.std.specs.Option.{option_map_or}
 use Rattle.std.proofs.lemmas.Bool.Decides.{nat_tests}
 use Rattle.std.proofs.lemmas.Bool.{cases_Bool, eqb-true}
@@ -22,7 +22,7 @@ use Rattle.arena_core.specs.declared.event.Event.TheVariants.{Put, Get, Set, Fre
 use Rattle.arena_core.specs.declared.reply.Reply.{Reply}
 use Rattle.arena_core.specs.declared.reply.Reply.TheVariants.{Issued, Found, Replaced, Freed, Sent, ShardEnded, ShardBegun, Retired, Trimmed, Adopted, Refused}
 use Rattle.arena_core.specs.declared.reply.Refusal.{Refusal}
-use Rattle.arena_core.specs.declared.reply.Refusal.TheVariants.{OutOfMemory, PagesSpent, Ended, PlanOpen, RingFull, Config}
+use Rattle.arena_core.specs.declared.reply.Refusal.TheVariants.{OutOfMemory, Ended, PlanOpen, RingFull, Config}
 
 -- the shard of this number is there and has ended
 abbrev pub ended_in : List ShardState → ℕ → Bool
@@ -46,24 +46,10 @@ ended_in-set (shard ∷ shards) (suc number) before after here (suc other) =
 
 module _ (old : CoreState) (number : ℕ) (before after : ShardState) (here : slice_get old.shards number ≡ Some before) where
   pub KeepsShards-with_shard : after.ended ≡ before.ended → KeepsShards old (with_shard old number after)
-  KeepsShards-with_shard same = record {
-    limits = refl;
-    ended = λ other. ended_in-set old.shards number before after here other ∙ elim (cases_Bool (number == other)) [
-      | inl is ↦
-          let at : ended_at old other ≡ before.ended = ap (ended_at old) (sym (eqb-true number other is)) ∙ ap (λ o. option_map_or (λ (shard : ShardState). shard.ended) o false) here in
-          rw is (same ∙ sym at)
-      | inr differs ↦ rw differs refl
-    ];
-  }
+  KeepsShards-with_shard same = search (rules, ended_in-set, cases_Bool, eqb-true)
 
   EndsOne-with_shard : after.ended ≡ true → EndsOne old number (with_shard old number after)
-  EndsOne-with_shard ended = record {
-    limits = refl;
-    ended = λ other. ended_in-set old.shards number before after here other ∙ elim (cases_Bool (number == other)) [
-      | inl is ↦ rw is ended
-      | inr differs ↦ rw differs refl
-    ];
-  }
+  EndsOne-with_shard ended = search (rules, ended_in-set, cases_Bool)
 
 KeepsShards-same : (old new : CoreState) → new ≡ old → KeepsShards old new
 KeepsShards-same old new same = record { limits = ap (λ (c : CoreState). c.limits) same; ended = λ number. ap (λ c. ended_at c number) same }
@@ -149,18 +135,7 @@ has_ended-clash : (core : CoreState) (number : ℕ) (shard : ShardState) → IsO
 has_ended-clash core number shard is_open here ended = clash (sym ended ∙ sym (ap (λ o. option_map_or (λ (s : ShardState). s.ended) o false) here) ∙ is_open.running)
 
 pub IsServed-step : (old new : CoreState) (event : Event) (reply : Reply) → MayCall old event → CoreStep old event reply new → IsServed reply
-IsServed-step old new (Put shard value) (Refused Config) may step = omega (arith, may.within, step.0)
-IsServed-step old new (Put shard value) (Refused Ended) may step = has_ended-clash old shard step.0.0 may step.0.1 step.0.2
-IsServed-step old new (Later worker key) (Refused Config) may step = elim step.0 [ inl outside ↦ omega (arith, may.0, outside) | inr outside ↦ omega (arith, may.1, outside) ]
-IsServed-step old new (Retire shard most) (Refused Config) may step = omega (arith, may.within, step.0)
-IsServed-step old new (Retire shard most) (Refused Ended) may step = has_ended-clash old shard step.0.0 may step.0.1 step.0.2
-IsServed-step old new (Trim shard) (Refused Config) may step = omega (arith, may.within, step.0)
-IsServed-step old new (Adopt shard) (Refused Config) may step = omega (arith, may.0.within, step.0)
-IsServed-step old new (Adopt shard) (Refused Ended) may step = has_ended-clash old shard step.0.0 may.0 step.0.1 step.0.2
-IsServed-step old new (Get key) (Found value) may step = tt
-IsServed-step old new (Set key value) (Refused OutOfMemory) may step = tt
-IsServed-step old new (Free key) (Freed freed) may step = tt
-IsServed-step old new event reply may step = search
+IsServed-step old new event reply may step = search (rules, has_ended-clash)
 
 -- an open plan is in the way of no other call of a line than a retirement
 pub MeetsPlan-step : (old new : CoreState) (event : Event) (reply : Reply) → MayCall old event → CoreStep old event reply new → MeetsPlan event reply
@@ -172,14 +147,7 @@ MeetsPlan-step old new event reply may step = tt
 
 module _ (old : CoreState) (number : ℕ) (before after : ShardState) (here : slice_get old.shards number ≡ Some before) where
   Resumes-with_shard : after.ended ≡ false → Resumes old (λ other. number == other) (with_shard old number after)
-  Resumes-with_shard runs = record {
-    limits = refl;
-    ended = λ other. ended_in-set old.shards number before after here other ∙ elim (cases_Bool (number == other)) [
-      | inl is ↦ rw is runs
-      | inr differs ↦ rw differs refl
-    ];
-    plan = refl;
-  }
+  Resumes-with_shard runs = search (rules, ended_in-set, cases_Bool)
 
 pub Resumes-begin : (old new : CoreState) (shard : ℕ) → CoreStep old (Begin shard) ShardBegun new → Resumes old (λ other. shard == other) new
 Resumes-begin old new shard step = subst (Resumes old (λ other. shard == other)) (sym step.rest) (Resumes-with_shard old shard step.before (begun step.before) step.here refl)
@@ -188,12 +156,7 @@ Resumes-begin old new shard step = subst (Resumes old (λ other. shard == other)
 
 -- of a put only these refusals come where its shard is there and runs
 pub IsPutServed-step : (old new : CoreState) (shard : ℕ) (value : Value) (put : Result Key Refusal) → IsOpen old shard → CoreStep old (Put shard value) (reply_to_put put) new → IsPutServed put
-IsPutServed-step old new shard value (Ok key) may step = tt
-IsPutServed-step old new shard value (Err PagesSpent) may step = tt
-IsPutServed-step old new shard value (Err OutOfMemory) may step = tt
-IsPutServed-step old new shard value (Err Ended) may step = IsServed-step old new (Put shard value) (Refused Ended) may step
-IsPutServed-step old new shard value (Err Config) may step = IsServed-step old new (Put shard value) (Refused Config) may step
-IsPutServed-step old new shard value (Err cause) may step = absurd step
+IsPutServed-step old new shard value put may step = search (rules, IsServed-step)
 
 pub CoreStep-put : (old new : CoreState) (shard : ℕ) (value : Value) (put : Result Key Refusal)
     → MatchResult put (λ key. CoreStep old (Put shard value) (Issued key) new) (λ refusal. CoreStep old (Put shard value) (Refused refusal) new)

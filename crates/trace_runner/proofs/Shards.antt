@@ -1,5 +1,5 @@
 -- Which shards have ended, after several steps.
-use Rattle.std.proofs.Common.{◌≡◌, ◌==◌, ◌&&◌, ◌||◌, ◌+◌, ℕ, Bool, true, false, not, cond, nat_lt, List, [], ◌∷◌, ◌++◌, map, filter, refl, sym, ap, ap₂, subst, ◌∙◌, arith, inl, inr, zero-add, append-nil}
+use Rattle.std.proofs.Common.{◌≡◌, ◌&&◌, ◌||◌, ◌+◌, ℕ, Bool, true, false, not, cond, nat_lt, List, [], ◌∷◌, ◌++◌, map, filter, refl, sym, ap, ap₂, subst, ◌∙◌, zero-add, append-nil, rules}
 use Rattle.std.specs.Prelude.{Err, Ok, OnOk, Result}
 use Rattle.std.proofs.lemmas.List.{map-append}
 use Rattle.std.specs.List.{range_with_len}
@@ -65,32 +65,11 @@ module _ (old mid : CoreState) (bound : ℕ) (test : ℕ → Bool) (below : Ends
 
   -- the shard of this number passes no test, and stays
   pub EndsBelow-skip : test bound ≡ false → EndsBelow old (bound + 1) test mid
-  EndsBelow-skip fails = record { limits = below.limits; ended = λ number. below.ended number ∙ ap (λ b. b || ended_at old number) (more number) }
-    where
-      more : (number : ℕ) → (nat_lt number bound && test number) ≡ (nat_lt number (bound + 1) && test number)
-      more number = elim (cases_Bool (bound == number)) [
-        | inl is ↦
-            let same : bound ≡ number = grind (arith, nat_tests) in
-            let e : test number ≡ false = rw (← same) fails in
-            ap (λ b. nat_lt number bound && b) e ∙ and-false (nat_lt number bound) ∙ sym (ap (λ b. nat_lt number (bound + 1) && b) e ∙ and-false (nat_lt number (bound + 1)))
-        | inr differs ↦ let e : nat_lt number bound ≡ nat_lt number (bound + 1) = grind (arith, nat_tests) in ap (λ b. b && test number) e
-      ]
+  EndsBelow-skip fails = search (rules, nat_lt, cases_Bool, nat_tests, and-false)
 
   -- or it passes, and ends
   pub EndsBelow-end : (new : CoreState) → test bound ≡ true → EndsOne mid bound new → EndsBelow old (bound + 1) test new
-  EndsBelow-end new passes ends = record { limits = ends.limits ∙ below.limits; ended = λ number. ends.ended number ∙ ap (λ b. bound == number || b) (below.ended number) ∙ more number }
-    where
-      more : (number : ℕ) → (bound == number || ((nat_lt number bound && test number) || ended_at old number)) ≡ ((nat_lt number (bound + 1) && test number) || ended_at old number)
-      more number = elim (cases_Bool (bound == number)) [
-        | inl is ↦
-            let same : bound ≡ number = grind (arith, nat_tests) in
-            let e : test number ≡ true = rw (← same) passes in
-            let f : nat_lt number (bound + 1) ≡ true = grind (arith, nat_tests) in
-            ap (λ b. b || ((nat_lt number bound && test number) || ended_at old number)) is ∙ sym (ap₂ (λ a b. (a && b) || ended_at old number) f e)
-        | inr differs ↦
-            let e : nat_lt number bound ≡ nat_lt number (bound + 1) = grind (arith, nat_tests) in
-            ap (λ b. b || ((nat_lt number bound && test number) || ended_at old number)) differs ∙ ap (λ b. (b && test number) || ended_at old number) e
-      ]
+  EndsBelow-end new passes ends = search (rules, nat_lt, cases_Bool, nat_tests, ap₂)
 
 map_same : (ks : List ℕ) → map (λ (k : ℕ). k) ks ≡ ks
 map_same [] = refl

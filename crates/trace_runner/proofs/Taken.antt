@@ -1,5 +1,5 @@
 -- Bytes that went in one after another.
-use Rattle.std.proofs.Common.{◌≡◌, ◌∙◌, ℕ, ◌+◌, List, ◌++◌, Option, Some, None, Ok, Err, take, drop, ap, refl}
+use Rattle.std.proofs.Common.{◌≡◌, ◌∙◌, ℕ, ◌+◌, List, Option, Some, None, Ok, Err, take, drop, refl, rules}
 use Rattle.std.specs.Prelude.{Result}
 use Rattle.std.proofs.Math.Seq.{take-add}
 use Rattle.std.proofs.KnownBytes.{Appends-trans}
@@ -23,11 +23,7 @@ Keeps-trans (Some xs) (Some ys) (Some zs) first second = second ∙ first
 
 -- a write after which nothing was taken before
 pub Keeps-write : {E : Type 0} (o p q : Option (List ℕ)) (r : Result ℕ E) (bytes : List ℕ) → Keeps o p → WriteAppends p q r bytes → WriteAppends o q r bytes
-Keeps-write o p q (Err e) bytes kept written = Keeps-trans o p q kept written
-Keeps-write None p q (Ok n) bytes kept written = tt
-Keeps-write (Some xs) None q (Ok n) bytes kept written = absurd kept
-Keeps-write (Some xs) (Some ys) None (Ok n) bytes kept written = absurd written
-Keeps-write (Some xs) (Some ys) (Some zs) (Ok n) bytes kept written = written ∙ ap (λ l. l ++ take n bytes) kept
+Keeps-write o p q r bytes kept written = search (rules, Keeps-trans)
 
 -- a write that failed has taken nothing
 pub WriteAppends-err : {E : Type 0} (o p : Option (List ℕ)) (r : Result ℕ E) (e : E) (bytes : List ℕ) → r ≡ Err e → WriteAppends o p r bytes → Keeps o p
