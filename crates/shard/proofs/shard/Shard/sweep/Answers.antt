@@ -1,5 +1,5 @@
-use Rattle.std.proofs.Common.{◌∙◌, ap, arith, length, subst, sym}
-use Rattle.std.specs.Prelude.{vec_capacity}
+use Rattle.std.proofs.Common.{◌≤◌, ◌∙◌, ap, arith, length, subst, sym}
+use Rattle.std.specs.Prelude.{vec_capacity, vec_len}
 use Rattle.shard.specs.Kept.{state_of}
 use Rattle.shard.specs.Heads.{AreReady, KnowsHeads}
 use Rattle.shard.proofs.ClassesHere.{HaveRoom-same, HaveRoom-swept}
@@ -16,49 +16,30 @@ sweep_rooms-requires-clause-room g c =
     (omega (arith, ap length c.as_slice.ensures.value, c.self.inside.groups.ok.0)) (λ class. omega arith)
 
 pub invariant_of-self : goal.invariant_of-self
-invariant_of-self g c = record {
-  number_fits = c.self.invariant.number_fits;
-  pages_fit = c.self.invariant.pages_fit;
-  gens_fit = c.self.invariant.gens_fit;
-  sound = rw c.drop_places.ensures.items (IsSound-swept (state_of c.self.inside) c.self.invariant.sound);
-  rooms = λ class. rw (c.drop_places.ensures.items, ← c.as_slice.ensures.value) (c.sweep_rooms.ensures.has class);
-  room_for_groups = omega (
-    arith,
-    c.self.invariant.room_for_groups,
-    c.drop_places.ensures.capacity,
-    ap length c.drop_places.ensures.items,
-    length-stayed c.self.inside.groups.items,
-    c.self.inside.groups.ok.0,
-    c.drop_places.new.groups.ok.0,
-  );
-  room_for_rooms = rw c.drop_places.ensures.items
-      (HaveRoom-swept c.self.inside.groups.items c.self.inside.rooms _ c.self.invariant.room_for_rooms c.sweep_rooms.new.rooms _
-      (omega (
-        arith,
-        ap length c.drop_places.ensures.items,
-        length-stayed c.self.inside.groups.items,
-        c.self.inside.groups.ok.0,
-        c.drop_places.new.groups.ok.0,
-      )) (λ class. omega (arith, c.sweep_rooms.ensures.room class)));
-  room_for_class = λ some class. omega (
-    arith,
-    c.self.invariant.room_for_class some class,
-    c.sweep_rooms.ensures.room class,
-    ap length c.drop_places.ensures.items,
-    length-stayed c.self.inside.groups.items,
-    c.self.inside.groups.ok.0,
-    c.drop_places.new.groups.ok.0,
-  );
-  no_guests = c.self.invariant.no_guests;
-  room_for_guests = rw c.drop_places.ensures.items
-      (HasGuestRoom-swept c.self.inside.groups.items c.self.inside.onto c.self.inside.span_room
-      (vec_capacity c.self.inside.guest_room) c.self.invariant.room_for_guests);
-  guests_known = rw c.drop_places.ensures.items (KnowsGuests-swept c.self.inside.groups.items c.self.inside.directory.entries c.self.invariant.guests_known);
-  room_for_entries = c.self.invariant.room_for_entries;
-  heads_known = subst (λ gs. KnowsHeads c.self.inside.number gs c.note_from.new.self) c.as_slice-2.ensures.value c.note_from.ensures.known;
-  room_for_heads = λ some. let enough = c.self.invariant.room_for_heads some in omega (arith, enough, c.note_from.ensures.base, c.note_from.ensures.len);
-  guests_noted = c.self.invariant.guests_noted;
-}
+invariant_of-self g c =
+    let fewer : vec_len c.drop_places.new.groups ≤ vec_len c.self.inside.groups =
+    omega (arith, ap length c.drop_places.ensures.items, length-stayed c.self.inside.groups.items, c.self.inside.groups.ok.0, c.drop_places.new.groups.ok.0) in
+    record {
+      number_fits = c.self.invariant.number_fits;
+      pages_fit = c.self.invariant.pages_fit;
+      gens_fit = c.self.invariant.gens_fit;
+      sound = rw c.drop_places.ensures.items (IsSound-swept (state_of c.self.inside) c.self.invariant.sound);
+      rooms = λ class. rw (c.drop_places.ensures.items, ← c.as_slice.ensures.value) (c.sweep_rooms.ensures.has class);
+      room_for_groups = omega (arith, fewer, c.self.invariant.room_for_groups, c.drop_places.ensures.capacity);
+      room_for_rooms = rw c.drop_places.ensures.items
+          (HaveRoom-swept c.self.inside.groups.items c.self.inside.rooms _ c.self.invariant.room_for_rooms c.sweep_rooms.new.rooms _
+          (omega (arith, fewer)) (λ class. omega (arith, c.sweep_rooms.ensures.room class)));
+      room_for_class = λ some class. omega (arith, fewer, c.self.invariant.room_for_class some class, c.sweep_rooms.ensures.room class);
+      no_guests = c.self.invariant.no_guests;
+      room_for_guests = rw c.drop_places.ensures.items
+          (HasGuestRoom-swept c.self.inside.groups.items c.self.inside.onto c.self.inside.span_room
+          (vec_capacity c.self.inside.guest_room) c.self.invariant.room_for_guests);
+      guests_known = rw c.drop_places.ensures.items (KnowsGuests-swept c.self.inside.groups.items c.self.inside.directory.entries c.self.invariant.guests_known);
+      room_for_entries = c.self.invariant.room_for_entries;
+      heads_known = subst (λ gs. KnowsHeads c.self.inside.number gs c.note_from.new.self) c.as_slice-2.ensures.value c.note_from.ensures.known;
+      room_for_heads = λ some. let enough = c.self.invariant.room_for_heads some in omega (arith, enough, c.note_from.ensures.base, c.note_from.ensures.len);
+      guests_noted = c.self.invariant.guests_noted;
+    }
 
 pub returns-clause-sound : goal.returns-clause-sound
 returns-clause-sound g c = (invariant_of-self g c).sound

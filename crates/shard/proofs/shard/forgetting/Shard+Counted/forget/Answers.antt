@@ -1,5 +1,5 @@
 use Rattle.std.proofs.Common.{◌≡◌, ◌∙◌, List, ap, arith, length, refl, sym}
-use Rattle.std.specs.Prelude.{◌+◌, ◌-◌, map as map_list, vec_capacity}
+use Rattle.std.specs.Prelude.{◌+◌, ◌-◌, map as map_list, vec_capacity, vec_len}
 use Rattle.std.proofs.lemmas.List.{length-map}
 use Rattle.groups.specs.Dead.{dead_guests, without_dead}
 use Rattle.groups.specs.Group.{spans_in}
@@ -26,40 +26,30 @@ sound_after : (c : goal.After-forget_all) → IsSound (record (state_of c.self.i
 sound_after c = rw c.forget_all.ensures.items (IsSound-without_dead (state_of c.self.inside) c.self.invariant.sound)
 
 pub invariant_of-self : goal.invariant_of-self
-invariant_of-self c = record {
-  number_fits = c.self.invariant.number_fits;
-  pages_fit = c.self.invariant.pages_fit;
-  gens_fit = c.self.invariant.gens_fit;
-  sound = sound_after c;
-  rooms = λ class. rw c.forget_all.ensures.items (HasRooms-without_dead class c.self.inside.groups.items (rooms_of c.self.inside.rooms class) (c.self.invariant.rooms class));
-  room_for_groups = c.forget_all.ensures.capacity;
-  room_for_rooms = rw c.forget_all.ensures.items
-      (HaveRoom-map c.self.inside.groups.items c.self.inside.rooms _ c.self.invariant.room_for_rooms (without_dead {Closed = _}) (λ group. refl) c.self.inside.rooms _
-      (omega (
-        arith,
-        ap length c.forget_all.ensures.items,
-        length-map c.self.inside.groups.items (without_dead {Closed = _}),
-        c.self.inside.groups.ok.0,
-        c.forget_all.new.groups.ok.0,
-      )) (λ class. omega arith));
-  room_for_class = λ some class. omega (
-    arith,
-    c.self.invariant.room_for_class some class,
-    ap length c.forget_all.ensures.items,
-    length-map c.self.inside.groups.items (without_dead {Closed = _}),
-    c.self.inside.groups.ok.0,
-    c.forget_all.new.groups.ok.0,
-  );
-  no_guests = c.self.invariant.no_guests;
-  room_for_guests = rw c.forget_all.ensures.items
-      (HasGuestRoom-without_dead c.self.inside.groups.items c.self.inside.onto c.self.inside.span_room
-      (vec_capacity c.self.inside.guest_room) c.self.invariant.room_for_guests);
-  guests_known = c.forget_all.ensures.known;
-  room_for_entries = rw c.forget_all.ensures.room c.self.invariant.room_for_entries;
-  heads_known = rw (c.forget_all.ensures.items) (KnowsHeads-without_dead c.self.inside.number c.self.inside.groups.items c.self.inside.heads c.self.invariant.heads_known);
-  room_for_heads = c.self.invariant.room_for_heads;
-  guests_noted = AreNoted-forgotten _ _ _ _ _ _ c.self.invariant.guests_noted _ c.forget_all.new.notes c.forget_all.ensures.noted c.forget_all.ensures.end;
-}
+invariant_of-self c =
+    let many : vec_len c.forget_all.new.groups ≡ vec_len c.self.inside.groups =
+    omega (arith, ap length c.forget_all.ensures.items, length-map c.self.inside.groups.items (without_dead {Closed = _}), c.self.inside.groups.ok.0, c.forget_all.new.groups.ok.0) in
+    record {
+      number_fits = c.self.invariant.number_fits;
+      pages_fit = c.self.invariant.pages_fit;
+      gens_fit = c.self.invariant.gens_fit;
+      sound = sound_after c;
+      rooms = λ class. rw c.forget_all.ensures.items (HasRooms-without_dead class c.self.inside.groups.items (rooms_of c.self.inside.rooms class) (c.self.invariant.rooms class));
+      room_for_groups = c.forget_all.ensures.capacity;
+      room_for_rooms = rw c.forget_all.ensures.items
+          (HaveRoom-map c.self.inside.groups.items c.self.inside.rooms _ c.self.invariant.room_for_rooms (without_dead {Closed = _}) (λ group. refl) c.self.inside.rooms _
+          (omega (arith, many)) (λ class. omega arith));
+      room_for_class = λ some class. omega (arith, many, c.self.invariant.room_for_class some class);
+      no_guests = c.self.invariant.no_guests;
+      room_for_guests = rw c.forget_all.ensures.items
+          (HasGuestRoom-without_dead c.self.inside.groups.items c.self.inside.onto c.self.inside.span_room
+          (vec_capacity c.self.inside.guest_room) c.self.invariant.room_for_guests);
+      guests_known = c.forget_all.ensures.known;
+      room_for_entries = rw c.forget_all.ensures.room c.self.invariant.room_for_entries;
+      heads_known = rw (c.forget_all.ensures.items) (KnowsHeads-without_dead c.self.inside.number c.self.inside.groups.items c.self.inside.heads c.self.invariant.heads_known);
+      room_for_heads = c.self.invariant.room_for_heads;
+      guests_noted = AreNoted-forgotten _ _ _ _ _ _ c.self.invariant.guests_noted _ c.forget_all.new.notes c.forget_all.ensures.noted c.forget_all.ensures.end;
+    }
 
 -- how many spans there are before and after
 counts : (c : goal.After-span_count) → c.span_count.result + length (dead_guests c.self.inside.groups.items) ≡ c.span_count-before.result
