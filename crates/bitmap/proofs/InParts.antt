@@ -1,12 +1,12 @@
 -- The numbers that parts of 256 have.
-use Rattle.std.proofs.Common.{◌≡◌, ℕ, ◌+◌, ◌-◌, ◌*◌, ◌/◌, ◌%◌, ◌<◌, ◌≤◌, ◌⊎◌, [], false, Option, Some, None, ◌&&◌, nat_lt, List, length, get_or, set, get_or-set_same, get_or-set_other, ◌∙◌, ap, sym, refl, inl, inr, arith, lt-ltb, le-ltb}
+use Rattle.std.proofs.Common.{◌≡◌, ℕ, ◌+◌, ◌-◌, ◌*◌, ◌/◌, ◌%◌, ◌<◌, ◌≤◌, ◌⊎◌, [], false, Option, Some, None, ◌&&◌, nat_lt, List, length, get_or, set, get_or-set_same, get_or-set_other, ◌∙◌, ap, sym, refl, inl, inr, arith, lt-ltb, le-ltb, rules}
 use Rattle.std.specs.Ordering.{nat_cmp}
 use Rattle.std.specs.FinSet.{contains, empty, insert, remove, contains-empty, contains-insert, contains-remove}
 use Rattle.std.proofs.Math.Bool.{and-true}
 use Rattle.std.proofs.lemmas.Bool.{cases_eq, cases_lt, true≢false}
 use Rattle.std.proofs.lemmas.List.{get_or_past}
 use Rattle.std.proofs.lemmas.Option.{get_or_from_slice_get, slice_get-get_or}
-use Rattle.std.specs.Prelude.{Err, IfSome, IsOk, MatchOption, Ok, Result, if◌then◌else◌, is_ok, replicate, take, ◌++◌}
+use Rattle.std.specs.Prelude.{IfSome, IsOk, MatchOption, Ok, Result, if◌then◌else◌, is_ok, replicate, take, ◌++◌}
 use Rattle.bitmap.specs.Parts.{HasNoneIn, IsLowestIn, has_number, numbers_in}
 use Rattle.bitmap.specs.Slots.{SlotSet, IsLowest}
 use Rattle.bitmap.specs.Words.{contains-slots_where, same_slots}
@@ -109,11 +109,7 @@ HasNoneIn-past parts at past q here = contains-past parts q (omega (arith, here,
 -- the least number of a part is one of the parts'
 pub in_room : (parts : List SlotSet) (part : ℕ) (found : Option ℕ) → MatchOption found (HasNoneIn (numbers_in parts) part) (IsLowestIn (numbers_in parts) part)
     → IfSome found (λ n. n < SLOTS * length parts)
-in_room parts part None none = tt
-in_room parts part (Some n) lowest = elim (cases_lt n (SLOTS * length parts)) [
-  | inl low ↦ low
-  | inr past ↦ absurd (true≢false (sym lowest.inside ∙ contains-past parts n (omega (arith, past))))
-]
+in_room parts part found none = search (rules, cases_lt, true≢false, contains-past)
 
 pub numbers_in-none : (parts : List SlotSet) → parts ≡ [] → numbers_in parts ≡ empty
 numbers_in-none parts none = same_slots _ _ (λ q. contains-past parts q (omega (arith, ap length none)) ∙ sym (contains-empty nat_cmp q))
@@ -123,14 +119,7 @@ pub below-part : (parts : List SlotSet) (at count : ℕ) (new : SlotSet) → at 
     → ((slot : ℕ) → slot < SLOTS → contains new slot ≡ nat_lt slot (count - SLOTS * at))
     → ((q : ℕ) → q < SLOTS * at → contains (numbers_in parts) q ≡ nat_lt q count)
     → (q : ℕ) → q < SLOTS * (at + 1) → contains (numbers_in (set parts at new)) q ≡ nat_lt q count
-below-part parts at count new within new_is before q less = elim (cases_lt q (SLOTS * at)) [
-  | inl low ↦ contains-set_other parts at within new q (λ e. absurd (omega (arith, e, low))) ∙ before q low
-  | inr here ↦ contains-set_same parts at within new q (omega (arith, here, less)) ∙ new_is (q % SLOTS) (omega arith) ∙ same (cases_lt q count) here
-]
-  where
-    same : (q < count) ⊎ (count ≤ q) → SLOTS * at ≤ q → nat_lt (q % SLOTS) (count - SLOTS * at) ≡ nat_lt q count
-    same (inl low) here = lt-ltb (q % SLOTS) (count - SLOTS * at) (omega (arith, low, here, less)) ∙ sym (lt-ltb q count low)
-    same (inr high) here = le-ltb (q % SLOTS) (count - SLOTS * at) (omega (arith, high, here, less)) ∙ sym (le-ltb q count high)
+below-part parts at count new within new_is before q less = search (rules, cases_lt, contains-set_other, contains-set_same, nat_lt, lt-ltb, le-ltb)
 
 -- where all parts have the numbers below the count, no other has one
 pub below-all : (parts : List SlotSet) (count : ℕ) → count ≤ SLOTS * length parts
@@ -144,20 +133,10 @@ below-all parts count few each q = elim (cases_lt q (SLOTS * length parts)) [
 pub numbers_in-grown : (parts after : List SlotSet) → length parts ≤ length after
     → ((at : ℕ) → at < length parts → get_or after at empty ≡ get_or parts at empty)
     → ((at : ℕ) → length parts ≤ at → at < length after → get_or after at empty ≡ empty) → numbers_in after ≡ numbers_in parts
-numbers_in-grown parts after longer same none = numbers_in-alike after parts (λ at. elim (cases_lt at (length parts)) [
-  | inl low ↦ same at low
-  | inr past ↦ elim (cases_lt at (length after)) [
-    | inl within ↦ none at past within ∙ sym (get_or_past parts at empty past)
-    | inr beyond ↦ get_or_past after at empty beyond ∙ sym (get_or_past parts at empty past)
-  ]
-])
+numbers_in-grown parts after longer same none = search (rules, numbers_in-alike, cases_lt, get_or_past)
 
 pub numbers_in-resized : {E : Type 0} (done : Result (Unit {0}) E) (parts after : List SlotSet) (n old new : ℕ) (value : SlotSet) → value ≡ empty → old ≡ length parts → new ≡ length after → old < n
     → new ≡ (if is_ok done then n else old) → after ≡ (if is_ok done then take n parts ++ replicate (n - old) value else parts)
     → ((at : ℕ) (past : SlotSet) → at < n → at < old → get_or after at past ≡ get_or parts at past)
     → ((at : ℕ) (past : SlotSet) → IsOk done → old ≤ at → at < n → get_or after at past ≡ value) → numbers_in after ≡ numbers_in parts
-numbers_in-resized (Ok done) parts after n old new value blank old_is new_is more long items same none =
-    numbers_in-grown parts after (omega (arith, old_is, new_is, more, long))
-    (λ at low. same at empty (omega (arith, low, old_is, more)) (omega (arith, low, old_is)))
-    (λ at past within. none at empty refl (omega (arith, past, old_is)) (omega (arith, within, new_is, long)) ∙ blank)
-numbers_in-resized (Err failed) parts after n old new value blank old_is new_is more long items same none = ap numbers_in items
+numbers_in-resized done parts after n old new value blank old_is new_is more long items same none = search (rules, numbers_in-grown)

@@ -1,5 +1,5 @@
 -- The numbers of a first part and of further ones.
-use Rattle.std.proofs.Common.{◌≡◌, ℕ, ◌+◌, ◌-◌, ◌/◌, ◌%◌, ◌<◌, ◌≤◌, ◌⊎◌, suc, min, Bool, true, false, nat_lt, List, ◌∷◌, ◌∙◌, ap, sym, refl, inl, inr, arith, lt-ltb, le-ltb}
+use Rattle.std.proofs.Common.{◌≡◌, ℕ, ◌+◌, ◌-◌, ◌/◌, ◌%◌, ◌<◌, ◌≤◌, ◌⊎◌, suc, min, Bool, true, false, nat_lt, List, ◌∷◌, ◌∙◌, ap, sym, refl, inl, inr, arith, lt-ltb, le-ltb, rules}
 use Rattle.std.specs.Bool.{if◌then◌else◌}
 use Rattle.std.specs.Ordering.{nat_cmp}
 use Rattle.std.specs.FinSet.{contains, empty, insert, remove, contains-empty}
@@ -120,15 +120,4 @@ joined-empty low high none no_high = same_slots _ _ (λ q. elim (cases_lt q SLOT
 -- the numbers below a count
 pub joined-below : (low : SlotSet) (high : List SlotSet) (count : ℕ) → ((q : ℕ) → contains low q ≡ nat_lt q (min count SLOTS))
     → ((q : ℕ) → contains (numbers_in high) q ≡ nat_lt q (count - SLOTS)) → (q : ℕ) → contains (numbers_in (low ∷ high)) q ≡ nat_lt q count
-joined-below low high count low_is high_is q = elim (cases_lt q SLOTS) [
-  | inl small ↦ contains-low low high q small ∙ low_is q ∙ below (cases_lt q count) small
-  | inr large ↦ contains-high low high q large ∙ high_is (q - SLOTS) ∙ above (cases_lt q count) large
-]
-  where
-    below : (q < count) ⊎ (count ≤ q) → q < SLOTS → nat_lt q (min count SLOTS) ≡ nat_lt q count
-    below (inl low) small = lt-ltb q (min count SLOTS) (omega (arith, low, small)) ∙ sym (lt-ltb q count low)
-    below (inr high) small = le-ltb q (min count SLOTS) (omega (arith, high, small)) ∙ sym (le-ltb q count high)
-
-    above : (q < count) ⊎ (count ≤ q) → SLOTS ≤ q → nat_lt (q - SLOTS) (count - SLOTS) ≡ nat_lt q count
-    above (inl low) large = lt-ltb (q - SLOTS) (count - SLOTS) (omega (arith, low, large)) ∙ sym (lt-ltb q count low)
-    above (inr high) large = le-ltb (q - SLOTS) (count - SLOTS) (omega (arith, high, large)) ∙ sym (le-ltb q count high)
+joined-below low high count low_is high_is q = search (rules, cases_lt, contains-low, contains-high, nat_lt, min, lt-ltb, le-ltb)

@@ -1,5 +1,5 @@
 -- Numbers of a first part and of further ones, which move by one from a number on.
-use Rattle.std.proofs.Common.{◌≡◌, ℕ, ◌+◌, ◌-◌, ◌*◌, ◌<◌, ◌≤◌, true, false, List, ◌∷◌, length, ap, sym, ◌∙◌, inl, inr, arith}
+use Rattle.std.proofs.Common.{◌≡◌, ℕ, ◌+◌, ◌-◌, ◌*◌, ◌<◌, ◌≤◌, true, false, List, ◌∷◌, length, sym, ◌∙◌, inl, inr, arith, rules}
 use Rattle.std.specs.FinSet.{contains}
 use Rattle.std.proofs.lemmas.Bool.{cases_eq, cases_lt, false_from_ne_true}
 use Rattle.bitmap.specs.Parts.{numbers_in}
@@ -26,41 +26,17 @@ module _ (low now_low : SlotSet) (high now_high : List SlotSet) (number : ℕ) (
       (high_first : number - SLOTS ≡ 0 → 0 < length high → contains (numbers_in now_high) 0 ≡ contains low 255)
       (within : number < SLOTS + SLOTS * length high) (fits : (q : ℕ) → contains old q ≡ true → q + 1 < SLOTS + SLOTS * length high) where
     pub shifted_up-below : (q : ℕ) → q < number → contains new q ≡ contains old q
-    shifted_up-below q less = elim (cases_lt q SLOTS) [
-      | inl small ↦ contains-low now_low now_high q small ∙ low_below q small less ∙ sym (contains-low low high q small)
-      | inr large ↦ contains-high now_low now_high q large ∙ high_below (q - SLOTS) (omega (arith, less, large)) (omega (arith, less, large, within))
-          ∙ sym (contains-high low high q large)
-    ]
+    shifted_up-below q less = search (rules, cases_lt, contains-low, contains-high)
 
     -- the last place is free
     last_free : (q : ℕ) → SLOTS + SLOTS * length high ≤ q + 1 → contains old q ≡ false
     last_free q last = false_from_ne_true (contains old q) (λ member. absurd (omega (arith, last, fits q member)))
 
     seam : (q : ℕ) → number ≤ q → q + 1 ≡ SLOTS → contains new (q + 1) ≡ contains old q
-    seam q from is = elim (cases_lt 0 (length high)) [
-      | inl some ↦
-          let place : q + 1 - SLOTS ≡ 0 = omega (arith, is) in
-          let slot : q ≡ 255 = omega (arith, is) in
-          contains-high now_low now_high (q + 1) (omega (arith, is)) ∙ ap (contains (numbers_in now_high)) place
-          ∙ high_first (omega (arith, from, is)) some ∙ ap (contains low) (sym slot) ∙ sym (contains-low low high q (omega (arith, is)))
-      | inr none ↦ past (q + 1) (omega (arith, none, is)) ∙ sym (last_free q (omega (arith, none, is)))
-    ]
+    seam q from is = search (rules, cases_lt, contains-high, contains-low, past, last_free)
 
     pub shifted_up-above : (q : ℕ) → number ≤ q → contains new (q + 1) ≡ contains old q
-    shifted_up-above q from = elim (cases_lt (q + 1) SLOTS) [
-      | inl small ↦ contains-low now_low now_high (q + 1) small ∙ low_above q small from ∙ sym (contains-low low high q (omega arith))
-      | inr large ↦ elim (cases_eq (q + 1) SLOTS) [
-        | inl is ↦ seam q from is
-        | inr apart ↦ elim (cases_lt (q + 1) (SLOTS + SLOTS * length high)) [
-          | inl inside ↦
-              let place : q + 1 - SLOTS ≡ q - SLOTS + 1 = omega (arith, large, apart) in
-              contains-high now_low now_high (q + 1) large ∙ ap (contains (numbers_in now_high)) place
-              ∙ high_above (q - SLOTS) (omega (arith, from)) (omega (arith, inside, large, apart))
-              ∙ sym (contains-high low high q (omega (arith, large, apart)))
-          | inr beyond ↦ past (q + 1) beyond ∙ sym (last_free q beyond)
-        ]
-      ]
-    ]
+    shifted_up-above q from = search (rules, cases_lt, contains-low, cases_eq, seam, contains-high, past, last_free)
 
   module _ (low_below : (slot : ℕ) → slot < 256 → slot < number → contains now_low slot ≡ contains low slot)
       (low_above : (slot : ℕ) → slot + 1 < 256 → number ≤ slot → contains now_low slot ≡ contains low (slot + 1))
@@ -74,17 +50,4 @@ module _ (low now_low : SlotSet) (high now_high : List SlotSet) (number : ℕ) (
     ]
 
     pub shifted_down-above : (q : ℕ) → number ≤ q → contains new q ≡ contains old (q + 1)
-    shifted_down-above q from = elim (cases_lt (q + 1) SLOTS) [
-      | inl small ↦ contains-low now_low now_high q (omega arith) ∙ low_above q small from ∙ sym (contains-low low high (q + 1) small)
-      | inr large ↦ elim (cases_lt q SLOTS) [
-        | inl seam_at ↦
-            let slot : q ≡ 255 = omega (arith, large, seam_at) in
-            let place : q + 1 - SLOTS ≡ 0 = omega (arith, large, seam_at) in
-            contains-low now_low now_high q seam_at ∙ ap (contains now_low) slot ∙ low_last (omega (arith, from, seam_at))
-            ∙ ap (contains (numbers_in high)) (sym place) ∙ sym (contains-high low high (q + 1) large)
-        | inr inner ↦
-            let place : q - SLOTS + 1 ≡ q + 1 - SLOTS = omega (arith, inner) in
-            contains-high now_low now_high q inner ∙ high_above (q - SLOTS) (omega (arith, from))
-            ∙ ap (contains (numbers_in high)) place ∙ sym (contains-high low high (q + 1) large)
-      ]
-    ]
+    shifted_down-above q from = search (rules, cases_lt, contains-low, contains-high)

@@ -1,5 +1,5 @@
 -- Parts whose slots move by one, from a limit on.
-use Rattle.std.proofs.Common.{◌≡◌, ℕ, zero, suc, ◌+◌, ◌-◌, ◌*◌, ◌/◌, ◌%◌, ◌<◌, ◌≤◌, ◌⊎◌, Option, Some, None, is_some, Bool, true, false, not, ◌&&◌, ◌||◌, nat_lt, List, length, get_or, set, ap, sym, subst, ◌∙◌, refl, inl, inr, arith, lt-ltb, le-ltb}
+use Rattle.std.proofs.Common.{◌≡◌, ℕ, zero, suc, ◌+◌, ◌-◌, ◌*◌, ◌/◌, ◌%◌, ◌<◌, ◌≤◌, ◌⊎◌, Option, Some, None, is_some, Bool, true, false, not, ◌&&◌, ◌||◌, nat_lt, List, length, get_or, set, ap, sym, subst, ◌∙◌, refl, inl, inr, arith, lt-ltb, le-ltb, rules}
 use Rattle.std.specs.Cmp.{nat_cmp_total}
 use Rattle.std.specs.Prelude.{MatchOption}
 use Rattle.std.specs.FinSet.{contains, insert, remove, union, difference, contains-union, contains-difference}
@@ -125,17 +125,7 @@ module _ (old : List SlotSet) (limit : ℕ) (first : Bool) (parts : List SlotSet
         contains-set_other parts at within new 0 (λ e. later (omega (arith, e))) ∙ done.first (omega (arith, later)) none
 
     pub IsSpread-next : IsSpread old limit first (set parts at new) (at + 1)
-    IsSpread-next = record {
-      below = λ q low small. elim (cases_lt q (SLOTS * at)) [
-        | inl earlier ↦ contains-set_other parts at within new q (λ e. absurd (omega (arith, e, earlier))) ∙ done.below q earlier small
-        | inr here ↦
-            contains-set_same parts at within new q (omega (arith, here, low)) ∙ new_below (q % SLOTS) (omega arith) (omega (arith, here, low, small))
-            ∙ was q (omega (arith, here, low))
-      ];
-      above = up_one;
-      first = λ some. first_now (cases_eq at 0);
-      rest = λ q high. contains-set_other parts at within new q (λ e. absurd (omega (arith, e, high))) ∙ done.rest q (omega (arith, high));
-    }
+    IsSpread-next = search (rules, cases_lt, contains-set_other, contains-set_same, was, up_one, first_now, cases_eq)
 
     pub IsBefore-next : IsBefore old first this (at + 1)
     IsBefore-next = record {
@@ -180,16 +170,7 @@ module _ (old : List SlotSet) (limit : ℕ) (parts : List SlotSet) (at : ℕ) (w
   ]
 
   pub IsGathered-next : IsGathered old limit (set parts at new) (at + 1)
-  IsGathered-next = record {
-    below = λ q low small. elim (cases_lt q (SLOTS * at)) [
-      | inl earlier ↦ contains-set_other parts at within new q (λ e. absurd (omega (arith, e, earlier))) ∙ done.below q earlier small
-      | inr here ↦
-          contains-set_same parts at within new q (omega (arith, here, low)) ∙ new_below (q % SLOTS) (omega arith) (omega (arith, here, low, small))
-          ∙ was_down q (omega (arith, here, low))
-    ];
-    above = down_one;
-    rest = λ q high. contains-set_other parts at within new q (λ e. absurd (omega (arith, e, high))) ∙ done.rest q (omega (arith, high));
-  }
+  IsGathered-next = search (rules, cases_lt, contains-set_other, contains-set_same, was_down, down_one)
 
 -- where all parts have moved, no other number is in
 pub gathered_below : (old new : List SlotSet) (limit : ℕ) → length old ≡ length new → IsGathered old limit new (length new) → (q : ℕ) → q < limit
@@ -219,25 +200,10 @@ AreNoted-none numbers filled none = record {
 
 module _ (numbers filled : SlotSet) (at : ℕ) (noted : AreNoted numbers filled at) where
   pub AreNoted-found : (n : ℕ) → IsLowestIn numbers at n → AreNoted numbers (insert filled at) (at + 1)
-  AreNoted-found n lowest = record {
-    has = λ q member low. elim (cases_eq (q / SLOTS) at) [
-      | inl same ↦ ap (contains (insert filled at)) same ∙ contains-insert_same filled at
-      | inr other ↦ contains-insert_other filled at (q / SLOTS) other ∙ noted.has q member (omega (arith, low, other))
-    ];
-    some = λ part member. elim (cases_eq part at) [
-      | inl same ↦ (n, lowest.part_is ∙ sym same, lowest.inside)
-      | inr other ↦ noted.some part (sym (contains-insert_other filled at part other) ∙ member)
-    ];
-  }
+  AreNoted-found n lowest = search (rules, cases_eq, contains-insert_same, contains-insert_other)
 
   pub AreNoted-missed : HasNoneIn numbers at → AreNoted numbers filled (at + 1)
-  AreNoted-missed none = record {
-    has = λ q member low. elim (cases_eq (q / SLOTS) at) [
-      | inl same ↦ absurd (true≢false (sym member ∙ none q same))
-      | inr other ↦ noted.has q member (omega (arith, low, other))
-    ];
-    some = noted.some;
-  }
+  AreNoted-missed none = search (rules, cases_eq, true≢false)
 
   pub AreNoted-some : (found : Option ℕ) → MatchOption found (HasNoneIn numbers at) (IsLowestIn numbers at) → is_some found ≡ true
       → (after : SlotSet) → after ≡ insert filled at → AreNoted numbers after (at + 1)
@@ -250,10 +216,4 @@ module _ (numbers filled : SlotSet) (at : ℕ) (noted : AreNoted numbers filled 
   AreNoted-other (Some n) lowest no_number after is = absurd (true≢false no_number)
 
 pub IsSummary-noted : (parts : List SlotSet) (filled : SlotSet) → AreNoted (numbers_in parts) filled (length parts) → IsSummary (numbers_in parts) filled
-IsSummary-noted parts filled noted = record {
-  has = λ n member. elim (cases_lt (n / SLOTS) (length parts)) [
-    | inl low ↦ noted.has n member low
-    | inr past ↦ absurd (true≢false (sym member ∙ contains-past parts n past))
-  ];
-  some = noted.some;
-}
+IsSummary-noted parts filled noted = search (rules, cases_lt, true≢false, contains-past)

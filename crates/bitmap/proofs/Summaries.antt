@@ -1,5 +1,5 @@
 -- A set of numbers and the set of its parts that have one.
-use Rattle.std.proofs.Common.{◌≡◌, ℕ, ◌+◌, ◌*◌, ◌/◌, ◌<◌, ◌≤◌, ◌⊎◌, true, false, Option, Some, None, is_some, not, nat_lt, ◌∙◌, ap, sym, subst, refl, inl, inr, arith, lt-ltb, le-ltb, eq-eqb}
+use Rattle.std.proofs.Common.{◌≡◌, ℕ, ◌+◌, ◌*◌, ◌/◌, ◌<◌, ◌≤◌, true, false, Option, Some, None, is_some, not, nat_lt, ◌∙◌, ap, sym, subst, refl, inl, inr, arith, lt-ltb, le-ltb, eq-eqb, rules}
 use Rattle.std.specs.Ordering.{nat_cmp, eq_by_cmp}
 use Rattle.std.specs.Cmp.{nat_cmp_total, second_so, unsigned_tied}
 use Rattle.std.specs.FinSet.{contains, empty, insert, remove, contains-empty, contains-insert, contains-remove}
@@ -41,18 +41,7 @@ IsSummary-empty numbers filled none no_part = record {
 
 module _ (numbers filled : SlotSet) (summary : IsSummary numbers filled) where
   pub IsSummary-insert : (at : ℕ) → IsSummary (insert numbers at) (insert filled (at / SLOTS))
-  IsSummary-insert at = record {
-    has = λ n member. elim (cases_eq n at) [
-      | inl same ↦ ap (λ k. contains (insert filled (at / SLOTS)) (k / SLOTS)) same ∙ contains-insert_same filled (at / SLOTS)
-      | inr other ↦ kept filled (at / SLOTS) (n / SLOTS) (summary.has n (sym (contains-insert_other numbers at n other) ∙ member))
-    ];
-    some = λ part member. elim (cases_eq part (at / SLOTS)) [
-      | inl same ↦ (at, sym same, contains-insert_same numbers at)
-      | inr other ↦
-          let (n, here, inside) = summary.some part (sym (contains-insert_other filled (at / SLOTS) part other) ∙ member) in
-          (n, here, kept numbers at n inside)
-    ];
-  }
+  IsSummary-insert at = search (rules, cases_eq, contains-insert_same, kept, contains-insert_other)
 
   -- another number of the part is left
   pub IsSummary-remove : (at left : ℕ) → left / SLOTS ≡ at / SLOTS → contains (remove numbers at) left ≡ true → IsSummary (remove numbers at) filled
@@ -68,27 +57,11 @@ module _ (numbers filled : SlotSet) (summary : IsSummary numbers filled) where
 
   -- none of the part is left
   pub IsSummary-remove_last : (at : ℕ) → HasNoneIn (remove numbers at) (at / SLOTS) → IsSummary (remove numbers at) (remove filled (at / SLOTS))
-  IsSummary-remove_last at none = record {
-    has = λ n member. contains-remove_other filled (at / SLOTS) (n / SLOTS) (λ e. true≢false (sym member ∙ none n e)) ∙ summary.has n (was numbers at n member);
-    some = λ part member. elim (cases_eq part (at / SLOTS)) [
-      | inl same ↦ absurd (true≢false (sym member ∙ ap (contains (remove filled (at / SLOTS))) same ∙ contains-remove_same filled (at / SLOTS)))
-      | inr other ↦
-          let (n, place, is) = summary.some part (was filled (at / SLOTS) part member) in
-          (n, place, contains-remove_other numbers at n (λ e. other (sym place ∙ ap (λ k. k / SLOTS) e)) ∙ is)
-    ];
-  }
+  IsSummary-remove_last at none = search (rules, contains-remove_other, true≢false, was, cases_eq, contains-remove_same)
 
   -- the least number stands in the least part that has one
   pub IsLowest-part : (part n : ℕ) → IsLowest filled part → IsLowestIn numbers part n → IsLowest numbers n
-  IsLowest-part part n least lowest = record {
-    inside = lowest.inside;
-    lower = λ other member.
-        let above : part ≤ other / SLOTS = least.lower (other / SLOTS) (summary.has other member) in
-        elim (cases_eq (other / SLOTS) part) [
-          | inl here ↦ lowest.lower other member here
-          | inr apart ↦ omega (arith, above, apart, lowest.part_is)
-        ];
-  }
+  IsLowest-part part n least lowest = search (rules, cases_eq)
 
   -- a part that is in has a number
   pub has_some : (part : ℕ) → contains filled part ≡ true → HasNoneIn numbers part → ⊥
@@ -117,12 +90,7 @@ pub below-none : (q : ℕ) → contains {R = nat_cmp} empty q ≡ nat_lt q 0
 below-none q = contains-empty nat_cmp q ∙ sym (le-ltb q 0 (omega arith))
 
 pub below-next : (s : SlotSet) (count : ℕ) → ((q : ℕ) → contains s q ≡ nat_lt q count) → (q : ℕ) → contains (insert s count) q ≡ nat_lt q (count + 1)
-below-next s count below q = each (cases_eq q count) (cases_lt q count)
-  where
-    each : (q ≡ count) ⊎ (q ≡ count → ⊥) → (q < count) ⊎ (count ≤ q) → contains (insert s count) q ≡ nat_lt q (count + 1)
-    each (inl same) cases = ap (contains (insert s count)) same ∙ contains-insert_same s count ∙ sym (lt-ltb q (count + 1) (omega arith))
-    each (inr other) (inl less) = contains-insert_other s count q other ∙ below q ∙ lt-ltb q count less ∙ sym (lt-ltb q (count + 1) (omega arith))
-    each (inr other) (inr more) = contains-insert_other s count q other ∙ below q ∙ le-ltb q count more ∙ sym (le-ltb q (count + 1) (omega (arith, other, more)))
+below-next s count below q = search (rules, cases_eq, cases_lt, nat_lt, contains-insert_same, lt-ltb, contains-insert_other, le-ltb)
 
 -- what a look into the part of a number that was taken out says
 
