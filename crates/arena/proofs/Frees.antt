@@ -1,6 +1,5 @@
 -- Receipts that are added for keys.
-use Rattle.std.specs.Prelude.{Bool, true, false}
-use Rattle.std.proofs.Common.{◌≡◌, ℕ, suc, ◌+◌, ◌<◌, List, [], ◌∷◌, ◌++◌, length, take, drop, get_or, ap, subst, sym, ◌∙◌, refl, arith, append_assoc, add-one, take-suc, drop-cons}
+use Rattle.std.proofs.Common.{◌≡◌, ℕ, suc, ◌+◌, ◌<◌, List, [], ◌∷◌, ◌++◌, length, take, drop, get_or, ap, subst, sym, ◌∙◌, refl, arith, append_assoc, add-one, take-suc, drop-cons, rules}
 use Rattle.std.proofs.lemmas.List.{append-nil, map-append}
 use Rattle.std.proofs.lemmas.List.Elements.{All-append}
 use Rattle.std.proofs.lemmas.List.Concat.{flat_map-cons}
@@ -9,15 +8,11 @@ use Rattle.span.specs.declared.key.Key.{Key}
 use Rattle.span.specs.declared.receipt.Receipt.{Receipt}
 use Rattle.span.specs.Receipts.{free}
 use Rattle.span.specs.StoredReceipts.{call_words}
-use Rattle.arena.specs.Receipts.{AddsFrees, IsFree, IsFreeBy, done_by, joined}
+use Rattle.arena.specs.Receipts.{AddsFrees, IsFree, IsFreeBy, joined}
 
 -- a receipt of a free has no word of an object
 pub call_words-IsFree : (r : Receipt) → IsFree r → length (call_words r.call) ≡ 0
-call_words-IsFree r is = ap (λ c. length (call_words c)) is ∙ none (done_by r.call)
-  where
-    none : (done : Bool) → length (call_words (free done)) ≡ 0
-    none true = refl
-    none false = refl
+call_words-IsFree r is = search rules
 
 module _ {worker section : ℕ} where
   -- for no key nothing is added
@@ -26,14 +21,7 @@ module _ {worker section : ℕ} where
 
   -- for a key its receipt is added
   pub AddsFrees-one : (before after : List Receipt) (key : Key) (r : Receipt) → after ≡ before ++ r ∷ [] → IsFreeBy worker section key r → AddsFrees worker section (key ∷ []) before after
-  AddsFrees-one before after key r is free =
-      let of_key : r.key ≡ key = ap (λ (r : Receipt). r.key) free in
-      record {
-        added = r ∷ [];
-        appended = is;
-        of_keys = ap (λ k. k ∷ []) of_key;
-        are_frees = λ k d h. let first : k ≡ 0 = omega arith in rw first (subst (λ k. IsFreeBy worker section k r) (sym of_key) free);
-      }
+  AddsFrees-one before after key r is free = search rules
 
   -- receipts for some keys, and then for others
   pub AddsFrees-more : (keys more : List Key) (before mid after : List Receipt) → AddsFrees worker section keys before mid → AddsFrees worker section more mid after

@@ -1,5 +1,5 @@
 -- What calls on a key do in the shard or the pool that is lent.
-use Rattle.std.proofs.Common.{◌≡◌, ℕ, Bool, true, Option, Some, None, subst}
+use Rattle.std.proofs.Common.{◌≡◌, ℕ, Bool, true, Option, None, subst, rules}
 use Rattle.std.proofs.lemmas.Option.{none-some}
 use Rattle.std.specs.Prelude.{IfOk, OnErr, Ok, Err, Result}
 use Rattle.std.specs.Result.{result_transpose}
@@ -12,7 +12,6 @@ use Rattle.shard.specs.Calls.{Sets}
 use Rattle.shard.specs.Shown.{shown}
 use Rattle.shard.specs.State.{ShardState}
 use Rattle.shard.specs.declared.shard.replacing.Replaced.{Replaced}
-use Rattle.shard.specs.declared.shard.replacing.Replaced.TheVariants as replaced
 use Rattle.pool.specs.Calls.{Sets as SetsPooled}
 use Rattle.pool.specs.Shown.{shown as shown_by_pool}
 use Rattle.pool.specs.State.{PoolState}
@@ -23,26 +22,12 @@ use Rattle.arena.specs.Told.{set_told}
 pub SetsIn-set : (old new : ShardState) (key : Key) (words : Value) (set : Result (Option (Key × Bool × ℕ)) AllocError)
     → IfOk set (λ set. (what : Replaced) × Sets old key words what new × (set ≡ set_told key what))
     → OnErr set (plain.may_set (shown old) key words ≡ true) → OnErr set (new ≡ old) → SetsIn key words old (result_transpose set) new
-SetsIn-set old new key words (Ok None) made refused same = of made.0 made.1 made.2
-  where
-    of : (what : Replaced) → Sets old key words what new → None ≡ set_told key what → IsElsewhere old.groups key.span × (new ≡ old)
-    of (replaced.Yes n) sets is = absurd (none-some _ is)
-    of (replaced.No n) sets is = absurd (none-some _ is)
-    of replaced.NotHere sets is = sets
-SetsIn-set old new key words (Ok (Some told)) made refused same = made
-SetsIn-set old new key words (Err error) made refused same = (refused, same)
+SetsIn-set old new key words set made refused same = search (rules, none-some)
 
 pub SetsInPool-set : (old new : PoolState) (key : Key) (words : Value) (set : Result (Option (Key × Bool × ℕ)) AllocError)
     → IfOk set (λ set. (what : Replaced) × SetsPooled old key words what new × (set ≡ set_told key what))
     → OnErr set (plain.may_set (shown_by_pool old) key words ≡ true) → OnErr set (new ≡ old) → SetsInPool key words old (result_transpose set) new
-SetsInPool-set old new key words (Ok None) made refused same = of made.0 made.1 made.2
-  where
-    of : (what : Replaced) → SetsPooled old key words what new → None ≡ set_told key what → IsElsewhere old.groups key.span × (new ≡ old)
-    of (replaced.Yes n) sets is = absurd (none-some _ is)
-    of (replaced.No n) sets is = absurd (none-some _ is)
-    of replaced.NotHere sets is = sets
-SetsInPool-set old new key words (Ok (Some told)) made refused same = made
-SetsInPool-set old new key words (Err error) made refused same = (refused, same)
+SetsInPool-set old new key words set made refused same = search (rules, none-some)
 
 -- a set of which nothing is answered found the span elsewhere
 pub SetsIn-elsewhere : (old new : ShardState) (key : Key) (words : Value) (answer : Option (Result (Key × Bool × ℕ) AllocError))

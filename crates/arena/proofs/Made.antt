@@ -1,5 +1,5 @@
 -- Seats made of rows and columns of ends.
-use Rattle.std.proofs.Common.{◌≡◌, ℕ, suc, ◌+◌, ◌<◌, List, [], ◌∷◌, ◌++◌, length, map, get_or, All, ap, sym, subst, ◌∙◌, refl, arith, inl, inr}
+use Rattle.std.proofs.Common.{◌≡◌, ℕ, suc, ◌+◌, ◌<◌, List, [], ◌∷◌, ◌++◌, length, map, get_or, All, ap, sym, ◌∙◌, refl, arith, rules}
 use Rattle.std.proofs.Math.Seq.{get_or-append_seam}
 use Rattle.std.proofs.lemmas.Bool.{cases_eq}
 use Rattle.std.proofs.lemmas.List.{get_or-map, get_or_append_left, length-map}
@@ -10,13 +10,7 @@ use Rattle.arena.specs.Seats.{AreLinked, SeatState, in_rings, out_rings}
 -- a fact of each place of a list, which goes on by one
 pub push_each : {A : Type 0} (P : ℕ → A → Type 0) (xs : List A) (n : ℕ) (x : A) → length xs ≡ n → ((k : ℕ) (d : A) → k < n → P k (get_or xs k d)) → P n x
     → (k : ℕ) (d : A) → k < n + 1 → P k (get_or (xs ++ x ∷ []) k d)
-push_each P xs n x long were one k d below =
-    elim (cases_eq k n) [
-      | inl here ↦
-          let at : get_or (xs ++ x ∷ []) k d ≡ x = ap (λ i. get_or (xs ++ x ∷ []) i d) (here ∙ sym long) ∙ get_or-append_seam xs x [] d in
-          subst (P k) (sym at) (subst (λ i. P i x) (sym here) one)
-      | inr other ↦ subst (P k) (sym (get_or_append_left xs (x ∷ []) d k (omega arith))) (were k d (omega arith))
-    ]
+push_each P xs n x long were one k d below = search (rules, cases_eq, get_or-append_seam, get_or_append_left)
 
 pub same_both : {A B C : Type 0} (f : A → C) (g : B → C) (xs : List A) (ys : List B) → length xs ≡ length ys
     → ((k : ℕ) (d : A) (e : B) → k < length xs → f (get_or xs k d) ≡ g (get_or ys k e)) → map f xs ≡ map g ys

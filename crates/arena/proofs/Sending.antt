@@ -1,5 +1,5 @@
 -- Lists of senders' ends, of which one changes.
-use Rattle.std.proofs.Common.{◌≡◌, ℕ, zero, suc, ◌<◌, ◌≤◌, List, [], ◌∷◌, ◌++◌, length, map, get_or, slice_index_or, slice_set, Result, Ok, Err, MatchResult, OnOk, Some, refl, ◌+◌, ap, sym, ◌∙◌, arith}
+use Rattle.std.proofs.Common.{◌≡◌, ℕ, zero, suc, ◌<◌, ◌≤◌, List, [], ◌∷◌, ◌++◌, length, map, get_or, slice_index_or, slice_set, Result, Ok, Err, MatchResult, OnOk, Some, ◌+◌, ap, sym, ◌∙◌, arith, rules}
 use Rattle.std.specs.List.{slice_get}
 use Rattle.std.proofs.lemmas.Option.{slice_get_within}
 use Rattle.std.proofs.Math.Seq.{map-set_same}
@@ -52,23 +52,12 @@ KeepPlaces-same a b same w s =
 pub place_step : {A B : Type 0} (outboxes : List Sending) (i : ℕ) (before after : Sending) (r : Result A B) → i < length outboxes
     → before ≡ get_or outboxes i before → OnOk r (before.free ≤ after.free + 1)
     → OnOk r (slice_index_or (map (λ o. o.free) outboxes) i 0 ≤ slice_index_or (map (λ o. o.free) (slice_set outboxes i after)) i 0 + 1)
-place_step outboxes i before after (Err e) below is place = tt
-place_step outboxes i before after (Ok x) below is place =
-    let old : slice_index_or (map (λ (o : Sending). o.free) outboxes) i 0 ≡ before.free = get_or-map (λ (o : Sending). o.free) outboxes i before 0 below ∙ ap (λ (o : Sending). o.free) (sym is) in
-    let new : slice_index_or (map (λ (o : Sending). o.free) (slice_set outboxes i after)) i 0 ≡ after.free =
-    ap (λ l. slice_index_or l i 0) (map-set (λ (o : Sending). o.free) outboxes i after)
-    ∙ get_or-set_at (map (λ (o : Sending). o.free) outboxes) i i after.free 0 refl (omega (arith, length-map outboxes (λ (o : Sending). o.free)))
-    in
-    omega (arith, place, old, new)
+place_step outboxes i before after r below is place = search (rules, slice_index_or, get_or-map, slice_set, map-set, get_or-set_at, length-map)
 
 -- the places known at the others
 pub other_places : (outboxes : List Sending) (i : ℕ) (after : Sending) (k : ℕ) → (k ≡ i → ⊥)
     → slice_index_or (map (λ o. o.free) outboxes) k 0 ≤ slice_index_or (map (λ o. o.free) (slice_set outboxes i after)) k 0
-other_places outboxes i after k other =
-    let same : slice_index_or (map (λ (o : Sending). o.free) (slice_set outboxes i after)) k 0 ≡ slice_index_or (map (λ (o : Sending). o.free) outboxes) k 0 =
-    ap (λ l. slice_index_or l k 0) (map-set (λ (o : Sending). o.free) outboxes i after) ∙ get_or-set_other (map (λ (o : Sending). o.free) outboxes) i k after.free 0 other
-    in
-    omega (arith, same)
+other_places outboxes i after k other = search (rules, slice_index_or, slice_set, map-set, get_or-set_other)
 
 -- a place where something is read is within the list
 pub read_within : {A B : Type 0} (f : A → B) (xs : List A) (i : ℕ) (y : B) → slice_get (map f xs) i ≡ Some y → i < length xs

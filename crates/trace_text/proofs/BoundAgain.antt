@@ -10,9 +10,7 @@ use Rattle.trace_text.specs.Within.{IsNextUnlessBound, cause_but_bound, within}
 use Rattle.trace_text.specs.declared.cause.Cause.{Cause}
 use Rattle.trace_text.specs.declared.cause.Cause.TheVariants.{Limit, Thread, Ended, Adopt, Bound, Unknown, Early}
 use Rattle.trace_text.specs.declared.header.Header.{Header}
-use Rattle.trace_text.specs.declared.line.Call.TheVariants.{Get, Set, Free, Sweep, Later, Begin}
 use Rattle.trace_text.specs.declared.line.Line.{Line}
-use Rattle.trace_text.specs.declared.line.Line.TheVariants as line
 use Rattle.trace_text.proofs.Texts.{fine_line, refused_line}
 
 -- the first of all causes, by which of them hold
@@ -58,22 +56,10 @@ unless-no_caller limit thread ended adopt unknown early place within is free = c
 
 -- a line that binds a name reads none
 known : (before : List Line) (l : Line) → is_call (binds_again before) l ≡ true → is_call (reads_unknown before) l ≡ false
-known before (line.Call t (Get k)) binds = cc
-known before (line.Call t (Set k class v)) binds = cc
-known before (line.Call t (Free k)) binds = cc
-known before (line.Call t (Sweep n a b)) binds = cc
-known before (line.Call t (Later k)) binds = cc
-known before (line.Call t Begin) binds = cc
-known before l binds = refl
+known before l binds = search rules
 
 late : (before : List Line) (l : Line) → is_call (binds_again before) l ≡ true → is_call_of (comes_early before) l ≡ false
-late before (line.Call t (Get k)) binds = cc
-late before (line.Call t (Set k class v)) binds = cc
-late before (line.Call t (Free k)) binds = cc
-late before (line.Call t (Sweep n a b)) binds = cc
-late before (line.Call t (Later k)) binds = cc
-late before (line.Call t Begin) binds = cc
-late before l binds = refl
+late before l binds = search rules
 
 -- another cause is the first of all
 pub first_cause-other : (h : Header) (before : List Line) (l : Line) (c : Cause) → cause_but_bound h before l ≡ Some c → first_cause h before l ≡ Some c
