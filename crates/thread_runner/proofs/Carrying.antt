@@ -1,5 +1,5 @@
 -- What a thread's rings carry, call after call.
-use Rattle.std.proofs.Common.{get_or-set_other, get_or-set_same, inl, inr, zero, suc, ◌≡◌, ◌∙◌, ◌<◌, ◌++◌, ◌==◌, ℕ, List, [], ◌∷◌, ap, append-nil, append_assoc, arith, length, map, refl, slice_index_or, slice_set, subst, sym}
+use Rattle.std.proofs.Common.{get_or-set_other, get_or-set_same, zero, suc, ◌≡◌, ◌∙◌, ◌<◌, ◌++◌, ◌==◌, ℕ, List, [], ◌∷◌, ap, append-nil, append_assoc, arith, length, map, refl, slice_index_or, slice_set, subst, sym, rules}
 use Rattle.std.specs.Prelude.{if◌then◌else◌, filter}
 use Rattle.std.specs.List.{All, AllByRecursion}
 use Rattle.std.specs.List.Sorted.{IsPermutation}
@@ -12,18 +12,14 @@ use Rattle.span.specs.declared.receipt.Receipt.{Receipt}
 use Rattle.remote_queue.specs.Rings.{AreFreshInboxes, AreFreshOutboxes, Sending, Taking}
 use Rattle.arena.specs.Delays.{KeepsSeat}
 use Rattle.arena.specs.Receipts.{joined}
-use Rattle.arena.specs.Seats.{KeepsEnds, SeatState, SendingSide, in_rings, sending_side, sent_lists, taken_lists}
+use Rattle.arena.specs.Seats.{KeepsEnds, SeatState, sending_side, sent_lists, taken_lists}
 use Rattle.arena.specs.Tended.{IsTended}
 use Rattle.thread_runner.specs.Followed.{Carried, carried_by, is_of_shard, keys_of}
 use Rattle.thread_runner.specs.Grown.{Carries, HaveNothing}
 
 -- nothing was sent or taken
 pub Carries-none : (before after : Carried) → after ≡ before → Carries [] [] before after
-Carries-none before after same = record {
-  sends = λ shard. ap (λ (c : Carried). slice_index_or c.sent shard []) same ∙ sym (append-nil (slice_index_or before.sent shard []));
-  takes = subst (λ (c : Carried). IsPermutation (joined c.taken) (joined before.taken ++ [])) (sym same)
-      (subst (IsPermutation (joined before.taken)) (sym (append-nil (joined before.taken))) (IsPermutation-refl (joined before.taken)));
-}
+Carries-none before after same = search (rules, slice_index_or, append-nil, IsPermutation-refl)
 
 -- first some keys, and then others
 pub Carries-append : (sent more taken again : List Key) (before mid after : Carried) → Carries sent taken before mid → Carries more again mid after
@@ -48,23 +44,12 @@ carried-unsent old new sent inboxes = λ i. record { sent = sent i; taken = take
 -- a key is sent on one ring
 sent_at : (lists : List (List Key)) (place shard : ℕ) (key : Key) → place < length lists
     → slice_index_or (slice_set lists place (slice_index_or lists place [] ++ key ∷ [])) shard [] ≡ slice_index_or lists shard [] ++ (if place == shard then key ∷ [] else [])
-sent_at lists place shard key below =
-    let entry : List Key = slice_index_or lists place [] ++ key ∷ [] in
-    elim (eqb_tells place shard) [
-      | inl (passes, same) ↦ rw passes (subst (λ n. slice_index_or (slice_set lists place entry) n [] ≡ slice_index_or lists n [] ++ key ∷ []) same (get_or-set_same lists place entry [] below))
-      | inr (fails, differ) ↦ rw fails (get_or-set_other lists place shard entry [] (λ is. differ (sym is)) ∙ sym (append-nil (slice_index_or lists shard [])))
-    ]
+sent_at lists place shard key below = search (rules, slice_index_or, eqb_tells, slice_set, get_or-set_same, get_or-set_other, append-nil)
 
 pub Carries-sent : (key : Key) (old new : SeatState) → key.span.shard < length old.outboxes
     → sent_lists new ≡ slice_set (sent_lists old) key.span.shard (slice_index_or (sent_lists old) key.span.shard [] ++ key ∷ []) → new.inboxes ≡ old.inboxes
     → Carries (key ∷ []) [] (carried_by old) (carried_by new)
-Carries-sent key old new below sent inboxes =
-    let same : joined (taken_lists new.inboxes) ≡ joined (taken_lists old.inboxes) ++ [] = ap (λ l. joined (taken_lists l)) inboxes ∙ sym (append-nil (joined (taken_lists old.inboxes))) in
-    let wide : length (sent_lists old) ≡ length old.outboxes = length-map old.outboxes (λ (o : Sending). o.sent) in
-    record {
-      sends = λ shard. ap (λ l. slice_index_or l shard []) sent ∙ sent_at (sent_lists old) key.span.shard shard key (omega (arith, below, wide));
-      takes = subst (IsPermutation (joined (taken_lists new.inboxes))) same (IsPermutation-refl (joined (taken_lists new.inboxes)));
-    }
+Carries-sent key old new below sent inboxes = search (rules, append-nil, length-map, slice_index_or, sent_at, IsPermutation-refl)
 
 -- of four lists in a row, those in the middle change places
 between : (a b c d : List Key) → IsPermutation ((a ++ b) ++ (c ++ d)) ((a ++ c) ++ (b ++ d))
@@ -89,18 +74,7 @@ joined-more after before keys same wide each = absurd (omega arith)
 -- keys are taken from rings, and freed
 pub Carries-tended : (most total : ℕ) (old new : SeatState) (before after : List Receipt) (tended : IsTended most old new before after total) → KeepsEnds old new → sending_side new ≡ sending_side old
     → Carries [] (keys_of tended.freed.added) (carried_by old) (carried_by new)
-Carries-tended most total old new before after tended ends sending =
-    let long : length (in_rings new) ≡ length (in_rings old) = ap length ends.inboxes_are in
-    let wide_new : length (taken_lists new.inboxes) ≡ length new.inboxes = length-map new.inboxes (λ (i : Taking). i.taken) in
-    let wide_old : length (taken_lists old.inboxes) ≡ length old.inboxes = length-map old.inboxes (λ (i : Taking). i.taken) in
-    let rings_new : length (in_rings new) ≡ length new.inboxes = length-map new.inboxes (λ (i : Taking). i.ring) in
-    let rings_old : length (in_rings old) ≡ length old.inboxes = length-map old.inboxes (λ (i : Taking). i.ring) in
-    record {
-      sends = λ shard. ap (λ (s : SendingSide). slice_index_or s.sent shard []) sending ∙ sym (append-nil (slice_index_or (sent_lists old) shard []));
-      takes = subst (λ ks. IsPermutation (joined (taken_lists new.inboxes)) (joined (taken_lists old.inboxes) ++ ks)) (sym tended.freed.of_keys)
-          (joined-more (taken_lists new.inboxes) (taken_lists old.inboxes) tended.keys (omega (arith, long, wide_new, wide_old, rings_new, rings_old))
-          (omega (arith, tended.each_ring, wide_old)) tended.taken);
-    }
+Carries-tended most total old new before after tended ends sending = search (rules, length-map, slice_index_or, append-nil, joined-more)
 
 -- fresh rings carried nothing
 none_sent : (capacity : ℕ) (outboxes : List Sending) → AreFreshOutboxes capacity outboxes → (shard : ℕ) → slice_index_or (map (λ (o : Sending). o.sent) outboxes) shard [] ≡ []

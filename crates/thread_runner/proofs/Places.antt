@@ -1,5 +1,5 @@
 -- Where the lines of a thread stand.
-use Rattle.std.proofs.Common.{◌≡◌, ◌∙◌, ◌+◌, ◌++◌, ◌==◌, ◌<◌, ℕ, Bool, true, false, List, [], ◌∷◌, Some, ap, suc, zero, inl, inr, ◌≤◌, set, get_or, vec_items, Vec, append-nil, arith, length, map, refl, subst, sym, add-zero, slice_get}
+use Rattle.std.proofs.Common.{◌≡◌, ◌∙◌, ◌+◌, ◌++◌, ◌==◌, ◌<◌, ℕ, Bool, true, false, List, [], ◌∷◌, Some, ap, suc, zero, inl, inr, ◌≤◌, set, get_or, vec_items, Vec, append-nil, arith, length, map, refl, subst, sym, add-zero, slice_get, rules}
 use Rattle.std.specs.Prelude.{if◌then◌else◌}
 use Rattle.std.proofs.lemmas.Bool.Decides.{eqb_tells}
 use Rattle.std.proofs.lemmas.Option.{slice_get_read, slice_get_within}
@@ -22,12 +22,7 @@ places_of-push thread above l = grind (arith, places_from-append thread 0 above 
 pub AreLaid-own : (above : List Line) (place thread : ℕ) (l : Line) (old new : List (List ℕ)) → ((at : ℕ) → is_line_of at l ≡ (thread == at))
     → length above ≡ place → AreLaid above old → AddsAt thread place old new
     → AreLaid (above ++ l ∷ []) new
-AreLaid-own above place thread l old new own long laid adds at listed is =
-    let (before, was, now) = adds at listed is in
-    now ∙ ap (λ places. places ++ (if thread == at then place ∷ [] else [])) (laid at before was)
-    ∙ ap (λ (p : ℕ). places_of at above ++ (if thread == at then p ∷ [] else [])) (sym long)
-    ∙ ap (λ (b : Bool). places_of at above ++ (if b then length above ∷ [] else [])) (sym (own at))
-    ∙ sym (places_of-push at above l)
+AreLaid-own above place thread l old new own long laid adds at listed is = search (rules, places_of-push)
 
 -- a line that is no thread's
 pub AreLaid-other : (above : List Line) (l : Line) (places : List (List ℕ)) → ((thread : ℕ) → is_line_of thread l ≡ false) → AreLaid above places → AreLaid (above ++ l ∷ []) places
@@ -56,31 +51,11 @@ line_at-place thread lines done place is =
 
 -- a list that is written at the thread's place
 pub AddsAt-set : (thread place : ℕ) (old : List (List ℕ)) (before now : List ℕ) → slice_get old thread ≡ Some before → now ≡ before ++ place ∷ [] → AddsAt thread place old (set old thread now)
-AddsAt-set thread place old before now here is at listed there = elim (eqb_tells thread at) [
-  | inl (passes, same) ↦ (
-    before,
-    ap (slice_get old) (sym same) ∙ here,
-    (let written : Some listed ≡ Some now = sym there ∙ ap (slice_get (set old thread now)) (sym same)
-        ∙ slice_get-set_same old thread before now here in let it : listed
-        ≡ now = cc in it) ∙ is ∙ ap (λ (b : Bool). before ++ (if b then place ∷ [] else [])) (sym passes),
-  )
-  | inr (fails, differ) ↦ (
-    listed,
-    sym (slice_get-set_other old thread at now (λ e. differ (sym e))) ∙ there,
-    sym (append-nil listed) ∙ ap (λ (b : Bool). listed ++ (if b then place ∷ [] else [])) (sym fails),
-  )
-]
+AddsAt-set thread place old before now here is at listed there = search (rules, eqb_tells, slice_get-set_same, slice_get-set_other, append-nil)
 
 -- all that stands in a list after one more of these
 each-push : {X : Type 0} (P : X → Type 0) (xs : List X) (x : X) → ((at : ℕ) (y : X) → slice_get xs at ≡ Some y → P y) → P x → (at : ℕ) (y : X) → slice_get (xs ++ x ∷ []) at ≡ Some y → P y
-each-push P xs x each it at y there = elim (in_either xs (x ∷ []) at y there) [
-  | inl early ↦ each at y early
-  | inr late ↦ last late.0 late.1
-]
-  where
-    last : (later : ℕ) → slice_get (x ∷ []) later ≡ Some y → P y
-    last zero is = subst P (same_some is) it
-    last (suc later) is = absurd cc
+each-push P xs x each it at y there = search (rules, in_either, same_some)
 
 -- one more empty list
 pub AreLaid-none : (lists : List (List ℕ)) → AreLaid [] lists → AreLaid [] (lists ++ [] ∷ [])
