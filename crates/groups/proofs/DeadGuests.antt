@@ -1,21 +1,20 @@
 -- Spans without those in which no slot is live.
-use Rattle.std.proofs.Common.{zero, suc, ◌≡◌, ℕ, ◌+◌, Bool, true, false, not, cond, List, [], ◌∷◌, ◌++◌, Option, Some, None, MatchOption, filter, length, map, slice_get, ◌∙◌, ap, sym, subst, refl, arith}
+use Rattle.std.proofs.Common.{zero, suc, ◌≡◌, ℕ, ◌+◌, Bool, true, false, not, cond, List, [], ◌∷◌, ◌++◌, Option, Some, MatchOption, filter, length, map, slice_get, ◌∙◌, ap, sym, refl, arith, rules}
 use Rattle.std.specs.FinSet.{contains, contains-empty, empty, empty_of_len, len, len-empty, union}
 use Rattle.std.specs.Ordering.{nat_cmp}
 use Rattle.std.specs.Prelude.{nat_lt}
 use Rattle.std.proofs.lemmas.Bool.{ltb-false}
 use Rattle.std.proofs.lemmas.List.{length-append}
 use Rattle.std.proofs.lemmas.List.Filters.{length-filter_both}
-use Rattle.bitmap.specs.Slots.{AreDisjoint, SlotSet}
+use Rattle.bitmap.specs.Slots.{SlotSet}
 use Rattle.bitmap.specs.Words.{same_slots}
 use Rattle.span.specs.Log.{live_slots}
 use Rattle.span.specs.Ids.{same_span}
 use Rattle.span.specs.State.{SpanState}
 use Rattle.span.specs.declared.id.SpanId.{SpanId}
-use Rattle.page.specs.Words.{Words}
 use Rattle.groups.specs.Dead.{dead_among, dead_guests, is_dead, is_live, live_among, without_dead}
 use Rattle.groups.specs.Group.{Group, spans_in, spans_of}
-use Rattle.groups.specs.Sound.{AreStored, IsSoundGroup}
+use Rattle.groups.specs.Sound.{IsSoundGroup}
 use Rattle.groups.specs.Spans.{AreApart, union_of}
 use Rattle.groups.proofs.GroupSpans.{times}
 use Rattle.groups.proofs.Lists.{count-append, count-cons, same_some}
@@ -39,11 +38,7 @@ module _ {X : Type 0} (p : X → Bool) where
   -- what stood there and passes is left
   pub after-filter : (xs : List X) (place : ℕ) (x : X) → slice_get xs place ≡ Some x → p x ≡ true → (now : ℕ) × (slice_get (filter p xs) now ≡ Some x)
   after-filter [] place x there passes = absurd cc
-  after-filter (first ∷ rest) zero x there passes = by_test (p first) refl
-    where
-      by_test : (b : Bool) → p first ≡ b → (now : ℕ) × (slice_get (cond b (first ∷ filter p rest) (filter p rest)) now ≡ Some x)
-      by_test true is = (0, there)
-      by_test false fails = absurd (let no : false ≡ true = sym fails ∙ ap p (same_some there) ∙ passes in cc)
+  after-filter (first ∷ rest) zero x there passes = search (rules, p, filter, same_some)
   after-filter (first ∷ rest) (suc place) x there passes = by_test (p first) (after-filter rest place x there passes)
     where
       by_test : (b : Bool) → (now : ℕ) × (slice_get (filter p rest) now ≡ Some x) → (now : ℕ) × (slice_get (cond b (first ∷ filter p rest) (filter p rest)) now ≡ Some x)
@@ -67,8 +62,7 @@ empty_left a b none = same_slots _ _ (λ q. outside_left a b q (ap (λ (s : Slot
 pub live_slots-none : (spans : List SpanState) → union_of spans ≡ empty → (place : ℕ) (span : SpanState) → slice_get spans place ≡ Some span → live_slots span.log ≡ empty
 live_slots-none [] none place span there = absurd cc
 live_slots-none (first ∷ rest) none zero span there = ap (λ (s : SpanState). live_slots s.log) (sym (same_some there)) ∙ empty_left (live_slots first.log) (union_of rest) none
-live_slots-none (first ∷ rest) none (suc place) span there = live_slots-none rest
-    (empty_left (union_of rest) (live_slots first.log) (union-swap (union_of rest) (live_slots first.log) ∙ none)) place span there
+live_slots-none (first ∷ rest) none (suc place) span there = search (rules, empty_left, union-swap, (live_slots-none rest (empty_left (union_of rest) (live_slots first.log) (union-swap (union_of rest) (live_slots first.log) ∙ none)) place span there))
 
 -- and none of them is live
 pub live_among-none : (spans : List SpanState) → ((place : ℕ) (span : SpanState) → slice_get spans place ≡ Some span → live_slots span.log ≡ empty) → live_among spans ≡ []
@@ -76,25 +70,16 @@ live_among-none [] none = refl
 live_among-none (span ∷ rest) none = by_test (is_live span) (is_live-none span (none 0 span refl)) (live_among-none rest (λ place other there. none (suc place) other there))
   where
     by_test : (b : Bool) → b ≡ false → live_among rest ≡ [] → cond b (span ∷ live_among rest) (live_among rest) ≡ []
-    by_test true dead later = absurd cc
-    by_test false dead later = later
+    by_test b dead later = search rules
 
 -- no slot is live in the others
 pub union_of-live : (spans : List SpanState) → union_of (live_among spans) ≡ union_of spans
 union_of-live [] = refl
-union_of-live (span ∷ rest) = by_test (is_live span) refl (union_of-live rest)
-  where
-    by_test : (b : Bool) → is_live span ≡ b → union_of (live_among rest) ≡ union_of rest → union_of (cond b (span ∷ live_among rest) (live_among rest)) ≡ union (live_slots span.log) (union_of rest)
-    by_test true live later = ap (union (live_slots span.log)) later
-    by_test false dead later = later ∙ sym (union-empty (union_of rest)) ∙ union-swap (union_of rest) empty ∙ ap (λ s. union s (union_of rest)) (sym (live_slots-dead span dead))
+union_of-live (span ∷ rest) = search (rules, union-empty, union-swap, live_slots-dead, (union_of-live rest))
 
 pub AreApart-live : (spans : List SpanState) → AreApart spans → AreApart (live_among spans)
 AreApart-live [] apart = tt
-AreApart-live (span ∷ rest) apart = by_test (is_live span) (AreApart-live rest apart.1)
-  where
-    by_test : (b : Bool) → AreApart (live_among rest) → AreApart (cond b (span ∷ live_among rest) (live_among rest))
-    by_test true later = (subst (AreDisjoint (live_slots span.log)) (sym (union_of-live rest)) apart.0, later)
-    by_test false later = later
+AreApart-live (span ∷ rest) apart = search (rules, union_of-live, (AreApart-live rest apart.1))
 
 -- each id stands among the live spans and the others as often as among all
 pub times-live : (id : SpanId) (spans : List SpanState) → times id (live_among spans) + times id (dead_among spans) ≡ times id spans
@@ -124,17 +109,7 @@ module _ {Closed : Type 0} (group : Group Closed) where
   occupied-without_dead = ap (union (live_slots group.head.log)) (union_of-live group.guests)
 
   pub IsSoundGroup-without_dead : IsSoundGroup group → IsSoundGroup (without_dead group)
-  IsSoundGroup-without_dead sound = record {
-    apart = (subst (AreDisjoint (live_slots group.head.log)) (sym (union_of-live group.guests)) sound.apart.0, AreApart-live group.guests sound.apart.1);
-    legal = λ place span there. let was = before-without_dead place span there in sound.legal was.0 span was.1;
-    classes = λ place span there. let was = before-without_dead place span there in sound.classes was.0 span was.1;
-    page = by_page group.page sound.page;
-  }
-    where
-      by_page : (page : Option Words) → MatchOption page (union_of (spans_of group) ≡ empty) (AreStored (spans_of group))
-          → MatchOption page (union_of (spans_of (without_dead group)) ≡ empty) (AreStored (spans_of (without_dead group)))
-      by_page None none = occupied-without_dead ∙ none
-      by_page (Some words) stored = λ place span there. let was = before-without_dead place span there in stored was.0 span was.1
+  IsSoundGroup-without_dead sound = search (rules, union_of-live, AreApart-live, before-without_dead, MatchOption, occupied-without_dead)
 
 -- groups that lose such guests
 
@@ -157,12 +132,4 @@ module _ {Closed : Type 0} where
 
   pub length-without_dead : (groups : List (Group Closed)) → length (spans_in (map without_dead groups)) + length (dead_guests groups) ≡ length (spans_in groups)
   length-without_dead [] = refl
-  length-without_dead (group ∷ groups) =
-      omega (
-        arith,
-        length-without_dead groups,
-        length-live group.guests,
-        length-append (live_among group.guests) (spans_in (map without_dead groups)),
-        length-append group.guests (spans_in groups),
-        length-append (dead_among group.guests) (dead_guests groups),
-      )
+  length-without_dead (group ∷ groups) = search (rules, length-live, length-append, (length-without_dead groups))

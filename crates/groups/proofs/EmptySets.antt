@@ -1,5 +1,5 @@
 -- When a set of slots is empty.
-use Rattle.std.proofs.Common.{◌≡◌, ◌⊎◌, ◌∙◌, ℕ, Option, None, Some, MatchOption, ap, is_some, sym, inl, inr, true}
+use Rattle.std.proofs.Common.{◌≡◌, ◌⊎◌, ◌∙◌, ℕ, Option, MatchOption, ap, is_some, inl, inr, true, rules}
 use Rattle.std.specs.Prelude.{◌≢◌}
 use Rattle.std.specs.Ordering.{nat_cmp}
 use Rattle.std.specs.FinSet.{contains, contains-empty, empty, empty_of_len, len, len-empty}
@@ -15,5 +15,4 @@ empty_or_not s = elim (cases_eq (len s) 0) [
 
 -- a set with a lowest member is not empty
 pub not_empty : (s : SlotSet) (o : Option ℕ) → MatchOption o (s ≡ empty) (IsLowest s) → is_some o ≡ true → s ≢ empty
-not_empty s None m some none = absurd cc
-not_empty s (Some slot) m some none = false≢true (sym (contains-empty nat_cmp slot) ∙ ap (λ x. contains x slot) (sym none) ∙ m.inside)
+not_empty s o m some none = search (rules, false≢true, contains-empty)

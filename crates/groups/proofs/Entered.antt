@@ -1,5 +1,5 @@
 -- What is read of a directory's entries after some were made or struck.
-use Rattle.std.proofs.Common.{zero, suc, ◌≡◌, ℕ, ◌+◌, ◌<◌, ◌≤◌, ◌⊎◌, Bool, true, false, cond, eqb, eq-eqb, eqb-true, List, [], ◌∷◌, Some, None, slice_get, ◌∙◌, ap, sym, refl, inl, inr, arith}
+use Rattle.std.proofs.Common.{zero, suc, ◌≡◌, ℕ, ◌+◌, ◌<◌, ◌≤◌, ◌⊎◌, Bool, true, false, cond, eqb, eq-eqb, eqb-true, List, [], ◌∷◌, Some, slice_get, ◌∙◌, ap, sym, refl, inl, inr, arith, rules}
 use Rattle.std.specs.FinMap as map
 use Rattle.std.specs.Prelude.{count_by}
 use Rattle.std.proofs.lemmas.Bool.{ne_eqb}
@@ -47,10 +47,7 @@ get-entered_in (first ∷ spans) entries head place zero span apart here =
     ∙ get-inserted entries (rank first.id) (record { head = head; place = place }) (rank span.id)
     ∙ ap (λ b. cond b (Some (record { head = head; place = place })) (map.get entries (rank span.id))) (eq-eqb (rank span.id) (rank first.id) (ap (λ (s : SpanState). rank s.id) (sym same)))
     ∙ ap (λ n. Some (record { head = head; place = n })) (let first_place : place ≡ place + 0 = omega arith in first_place)
-get-entered_in (first ∷ spans) entries head place (suc at) span apart here =
-    get-entered_in spans (map.insert entries (rank first.id) (record { head = head; place = place })) head (suc place) at span
-    (λ low high a b less at_low at_high. apart (suc low) (suc high) a b (omega arith) at_low at_high) here
-    ∙ ap (λ n. Some (record { head = head; place = n })) (let same : suc place + at ≡ place + suc at = omega arith in same)
+get-entered_in (first ∷ spans) entries head place (suc at) span apart here = search (rules, (get-entered_in spans (map.insert entries (rank first.id) (record { head = head; place = place })) head (suc place) at span (λ low high a b less at_low at_high. apart (suc low) (suc high) a b (omega arith) at_low at_high) here))
 
 pub entered-was : (spans : List SpanState) (entries : Entries) (head : SpanId) (place number : ℕ) (found : Place) → map.get (entered entries spans head place) number ≡ Some found
     → ((at : ℕ) × (span : SpanState) × (slice_get spans at ≡ Some span) × (rank span.id ≡ number) × (found.head ≡ head) × (found.place ≡ place + at)) ⊎ (map.get entries number ≡ Some found)
@@ -84,17 +81,4 @@ get-struck_out (span ∷ spans) entries number none =
 pub struck-was : (spans : List SpanState) (entries : Entries) (number : ℕ) (found : Place) → map.get (struck entries spans) number ≡ Some found
     → HasNoRank spans number × (map.get entries number ≡ Some found)
 struck-was [] entries number found is = ((λ at span here. absurd cc), is)
-struck-was (span ∷ spans) entries number found is =
-    let rest = struck-was spans (map.remove entries (rank span.id)) number found is in
-    let before = by_test (eqb number (rank span.id)) refl (sym (get-remove entries (rank span.id) number) ∙ rest.1) in
-    (none rest.0 before.0, before.1)
-  where
-    by_test : (b : Bool) → eqb number (rank span.id) ≡ b → cond b None (map.get entries number) ≡ Some found → (eqb number (rank span.id) ≡ false) × (map.get entries number ≡ Some found)
-    by_test true here e = absurd cc
-    by_test false elsewhere e = (elsewhere, e)
-
-    none : HasNoRank spans number → eqb number (rank span.id) ≡ false → HasNoRank (span ∷ spans) number
-    none rest apart zero other here same =
-        let e : number ≡ rank span.id = sym same ∙ ap (λ (s : SpanState). rank s.id) (sym (same_some here)) in
-        absurd (let is = sym (eq-eqb number (rank span.id) e) ∙ apart in cc)
-    none rest apart (suc at) other here same = rest at other here same
+struck-was (span ∷ spans) entries number found is = search (rules, eqb, get-remove, same_some, eq-eqb, (struck-was spans (map.remove entries (rank span.id)) number found is))

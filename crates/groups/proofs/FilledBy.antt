@@ -1,5 +1,5 @@
 -- The slots that are taken after a put.
-use Rattle.std.proofs.Common.{◌≡◌, ℕ, ◌⊎◌, ◌+◌, ◌/◌, ◌<◌, ◌≤◌, arith, ◌&&◌, ◌||◌, ◌==◌, ◌++◌, ◌∷◌, [], List, Bool, true, false, ap, sym, ◌∙◌, refl, inl, inr, eq-eqb, nat_lt}
+use Rattle.std.proofs.Common.{◌≡◌, ℕ, ◌⊎◌, ◌+◌, ◌/◌, ◌<◌, ◌≤◌, ◌&&◌, ◌||◌, ◌==◌, ◌++◌, ◌∷◌, [], List, Bool, true, false, ap, sym, ◌∙◌, refl, inl, inr, eq-eqb, nat_lt, rules}
 use Rattle.std.specs.Cmp.{nat_cmp_total, unsigned_tied}
 use Rattle.std.specs.FinSet.{contains, insert, union, contains-insert, contains-union}
 use Rattle.std.specs.Ordering.{eq_by_cmp, nat_cmp}
@@ -17,8 +17,7 @@ use Rattle.groups.specs.Spans.{SpansState, taken, union_of, with_put}
 use Rattle.groups.specs.SpansKept.{IsFullOutside}
 
 or_true : (x : Bool) → (x || true) ≡ true
-or_true true = refl
-or_true false = refl
+or_true x = search rules
 
 -- a member of either set is one of both
 left_in : (a b : SlotSet) (q : ℕ) → contains a q ≡ true → contains (union a b) q ≡ true
@@ -29,10 +28,7 @@ right_in a b q member = contains-union nat_cmp_total a b q ∙ ap (λ other. con
 
 -- and there is no other
 either : (a b : SlotSet) (q : ℕ) → contains (union a b) q ≡ true → (contains a q ≡ true) ⊎ (contains b q ≡ true)
-either a b q member = parts (contains a q) (contains b q) refl refl (sym (contains-union nat_cmp_total a b q) ∙ member) where
-  parts : (x y : Bool) → contains a q ≡ x → contains b q ≡ y → (x || y) ≡ true → (contains a q ≡ true) ⊎ (contains b q ≡ true)
-  parts true y is_x is_y so = inl is_x
-  parts false y is_x is_y so = inr (is_y ∙ so)
+either a b q member = search (rules, contains-union)
 
 module _ (spans : SpansState) (slot : ℕ) (value : Value) where
   abbrev log_after : List Change
@@ -81,10 +77,4 @@ module _ (spans : SpansState) (slot : ℕ) (value : Value) where
       → (out ≡ true → HasWord (insert (taken spans) slot) (slot / 64))
       → ((other : ℕ) → other < 4 → (out ≡ true → other ≡ slot / 64 → ⊥) → has_word after other ≡ has_word words other)
       → IsFullOutside after limit (taken (record spans { head = with_put spans.head slot value }))
-  IsFullOutside-put limit words after out few full last same q below gone = elim (cases_eq (q / 64) (slot / 64)) [
-    | inl here ↦ elim (cases_Bool out) [
-      | inl is ↦ taken-put q (last is q here)
-      | inr not ↦ taken-put_old q (full q below (sym (same (q / 64) (omega (arith, below, few)) (λ is. absurd (true≢false (sym is ∙ not)))) ∙ gone))
-    ]
-    | inr apart ↦ taken-put_old q (full q below (sym (same (q / 64) (omega (arith, below, few)) (λ is. apart)) ∙ gone))
-  ]
+  IsFullOutside-put limit words after out few full last same q below gone = search (rules, cases_eq, cases_Bool, taken-put, taken-put_old, true≢false)

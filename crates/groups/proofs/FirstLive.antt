@@ -1,5 +1,5 @@
 -- The first live key among spans, and of the map that groups show.
-use Rattle.std.proofs.Common.{zero, suc, ◌≡◌, ◌⊎◌, ℕ, ◌<◌, ◌≤◌, ◌+◌, Bool, true, false, List, [], ◌∷◌, ◌++◌, Option, None, Some, take, is_some, slice_get, ◌∙◌, ap, sym, subst, refl, inl, inr, arith}
+use Rattle.std.proofs.Common.{zero, suc, ◌≡◌, ◌⊎◌, ℕ, ◌<◌, ◌≤◌, ◌+◌, Bool, true, false, List, [], ◌∷◌, ◌++◌, Option, None, Some, take, is_some, slice_get, ◌∙◌, ap, sym, subst, refl, inl, inr, arith, rules}
 use Rattle.std.specs.Prelude.{IfSome, MatchOption}
 use Rattle.std.specs.List.{All, flat_map}
 use Rattle.std.specs.List.Sorted.{IsPermutation}
@@ -38,20 +38,10 @@ has-none map key some none = let e : true ≡ false = sym some ∙ ap is_some no
 
 module _ (map : PlainMap) where
   pub HasNoneBetween-span : (low : ℕ) (id : SpanId) → HasNoneBetween map low (rank id) → HasNoneFrom map id 0 → HasNoneBetween map low (rank id + 1)
-  HasNoneBetween-span low id before none key above below = elim (cases_lt (rank key.span) (rank id)) [
-    | inl less ↦ before key above less
-    | inr behind ↦ none key (id_from_rank key.span id (omega (arith, behind, below))) (omega arith)
-  ]
+  HasNoneBetween-span low id before none key above below = search (rules, cases_lt, id_from_rank)
 
   pub IsFirstLive-more : (low mid : ℕ) (key : Key) → low ≤ mid → HasNoneBetween map low mid → IsFirstLive map mid key → IsFirstLive map low key
-  IsFirstLive-more low mid key less none first = record {
-    live = first.live;
-    not_below = omega (arith, first.not_below, less);
-    first = λ other above some. elim (cases_lt (rank other.span) mid) [
-      | inl before ↦ absurd (has-none map other some (none other above before))
-      | inr behind ↦ first.first other behind some
-    ];
-  }
+  IsFirstLive-more low mid key less none first = search (rules, cases_lt, has-none)
 
   pub IsFirstLive-span : (low : ℕ) (id : SpanId) (key : Key) → low ≤ rank id → HasNoneBetween map low (rank id) → IsFirstFrom map id 0 key → IsFirstLive map low key
   IsFirstLive-span low id key less none its = IsFirstLive-more low (rank id) key less none (record {
@@ -64,10 +54,7 @@ module _ (map : PlainMap) where
   })
     where
       of_span : (other : Key) → other.span ≡ id → has_value map other ≡ true → (other ≡ key) ⊎ IsAfter key other
-      of_span other same some = elim (its.first other same (omega arith) some) [
-        | inl equal ↦ inl equal
-        | inr later ↦ inr (inr (same ∙ sym its.span_is, later))
-      ]
+      of_span other same some = search rules
 
 -- a list of spans that grows
 
@@ -84,12 +71,10 @@ IsLowestOfOne-right : (xs ys : List SpanState) (key : Key) → IsLowestOfOne ys 
 IsLowestOfOne-right xs ys key one = record { span = one.span; inside = Contains-append_right xs ys one.span one.inside; named = one.named; lowest = one.lowest }
 
 its-left : (xs ys : List SpanState) (low : ℕ) (o : Option Key) → IfSome o (λ key. (low ≤ rank key.span) × IsLowestOfOne xs key) → IfSome o (λ key. (low ≤ rank key.span) × IsLowestOfOne (xs ++ ys) key)
-its-left xs ys low None its = tt
-its-left xs ys low (Some key) (above, one) = (above, IsLowestOfOne-left xs ys key one)
+its-left xs ys low o its = search (rules, IsLowestOfOne-left)
 
 its-right : (xs ys : List SpanState) (low : ℕ) (o : Option Key) → IfSome o (λ key. (low ≤ rank key.span) × IsLowestOfOne ys key) → IfSome o (λ key. (low ≤ rank key.span) × IsLowestOfOne (xs ++ ys) key)
-its-right xs ys low None its = tt
-its-right xs ys low (Some key) (above, one) = (above, IsLowestOfOne-right xs ys key one)
+its-right xs ys low o its = search (rules, IsLowestOfOne-right)
 
 -- the first of two lists is the earlier one of both firsts
 pub IsFirstAmong-append : (xs ys : List SpanState) (low : ℕ) (a b o : Option Key) → IsFirstAmong xs low a → IsFirstAmong ys low b
@@ -149,9 +134,7 @@ module _ {Closed : Type 0} where
     -- what a span of these answers is what the map has
     of_span : (id : SpanId) (at : ℕ) (span : SpanState) → slice_get (spans_in groups) at ≡ Some span → span.id ≡ id → (key : Key) → key.span ≡ id
         → is_some ((shown_by groups).value_of key) ≡ is_some (value_in span.log key.slot key.generation)
-    of_span id at span there named key same =
-        let its = stands groups at span there in
-        ap is_some (here key its.0 its.1 its.2 span (record { group_is = its.3.0; span_is = its.3.1; id_is = named ∙ sym same }))
+    of_span id at span there named key same = search (rules, stands)
 
     none-shown : (low high : ℕ) → All (HasNoneIn low high) (spans_in groups) → HasNoneBetween (shown_by groups) low high
     none-shown low high none key above below = by_span (span_named (spans_in groups) key.span) refl
@@ -178,10 +161,7 @@ module _ {Closed : Type 0} where
 
 pub take-suc : {X : Type 0} (xs : List X) (at : ℕ) (x : X) → slice_get xs at ≡ Some x → take (suc at) xs ≡ take at xs ++ x ∷ []
 take-suc [] at x here = absurd cc
-take-suc (y ∷ xs) zero x here = ap (λ z. z ∷ take 0 xs) (same_some here) ∙ ap (λ zs. x ∷ zs) (none xs)
-  where
-    none : {X : Type 0} (xs : List X) → take 0 xs ≡ []
-    none xs = refl
+take-suc (y ∷ xs) zero x here = search (rules, same_some)
 take-suc (y ∷ xs) (suc at) x here = ap (λ ys. y ∷ ys) (take-suc xs at x here)
 
 -- one more of the first

@@ -1,5 +1,5 @@
 -- A directory of guests, where a group loses those in which no slot is live.
-use Rattle.std.proofs.Common.{suc, ◌≡◌, ℕ, ◌+◌, ◌≤◌, Bool, true, false, not, List, set, Some, slice_get, is_some, ◌∙◌, ap, sym, refl, inl, inr, arith}
+use Rattle.std.proofs.Common.{suc, ◌≡◌, ℕ, ◌+◌, ◌≤◌, Bool, true, false, not, List, set, Some, slice_get, is_some, ◌∙◌, ap, sym, refl, inl, inr, arith, rules}
 use Rattle.std.specs.FinMap as map
 use Rattle.std.specs.Prelude.{count_by}
 use Rattle.std.proofs.lemmas.Bool.{cases_eq}
@@ -56,14 +56,7 @@ module _ {G : Type 0} (head_of : G → SpanId) (guests_of : G → List SpanState
     -- a guest of another group has its entry
     old : (other place : ℕ) (g : G) (guest : SpanState) → (other ≡ index → ⊥) → slice_get groups other ≡ Some g → slice_get (guests_of g) place ≡ Some guest
         → map.get now (rank guest.id) ≡ Some (record { head = head_of g; place = suc place })
-    old other place g guest elsewhere at there =
-        get-entered_out live left (head_of before) 1 (rank guest.id)
-        (λ k span within same. let was = before-filter is_live (guests_of before) k span within in
-        elsewhere (one_group head_of guests_of groups entries is heads other index place was.0 g before guest span at here there was.1 (sym same)))
-        ∙ get-struck_out dead entries (rank guest.id)
-        (λ k span within same. let was = before-filter is_dead (guests_of before) k span within in
-        elsewhere (one_group head_of guests_of groups entries is heads other index place was.0 g before guest span at here there was.1 (sym same)))
-        ∙ is.known other place g guest at there
+    old other place g guest elsewhere at there = search (rules, get-entered_out, before-filter, one_group, get-struck_out)
 
     next : (place : ℕ) → 1 + place ≡ suc place
     next place = omega arith

@@ -1,5 +1,5 @@
 -- The values that logs leave, where spans go in which no slot is live.
-use Rattle.std.proofs.Common.{◌≡◌, ℕ, ◌≤◌, Bool, true, false, cond, List, [], ◌∷◌, ◌++◌, Option, None, Some, map, refl, sym, ap, ◌∙◌, arith}
+use Rattle.std.proofs.Common.{◌≡◌, ℕ, ◌≤◌, Bool, true, false, cond, List, [], ◌∷◌, ◌++◌, Option, None, Some, map, refl, sym, ap, ◌∙◌, arith, rules}
 use Rattle.std.specs.FinSet.{contains, contains-empty, empty}
 use Rattle.std.specs.FinMap as fin
 use Rattle.std.specs.Ordering.{nat_cmp}
@@ -27,8 +27,7 @@ value_in-none_live span slot generation dead = by_held (fin.get (replay span.log
     none = sym (contains-live_slots span.log slot) ∙ ap (λ slots. contains slots slot) dead ∙ contains-empty nat_cmp slot
 
     by_held : (held : Option Held) → is_some held ≡ false → value_if generation held ≡ None
-    by_held None e = refl
-    by_held (Some held) e = absurd cc
+    by_held held e = search rules
 
 pub value_in-dead : (span : SpanState) (slot generation : ℕ) → is_live span ≡ false → value_in span.log slot generation ≡ None
 value_in-dead span slot generation dead = value_in-none_live span slot generation (live_slots-dead span dead)
@@ -67,8 +66,7 @@ module _ (key : Key) where
   }
     where
       by_test : (b : Bool) → logged_by key (cond b (Some span) (span_named few key.span)) ≡ logged_by key (cond b (Some span) (span_named many key.span))
-      by_test true = refl
-      by_test false = thin.value
+      by_test b = search rules
 
   pub AreThinned-live : (spans many few : List SpanState) → times key.span (spans ++ many) ≤ 1 → AreThinned many few → AreThinned (spans ++ many) (live_among spans ++ few)
   AreThinned-live [] many few once thin = thin

@@ -1,5 +1,5 @@
 -- A directory of the guests of groups with ascending heads, and what a look-up makes of it, whatever else a group has.
-use Rattle.std.proofs.Common.{zero, suc, ◌≡◌, ℕ, ◌≤◌, List, ◌∷◌, ◌++◌, length, insert, set, Option, None, Some, slice_get, ◌∙◌, ap, sym, refl, subst, inl, inr, arith}
+use Rattle.std.proofs.Common.{zero, suc, ◌≡◌, ℕ, ◌≤◌, List, ◌∷◌, ◌++◌, length, insert, set, Option, None, Some, slice_get, ◌∙◌, ap, sym, refl, subst, arith, rules}
 use Rattle.std.specs.FinMap as map
 use Rattle.std.specs.Option.{unwrap_or}
 use Rattle.std.specs.Prelude.{count_by, remove}
@@ -29,15 +29,7 @@ module _ {G : Type 0} (head : G → SpanState) (guests : G → List SpanState) w
   spans_of group = head group ∷ guests group
 
   pub own_heads : (groups : List G) → AreAscending id_of groups → HaveOwnHeads id_of guests groups
-  own_heads groups ascend i j a b at_i at_j same =
-      let ranks : rank (id_of a) ≡ rank (id_of b) = ap rank same in
-      elim (cases_lt i j) [
-        | inl less ↦ absurd (let low = ascend i j a b less at_i at_j in omega arith)
-        | inr more ↦ elim (cases_eq i j) [
-          | inl at ↦ at
-          | inr apart ↦ absurd (let low = ascend j i b a (omega arith) at_j at_i in omega arith)
-        ]
-      ]
+  own_heads groups ascend i j a b at_i at_j same = search (rules, cases_lt, cases_eq)
 
   -- the group of the head stands at the index
   abbrev pub StandsWithHead : List G → SpanId → ℕ → G → Type 0

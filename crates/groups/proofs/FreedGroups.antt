@@ -1,5 +1,5 @@
 -- A group stays sound where a key of one of its spans is freed.
-use Rattle.std.proofs.Common.{◌≡◌, ◌⊎◌, ℕ, Option, None, Some, MatchOption, slice_get, ◌∙◌, ap, sym, subst, inl, inr}
+use Rattle.std.proofs.Common.{◌≡◌, ◌⊎◌, ℕ, Option, None, Some, MatchOption, slice_get, ◌∙◌, ap, sym, subst, inl, inr, rules}
 use Rattle.std.specs.FinSet.{empty}
 use Rattle.span.proofs.Changes.{IsLegal-push}
 use Rattle.span.specs.Log.{Holds, IsLegal}
@@ -8,7 +8,7 @@ use Rattle.span.specs.declared.change.Change.TheVariants.{Free}
 use Rattle.span.specs.declared.key.Key.{Key}
 use Rattle.page.specs.Words.{Words}
 use Rattle.groups.specs.Group.{Group, spans_of, with_span}
-use Rattle.groups.specs.Sound.{AreStored, IsSoundGroup, IsStored}
+use Rattle.groups.specs.Sound.{AreStored, IsSoundGroup}
 use Rattle.groups.specs.Spans.{AreApart, union_of, with_free}
 use Rattle.groups.proofs.Lists.{cases-set}
 use Rattle.groups.proofs.Logs.{was_held}
@@ -34,11 +34,7 @@ module _ {Closed : Type 0} (group : Group Closed) (sound : IsSoundGroup group) (
 
   page_now : (page : Option Words) → MatchOption page (union_of (spans_of group) ≡ empty) (AreStored (spans_of group))
       → MatchOption page (union_of (spans_of after) ≡ empty) (AreStored (spans_of after))
-  page_now None none = absurd (none_live group sound place span here key.slot none (live_if_held span.log key.slot key.generation holds))
-  page_now (Some words) stored = λ at other there. elim (changed_or_kept at other there) [
-    | inl this ↦ subst (IsStored words) this.1 (λ q held is. stored place span here q held (was_held span key q held is))
-    | inr that ↦ stored at other that.1
-  ]
+  page_now page none = search (rules, none_live, live_if_held, changed_or_kept, was_held)
 
   pub IsSoundGroup-free : IsSoundGroup after
   IsSoundGroup-free = record {

@@ -1,5 +1,5 @@
 -- The spans of groups, and where each stands, whatever else a group has.
-use Rattle.std.proofs.Common.{zero, suc, ◌≡◌, ℕ, ◌+◌, ◌≤◌, Bool, true, false, List, [], ◌∷◌, ◌++◌, append_assoc, None, Some, set, slice_get, ◌∙◌, ap, subst, refl, inl, inr, arith}
+use Rattle.std.proofs.Common.{zero, suc, ◌≡◌, ℕ, ◌+◌, ◌≤◌, Bool, true, false, List, [], ◌∷◌, ◌++◌, append_assoc, None, Some, set, slice_get, ◌∙◌, ap, subst, refl, inl, inr, arith, rules}
 use Rattle.std.specs.Prelude.{count_by, find, insert, remove}
 use Rattle.std.specs.List.{flat_map}
 use Rattle.std.proofs.lemmas.Bool.{false_from_ne_true}
@@ -44,9 +44,7 @@ module _ {G : Type 0} (spans_of : G → List SpanState) where
   -- a span that is found by its id stands in a group
   pub named_stands : (groups : List G) (id : SpanId) (span : SpanState) → find (λ (s : SpanState). same_span s.id id) (all_in groups) ≡ Some span
       → StandsSomewhere groups span × (same_span span.id id ≡ true)
-  named_stands groups id span found =
-      let there = found_at (λ (s : SpanState). same_span s.id id) (all_in groups) span found in
-      (stands_in groups there.0.0 span there.0.1, there.1)
+  named_stands groups id span found = search (rules, found_at, stands_in)
 
   -- the spans before and after those of a group that came
   pub record IsPutIn (groups : List G) (index : ℕ) (group : G) : Type 0 where
@@ -125,9 +123,7 @@ module _ {G : Type 0} (spans_of : G → List SpanState) where
     -- and where one that stands in a group passes, one does
     pub count-stands : (groups : List G) (index place : ℕ) (group : G) (span : SpanState) → StandsAt groups index place group span → p span ≡ true → 1 ≤ count_by p (all_in groups)
     count-stands [] index place group span stands passes = absurd (none-some group stands.0)
-    count-stands (first ∷ groups) zero place group span stands passes =
-        let same : first ≡ group = same_some stands.0 in
-        omega (arith, count-append p (spans_of first) (all_in groups), count-some p (spans_of first) place span (ap (λ g. slice_get (spans_of g) place) same ∙ stands.1) passes)
+    count-stands (first ∷ groups) zero place group span stands passes = search (rules, same_some, count-append, count-some)
     count-stands (first ∷ groups) (suc index) place group span stands passes =
         omega (arith, count-append p (spans_of first) (all_in groups), count-stands groups index place group span (stands.0, stands.1) passes)
 
@@ -149,9 +145,7 @@ module _ {G : Type 0} (spans_of : G → List SpanState) where
       (λ index place group span stands. false_from_ne_true (same_span span.id id) (λ same. elsewhere index group stands.0 place (span, stands.1, same_id_from_test span.id id same)))
 
   pub elsewhere-times : (groups : List G) (id : SpanId) → times id (all_in groups) ≡ 0 → IsInNone groups id
-  elsewhere-times groups id none index group here place found =
-      let some = count-stands (λ (s : SpanState). same_span s.id id) groups index place group found.0 (here, found.1) (test_from_same_id found.0.id id found.2) in
-      omega arith
+  elsewhere-times groups id none index group here place found = search (rules, count-stands, test_from_same_id)
 
   -- spans that stand at most once, and elsewhere, stand at most once together
   pub times-together : (groups : List G) (spans : List SpanState)

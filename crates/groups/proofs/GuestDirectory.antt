@@ -41,10 +41,7 @@ get_behind (x ∷ xs) ys at y there = let e : length (x ∷ xs) + at ≡ suc (le
 cases-append : {X : Type 0} (xs ys : List X) (at : ℕ) (y : X) → slice_get (xs ++ ys) at ≡ Some y → (slice_get xs at ≡ Some y) ⊎ ((later : ℕ) × (at ≡ length xs + later) × (slice_get ys later ≡ Some y))
 cases-append [] ys at y there = inr (at, omega arith, there)
 cases-append (x ∷ xs) ys zero y there = inl there
-cases-append (x ∷ xs) ys (suc at) y there = elim (cases-append xs ys at y there) [
-  | inl first ↦ inl first
-  | inr (later, is_at, second) ↦ inr (later, omega (arith, is_at), second)
-]
+cases-append (x ∷ xs) ys (suc at) y there = search (rules, (cases-append xs ys at y there))
 
 -- `head_of` gives the id of a group's head, and `guests_of` its guests
 module _ {G : Type 0} (head_of : G → SpanId) (guests_of : G → List SpanState) where
@@ -216,13 +213,7 @@ module _ {G : Type 0} (head_of : G → SpanId) (guests_of : G → List SpanState
 
         here_now : (place : ℕ) (guest : SpanState) (g : G) → after ≡ g → slice_get (guests_of g) place ≡ Some guest
             → map.get (entered entries more (head_of before) (suc (length (guests_of before)))) (rank guest.id) ≡ Some (record { head = head_of g; place = suc place })
-        here_now place guest g now there = elim (cases-append (guests_of before) more place guest (ap (λ gs. slice_get gs place) (sym guests) ∙ ap (λ x. slice_get (guests_of x) place) now ∙ there)) [
-          | inl first ↦ old index place before guest here first ∙ ap (λ i. Some (record { head = i; place = suc place })) (sym head ∙ ap head_of now)
-          | inr (k, is_at, second) ↦
-              get-entered_in more entries (head_of before) (suc (length (guests_of before))) k guest apart second
-              ∙ ap (λ n. Some (record { head = head_of before; place = n })) (let e : suc (length (guests_of before)) + k ≡ suc place = omega (arith, is_at) in e)
-              ∙ ap (λ i. Some (record { head = i; place = suc place })) (sym head ∙ ap head_of now)
-        ]
+        here_now place guest g now there = search (rules, cases-append, old, get-entered_in)
 
         stays : (place : ℕ) (guest : SpanState) → slice_get (guests_of before) place ≡ Some guest → (other : SpanState) × (slice_get (guests_of after) place ≡ Some other) × (other.id ≡ guest.id)
         stays place guest there = (guest, ap (λ gs. slice_get gs place) guests ∙ get_left (guests_of before) more place guest there, refl)

@@ -1,5 +1,5 @@
 -- Where a head stands, or would stand, among groups whose heads ascend.
-use Rattle.std.proofs.Common.{◌≡◌, ℕ, ◌<◌, ◌≤◌, List, length, Some, slice_get, ◌∙◌, ap, sym, inl, inr, arith}
+use Rattle.std.proofs.Common.{◌≡◌, ℕ, ◌<◌, ◌≤◌, List, length, Some, slice_get, ◌∙◌, ap, sym, inl, inr, arith, rules}
 use Rattle.std.proofs.lemmas.Bool.{cases_eq, cases_lt}
 use Rattle.std.proofs.lemmas.Option.{slice_get_within}
 use Rattle.span.specs.Ids.{rank}
@@ -20,12 +20,7 @@ module _ {G : Type 0} (id_of : G → SpanId) where
     -- where no head is this one, those that are not lower are higher
     pub higher-lower : ((other : ℕ) (group : G) → slice_get groups other ≡ Some group → id_of group ≡ id → ⊥) → (other : ℕ) (group : G) → index ≤ other
         → slice_get groups other ≡ Some group → rank id < rank (id_of group)
-    higher-lower none other group above there =
-        let least : rank id ≤ rank (id_of group) = is.others other group above there in
-        elim (cases_eq (rank id) (rank (id_of group))) [
-          | inl same ↦ absurd (none other group there (sym (id_from_rank id (id_of group) same)))
-          | inr apart ↦ omega arith
-        ]
+    higher-lower none other group above there = search (rules, cases_eq, id_from_rank)
 
     -- a head that is not at the index is at none
     pub no_head-lower : AreAscending id_of groups → ((group : G) → slice_get groups index ≡ Some group → id_of group ≡ id → ⊥) → (other : ℕ) (group : G)

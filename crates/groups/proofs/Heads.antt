@@ -1,5 +1,5 @@
 -- Groups whose heads ascend, whatever else a group has.
-use Rattle.std.proofs.Common.{zero, suc, ◌≡◌, ℕ, ◌+◌, ◌<◌, List, [], ◌∷◌, length, map, get_or, slice_get, Some, ◌∙◌, ap, sym, refl, inl, inr, arith}
+use Rattle.std.proofs.Common.{zero, suc, ◌≡◌, ℕ, ◌+◌, ◌<◌, List, [], ◌∷◌, length, map, get_or, slice_get, Some, ap, refl, arith, rules}
 use Rattle.std.specs.List.Sorted.{IsStrictlyIncreasing}
 use Rattle.std.proofs.lemmas.Bool.{cases_eq, cases_lt}
 use Rattle.span.specs.Ids.{rank}
@@ -34,12 +34,4 @@ module _ {G : Type 0} (id_of : G → SpanId) where
 
     -- one group has a head
     pub one_of_head : (i j : ℕ) (a b : G) → slice_get groups i ≡ Some a → slice_get groups j ≡ Some b → id_of a ≡ id_of b → a ≡ b
-    one_of_head i j a b at_i at_j same =
-        let ranks : rank (id_of a) ≡ rank (id_of b) = ap rank same in
-        elim (cases_lt i j) [
-          | inl less ↦ absurd (let low = ascend i j a b less at_i at_j in omega arith)
-          | inr more ↦ elim (cases_eq i j) [
-            | inl at ↦ same_some (sym at_i ∙ ap (slice_get groups) at ∙ at_j)
-            | inr apart ↦ absurd (let low = ascend j i b a (omega arith) at_j at_i in omega arith)
-          ]
-        ]
+    one_of_head i j a b at_i at_j same = search (rules, cases_lt, cases_eq, same_some)

@@ -1,5 +1,5 @@
 -- What stands in a list after a write, an insertion or a map, and how often.
-use Rattle.std.proofs.Common.{◌≡◌, ℕ, zero, suc, ◌+◌, ◌<◌, ◌≤◌, Bool, true, false, cond, List, [], ◌∷◌, ◌++◌, ◌⊎◌, inl, inr, refl, sym, ap, subst, ◌∙◌, arith, length, insert, map, Some, None, get_or, set, slice_get}
+use Rattle.std.proofs.Common.{◌≡◌, ℕ, zero, suc, ◌+◌, ◌<◌, ◌≤◌, Bool, true, false, cond, List, [], ◌∷◌, ◌++◌, ◌⊎◌, inl, inr, refl, sym, ap, subst, ◌∙◌, arith, length, insert, map, Some, None, get_or, set, slice_get, rules}
 use Rattle.std.specs.Prelude.{find, count_by, remove}
 use Rattle.std.proofs.lemmas.Option.{slice_get_read, slice_get_within}
 use Rattle.std.proofs.lemmas.List.Sums.{sum_by-append, sum_by-cons}
@@ -38,11 +38,9 @@ module _ {X : Type 0} (R : X → X → Type 0) (self : (x : X) → R x x) where
 pub cases-set : {X : Type 0} (xs : List X) (at : ℕ) (y : X) (other : ℕ) (z : X) → slice_get (set xs at y) other ≡ Some z → ((other ≡ at) × (y ≡ z)) ⊎ ((other ≡ at → ⊥) × (slice_get xs other ≡ Some z))
 cases-set [] at y other z there = absurd cc
 cases-set (w ∷ ws) zero y zero z there = inl (refl, same_some there)
-cases-set (w ∷ ws) (suc at) y (suc other) z there = elim (cases-set ws at y other z there) [
-  | inl here ↦ inl (ap suc here.0, here.1)
-  | inr old ↦ inr ((λ e. old.0 (omega arith)), old.1)
-]
-cases-set xs at y other z there = inr ((λ e. omega arith), there)
+cases-set (w ∷ ws) zero y (suc other) z there = inr ((λ e. omega arith), there)
+cases-set (w ∷ ws) (suc at) y zero z there = inr ((λ e. omega arith), there)
+cases-set (w ∷ ws) (suc at) y (suc other) z there = search (rules, (cases-set ws at y other z there))
 
 pub get-set : {X : Type 0} (xs : List X) (at : ℕ) (x y : X) → slice_get xs at ≡ Some x → slice_get (set xs at y) at ≡ Some y
 get-set [] at x y here = absurd cc
@@ -112,21 +110,7 @@ pub pairs-insert : {X : Type 0} (R : X → X → Type 0) (xs : List X) (at : ℕ
     → ((other : ℕ) (y : X) → other < at → slice_get xs other ≡ Some y → R y x)
     → ((other : ℕ) (y : X) → at ≤ other → slice_get xs other ≡ Some y → R x y)
     → (low high : ℕ) (a b : X) → low < high → slice_get (insert xs at x) low ≡ Some a → slice_get (insert xs at x) high ≡ Some b → R a b
-pairs-insert R xs at x within pairs before behind low high a b less at_low at_high =
-    cases (cases-insert xs at x within low a at_low) (cases-insert xs at x within high b at_high)
-  where
-    cases : ((low < at) × (slice_get xs low ≡ Some a)) ⊎ (((low ≡ at) × (x ≡ a)) ⊎ ((first : ℕ) × (low ≡ first + 1) × (at ≤ first) × (slice_get xs first ≡ Some a)))
-        → ((high < at) × (slice_get xs high ≡ Some b)) ⊎ (((high ≡ at) × (x ≡ b)) ⊎ ((second : ℕ) × (high ≡ second + 1) × (at ≤ second) × (slice_get xs second ≡ Some b)))
-        → R a b
-    cases (inl p) (inl q) = pairs low high a b less p.1 q.1
-    cases (inl p) (inr (inl q)) = subst (R a) q.1 (before low a p.0 p.1)
-    cases (inl p) (inr (inr q)) = pairs low q.0 a b (let e : high ≡ q.0 + 1 = q.1 in let f : at ≤ q.0 = q.2 in let g : low < at = p.0 in omega arith) p.1 q.3
-    cases (inr (inl p)) (inl q) = absurd (let e : low ≡ at = p.0 in let f : high < at = q.0 in omega arith)
-    cases (inr (inl p)) (inr (inl q)) = absurd (let e : low ≡ at = p.0 in let f : high ≡ at = q.0 in omega arith)
-    cases (inr (inl p)) (inr (inr q)) = subst (λ z. R z b) p.1 (behind q.0 b q.2 q.3)
-    cases (inr (inr p)) (inl q) = absurd (let e : low ≡ p.0 + 1 = p.1 in let f : at ≤ p.0 = p.2 in let g : high < at = q.0 in omega arith)
-    cases (inr (inr p)) (inr (inl q)) = absurd (let e : low ≡ p.0 + 1 = p.1 in let f : at ≤ p.0 = p.2 in let g : high ≡ at = q.0 in omega arith)
-    cases (inr (inr p)) (inr (inr q)) = pairs p.0 q.0 a b (let e : low ≡ p.0 + 1 = p.1 in let f : high ≡ q.0 + 1 = q.1 in omega arith) p.3 q.3
+pairs-insert R xs at x within pairs before behind low high a b less at_low at_high = search (rules, cases-insert)
 
 -- the lists round the element at a place
 pub record IsSplit {X : Type 0} (xs : List X) (at : ℕ) (x : X) : Type 0 where
@@ -226,8 +210,7 @@ module _ {X : Type 0} (p : X → Bool) where
   find-none (x ∷ xs) none = by_test (p x) refl (find-none xs)
     where
       by_test : (b : Bool) → p x ≡ b → (count_by p xs ≡ 0 → find p xs ≡ None) → cond b (Some x) (find p xs) ≡ None
-      by_test true passes rest = absurd (omega (arith, count-cons x xs, one_where (p x) passes))
-      by_test false fails rest = rest (omega (arith, count-cons x xs))
+      by_test b passes rest = search (rules, count-cons, one_where)
 
   pub find-here : (xs ys : List X) (x : X) → p x ≡ true → count_by p xs ≡ 0 → find p (xs ++ x ∷ ys) ≡ Some x
   find-here xs ys x passes none = find-append p xs (x ∷ ys) ∙ rw (find-none xs none, passes) refl

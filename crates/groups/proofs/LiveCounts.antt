@@ -1,5 +1,5 @@
 -- How many keys are live in spans that have no slot in common.
-use Rattle.std.proofs.Common.{◌≡◌, ℕ, ◌+◌, Bool, true, false, cond, ◌||◌, List, [], ◌∷◌, ◌∙◌, ap, sym, refl, arith, eq-eqb}
+use Rattle.std.proofs.Common.{◌≡◌, ℕ, ◌+◌, Bool, true, false, cond, ◌||◌, List, [], ◌∷◌, ◌∙◌, ap, sym, refl, arith, eq-eqb, rules}
 use Rattle.std.specs.Ordering.{nat_cmp, eq_by_cmp}
 use Rattle.std.specs.Cmp.{nat_cmp_total, unsigned_tied}
 use Rattle.std.specs.FinSet.{contains, from_list, insert, items, len, union, contains-from_list, contains-insert, contains-items, contains-union, len-empty, len-insert}
@@ -9,7 +9,6 @@ use Rattle.std.proofs.lemmas.List.Sums.{sum_by-cons}
 use Rattle.bitmap.specs.Slots.{SlotSet, AreDisjoint}
 use Rattle.bitmap.specs.Words.{same_slots}
 use Rattle.bitmap.specs.Operations.{AreDisjoint-at}
-use Rattle.span.specs.Log.{live_slots}
 use Rattle.span.specs.State.{SpanState}
 use Rattle.groups.specs.Spans.{AreApart, union_of, live_count}
 use Rattle.groups.proofs.Unions.{union-empty}
@@ -18,9 +17,7 @@ from_list-items : (s : SlotSet) → from_list (items s) ≡ s
 from_list-items s = same_slots _ _ (λ q. contains-from_list nat_cmp_total (items s) q ∙ sym (contains-items s q))
 
 or_turned : (a b c : Bool) → (a || (b || c)) ≡ (b || (a || c))
-or_turned true true c = refl
-or_turned true false c = refl
-or_turned false b c = refl
+or_turned a b c = search rules
 
 union-insert_right : (a b : SlotSet) (slot : ℕ) → union a (insert b slot) ≡ insert (union a b) slot
 union-insert_right a b slot = same_slots _ _ (λ q.
@@ -44,8 +41,7 @@ len-union_list a (k ∷ ks) apart =
     ∙ ap (λ n. len a + n) (sym (len-insert nat_cmp_total rest k))
   where
     by_test : (b : Bool) (both left right : ℕ) → both ≡ left + right → cond b both (both + 1) ≡ left + cond b right (right + 1)
-    by_test true both left right e = e
-    by_test false both left right e = omega arith
+    by_test b both left right e = search rules
 
 pub len-union : (a b : SlotSet) → AreDisjoint a b → len (union a b) ≡ len a + len b
 len-union a b apart =
@@ -55,7 +51,4 @@ len-union a b apart =
 
 pub len-union_of : (spans : List SpanState) → AreApart spans → len (union_of spans) ≡ live_count spans
 len-union_of [] apart = len-empty nat_cmp
-len-union_of (span ∷ spans) apart =
-    len-union (live_slots span.log) (union_of spans) apart.0
-    ∙ ap (λ n. len (live_slots span.log) + n) (len-union_of spans apart.1)
-    ∙ sym (sum_by-cons (λ (s : SpanState). len (live_slots s.log)) span spans)
+len-union_of (span ∷ spans) apart = search (rules, len-union, sum_by-cons, (len-union_of spans apart.1))

@@ -1,5 +1,5 @@
 -- Which keys a log leaves live, and what an empty log leaves.
-use Rattle.std.proofs.Common.{◌≡◌, ◌∙◌, ℕ, ◌≤◌, false, List, [], Option, Some, None, is_some, IsSomeAnd, ap, sym, refl, inl, inr, eq-eqb}
+use Rattle.std.proofs.Common.{◌≡◌, ◌∙◌, ℕ, ◌≤◌, false, List, [], Some, None, is_some, IsSomeAnd, ap, eq-eqb, rules}
 use Rattle.std.specs.FinMap as map
 use Rattle.std.specs.FinSet.{contains, contains-empty}
 use Rattle.std.specs.Ordering.{nat_cmp}
@@ -25,18 +25,11 @@ value_in-gone log slot generation gone = None-if_not_some (value_in log slot gen
 -- and one that is live finds the value of its slot
 pub value_in-held : (log : List Change) (slot generation : ℕ) (value : Value) → Holds log slot generation
     → ((held : Held) → map.get (replay log) slot ≡ Some held → value ≡ held.value) → value_in log slot generation ≡ Some value
-value_in-held log slot generation value holds same = by_slot (map.get (replay log) slot) holds same
-  where
-    by_slot : (o : Option Held) → IsSomeAnd o (λ held. held.generation ≡ generation) → ((held : Held) → o ≡ Some held → value ≡ held.value) → value_if generation o ≡ Some value
-    by_slot None h same = absurd h
-    by_slot (Some held) h same = rw (eq-eqb held.generation generation h) (ap Some (sym (same held refl)))
+value_in-held log slot generation value holds same = search (rules, IsSomeAnd, eq-eqb)
 
 -- a slot that is live after a free was live before
 pub was_held : (span : SpanState) (key : Key) (q : ℕ) (held : Held) → map.get (replay (with_free span key).log) q ≡ Some held → map.get (replay span.log) q ≡ Some held
-was_held span key q held is = elim (cases_eq q key.slot) [
-  | inl same ↦ absurd (none-some held (sym (get-free span.log key.slot key.generation q ∙ rw (eq-eqb q key.slot same) refl) ∙ is))
-  | inr other ↦ sym (get-free span.log key.slot key.generation q ∙ rw (ne_eqb q key.slot other) refl) ∙ is
-]
+was_held span key q held is = search (rules, cases_eq, none-some, get-free, eq-eqb, ne_eqb)
 
 pub contains-live_slots-empty : (slot : ℕ) → contains (live_slots []) slot ≡ false
 contains-live_slots-empty slot = ap (λ s. contains s slot) live_slots-empty ∙ contains-empty nat_cmp slot

@@ -1,7 +1,7 @@
 -- Maps by numbers before and after a change, and the rest of a list.
-use Rattle.std.proofs.Common.{zero, suc, ◌≡◌, ◌≢◌, ℕ, cond, List, [], ◌∷◌, Option, Some, None, ap, sym, ◌∙◌, drop, eqb, eq-eqb, nat_eq, refl, slice_get}
+use Rattle.std.proofs.Common.{zero, suc, ◌≡◌, ◌≢◌, ℕ, cond, List, [], ◌∷◌, Option, Some, None, ap, sym, ◌∙◌, drop, eqb, eq-eqb, nat_eq, refl, slice_get, rules}
 use Rattle.std.specs.Ordering.{nat_cmp}
-use Rattle.std.specs.Prelude.{Result, Ok, Err, OnErr}
+use Rattle.std.specs.Prelude.{Result, Err, OnErr}
 use Rattle.std.specs.Cmp.{nat_cmp_total, unsigned_tied}
 use Rattle.std.specs.FinMap as map
 use Rattle.std.specs.HashMap as hash
@@ -31,10 +31,7 @@ module _ {K X : Type 0} where
 
 module _ {X S : Type 0} where
   pub Sets-number : (m n : HashMap ℕ X S) (key : ℕ) (value : Option X) → hash.Updates nat_eq m n key value → Sets (hash.get nat_eq m) (hash.get nat_eq n) key value
-  Sets-number m n key value updates = record {
-    changed = updates.0 key ∙ rw (eq-eqb key key refl) refl;
-    others = λ other apart. updates.0 other ∙ rw (ne_eqb key other (λ e. apart (sym e))) refl;
-  }
+  Sets-number m n key value updates = search (rules, eq-eqb, ne_eqb)
 
 pub drop_step : {X : Type 0} (xs : List X) (at : ℕ) (x : X) → slice_get xs at ≡ Some x → drop at xs ≡ x ∷ drop (suc at) xs
 drop_step [] at x here = absurd cc
@@ -43,5 +40,4 @@ drop_step (y ∷ xs) (suc at) x here = drop_step xs at x here
 
 -- what holds anyway holds at an error
 pub at_err : {T E P : Type 0} (r : Result T E) → P → OnErr r P
-at_err (Ok x) p = tt
-at_err (Err e) p = p
+at_err r p = search rules

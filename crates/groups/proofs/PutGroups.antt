@@ -1,9 +1,9 @@
 -- A group stays sound where its head takes a put.
-use Rattle.std.proofs.Common.{zero, suc, ◌≡◌, ℕ, ◌+◌, ◌<◌, length, true, false, Some, is_some, slice_get, ◌∙◌, ap, sym, subst, refl, inl, inr, eq-eqb}
+use Rattle.std.proofs.Common.{zero, suc, ◌≡◌, ℕ, ◌+◌, ◌<◌, length, true, false, Some, is_some, slice_get, ◌∙◌, ap, sym, subst, refl, inl, inr, eq-eqb, rules}
 use Rattle.std.specs.FinMap as map
 use Rattle.std.specs.FinSet.{contains}
 use Rattle.std.proofs.lemmas.Bool.{cases_eq, ne_eqb, true≢false}
-use Rattle.bitmap.specs.Slots.{SlotSet, AreDisjoint}
+use Rattle.bitmap.specs.Slots.{AreDisjoint}
 use Rattle.span.specs.Classes.{slots_in, width_of}
 use Rattle.span.specs.Log.{Held, IsLegal, Value, live_slots, puts_of, replay, worn_slots}
 use Rattle.span.specs.State.{SpanState}
@@ -67,8 +67,7 @@ module _ {Closed : Type 0} (group : Group Closed) (sound : IsSoundGroup group) (
       stored_other (suc place) span here q held is (λ same. true≢false (sym live ∙ ap (contains (union_of group.guests)) same ∙ not_in_guests))
 
   spans_now : (place : ℕ) (span : SpanState) → slice_get (spans_of after) place ≡ Some span → IsStored page_now span
-  spans_now zero span here = subst (IsStored page_now) (same_some here) head_now
-  spans_now (suc place) span here = guest_now place span here
+  spans_now place span here = search (rules, same_some, head_now, guest_now)
 
   legal_now : (place : ℕ) (span : SpanState) → slice_get (spans_of after) place ≡ Some span → IsLegal span.gens span.log
   legal_now zero span here =
@@ -85,11 +84,7 @@ module _ {Closed : Type 0} (group : Group Closed) (sound : IsSoundGroup group) (
   classes_now (suc place) span here = sound.classes (suc place) span here
 
   apart_now : AreApart (spans_of after)
-  apart_now = (
-    subst (λ (s : SlotSet). AreDisjoint s (union_of group.guests)) (sym (live_slots-put group.head.log slot (puts_of slot group.head.log + 1) value))
-        (AreDisjoint-insert (live_slots group.head.log) (union_of group.guests) slot sound.apart.0 not_in_guests),
-    sound.apart.1,
-  )
+  apart_now = search (rules, live_slots-put, AreDisjoint-insert, not_in_guests)
 
   pub IsSoundGroup-put : IsSoundGroup after
   IsSoundGroup-put = record { apart = apart_now; legal = legal_now; classes = classes_now; page = spans_now }

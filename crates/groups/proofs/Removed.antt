@@ -1,5 +1,5 @@
 -- What stands in a list after a removal, and how often.
-use Rattle.std.proofs.Common.{◌≡◌, ℕ, zero, suc, ◌+◌, ◌<◌, ◌≤◌, Bool, true, false, cond, List, [], ◌∷◌, ◌⊎◌, inl, inr, refl, ap, ◌∙◌, arith, Some, set, slice_get}
+use Rattle.std.proofs.Common.{◌≡◌, ℕ, zero, suc, ◌+◌, ◌<◌, ◌≤◌, Bool, true, false, cond, List, [], ◌∷◌, ◌⊎◌, inl, inr, refl, ap, ◌∙◌, arith, Some, set, slice_get, rules}
 use Rattle.std.specs.Prelude.{count_by, insert, remove}
 use Rattle.groups.proofs.Lists.{count-cons, none_where, same_some}
 
@@ -10,17 +10,11 @@ cases-remove [] zero other y there = absurd cc
 cases-remove [] (suc at) other y there = absurd cc
 cases-remove (x ∷ xs) zero other y there = inr (omega arith, there)
 cases-remove (x ∷ xs) (suc at) zero y there = inl (omega arith, there)
-cases-remove (x ∷ xs) (suc at) (suc other) y there = elim (cases-remove xs at other y there) [
-  | inl low ↦ inl (let less : other < at = low.0 in omega arith, low.1)
-  | inr high ↦ inr (let more : at ≤ other = high.0 in omega arith, high.1)
-]
+cases-remove (x ∷ xs) (suc at) (suc other) y there = search (rules, (cases-remove xs at other y there))
 
 -- where an old element stood, which was not the one that went
 pub before-remove : {X : Type 0} (xs : List X) (at other : ℕ) (y : X) → slice_get (remove xs at) other ≡ Some y → (before : ℕ) × (before ≡ at → ⊥) × (slice_get xs before ≡ Some y)
-before-remove xs at other y there = elim (cases-remove xs at other y there) [
-  | inl low ↦ (other, (λ e. let less : other < at = low.0 in omega arith), low.1)
-  | inr high ↦ (suc other, (λ e. let more : at ≤ other = high.0 in omega arith), high.1)
-]
+before-remove xs at other y there = search (rules, cases-remove)
 
 pub after-remove : {X : Type 0} (xs : List X) (at other : ℕ) (y : X) → slice_get xs other ≡ Some y → (other ≡ at → ⊥) → (now : ℕ) × (slice_get (remove xs at) now ≡ Some y)
 after-remove [] at other y there apart = absurd cc
@@ -33,15 +27,7 @@ after-remove (x ∷ xs) (suc at) (suc other) y there apart = let later = after-r
 pub pairs-remove : {X : Type 0} (R : X → X → Type 0) (xs : List X) (at : ℕ)
     → ((low high : ℕ) (a b : X) → low < high → slice_get xs low ≡ Some a → slice_get xs high ≡ Some b → R a b)
     → (low high : ℕ) (a b : X) → low < high → slice_get (remove xs at) low ≡ Some a → slice_get (remove xs at) high ≡ Some b → R a b
-pairs-remove R xs at pairs low high a b less at_low at_high = cases (cases-remove xs at low a at_low) (cases-remove xs at high b at_high)
-  where
-    cases : ((low < at) × (slice_get xs low ≡ Some a)) ⊎ ((at ≤ low) × (slice_get xs (suc low) ≡ Some a))
-        → ((high < at) × (slice_get xs high ≡ Some b)) ⊎ ((at ≤ high) × (slice_get xs (suc high) ≡ Some b))
-        → R a b
-    cases (inl p) (inl q) = pairs low high a b less p.1 q.1
-    cases (inl p) (inr q) = pairs low (suc high) a b (omega arith) p.1 q.1
-    cases (inr p) (inl q) = absurd (let e : at ≤ low = p.0 in let f : high < at = q.0 in omega arith)
-    cases (inr p) (inr q) = pairs (suc low) (suc high) a b (omega arith) p.1 q.1
+pairs-remove R xs at pairs low high a b less at_low at_high = search (rules, cases-remove)
 
 -- a write is a removal and an insertion
 pub set-insert : {X : Type 0} (xs : List X) (at : ℕ) (x y : X) → slice_get xs at ≡ Some x → set xs at y ≡ insert (remove xs at) at y

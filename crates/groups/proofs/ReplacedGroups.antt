@@ -1,5 +1,5 @@
 -- Groups where one is replaced by a group whose spans have the same ids, at the same places.
-use Rattle.std.proofs.Common.{suc, ◌≡◌, ℕ, cond, List, [], ◌∷◌, length, Some, set, slice_get, ◌∙◌, ap, sym, subst, refl, arith, inl, inr}
+use Rattle.std.proofs.Common.{suc, ◌≡◌, ℕ, cond, List, [], ◌∷◌, length, Some, set, slice_get, ◌∙◌, ap, subst, refl, arith, inl, inr, rules}
 use Rattle.std.specs.Prelude.{remove}
 use Rattle.std.proofs.lemmas.Option.{none-some}
 use Rattle.span.specs.Ids.{same_span}
@@ -30,8 +30,7 @@ pub length-same : (before after : List SpanState) → HaveSameIds before after �
 length-same [] [] ids = refl
 length-same [] (new ∷ news) ids = absurd (let was = ids.back 0 new refl in none-some was.0 was.1)
 length-same (old ∷ olds) [] ids = absurd (let now = ids.forth 0 old refl in none-some now.0 now.1)
-length-same (old ∷ olds) (new ∷ news) ids = ap suc
-    (length-same olds news (record { forth = λ place span here. ids.forth (suc place) span here; back = λ place span here. ids.back (suc place) span here }))
+length-same (old ∷ olds) (new ∷ news) ids = search (rules, (length-same olds news (record { forth = λ place span here. ids.forth (suc place) span here; back = λ place span here. ids.back (suc place) span here })))
 
 module _ {Closed : Type 0} where
   -- the groups have spans of the same ids, at the same places
@@ -47,8 +46,7 @@ module _ {Closed : Type 0} where
   -- a change of one span that leaves its id
   pub AreAlike-with_span : (group : Group Closed) (place : ℕ) (span changed : SpanState) → slice_get (spans_of group) place ≡ Some span → changed.id ≡ span.id
       → AreAlike group (with_span group place changed)
-  AreAlike-with_span group place span changed here same = subst (HaveSameIds (spans_of group)) (sym (spans_of-with_span group place changed))
-      (HaveSameIds-set (spans_of group) place span changed here same)
+  AreAlike-with_span group place span changed here same = search (rules, HaveSameIds, spans_of-with_span, HaveSameIds-set)
 
   module _ (groups : List (Group Closed)) (index : ℕ) (group after : Group Closed) (here : slice_get groups index ≡ Some group) (ids : AreAlike group after) where
     -- where a group of these ids stood before
@@ -56,10 +54,7 @@ module _ {Closed : Type 0} where
     was_alike = before-set AreAlike (λ g. HaveSameIds-same (spans_of g)) groups index group after here ids
 
     pub Ascend-replaced : Ascend groups → Ascend (set groups index after)
-    Ascend-replaced ascend low high a b less at_low at_high =
-        let x = was_alike low a at_low in
-        let y = was_alike high b at_high in
-        rw (head-alike x.0 a x.2, head-alike y.0 b y.2) (ascend low high x.0 y.0 less x.1 y.1)
+    Ascend-replaced ascend low high a b less at_low at_high = search (rules, was_alike, head-alike)
 
     -- each id stands as often as before
     pub times-replaced : (id : SpanId) → times id (spans_in (set groups index after)) ≡ times id (spans_in groups)

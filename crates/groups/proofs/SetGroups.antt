@@ -1,5 +1,5 @@
 -- A group stays sound where one of its spans is set in place.
-use Rattle.std.proofs.Common.{zero, suc, ◌≡◌, ℕ, ◌<◌, ◌⊎◌, ◌++◌, ◌∷◌, [], length, Bool, true, false, IsTrue, ◌↔◌, List, Option, Some, None, IsSomeAnd, is_some, set, slice_get, ap, sym, subst, ◌∙◌, refl, inl, inr, eqb, eq-eqb, eqb-true, if◌then◌else◌}
+use Rattle.std.proofs.Common.{zero, suc, ◌≡◌, ℕ, ◌<◌, ◌⊎◌, ◌++◌, ◌∷◌, [], length, Bool, true, false, IsTrue, ◌↔◌, List, Option, Some, None, IsSomeAnd, is_some, set, slice_get, ap, sym, subst, ◌∙◌, refl, inl, inr, eqb, eq-eqb, eqb-true, rules, if◌then◌else◌}
 use Rattle.std.specs.Bool.{OnTrue, OnFalse}
 use Rattle.std.specs.FinMap as map
 use Rattle.std.specs.FinSet as finset
@@ -35,8 +35,7 @@ apart_at : (spans : List SpanState) (i j : ℕ) (a b : SpanState) (q : ℕ) → 
     → contains (live_slots a.log) q ≡ true → contains (live_slots b.log) q ≡ true → ⊥
 apart_at [] i j a b q apart at_i at_j differ in_a in_b = absurd cc
 apart_at (first ∷ rest) zero zero a b q apart at_i at_j differ in_a in_b = differ refl
-apart_at (first ∷ rest) zero (suc j) a b q apart at_i at_j differ in_a in_b =
-    AreDisjoint-at (live_slots first.log) (union_of rest) apart.0 q (ap (λ (s : SpanState). contains (live_slots s.log) q) (same_some at_i) ∙ in_a) (member_of_union rest j b q at_j in_b)
+apart_at (first ∷ rest) zero (suc j) a b q apart at_i at_j differ in_a in_b = search (rules, AreDisjoint-at, same_some, member_of_union)
 apart_at (first ∷ rest) (suc i) zero a b q apart at_i at_j differ in_a in_b =
     AreDisjoint-at (live_slots first.log) (union_of rest) apart.0 q (ap (λ (s : SpanState). contains (live_slots s.log) q) (same_some at_j) ∙ in_b) (member_of_union rest i a q at_i in_a)
 apart_at (first ∷ rest) (suc i) (suc j) a b q apart at_i at_j differ in_a in_b = apart_at rest i j a b q apart.1 at_i at_j (λ e. differ (ap suc e)) in_a in_b
@@ -95,16 +94,14 @@ module _ (spans : SpansState) (occupied : SlotSet) (open_words : WordSet) (kept 
       record { occupied_is = kept.occupied_is ∙ sym same.0; apart = same.1; shut = rw same.0 kept.shut }
 
   kept_same : (place : ℕ) → slice_get (all_spans spans) place ≡ Some span → with_span_at spans place span ≡ spans
-  kept_same zero here = ap (λ (s : SpanState). record spans { head = s }) (sym (same_some here))
-  kept_same (suc place) here = ap (λ (guests : List SpanState). record spans { guests = guests }) (set-same spans.guests place span here)
+  kept_same place here = search (rules, same_some, set-same)
 
   pub IsKept-set : (place : ℕ) → slice_get (all_spans spans) place ≡ Some span → (done : Bool) (after : SpanState)
       → IsTrue done ↔ IsSettable span slot generation value → OnTrue done (after ≡ with_set_at span slot generation value) → OnFalse done (after ≡ span)
       → IsKept (with_span_at spans place after) occupied open_words
   IsKept-set place here true after found is unknown =
       subst (λ (s : SpanState). IsKept (with_span_at spans place s) occupied open_words) (sym is) (kept_set place here (found.0 refl).0)
-  IsKept-set place here false after found is unknown =
-      subst (λ (s : SpansState). IsKept s occupied open_words) (sym (ap (with_span_at spans place) unknown ∙ kept_same place here)) kept
+  IsKept-set place here false after found is unknown = search (rules, kept_same)
 
 module _ {Closed : Type 0} (group : Group Closed) (sound : IsSoundGroup group)
     (place : ℕ) (span : SpanState) (here : slice_get (spans_of group) place ≡ Some span) (slot generation : ℕ) (value : Value) (settable : IsSettable span slot generation value) where
@@ -141,12 +138,7 @@ module _ {Closed : Type 0} (group : Group Closed) (sound : IsSoundGroup group)
       subst (λ c. object_in page_now c q ≡ held.value) (sym same) (object_in-set_object_other (words_of group.page) span.class slot value q low differ ∙ was)
 
   changed_now : IsStored page_now changed
-  changed_now q held is = elim (cases_eq q slot) [
-    | inl same ↦
-        let put : Some (record { generation = generation; value = value }) ≡ Some held = sym (get-set span.log slot generation value q ∙ rw (eq-eqb q slot same) refl) ∙ is in
-        ap (object_in page_now span.class) same ∙ object_in-set_object_same (words_of group.page) span.class slot value on_page settable.1 ∙ ap (λ (h : Held). h.value) (same_some put)
-    | inr differ ↦ stored_other place span here q held (sym (get-set span.log slot generation value q ∙ rw (ne_eqb q slot differ) refl) ∙ is) differ
-  ]
+  changed_now q held is = search (rules, cases_eq, get-set, eq-eqb, object_in-set_object_same, on_page, same_some, stored_other, ne_eqb)
 
   other_now : (at : ℕ) (other : SpanState) → (at ≡ place → ⊥) → slice_get (spans_of group) at ≡ Some other → IsStored page_now other
   other_now at other apart there q held is = stored_other at other there q held is (λ same. apart_at (spans_of group) at place other span q sound.apart there here apart

@@ -1,9 +1,9 @@
 -- Sound groups show the map that their logs leave.
-use Rattle.std.proofs.Common.{zero, suc, ◌≡◌, ℕ, ◌≤◌, Bool, true, false, cond, List, [], ◌∷◌, Option, None, Some, MatchOption, is_some, slice_get, ◌∙◌, ap, sym, refl, inl, inr, arith, eqb}
+use Rattle.std.specs.Ordering.{nat_cmp}
+use Rattle.std.proofs.Common.{zero, suc, ◌≡◌, ℕ, ◌≤◌, Bool, true, false, cond, List, [], ◌∷◌, Option, None, Some, MatchOption, is_some, slice_get, ◌∙◌, ap, sym, refl, inl, inr, arith, eqb, rules}
 use Rattle.std.specs.Prelude.{find, option_map}
 use Rattle.std.specs.FinMap as map
 use Rattle.std.specs.FinSet.{contains, contains-empty, empty}
-use Rattle.std.specs.Ordering.{nat_cmp}
 use Rattle.std.proofs.lemmas.Bool.{false≢true}
 use Rattle.std.proofs.lemmas.Option.{none-some}
 use Rattle.span.proofs.Slots.{contains-live_slots}
@@ -28,31 +28,19 @@ use Rattle.groups.proofs.Unions.{member_of_union}
 find-is_some : {X : Type 0} (p : X → Bool) (xs : List X) (at : ℕ) (x : X) → slice_get xs at ≡ Some x → p x ≡ true → is_some (find p xs) ≡ true
 find-is_some p [] at x here passes = absurd (none-some x here)
 find-is_some p (y ∷ ys) zero x here passes = rw (ap p (same_some here) ∙ passes) refl
-find-is_some p (y ∷ ys) (suc at) x here passes = by_test (p y) (find-is_some p ys at x here passes)
-  where
-    by_test : (b : Bool) → is_some (find p ys) ≡ true → is_some (cond b (Some y) (find p ys)) ≡ true
-    by_test true rest = refl
-    by_test false rest = rest
+find-is_some p (y ∷ ys) (suc at) x here passes = search (rules, (find-is_some p ys at x here passes))
 
 -- the value that a log leaves is the object where the object is that of each live slot
 object_or_none : (o : Option Held) (generation : ℕ) (object : Option Value) → ((held : Held) → o ≡ Some held → object ≡ Some held.value)
     → cond (is_some (value_if generation o)) object None ≡ value_if generation o
-object_or_none None generation object same = refl
-object_or_none (Some held) generation object same = by_test (eqb held.generation generation)
-  where
-    by_test : (b : Bool) → cond (is_some (cond b (Some held.value) None)) object None ≡ cond b (Some held.value) None
-    by_test true = same held refl
-    by_test false = refl
+object_or_none o generation object same = search (rules, eqb)
 
 module _ {Closed : Type 0} where
   -- the page of a span is that of the group where it stands
   pub page_of-stands : (groups : List (Group Closed)) → ((id : SpanId) → times id (spans_in groups) ≤ 1) → (index place : ℕ) (group : Group Closed) (span : SpanState)
       → slice_get groups index ≡ Some group → slice_get (spans_of group) place ≡ Some span → (id : SpanId) → same_span span.id id ≡ true → page_of groups id ≡ group.page
   page_of-stands [] once index place group span at_group at_span id same = absurd (none-some group at_group)
-  page_of-stands (first ∷ groups) once zero place group span at_group at_span id same =
-      let has : has_span id first ≡ true = find-is_some (λ (s : SpanState). same_span s.id id) (spans_of first) place span
-      (ap (λ (g : Group Closed). slice_get (spans_of g) place) (same_some at_group) ∙ at_span) same in
-      rw has (ap (λ (g : Group Closed). g.page) (same_some at_group))
+  page_of-stands (first ∷ groups) once zero place group span at_group at_span id same = search (rules, find-is_some, same_some)
   page_of-stands (first ∷ groups) once (suc index) place group span at_group at_span id same =
       by_test (has_span id first) refl
       (page_of-stands groups (λ other. omega (arith, once other, count-append (λ (s : SpanState). same_span s.id other) (spans_of first) (spans_in groups)))

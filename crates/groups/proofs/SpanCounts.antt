@@ -1,5 +1,5 @@
 -- How many spans groups have: no more than there are ids, where none stands twice.
-use Rattle.std.proofs.Common.{zero, suc, ◌≡◌, ℕ, ◌<◌, ◌≤◌, ◌+◌, ◌++◌, ◌||◌, Bool, true, false, List, [], ◌∷◌, length, map, get_or, take, slice_get, Some, ap, subst, sym, ◌∙◌, refl, arith, eqb, eqb-true}
+use Rattle.std.proofs.Common.{zero, suc, ◌≡◌, ℕ, ◌<◌, ◌≤◌, ◌+◌, ◌||◌, Bool, true, false, List, [], ◌∷◌, length, map, get_or, take, slice_get, Some, ap, ◌∙◌, refl, arith, eqb, eqb-true, rules, sym}
 use Rattle.std.specs.Prelude.{count_by}
 use Rattle.std.specs.List.{flat_map, list_any}
 use Rattle.std.proofs.lemmas.List.{length-append}
@@ -8,7 +8,7 @@ use Rattle.std.proofs.lemmas.Map.Steps.{length-le_from_distinct_below}
 use Rattle.span.specs.Ids.{rank, same_span}
 use Rattle.span.specs.State.{SpanState}
 use Rattle.span.specs.declared.id.SpanId.{SpanId}
-use Rattle.span.specs.declared.limits.TheConstants.{ALL_IDS, MOST_SHARDS, MOST_SPANS}
+use Rattle.span.specs.declared.limits.TheConstants.{ALL_IDS}
 use Rattle.span.proofs.Ids.{test_from_same_id}
 use Rattle.groups.proofs.Lists.{count-two}
 use Rattle.groups.proofs.Ranks.{id_from_rank}
@@ -31,15 +31,11 @@ ranks_below [] number among = absurd cc
 ranks_below (span ∷ spans) number among = by_test (eqb number (rank span.id)) refl (ranks_below spans number) among
   where
     rank_fits : rank span.id < ALL_IDS
-    rank_fits =
-        let shard : span.id.shard < MOST_SHARDS = span.id.shard_in_range in
-        let serial : span.id.serial < MOST_SPANS = span.id.serial_in_range in
-        omega arith
+    rank_fits = search rules
 
     by_test : (b : Bool) → eqb number (rank span.id) ≡ b → (list_any (eqb number) (map span_rank spans) ≡ true → number < ALL_IDS)
         → (b || list_any (eqb number) (map span_rank spans)) ≡ true → number < ALL_IDS
-    by_test true e rest any = subst (λ n. n < ALL_IDS) (sym (eqb-true number (rank span.id) e)) rank_fits
-    by_test false e rest any = rest any
+    by_test b e rest any = search (rules, eqb-true, rank_fits)
 
 -- spans of which none stands twice are at most as many as there are ids
 pub at_most_ids : (spans : List SpanState) → ((id : SpanId) → count_by (λ span. same_span span.id id) spans ≤ 1) → length spans ≤ ALL_IDS
@@ -68,15 +64,13 @@ pub length-take_spans : {G : Type 0} (spans_of : G → List SpanState) (groups :
 length-take_spans spans_of [] zero = omega arith
 length-take_spans spans_of [] (suc count) = omega arith
 length-take_spans spans_of (group ∷ groups) zero = omega arith
-length-take_spans spans_of (group ∷ groups) (suc count) =
-    omega (arith, length-append (spans_of group) (flat_map spans_of (take count groups)), length-append (spans_of group) (flat_map spans_of groups), length-take_spans spans_of groups count)
+length-take_spans spans_of (group ∷ groups) (suc count) = search (rules, length-append, (length-take_spans spans_of groups count))
 
 -- the spans of the first groups and one more
 pub length-spans_more : {G : Type 0} (spans_of : G → List SpanState) (groups : List G) (at : ℕ) (group : G) → at < length groups → group ≡ get_or groups at group
     → length (flat_map spans_of (take (at + 1) groups)) ≡ length (flat_map spans_of (take at groups)) + length (spans_of group)
 length-spans_more spans_of [] at group low is = absurd (omega arith)
-length-spans_more spans_of (first ∷ groups) zero group low is =
-    ap (λ g. length (spans_of g ++ [])) (sym is) ∙ length-append (spans_of group) [] ∙ omega arith
+length-spans_more spans_of (first ∷ groups) zero group low is = search (rules, length-append)
 length-spans_more spans_of (first ∷ groups) (suc at) group low is =
     let rest = length-spans_more spans_of groups at group (omega arith) is in
     let next : suc at + 1 ≡ suc (at + 1) = omega arith in

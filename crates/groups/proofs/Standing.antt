@@ -1,5 +1,5 @@
 -- A group where one span is replaced.
-use Rattle.std.proofs.Common.{zero, suc, ◌≡◌, ℕ, set, slice_get, ap, sym, subst, ◌∙◌, refl, inl, inr}
+use Rattle.std.proofs.Common.{◌≡◌, ℕ, set, slice_get, ap, sym, subst, ◌∙◌, inl, inr, rules}
 use Rattle.span.proofs.OfClass.{IsOfClass-push}
 use Rattle.span.specs.State.{SpanState}
 use Rattle.span.specs.declared.change.Change.TheVariants.{Free}
@@ -18,16 +18,13 @@ module _ {Closed : Type 0} where
   head_id group = group.head.id
 
   pub page-with_span : (group : Group Closed) (place : ℕ) (span : SpanState) → (with_span group place span).page ≡ group.page
-  page-with_span group zero span = refl
-  page-with_span group (suc place) span = refl
+  page-with_span group place span = search rules
 
   pub spans_of-with_span : (group : Group Closed) (place : ℕ) (span : SpanState) → spans_of (with_span group place span) ≡ set (spans_of group) place span
-  spans_of-with_span group zero span = refl
-  spans_of-with_span group (suc place) span = refl
+  spans_of-with_span group place span = search rules
 
   class-with_span : (group : Group Closed) (place : ℕ) (span : SpanState) → span.class ≡ group.head.class → (with_span group place span).head.class ≡ group.head.class
-  class-with_span group zero span same = same
-  class-with_span group (suc place) span same = refl
+  class-with_span group place span same = search rules
 
   -- the spans stay of the class of the head
   pub AreSpansOf-with_span : (group : Group Closed) (place : ℕ) (span : SpanState) → AreSpansOf group.head.class (spans_of group)

@@ -1,7 +1,7 @@
 -- The union of the live sets of a group's spans.
-use Rattle.std.proofs.Common.{zero, suc, ◌≡◌, ℕ, true, false, not, ◌&&◌, ◌||◌, List, [], ◌∷◌, Option, Some, None, IsSomeAnd, is_some, slice_get, set, ap, sym, ◌∙◌, subst, refl, inl, inr, eq-eqb}
+use Rattle.std.proofs.Common.{zero, suc, ◌≡◌, ℕ, true, false, not, ◌&&◌, ◌||◌, List, [], ◌∷◌, Option, Some, IsSomeAnd, is_some, slice_get, set, ap, sym, ◌∙◌, subst, eq-eqb, rules}
 use Rattle.std.specs.Ordering.{nat_cmp, eq_by_cmp}
-use Rattle.std.specs.Cmp.{nat_cmp_total, unsigned_tied}
+use Rattle.std.specs.Cmp.{nat_cmp_total}
 use Rattle.std.specs.FinSet.{contains, insert, remove, union, empty, contains-insert, contains-remove, contains-union, contains-empty}
 use Rattle.std.proofs.Math.Bool.{or_assoc, or_comm}
 use Rattle.std.proofs.lemmas.Bool.{cases_eq, false_from_ne_true, false≢true, ne_eqb, or_parts, true≢false}
@@ -31,13 +31,7 @@ union-insert a b slot = same_slots _ _ (λ q.
     ∙ sym (contains-insert nat_cmp_total (union a b) slot q))
 
 pub AreDisjoint-insert : (a b : SlotSet) (slot : ℕ) → AreDisjoint a b → contains b slot ≡ false → AreDisjoint (insert a slot) b
-AreDisjoint-insert a b slot apart out = AreDisjoint-by_slot (insert a slot) b each
-  where
-    each : (q : ℕ) → contains (insert a slot) q ≡ true → contains b q ≡ true → ⊥
-    each q inside other = elim (cases_eq q slot) [
-      | inl here ↦ true≢false (sym other ∙ ap (contains b) here ∙ out)
-      | inr more ↦ AreDisjoint-at a b apart q (sym (contains-insert nat_cmp_total a slot q ∙ rw (unsigned_tied q slot, ne_eqb q slot more) refl) ∙ inside) other
-    ]
+AreDisjoint-insert a b slot apart out = search (rules, AreDisjoint-by_slot, cases_eq, true≢false, AreDisjoint-at, contains-insert, ne_eqb)
 
 pub AreDisjoint-remove_left : (a b : SlotSet) (slot : ℕ) → AreDisjoint a b → AreDisjoint (remove a slot) b
 AreDisjoint-remove_left a b slot apart = AreDisjoint-by_slot _ _ (λ q inside other. AreDisjoint-at a b apart q (was a slot q inside) other)
@@ -54,10 +48,7 @@ union-remove_left a b slot out = same_slots _ _ (λ q.
     ∙ sym (contains-remove nat_cmp_total (union a b) slot q))
   where
     each : (q : ℕ) → ((not (eq_by_cmp nat_cmp q slot) && contains a q) || contains b q) ≡ (not (eq_by_cmp nat_cmp q slot) && (contains a q || contains b q))
-    each q = elim (cases_eq q slot) [
-      | inl here ↦ rw (here, unsigned_tied slot slot, eq-eqb slot slot refl, out) refl
-      | inr else ↦ rw (unsigned_tied q slot, ne_eqb q slot else) refl
-    ]
+    each q = search (rules, cases_eq, eq-eqb, ne_eqb)
 
 pub union-swap : (a b : SlotSet) → union a b ≡ union b a
 union-swap a b = same_slots _ _ (λ q. contains-union nat_cmp_total a b q ∙ or_comm (contains a q) (contains b q) ∙ sym (contains-union nat_cmp_total b a q))
@@ -69,9 +60,7 @@ union-remove_right a b slot out = union-swap a (remove b slot) ∙ union-remove_
 pub member_of_union : (spans : List SpanState) (place : ℕ) (span : SpanState) (slot : ℕ) → slice_get spans place ≡ Some span
     → contains (live_slots span.log) slot ≡ true → contains (union_of spans) slot ≡ true
 member_of_union [] place span slot at live = absurd cc
-member_of_union (first ∷ rest) zero span slot at live =
-    let same : first ≡ span = cc in
-    contains-union nat_cmp_total (live_slots first.log) (union_of rest) slot ∙ rw (same, live) refl
+member_of_union (first ∷ rest) zero span slot at live = search (rules, contains-union)
 member_of_union (first ∷ rest) (suc place) span slot at live =
     contains-union nat_cmp_total (live_slots first.log) (union_of rest) slot ∙ rw (member_of_union rest place span slot at live) (or_comm _ true)
 
@@ -86,13 +75,7 @@ module _ (slot : ℕ) (span after : SpanState) (live : contains (live_slots span
   pub lose_slot : (spans : List SpanState) (place : ℕ) → slice_get spans place ≡ Some span → AreApart spans
       → (union_of (set spans place after) ≡ remove (union_of spans) slot) × AreApart (set spans place after)
   lose_slot [] place at apart = absurd cc
-  lose_slot (first ∷ rest) zero at apart =
-      let same : first ≡ span = cc in
-      let out : contains (union_of rest) slot ≡ false = outside_if_disjoint (live_slots first.log) (union_of rest) slot apart.0 (rw same live) in
-      let shown : live_slots after.log ≡ remove (live_slots first.log) slot = less ∙ ap (λ (s : SpanState). remove (live_slots s.log) slot) (sym same) in (
-        ap (λ s. union s (union_of rest)) shown ∙ union-remove_left (live_slots first.log) (union_of rest) slot out,
-        (subst (λ (s : SlotSet). AreDisjoint s (union_of rest)) (sym shown) (AreDisjoint-remove_left _ _ slot apart.0), apart.1),
-      )
+  lose_slot (first ∷ rest) zero at apart = search (rules, outside_if_disjoint, union-remove_left, AreDisjoint-remove_left)
   lose_slot (first ∷ rest) (suc place) at apart =
       let later = lose_slot rest place at apart.1 in
       let out : contains (live_slots first.log) slot ≡ false = outside_if_disjoint_right (live_slots first.log) (union_of rest) slot apart.0 (member_of_union rest place span slot at live) in (
@@ -107,8 +90,7 @@ pub AreDisjoint-empty : (s : SlotSet) → AreDisjoint s empty
 AreDisjoint-empty s = AreDisjoint-by_slot _ _ (λ q inside other. false≢true (sym (contains-empty nat_cmp q) ∙ other))
 
 some_from_and : {X : Type 0} (o : Option X) (P : X → Type 0) → IsSomeAnd o P → is_some o ≡ true
-some_from_and None P h = absurd h
-some_from_and (Some x) P h = refl
+some_from_and o P h = search rules
 
 -- a key that a span holds has a live slot
 pub live_if_held : (log : List Change) (slot generation : ℕ) → Holds log slot generation → contains (live_slots log) slot ≡ true
@@ -124,12 +106,7 @@ lose_held spans place span slot generation at holds apart =
 pub keep_slots : (span after : SpanState) → live_slots after.log ≡ live_slots span.log → (spans : List SpanState) (place : ℕ) → slice_get spans place ≡ Some span → AreApart spans
     → (union_of (set spans place after) ≡ union_of spans) × AreApart (set spans place after)
 keep_slots span after same [] place at apart = absurd cc
-keep_slots span after same (first ∷ rest) zero at apart =
-    let this : first ≡ span = cc in
-    let shown : live_slots after.log ≡ live_slots first.log = same ∙ ap (λ (s : SpanState). live_slots s.log) (sym this) in (
-      ap (λ s. union s (union_of rest)) shown,
-      (subst (λ (s : SlotSet). AreDisjoint s (union_of rest)) (sym shown) apart.0, apart.1),
-    )
+keep_slots span after same (first ∷ rest) zero at apart = search rules
 keep_slots span after same (first ∷ rest) (suc place) at apart =
     let later = keep_slots span after same rest place at apart.1 in (
       ap (union (live_slots first.log)) later.0,
