@@ -27,7 +27,7 @@ use std::ptr::NonNull;
 /// A look-up compares the key's generation with the one beside the value, and does not ask the
 /// core, which is proved never to give a key out twice; with debug assertions it asks, and panics
 /// if the answers differ. With the feature `lean` no generation stands there: the core alone is
-/// asked whether a key is live, which takes twice the instructions, and for each key of a
+/// asked whether a key is live, which takes thrice the instructions, and for each key of a
 /// walk. Values that are copied and have up to 256 bytes stand in the core's pages in a
 /// [`Store`](crate::Store).
 ///
