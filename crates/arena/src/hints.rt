@@ -73,6 +73,7 @@ impl Announced {
         requires { 0 < at }
         ensures { result.id ≡ id }
     {
+        // For the prover: the log has a change.
         let _ = at;
         Announced { id }
     }

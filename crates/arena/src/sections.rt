@@ -50,6 +50,7 @@ impl Issued {
         requires { announced.now.id ≡ key.span }
         ensures { result ≡ (key, at) }
     {
+        // For the prover: the key's span is counted.
         let _ = announced;
         Issued { key, at }
     }
@@ -109,6 +110,7 @@ impl Looked {
         requires { nowhere.id ≡ key.now.span }
         ensures { result ≡ (key.now, None, 0) }
     {
+        // For the prover: the key's span is nowhere.
         let _ = nowhere;
         Looked {
             about: AboutKey::new(key),
@@ -193,6 +195,7 @@ impl Outcome {
         requires { nowhere.id ≡ key.now.span }
         ensures { result ≡ (key.now, false, 0) }
     {
+        // For the prover: the key's span is nowhere.
         let _ = nowhere;
         Outcome::new(key, false, 0)
     }

@@ -173,7 +173,7 @@ fn write_row(set: &Bits256, planes: &Planes, rows: &[u64], full: &[u64], row: &m
     if set.is_disjoint(&planes.union_all()) {
         return;
     }
-    // Its clause says that there is no slot past those that have a row.
+    // For the prover: the set has no slot past those that have a row.
     let _count = set.count();
     take_off_all(set, rows, row);
 }

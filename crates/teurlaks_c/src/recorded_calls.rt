@@ -229,7 +229,7 @@ fn got_recorded(
     Ok(Ok((found, receipt)))
 }
 
-// What the type of an object keeps: it has 16 words at most.
+// For the prover: an object has 16 words at most. Does nothing when it runs.
 fn have_few_words(found: &Option<Object>)
     ensures { IfSome found.now (λ words. length words ≤ MOST_WORDS) }
 {
