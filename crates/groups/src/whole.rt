@@ -1,5 +1,5 @@
 // A group on its way from one owner to another.
-ghost use Rattle.std.specs.Prelude.{◌≡◌, IsSome, IsTrue, ◌↔◌};
+ghost use Rattle.std.specs.Prelude.{◌≡◌};
 ghost use Rattle.groups.specs.Whole.{IsSoundWhole, whole_with};
 
 use crate::spans::Spans;
@@ -50,13 +50,6 @@ impl<L: Log> Whole<L> {
         ensures sound { IsSoundWhole self.now }
     {
         &self.spans
-    }
-
-    /// Whether it has a page.
-    pub fn has_page(&self) -> bool
-        ensures { IsTrue result ↔ IsSome self.now.words }
-    {
-        self.words.is_some()
     }
 
     /// The spans, and the words of their page.

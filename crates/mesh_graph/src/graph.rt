@@ -93,19 +93,6 @@ impl<'a> Graph<'a> {
         (row[j / 64] >> (j % 64)) & 1 == 1
     }
 
-    /// The least owned place from `from` on that is compatible with the abandoned one at `i`.
-    pub fn next_partner(&self, i: usize, from: usize) -> Option<usize>
-        requires { i < length self.now.abandoned }
-        ensures partner { IfSome result (λ j. compatible_at self.now i j ≡ true) }
-        ensures within { IfSome result (λ j. j < length self.now.owned) }
-        ensures from { IfSome result (λ j. from ≤ j) }
-        ensures least { IfSome result (λ j. (k : ℕ) → from ≤ k → k < j
-            → compatible_at self.now i k ≡ false) }
-        ensures none { IfNone result ((k : ℕ) → from ≤ k → compatible_at self.now i k ≡ false) }
-    {
-        next_bit(self.row(i), from)
-    }
-
     /// The least owned place from `from` on that is compatible with the abandoned one at `i` and
     /// whose bit is set in `among`, which has as many words as a row.
     pub fn next_partner_among(&self, i: usize, from: usize, among: &[u64]) -> Option<usize>
@@ -131,31 +118,6 @@ pub(crate) fn row_of(words: &[u64], width: usize, i: usize) -> &[u64]
 {
     let start = width * i;
     &words[start..start + width]
-}
-
-// The least bit from `from` on that is set.
-fn next_bit(words: &[u64], from: usize) -> Option<usize>
-    requires { length words.now ≤ 64 }
-    ensures set { IfSome result (λ j. has_bit words.now j ≡ true) }
-    ensures from { IfSome result (λ j. from ≤ j) }
-    ensures least { IfSome result (λ j. (k : ℕ) → from ≤ k → k < j → has_bit words.now k ≡ false) }
-    ensures none { IfNone result ((k : ℕ) → from ≤ k → has_bit words.now k ≡ false) }
-{
-    let start = from / 64;
-    if start >= words.len() {
-        return None;
-    }
-    let left = words[start] >> (from % 64);
-    if left != 0 {
-        return Some(from + left.trailing_zeros() as usize);
-    }
-    for k in start + 1..words.len() {
-        let word = words[k];
-        if word != 0 {
-            return Some(64 * k + word.trailing_zeros() as usize);
-        }
-    }
-    None
 }
 
 // Whether the eight words from `at` on share no bit with those of `among` at the same places.

@@ -73,7 +73,8 @@ fn word_and_partner(graph: &Graph, i: usize) -> Option<(u64, Option<usize>)> {
     if i >= graph.abandoned() {
         return None;
     }
-    Some((*graph.row(i).first()?, graph.next_partner(i, 1)))
+    let row = graph.row(i);
+    Some((*row.first()?, graph.next_partner_among(i, 1, row)))
 }
 
 fn words_and_partners(

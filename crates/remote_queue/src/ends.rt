@@ -1,5 +1,5 @@
 // The two ends of a ring.
-ghost use Rattle.std.specs.Prelude.{◌≡◌, ◌+◌, ◌-◌, ◌<◌, ◌≤◌, ◌↔◌, [], ◌∷◌, ◌++◌, All, IfOk, IsOk, IsSome, IsTrue, MatchOption, MatchResult, OnErr, OnOk, drop, length, max, take, vec_capacity, vec_len};
+ghost use Rattle.std.specs.Prelude.{◌≡◌, ◌+◌, ◌-◌, ◌<◌, ◌≤◌, ◌↔◌, [], ◌∷◌, ◌++◌, All, IfOk, IsOk, IsTrue, MatchResult, OnErr, OnOk, drop, length, max, take, vec_capacity, vec_len};
 ghost use mathlib.Core.List.{IsPrefix};
 ghost use Rattle.rtrb.specs.Ring.{ProducerLooked, SameConsumer, SameProducer, known_free, known_items, received, sent};
 ghost use Rattle.remote_queue.specs.Drawn.{drawn_keys, without_last};
@@ -325,24 +325,6 @@ fn draw_into(
 }
 
 impl Inbox {
-    /// Takes the oldest key, or `None` where none is seen. It waits for nobody and takes no memory,
-    /// and answers a key where one is known.
-    pub fn take(&mut self) -> Option<Key>
-        ensures ring { self.new.ring ≡ self.old.ring }
-        ensures taken { MatchOption result
-            (self.new.taken ≡ self.old.taken)
-            (λ key. (self.new.taken ≡ self.old.taken ++ key ∷ []) × IsInRange key) }
-        ensures known { MatchOption result
-            (self.new.known ≡ [])
-            (λ key. IsPrefix self.old.known (key ∷ self.new.known)) }
-        ensures answers { 0 < length self.old.known → IsSome result }
-    {
-        if self.known() == 0 && self.look() == 0 {
-            return None;
-        }
-        Some(self.take_known())
-    }
-
     /// Draws a block of the oldest keys that are seen from the ring, at most that many, where none
     /// is drawn: their places are free for further keys, and they are the next to be taken. It
     /// waits for nobody and takes no memory, and draws one at least where one is known.
@@ -400,7 +382,8 @@ impl Inbox {
         self.end - self.next + self.consumer.cached_slots()
     }
 
-    /// Takes the next of the known keys, where there is one, as after a [`finish`] that counted it.
+    /// Takes the oldest of the known keys, which are not none. It waits for nobody and takes no
+    /// memory.
     pub fn take_known(&mut self) -> Key
         requires { 0 < length self.old.known }
         ensures ring { self.new.ring ≡ self.old.ring }

@@ -28,8 +28,10 @@
 //! if let Err(back) = outbox.send(key) {
 //!     // The ring was full, and the key is ours again.
 //! }
-//! let taken = inbox.take(); // in the order in which they were sent
-//! let left = finish(&mut outbox, &mut inbox); // that many takes answer
+//! if inbox.look() > 0 {
+//!     let taken = inbox.take_known(); // in the order in which they were sent
+//! }
+//! let left = finish(&mut outbox, &mut inbox); // so many more may be taken
 //! ```
 #![tactic(auto)]
 

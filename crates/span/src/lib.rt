@@ -36,9 +36,9 @@
 //! let id = SpanId::new(0, 0)?;
 //! let mut span = Span::new(alloc, id, Class::C16, 9);
 //! let key = span.put_at(3, &[7])?; // 0.0/3/1
-//! assert!(rt; span.find(&key));
-//! assert!(rt; span.free(&key));
-//! assert!(rt; !span.find(&key)); // now and for ever
+//! assert!(rt; span.holds(3, 1));
+//! assert!(rt; span.free_held(3, 1));
+//! assert!(rt; !span.holds(3, 1)); // now and for ever
 //! let next = span.put_at(3, &[8])?; // 0.0/3/2: the same slot, the next generation
 //! assert_eq!(rt; span.log().len(), 3);
 //! ```

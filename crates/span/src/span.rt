@@ -121,17 +121,7 @@ impl<L: Log> Span<L> {
         })
     }
 
-    /// Whether the key is of this span and live.
-    pub fn find(&self, key: &Key) -> bool
-        ensures live { IsTrue result ↔ ((key.now.span ≡ self.now.id)
-            × Holds self.now.log key.now.slot key.now.generation) }
-        ensures legal { IsLegal self.now.gens self.now.log }
-    {
-        key.span == self.id && self.holds(key.slot, key.generation)
-    }
-
-    /// Whether the slot is live at the generation: as [`Span::find`], for a caller that found the
-    /// span by its id.
+    /// Whether the slot is live at the generation.
     #[inline(always)]
     pub fn holds(&self, slot: u8, generation: u32) -> bool
         ensures live { IsTrue result ↔ Holds self.now.log slot generation }
@@ -162,9 +152,9 @@ impl<L: Log> Span<L> {
         })
     }
 
-    /// Sets the object of the slot to these words, where the slot is live at the generation and its
-    /// object has as many, and says whether it was: for a caller that found the span by its id. It
-    /// grows a log that is kept for this set and for the frees of all live slots.
+    /// Sets the object of the slot to these words if the slot is live at the generation and its
+    /// object has as many, and says whether it was. It grows a log that is kept for this set and
+    /// for the frees of all live slots.
     ///
     /// # Errors
     ///
@@ -211,25 +201,7 @@ impl<L: Log> Span<L> {
         Ok(())
     }
 
-    /// Frees the key where it is of this span and live, and says whether it was. Takes no memory.
-    pub fn free(&mut self, key: &Key) -> bool
-        ensures found { IsTrue result ↔ ((key.now.span ≡ self.old.id)
-            × Holds self.old.log key.now.slot key.now.generation) }
-        ensures freed { OnTrue result (self.new ≡ record self.old {
-          log = self.old.log ++ Change.Free key.now.slot key.now.generation ∷ [];
-        }) }
-        ensures unknown { OnFalse result (self.new ≡ self.old) }
-        ensures legal { IsLegal self.new.gens self.new.log }
-    {
-        if !self.find(key) {
-            return false;
-        }
-        self.free_at(key.slot, key.generation);
-        true
-    }
-
-    /// Frees the slot where it is live at the generation, and says whether it was: as
-    /// [`Span::free`], for a caller that found the span by its id. Takes no memory.
+    /// Frees the slot if it is live at the generation, and says whether it was. Takes no memory.
     #[inline(always)]
     pub fn free_held(&mut self, slot: u8, generation: u32) -> bool
         ensures found { IsTrue result ↔ Holds self.old.log slot generation }

@@ -37,10 +37,12 @@ fn put<L: Log>(span: &mut Span<L>, slot: u8, value: u128) -> Option<(u8, u32)> {
     }
 }
 
-// Whether the key of the slot and generation is found, and whether a free of it finds it.
-fn frees<L: Log>(span: &mut Span<L>, slot: u8, generation: u32) -> Option<(bool, bool)> {
-    let key = Key::new(span.id(), slot, generation)?;
-    Some((span.find(&key), span.free(&key)))
+// Whether the slot is live at the generation, and whether a free of it finds it.
+fn frees<L: Log>(span: &mut Span<L>, slot: u8, generation: u32) -> (bool, bool) {
+    (
+        span.holds(slot, generation),
+        span.free_held(slot, generation),
+    )
 }
 
 #[test]
@@ -59,8 +61,8 @@ fn gives_each_generation_once(rt: HostRuntime) {
     assert_eq!(rt;
         (first, second, put(&mut span, 9, 9), span.log().len()),
         (
-            (Some((255, 1)), Some((true, true)), (0, 0, 2)),
-            (Some((255, 2)), Some((false, false)), (1, 1, 3)),
+            (Some((255, 1)), (true, true), (0, 0, 2)),
+            (Some((255, 2)), (false, false), (1, 1, 3)),
             Some((9, 1)),
             4,
         )
@@ -72,7 +74,7 @@ fn wear<L: Log>(span: &mut Span<L>, slot: u8, times: u32) -> Option<u32> {
     let mut last = None;
     for _ in 0..times {
         let (_, generation) = put(span, slot, 7)?;
-        frees(span, slot, generation)?;
+        span.free_held(slot, generation);
         last = Some(generation);
     }
     last
@@ -93,7 +95,7 @@ fn goes_on_past_a_byte(rt: HostRuntime) {
         (
             (Some((9, 1)), Some(255)),
             (Some(300), Some((255, 301))),
-            (Some((false, false)), Some((true, true)), Some((true, true))),
+            ((false, false), (true, true), (true, true)),
             Some((8, 256)),
         )
     );
@@ -103,7 +105,7 @@ fn goes_on_past_a_byte(rt: HostRuntime) {
 fn put_each(span: &mut Span<Kept>, slot: u8, words: u32) -> Option<()> {
     for word in 0..words {
         let (_, generation) = put(span, slot, word as u128)?;
-        frees(span, slot, generation)?;
+        span.free_held(slot, generation);
     }
     Some(())
 }
@@ -160,8 +162,8 @@ fn needs_no_log(rt: HostRuntime) {
     assert_eq!(rt;
         (first, second, counts(&span)),
         (
-            (Some((255, 1)), Some((true, true))),
-            (Some((255, 2)), Some((false, false))),
+            (Some((255, 1)), (true, true)),
+            (Some((255, 2)), (false, false)),
             (1, 1, 3),
         )
     );

@@ -41,6 +41,14 @@ fn ends(alloc: Global, capacity: usize) -> Option<(Outbox, Inbox)>
     Some((outbox, inbox))
 }
 
+// Takes the oldest key, or `None` if none is seen.
+fn take(inbox: &mut Inbox) -> Option<Key> {
+    if inbox.known() == 0 && inbox.look() == 0 {
+        return None;
+    }
+    Some(inbox.take_known())
+}
+
 // Whether a ring with room for one key takes a key, hands a second one back, and has room again
 // once the first is taken; and whether what is left is counted, and then taken.
 fn holds_one(outbox: &mut Outbox, inbox: &mut Inbox) -> Option<bool>
@@ -50,12 +58,12 @@ fn holds_one(outbox: &mut Outbox, inbox: &mut Inbox) -> Option<bool>
     let second = key(1)?;
     let sent = outbox.send(first);
     let handed_back = outbox.send(second);
-    let taken = inbox.take();
+    let taken = take(inbox);
     let sent_again = outbox.send(second);
     let left = finish(outbox, inbox);
-    let last = inbox.take();
+    let last = take(inbox);
     let none_left = finish(outbox, inbox);
-    let none = inbox.take();
+    let none = take(inbox);
     Some(
         sent == Ok(())
             && handed_back == Err(second)
@@ -142,7 +150,7 @@ fn draws_before_it_takes(outbox: &mut Outbox, inbox: &mut Inbox) -> bool {
     let more = send_up_to(outbox, 3);
     inbox.draw(4);
     let still = inbox.drawn().len();
-    let first = inbox.take().is_some();
+    let first = take(inbox).is_some();
     let left = inbox.look();
     (sent, drawn, more) == (4, (2, 4), 2) && (still, first, left) == (2, true, 5)
 }
