@@ -1,7 +1,8 @@
 //! The audit of a run: whether what its calls answered agrees with the logs of its spans.
 //!
-//! A worker keeps a [`Receipt`](span::Receipt) of each of its calls. When the run is over,
-//! [`audit`] holds the receipts, one [list](span::ReceiptList) a worker, against the logs.
+//! A worker keeps a [`Receipt`](span::Receipt) of each of its calls, in a
+//! [`ReceiptList`](span::ReceiptList). When the run is over, [`audit`] compares all lists
+//! with the logs.
 //!
 //! ```text
 //!   log of 0.0       Put 0 gen 1 = 5        Free 0 gen 1

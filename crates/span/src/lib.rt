@@ -1,8 +1,11 @@
-//! Spans, the keys of their slots, and their logs.
+//! Spans, the keys of their slots, and their logs. The crate has three doors: [`names`], of which
+//! every crate speaks, [`spans`], one span with its log, and [`receipts`], what workers note of
+//! their calls.
 //!
-//! A [`Span`] is the slots of a page that one shard opened together: 256 of one word each, or fewer
-//! that are wider. Their values lie on the page, which is not kept here. A span keeps which of its
-//! slots are live, the last generation that each was given, and a log of all that was done to it.
+//! A [`Span`](spans::Span) is the slots of a page that one shard opened together: 256 of one word
+//! each, or fewer that are wider. Their values lie on the page, which is not kept here. A span
+//! keeps which of its slots are live, the last generation that each was given, and a log of all
+//! that was done to it.
 //!
 //! ```text
 //!   log   Put 3 gen 1 ── Put 7 gen 1 ── Free 3 gen 1 ── Put 3 gen 2
@@ -12,26 +15,29 @@
 //!   generation    0    0    0    2    0    0    0    1    0       0
 //! ```
 //!
-//! After these changes the [`Key`] of slot 3 at generation 2 is live, and the key at generation 1
-//! finds nothing, now and for ever: a put gives its slot the generation after its last one (the
-//! idea is that of the crate `sharded_slab`). A slot that was given its greatest generation is
-//! worn, and takes no put again.
+//! After these changes the [`Key`](names::Key) of slot 3 at generation 2 is live, and the key at
+//! generation 1 finds nothing, now and for ever: a put gives its slot the generation after its last
+//! one (the idea is that of the crate `sharded_slab`). A slot that was given its greatest
+//! generation is worn, and takes no put again.
 //!
 //! The public fact of the crate is that a span is its log. Which slots are live and worn, which
 //! generation comes next and what a key finds are functions of the log (`specs/Log.antt`); the log
 //! is legal, and each change stands at its end. So whoever has the log can tell what each key held
-//! at each time, and check what a [`Receipt`] says of a call.
+//! at each time, and check what a [`Receipt`](receipts::Receipt) says of a call.
 //!
-//! A log that is [`Kept`] takes 8.5 bytes a change, and the words of each object that was put or
-//! set, for as long as its span lives. A span that works for ever and whose log nobody reads is a
-//! `Span<Counted>`: it keeps the number of changes alone, so a put and its free leave memory as it
-//! was, but once in a span's life: a slot takes a byte until one is put 128 times, and 4 bytes from
-//! then on. Its contracts are the same, since they speak of the log as a list that proofs alone
-//! carry along; only `log` is missing.
+//! A log that is [`Kept`](spans::Kept) takes 8.5 bytes a change, and the words of each object that
+//! was put or set, for as long as its span lives. A span that works for ever and whose log nobody
+//! reads is a `Span<Counted>`: it keeps the number of changes alone, so a put and its free leave
+//! memory as it was, but once in a span's life: a slot takes a byte until one is put 128 times, and
+//! 4 bytes from then on. Its contracts are the same, since they speak of the log as a list that
+//! proofs alone carry along; only `log` is missing.
 //!
 //! # Examples
 //!
 //! ```
+//! use span::names::{Class, SpanId};
+//! use span::spans::Span;
+//!
 //! // The first span of shard 0. Each slot is put at most nine times.
 //! let id = SpanId::new(0, 0)?;
 //! let mut span = Span::new(alloc, id, Class::C16, 9);
@@ -54,31 +60,18 @@ mod key;
 mod limits;
 mod log;
 mod marks;
+pub mod names;
 mod object;
 mod object_view;
 mod receipt;
 mod receipt_list;
 mod receipt_run;
 mod receipt_view;
+pub mod receipts;
 mod span;
 mod span_log;
+pub mod spans;
 mod stored;
 mod stored_receipt;
 mod view;
 mod words;
-
-pub use change::Change;
-pub use class::{CLASSES, Class};
-pub use entry::Entry;
-pub use id::SpanId;
-pub use key::Key;
-pub use limits::{ALL_IDS, MOST_PAGES, MOST_RING_KEYS, MOST_SHARDS, MOST_SPANS};
-pub use log::{Counted, Kept, Log};
-pub use object::Object;
-pub use object_view::ObjectView;
-pub use receipt::{Call, Receipt};
-pub use receipt_list::ReceiptList;
-pub use receipt_view::{CallView, ReceiptView};
-pub use span::Span;
-pub use span_log::SpanLog;
-pub use view::ChangeView;

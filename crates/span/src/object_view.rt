@@ -2,14 +2,14 @@
 ghost use Rattle.std.specs.Prelude.{◌≡◌, ◌↔◌, IsTrue, length};
 ghost use Rattle.span.specs.ReceiptViews.{words_viewed};
 
-/// An object, as [`Object`](crate::Object), that is not copied where its words stand somewhere. A
-/// list of receipts keeps of words that count up the first alone, so what it shows of the others is
-/// the word itself.
+/// An object, as [`Object`](crate::names::Object), that is not copied if its words stand
+/// somewhere. A list of receipts keeps of words that count up the first alone, so what it shows of
+/// the others is the word itself.
 #[derive(Clone, Copy)]
 pub enum ObjectView<'a> {
     /// The words, which are lent.
     Lent(&'a [u128]),
-    /// The one word of an object of class [`Class::C16`](crate::Class::C16).
+    /// The one word of an object of class [`Class::C16`](crate::names::Class::C16).
     Word(u128),
 }
 

@@ -2,8 +2,8 @@
 use crate::key::Key;
 use crate::object_view::ObjectView;
 
-/// What a call asked of its key, and what it was answered, as [`Call`](crate::Call), whose object
-/// is not copied.
+/// What a call asked of its key, and what it was answered, as [`Call`](crate::receipts::Call),
+/// whose object is not copied.
 #[derive(Clone, Copy)]
 pub enum CallView<'a> {
     /// A put of this object.
@@ -23,7 +23,7 @@ pub enum CallView<'a> {
     NotFreed,
 }
 
-/// One call on a key, as [`Receipt`](crate::Receipt), whose object is not copied.
+/// One call on a key, as [`Receipt`](crate::receipts::Receipt), whose object is not copied.
 #[derive(Clone, Copy)]
 pub struct ReceiptView<'a> {
     /// The key that the call was about, or that its put gave out.

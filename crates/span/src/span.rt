@@ -21,7 +21,7 @@ use std::marker::Model;
 /// A span is moved whenever a list of spans grows, so what is kept of each slot stands outside of
 /// the struct, and comes with the first put: a byte a slot, and 4 bytes once one was put 128 times.
 /// The log has room for the free of each live slot at all times, so a free takes no memory. A log
-/// that is only [`Counted`](crate::Counted) takes none at all.
+/// that is only [`Counted`](crate::spans::Counted) takes none at all.
 #[derive(Drop)]
 pub struct Span<L: Log = Kept> {
     // A look-up reads the id, the class and the marks.

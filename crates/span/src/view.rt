@@ -1,6 +1,6 @@
 // What stands in a span's log, as it is read in place.
 
-/// One change of a span, as [`Change`](crate::Change), whose words are lent.
+/// One change of a span, as [`Change`](crate::spans::Change), whose words are lent.
 #[derive(Clone, Copy)]
 pub enum ChangeView<'a> {
     /// The slot took an object of these words, at the generation.
