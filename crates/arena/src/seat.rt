@@ -266,7 +266,7 @@ impl Seat {
     }
 
     /// Whether the shard that opened the key's span is one of the arena's, as [`Seat::free_later`]
-    /// asks. The seat has then an end of the ring to it.
+    /// requires. If so, the seat holds the sending end of the ring to that shard.
     pub fn has_shard_of(&self, key: &Key) -> bool
         ensures shard { IsTrue result ↔ (key.now.span.shard < self.now.limits.shards) }
         ensures end { IsTrue result → key.now.span.shard < length self.now.outboxes }

@@ -1,4 +1,4 @@
-// A word as who looks an object up wants it.
+// The form of a word that the caller of a look-up chooses.
 ghost use Rattle.std.specs.Prelude.{◌≡◌, ◌≤◌, ◌++◌, ℕ, drop, length, map};
 
 /// A word of 128 bits in the form in which a caller keeps it, such as two halves for C.

@@ -251,7 +251,8 @@ impl<T: Drop> Latch<T> {
         call.ask(&mut **value, room)
     }
 
-    // Gives the value back: from now on any thread may take it.
+    // Gives the value back: from now on any thread may take it. The slot was empty while the turn
+    // was out.
     #[inline(always)]
     pub(crate) fn give(&self, turn: Turn<T>, value: Box<T>)
         requires { turn ≡ self.now }

@@ -6,11 +6,12 @@
 //! of the calls are plain facts on the core before and after. Its logs are only counted.
 //!
 //! ```text
-//!   C, Rust, ..      struct teurlaks { void *at; }
-//!                              │
-//!   Handle                     at ────► Held { core, last, .. }    owned as by a box
-//!                                              │     │
-//!   events and replies           Core<Counted> ┘     └ the certificate of the last mark
+//!   C, Rust, ..      struct teurlaks_handle { uint8_t *at; }
+//!                                                      │
+//!   Handle                                             at ────► Held { core, last, .. }    owned
+//!                                                                      │     │         as by a box
+//!   events and replies                                   Core<Counted> ┘     └ the certificate of
+//!                                                                              the last mark
 //! ```
 //!
 //! A [`ShareHandle`](share_handle::ShareHandle) is the same for threads: it has a seat of an arena,

@@ -299,7 +299,7 @@ pub(crate) fn write_last(alloc: Global, last: &Option<Witness>, room: &mut [u8])
     CertificateReply { status: OK, len }
 }
 
-// What C reads of the reply to a mark, whose certificate is kept.
+// Keeps the certificate of the mark for `teurlaks_certificate`, and makes the reply for C.
 fn keep(held: &mut Held, reply: Reply) -> MarkReply
     requires { IsOfMark reply }
     ensures core { held.new.core ≡ held.old.core }
@@ -314,11 +314,12 @@ fn keep(held: &mut Held, reply: Reply) -> MarkReply
             says
         }
         Reply::Refused(refusal) => unmarked(status_of(refusal)),
+        // A mark has no other reply.
         _ => unmarked(NONE),
     }
 }
 
-// What the certificate counts.
+// The reply for C to a mark of this certificate.
 pub(crate) fn marked(certificate: &Certificate) -> MarkReply
     ensures { CountsOf result certificate.now }
 {

@@ -43,8 +43,7 @@ pub(crate) const NO_PLAN: u32 = 11;
 /// The text or the object takes more than there is room for, and nothing was written.
 pub(crate) const TOO_SMALL: u32 = 12;
 
-/// Refused: a ring holds as many keys as it may. No call here frees a key later, so none answers
-/// it.
+/// Refused: the ring is full.
 pub(crate) const RING_FULL: u32 = 13;
 
 /// The handle has no core: none was made, or it was dropped.

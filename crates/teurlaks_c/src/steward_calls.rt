@@ -170,7 +170,7 @@ impl StewardCall for CountAll {
     }
 }
 
-// Keeps the certificate, and gives what it counts.
+// Keeps the certificate of the mark, and makes the reply for C.
 fn keep(last: &mut Option<Witness>, certificate: Certificate) -> MarkReply
     requires { IsWritable certificate }
     ensures counts { CountsOf result certificate }
