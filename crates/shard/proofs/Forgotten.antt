@@ -1,6 +1,7 @@
 -- What stays where groups lose the guests in which no slot is live.
-use Rattle.std.proofs.Common.{zero, suc, ◌≡◌, ℕ, ◌≤◌, List, [], ◌∷◌, Option, Some, slice_get, ◌∙◌, ap, sym, subst, arith, refl, rules}
-use Rattle.std.specs.Prelude.{length, map as map_list}
+use Rattle.std.proofs.Common.{zero, suc, ◌≡◌, ℕ, ◌≤◌, Bool, true, cond, List, [], ◌∷◌, Option, Some, slice_get, ◌∙◌, ap, sym, subst, arith, inl, inr, refl, rules}
+use Rattle.std.specs.Prelude.{map as map_list, remove}
+use Rattle.std.proofs.lemmas.Bool.{cases_eq}
 use Rattle.std.proofs.lemmas.List.{length-map}
 use Rattle.bitmap.specs.Slots.{SlotSet}
 use Rattle.span.specs.Ids.{same_span}
@@ -8,10 +9,12 @@ use Rattle.span.specs.State.{SpanState}
 use Rattle.span.specs.declared.class.Class.{Class}
 use Rattle.span.specs.declared.id.SpanId.{SpanId}
 use Rattle.groups.specs.Dead.{without_dead}
-use Rattle.groups.specs.Group.{Ascend, spans_in, spans_of}
+use Rattle.groups.specs.Group.{Ascend, HasNoHead, spans_in, spans_of}
 use Rattle.groups.proofs.DeadGuests.{IsSoundGroup-without_dead, before-without_dead, length-live, occupied-without_dead, times-without_dead}
-use Rattle.groups.proofs.GroupSpans.{count-spans_remove, times}
-use Rattle.groups.proofs.Lists.{before-map, count-cons, same_some}
+use Rattle.groups.proofs.GroupSpans.{count-spans_remove, count-stands, times}
+use Rattle.groups.proofs.Lists.{before-map, count-cons, count-some, same_some}
+use Rattle.groups.proofs.Removed.{after-remove}
+use Rattle.span.proofs.Ids.{test_from_same_id}
 use Rattle.shard.specs.HeadWindow.{HeadWindow}
 use Rattle.shard.specs.Heads.{KnowsHeads}
 use Rattle.shard.proofs.KnownHeads.{KnowsHeads-same}
@@ -88,3 +91,24 @@ pub guests_once : (groups : List GroupState) → ((id : SpanId) → times id (sp
 guests_once groups once index group here id =
     let p = λ (s : SpanState). same_span s.id id in
     omega (arith, once id, count-spans_remove spans_of p groups index group here, count-cons p group.head group.guests)
+
+-- and if none stands twice at all, no guest is a head
+pub no_head-guest : (groups : List GroupState) → ((id : SpanId) → times id (spans_in groups) ≤ 1) → (index place : ℕ) (group : GroupState) (guest : SpanState)
+    → slice_get groups index ≡ Some group → slice_get group.guests place ≡ Some guest → HasNoHead groups guest.id
+no_head-guest groups once index place group guest here there other found at =
+    let p = λ (s : SpanState). same_span s.id guest.id in
+    let head : p found.head ≡ true = test_from_same_id found.head.id guest.id at.head_is in
+    let mine = count-some p group.guests place guest there (test_from_same_id guest.id guest.id refl) in
+    let all = count-spans_remove spans_of p groups index group here in
+    let own = count-cons p group.head group.guests in
+    let most = once guest.id in
+    elim (cases_eq other index) [
+      | inl same ↦
+          let one : found ≡ group = same_some (sym at.here ∙ ap (slice_get groups) same ∙ here) in
+          let first : cond {A = ℕ} (p group.head) 1 0 ≡ 1 = ap (λ (b : Bool). cond {A = ℕ} b 1 0) (ap (λ (g : GroupState). p g.head) (sym one) ∙ head) in
+          omega (arith, mine, all, own, most, first)
+      | inr apart ↦
+          let left = after-remove groups index other found at.here apart in
+          let more = count-stands spans_of p (remove groups index) left.0 0 found found.head (left.1, refl) head in
+          omega (arith, mine, all, own, most, more)
+    ]

@@ -6,10 +6,11 @@ use Rattle.std.specs.List.{filter}
 use Rattle.std.proofs.lemmas.Bool.{cases_eq}
 use Rattle.std.proofs.lemmas.List.Edits.{length-remove}
 use Rattle.std.proofs.lemmas.Option.{get_or_from_slice_get, slice_get-get_or, slice_get_within}
+use Rattle.span.proofs.Ids.{same_id}
 use Rattle.span.specs.Ids.{rank}
 use Rattle.span.specs.declared.id.SpanId.{SpanId}
 use Rattle.span.specs.declared.limits.TheConstants.{MOST_PAGES}
-use Rattle.groups.specs.Group.{Ascend, IsPlaceFor}
+use Rattle.groups.specs.Group.{Ascend, HasNoHead, IsPlaceFor}
 use Rattle.groups.proofs.Lists.{cases-insert, cases-set, length_insert, pairs-insert, same_some}
 use Rattle.groups.proofs.Removed.{before-remove, cases-remove, pairs-remove}
 use Rattle.shard.specs.Group.{GroupState}
@@ -62,6 +63,15 @@ module _ (number : ℕ) (groups : List GroupState) (window : HeadWindow) (knows 
   pub FitHeads-some : (after : List GroupState) → ((index : ℕ) (group : GroupState) → slice_get after index ≡ Some group → (before : ℕ) × (slice_get groups before ≡ Some group))
       → FitHeads number after window
   FitHeads-some after stood q g there own = let was = stood q g there in FitHeads-known was.0 g was.1 own
+
+-- the entry of a span that is no head is written
+pub KnowsHeads-written : (number : ℕ) (groups : List GroupState) (window now : HeadWindow) → now.base ≡ window.base → (id : SpanId) → HasNoHead groups id
+    → ((serial : ℕ) → window.base ≤ serial → (id.shard ≡ number → serial ≡ id.serial → ⊥) → entry_of now serial ≡ entry_of window serial)
+    → KnowsHeads number groups window → KnowsHeads number groups now
+KnowsHeads-written number groups window now base id none others knows index group there own =
+    let low : window.base ≤ group.head.id.serial = let l = own.1 in omega (arith, l, base) in
+    others group.head.id.serial low (λ shard serial. none index group (record { here = there; head_is = same_id group.head.id id (own.0 ∙ sym shard) serial }))
+    ∙ knows index group there (own.0, low)
 
 -- a change of pages and flags
 pub KnowsHeads-alike : (number : ℕ) (groups after : List GroupState) (window : HeadWindow) → map_list bare after ≡ map_list bare groups → KnowsHeads number groups window

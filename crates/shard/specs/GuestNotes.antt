@@ -1,5 +1,5 @@
 -- What a shard notes of the guests that it opened. No public clause cites this module.
-use Rattle.std.specs.Prelude.{◌≡◌, ℕ, ◌+◌, ◌-◌, ◌*◌, ◌%◌, ◌<◌, ◌≤◌, ◌==◌, ◌&&◌, Option, Some, None, get_or, if◌then◌else◌, nat_lt}
+use Rattle.std.specs.Prelude.{◌≡◌, ℕ, ◌-◌, ◌<◌, ◌≤◌, Option, Some, None, get_or}
 use Rattle.std.specs.FinMap as map
 use Rattle.span.specs.Ids.{rank}
 use Rattle.span.specs.declared.id.SpanId.{SpanId}
@@ -7,28 +7,22 @@ use Rattle.groups.specs.Directory.{Entries}
 use Rattle.groups.specs.declared.directory.Place.{Place}
 use Rattle.shard.specs.HeadWindow.{HeadWindow, end_of}
 use Rattle.shard.specs.Heads.{IsNoted}
-use Rattle.shard.specs.declared.guest_notes.TheConstants.{FAR, HEADS, PLACES}
-
--- what is noted of a guest: its place and the lowest bits of its head's serial, or only that it is
--- a guest, if another shard opened its head, or its place is far behind
-abbrev pub note_at : ℕ → Place → ℕ
-note_at number at = if (at.head.shard == number) && nat_lt at.place PLACES then at.place * HEADS
-    + at.head.serial % HEADS else FAR
+use Rattle.shard.specs.declared.guest_notes.TheConstants.{GUEST}
 
 -- what is noted of a span: nothing, if it is no guest
-abbrev pub note_of : ℕ → Option Place → ℕ
-note_of number None = 0
-note_of number (Some at) = note_at number at
+abbrev pub note_of : Option Place → ℕ
+note_of None = 0
+note_of (Some at) = GUEST
 
 -- the note of a serial that is not below the base
 abbrev pub note_in : HeadWindow → ℕ → ℕ
 note_in window serial = get_or window.entries (serial - window.base) 0
 
 -- of each span that the shard of this number opened, from the base on, it is noted whether it is a
--- guest, and where it stands
+-- guest
 abbrev pub KnowsNotes : ℕ → Entries → HeadWindow → Type 0
 KnowsNotes number entries window = (id : SpanId) → IsNoted number window.base id
-    → note_in window id.serial ≡ note_of number (map.get entries (rank id))
+    → note_in window id.serial ≡ note_of (map.get entries (rank id))
 
 -- the notes are exact, and there is room to note the guests that room is reserved for
 pub record AreNoted (number : ℕ) (entries : Entries) (window : HeadWindow) (opened group_room : ℕ)

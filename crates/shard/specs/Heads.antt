@@ -1,8 +1,11 @@
 -- Where the heads that a shard opened stand. No public clause cites this module.
-use Rattle.std.specs.Prelude.{◌≡◌, ℕ, ◌<◌, ◌≤◌, List, Some, length, slice_get}
+use Rattle.std.specs.Prelude.{◌≡◌, ℕ, ◌+◌, ◌*◌, ◌%◌, ◌<◌, ◌≤◌, ◌==◌, ◌&&◌, List, Some, if◌then◌else◌, length, nat_lt, slice_get}
 use Rattle.groups.specs.Group.{Ascend}
+use Rattle.groups.specs.declared.directory.Place.{Place}
+use Rattle.span.specs.State.{SpanState}
 use Rattle.span.specs.declared.id.SpanId.{SpanId}
 use Rattle.span.specs.declared.limits.TheConstants.{MOST_PAGES}
+use Rattle.shard.specs.declared.head_indexes.TheConstants.{FAR, HEADS, PLACES}
 use Rattle.shard.specs.Group.{GroupState}
 use Rattle.shard.specs.HeadWindow.{HeadWindow, end_of, entry_of}
 
@@ -36,3 +39,14 @@ pub record AreReady (number : ℕ) (groups : List GroupState) (window : HeadWind
   pub few : length groups ≤ MOST_PAGES
   pub fit : FitHeads number groups window
   pub below : KnowsBelow number groups window from
+
+-- the entry of a guest: its place and the lowest bits of its head's serial; if another shard opened
+-- its head, or its place is far behind, an index past all groups
+abbrev pub note_at : ℕ → Place → ℕ
+note_at number at = if (at.head.shard == number) && nat_lt at.place PLACES then at.place * HEADS
+    + at.head.serial % HEADS else FAR
+
+-- behind the place no span has the id, among the first so many
+abbrev pub IsLastOf : List SpanState → (place below : ℕ) → SpanId → Type 0
+IsLastOf spans place below id = (later : ℕ) (span : SpanState) → place < later → later < below
+    → slice_get spans later ≡ Some span → span.id ≡ id → ⊥

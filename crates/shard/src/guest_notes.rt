@@ -1,8 +1,8 @@
-// What is noted of the guests that a shard opened.
+// Whether spans that a shard opened are guests.
 ghost use Rattle.std.specs.Prelude.{[], ◌≡◌, ◌+◌, ◌-◌, ◌<◌, ◌≤◌, ℕ, OnOk, Some, drop, false, get_or, length, slice_get, true};
 ghost use Rattle.groups.specs.Dead.{dead_among, is_live};
 ghost use Rattle.groups.specs.Directory.{Entries, entered, struck};
-ghost use Rattle.shard.specs.GuestNotes.{KnowsNotes, note_at, note_in};
+ghost use Rattle.shard.specs.GuestNotes.{KnowsNotes, note_in};
 ghost use Rattle.shard.specs.HeadWindow.{HeadWindow, end_of};
 ghost use Rattle.shard.specs.Heads.{IsNoted};
 ghost use Rattle.span.specs.Ids.{rank};
@@ -14,22 +14,16 @@ use span::{Log, Span, SpanId};
 use std::alloc::{AllocError, Global};
 use std::marker::Model;
 
-/// How many serials of heads a note tells apart.
-pub const HEADS: u32 = 4_194_304;
-/// Up to which place, which is left out, a guest is noted with its place.
-pub const PLACES: usize = 1024;
-/// The note of a guest of which no more is noted.
-pub const FAR: u32 = 1;
+/// The note of a guest.
+pub const GUEST: u8 = 1;
 
-/// Of the last spans that the shard opened whether each is a guest here, and where it stands: its
-/// place, and the lowest bits of the serial of its head, so that no group that comes or goes
-/// changes what is noted of the guests of others. It has four bytes a span, as far as any guests
-/// have come, and its base rises as that of the indexes of heads does.
+/// Of the last spans that the shard opened whether each is a guest here. It has a byte a span, as
+/// far as any guests have come, and its base rises as that of the indexes of heads does.
 #[derive(Drop)]
 pub struct GuestNotes {
     base: usize,
     // By serial, from the base on.
-    notes: Vec<u32>,
+    notes: Vec<u8>,
 }
 
 impl Model for GuestNotes {
@@ -62,7 +56,7 @@ impl GuestNotes {
 
     /// What is noted of the span of this serial; 0 where it is no guest.
     #[inline(always)]
-    pub fn note_of(&self, serial: u32) -> u32
+    pub fn note_of(&self, serial: u32) -> u8
         ensures { self.now.base ≤ serial → result ≡ note_in self.now serial }
     {
         let serial = serial as usize;
@@ -106,28 +100,21 @@ impl GuestNotes {
         self.base = base;
     }
 
-    /// Notes where the guests of the head stand, from the place `first` on, counted from 0: of
-    /// those that the shard of this number opened. It takes no memory.
-    pub fn note_guests<L: Log>(
-        &mut self,
-        number: u32,
-        first: usize,
-        guests: &[Span<L>],
-        head: SpanId,
-    )
+    /// Notes that the spans from the place `first` on, counted from 0, are guests: those that the
+    /// shard of this number opened. It takes no memory.
+    pub fn note_guests<L: Log>(&mut self, number: u32, first: usize, guests: &[Span<L>])
         requires within { first ≤ length guests.now }
         requires room { (place : ℕ) (guest : SpanState) → slice_get guests.now place ≡ Some guest
             → first ≤ place → IsNoted number self.old.base guest.id
             → guest.id.serial < end_of self.old }
         ensures base { self.new.base ≡ self.old.base }
         ensures end { end_of self.new ≡ end_of self.old }
-        ensures known { (entries : Entries) → KnowsNotes number entries self.old
+        ensures known { (entries : Entries) (head : SpanId) → KnowsNotes number entries self.old
             → KnowsNotes number (entered entries (drop first guests.now) head (first + 1))
             self.new }
     {
         for place in first..guests.len() {
-            let note = note_at(number, head, place + 1);
-            self.write(number, guests[place].id(), note);
+            self.write(number, guests[place].id(), GUEST);
         }
     }
 
@@ -172,7 +159,7 @@ impl GuestNotes {
     }
 
     // Notes this of the span, if the shard of this number opened it and it is not below the base.
-    fn write(&mut self, number: u32, id: SpanId, note: u32)
+    fn write(&mut self, number: u32, id: SpanId, note: u8)
         ensures base { self.new.base ≡ self.old.base }
         ensures end { end_of self.new ≡ end_of self.old }
         ensures this { IsNoted number self.old.base id → id.serial < end_of self.old
@@ -199,19 +186,8 @@ fn is_live<L: Log>(span: &Span<L>) -> bool
     span.live_count() > 0
 }
 
-// What is noted of the guest of the head at the place.
-fn note_at(number: u32, head: SpanId, place: usize) -> u32
-    ensures { result ≡ note_at number (record { head = head; place = place }) }
-{
-    if head.shard == number && place < PLACES {
-        place as u32 * HEADS + head.serial % HEADS
-    } else {
-        FAR
-    }
-}
-
 // Drops so many notes at the front.
-fn drop_first(notes: &mut Vec<u32>, gone: usize)
+fn drop_first(notes: &mut Vec<u8>, gone: usize)
     requires { gone ≤ length notes.old.items }
     ensures same { (at : ℕ) → get_or notes.new.items at 0 ≡ get_or notes.old.items (gone + at) 0 }
     ensures len { length notes.new.items + gone ≡ length notes.old.items }
@@ -221,7 +197,7 @@ fn drop_first(notes: &mut Vec<u32>, gone: usize)
 }
 
 // Gives room back where half of it is enough for that many notes.
-fn give_back(notes: &mut Vec<u32>, most: usize)
+fn give_back(notes: &mut Vec<u8>, most: usize)
     ensures { notes.new.items ≡ notes.old.items }
 {
     if notes.capacity() / 2 > most {
@@ -230,7 +206,7 @@ fn give_back(notes: &mut Vec<u32>, most: usize)
 }
 
 // Makes room for that many notes, where there is less: nothing is noted there.
-fn grow(notes: &mut Vec<u32>, count: usize) -> Result<(), AllocError>
+fn grow(notes: &mut Vec<u8>, count: usize) -> Result<(), AllocError>
     ensures same { (at : ℕ) → get_or notes.new.items at 0 ≡ get_or notes.old.items at 0 }
     ensures more { length notes.old.items ≤ length notes.new.items }
     ensures ok { OnOk result (count ≤ length notes.new.items) }

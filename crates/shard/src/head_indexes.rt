@@ -1,23 +1,33 @@
-// Where the heads that a shard opened stand.
-ghost use Rattle.std.specs.Prelude.{◌≡◌, ◌+◌, ◌-◌, ◌%◌, ◌<◌, ◌≤◌, ℕ, List, None, OnOk, Some, false, length, min, slice_get, true};
-ghost use Rattle.shard.specs.declared.guest_notes.TheConstants.{HEADS};
+// Where the heads that a shard opened stand, and the ways to its guests.
+ghost use Rattle.std.specs.Prelude.{◌≡◌, ◌+◌, ◌-◌, ◌%◌, ◌<◌, ◌≤◌, ℕ, List, OnOk, Some, false, length, min, slice_get, true};
+ghost use Rattle.groups.specs.Group.{HasNoHead};
+ghost use Rattle.shard.specs.Group.{GroupState};
 ghost use Rattle.shard.specs.HeadWindow.{HeadWindow, end_of, entry_of, most_entries};
-ghost use Rattle.shard.specs.Heads.{AreReady, IsNoted, KnowsHeads};
+ghost use Rattle.shard.specs.Heads.{AreReady, IsLastOf, IsNoted, KnowsHeads, note_at};
+ghost use Rattle.span.specs.State.{SpanState};
 
 use crate::group::Group;
-use crate::guest_notes::HEADS;
-use span::{Log, SpanId};
+use span::{Log, Span, SpanId};
 use std::alloc::{AllocError, Global};
 use std::marker::Model;
 
 /// How many entries are kept where there are few groups.
 pub const FEWEST: usize = 64;
+/// How many serials of heads the entry of a guest tells apart. Indexes of groups are below.
+pub const HEADS: u32 = 4_194_304;
+/// Up to which place, which is left out, the entry of a guest has its place.
+pub const PLACES: usize = 1024;
+/// The entry of a guest of which no more is noted: an index past all groups.
+pub const FAR: u32 = 4_194_303;
 
 /// For each of the last spans that the shard opened, the index of its group, if it is the head of
 /// one here. So a look-up of such a head takes one step, however many groups have left. It has four
 /// bytes a span. The first serial that has an entry rises as the shard opens spans, so that the
-/// memory goes with the groups that are here and not with the spans that ever were. The index of a
-/// span that is no head here is of no account.
+/// memory goes with the groups that are here and not with the spans that ever were.
+///
+/// The entry of a guest leads to its head: it is the guest's place, and the lowest bits of the
+/// serial of the head, so that no group that comes or goes changes it. A look-up tests what it
+/// finds there, since only the entries of heads are sure to hold.
 #[derive(Drop)]
 pub struct HeadIndexes {
     base: usize,
@@ -90,25 +100,20 @@ impl HeadIndexes {
         self.base = base;
     }
 
-    /// The index that is noted for the serial.
+    /// The entry of the serial, if it has one.
     #[inline(always)]
-    pub fn index_of(&self, serial: u32) -> Option<usize>
-        ensures low { serial < self.now.base → result ≡ None }
-        ensures noted { self.now.base ≤ serial → result ≡ entry_of self.now serial }
+    pub fn note_of(&self, serial: u32) -> Option<u32>
+        ensures { self.now.base ≤ serial → result ≡ entry_of self.now serial }
     {
-        let serial = serial as usize;
-        if serial < self.base {
-            return None;
-        }
-        let at = serial - self.base;
+        let at = (serial as usize).wrapping_sub(self.base);
         if at >= self.indexes.len() {
             return None;
         }
-        Some(self.indexes[at] as usize)
+        Some(self.indexes[at])
     }
 
     /// The index that is noted for the first serial from the base on with the lowest bits that a
-    /// guest's note has of its head; past all groups where there is no such serial.
+    /// guest's entry has of its head; past all groups where there is no such serial.
     #[inline(always)]
     pub fn index_by_note(&self, note: u32) -> usize
         ensures { (serial index : ℕ) → self.now.base ≤ serial → serial < self.now.base + HEADS
@@ -132,6 +137,64 @@ impl HeadIndexes {
         ensures len { length self.new.entries ≡ length self.old.entries }
     {
         note_heads(self.base, &mut self.indexes, groups, from, number);
+    }
+
+    /// Notes where the guests of the head stand, from the place `first` on, counted from 0: of
+    /// those that the shard of this number opened. It takes no memory.
+    pub fn note_guests<L: Log>(
+        &mut self,
+        number: u32,
+        first: usize,
+        guests: &[Span<L>],
+        head: SpanId,
+    )
+        ensures noted { (place : ℕ) (guest : SpanState) → slice_get guests.now place ≡ Some guest
+            → first ≤ place → IsNoted number self.old.base guest.id
+            → guest.id.serial < end_of self.old
+            → IsLastOf guests.now place (length guests.now) guest.id
+            → entry_of self.new guest.id.serial
+            ≡ Some (note_at number (record { head = head; place = place + 1 })) }
+        ensures heads { (groups : List GroupState) → KnowsHeads number groups self.old
+            → ((place : ℕ) (guest : SpanState) → slice_get guests.now place ≡ Some guest
+            → first ≤ place → HasNoHead groups guest.id)
+            → KnowsHeads number groups self.new }
+        ensures base { self.new.base ≡ self.old.base }
+        ensures end { end_of self.new ≡ end_of self.old }
+    {
+        for place in first..guests.len() {
+            let note = note_at(number, head, place + 1);
+            self.write(number, guests[place].id(), note);
+        }
+    }
+
+    // Notes this of the span, if the shard of this number opened it and it has an entry.
+    fn write(&mut self, number: u32, id: SpanId, note: u32)
+        ensures base { self.new.base ≡ self.old.base }
+        ensures end { end_of self.new ≡ end_of self.old }
+        ensures this { IsNoted number self.old.base id → id.serial < end_of self.old
+            → entry_of self.new id.serial ≡ Some note }
+        ensures others { (serial : ℕ) → self.old.base ≤ serial
+            → (id.shard ≡ number → serial ≡ id.serial → ⊥)
+            → entry_of self.new serial ≡ entry_of self.old serial }
+    {
+        if !is_noted(number, self.base, id) {
+            return;
+        }
+        let at = id.serial as usize - self.base;
+        if at < self.indexes.len() {
+            self.indexes[at] = note;
+        }
+    }
+}
+
+// The entry of the guest of the head at the place.
+fn note_at(number: u32, head: SpanId, place: usize) -> u32
+    ensures { result ≡ note_at number (record { head = head; place = place }) }
+{
+    if head.shard == number && place < PLACES {
+        place as u32 * HEADS + head.serial % HEADS
+    } else {
+        FAR
     }
 }
 

@@ -1,15 +1,15 @@
 // Guests that can never be live again, which a shard forgets.
-ghost use Rattle.std.specs.Prelude.{◌≡◌, ◌+◌, ◌≤◌, ℕ, Some, count_by, map as map_list, slice_get, vec_capacity, vec_len};
+ghost use Rattle.std.specs.Prelude.{◌≡◌, ◌+◌, ◌≤◌, ℕ, List, Some, count_by, map as map_list, slice_get, vec_capacity, vec_len};
 ghost use Rattle.span.specs.Ids.{same_span};
 ghost use Rattle.span.specs.declared.id.SpanId.{SpanId};
 ghost use Rattle.span.specs.declared.key.Key.{Key};
-ghost use Rattle.groups.specs.declared.directory.Place.{Place};
 ghost use Rattle.shard.specs.GuestNotes.{KnowsNotes};
 ghost use Rattle.shard.specs.HeadWindow.{end_of};
-ghost use Rattle.std.specs.FinMap as map;
+ghost use Rattle.shard.specs.Heads.{KnowsHeads};
+ghost use Rattle.span.specs.State.{SpanState};
 ghost use Rattle.groups.specs.Dead.{AreEntered, dead_among, live_among, without_dead};
 ghost use Rattle.groups.specs.Directory.{KnowsGuests, entered, struck};
-ghost use Rattle.groups.specs.Group.{Ascend};
+ghost use Rattle.groups.specs.Group.{Ascend, HasNoHead};
 ghost use Rattle.shard.specs.Forgets.{Forgets};
 ghost use Rattle.shard.specs.Group.{GroupState};
 ghost use Rattle.shard.specs.Shown.{shown};
@@ -19,6 +19,7 @@ ghost use Rattle.span.specs.declared.limits.TheConstants.{ALL_IDS};
 use super::Shard;
 use crate::group::Group;
 use crate::guest_notes::GuestNotes;
+use crate::head_indexes::HeadIndexes;
 use groups::Directory;
 use span::Counted;
 
@@ -38,6 +39,7 @@ impl Shard<Counted> {
             &mut self.groups,
             &mut self.directory,
             &mut self.notes,
+            &mut self.heads,
             self.number,
             self.group_room,
         );
@@ -52,6 +54,7 @@ fn forget_all(
     groups: &mut Vec<Group<Counted>>,
     directory: &mut Directory,
     notes: &mut GuestNotes,
+    heads: &mut HeadIndexes,
     number: u32,
     room: usize,
 )
@@ -59,6 +62,10 @@ fn forget_all(
     requires known { KnowsGuests groups.old.items directory.old.entries }
     requires ascend { Ascend groups.old.items }
     requires noted { KnowsNotes number directory.old.entries notes.old }
+    requires heads { KnowsHeads number groups.old.items heads.old }
+    requires apart { (index place : ℕ) (group : GroupState) (guest : SpanState)
+        → slice_get groups.old.items index ≡ Some group
+        → slice_get group.guests place ≡ Some guest → HasNoHead groups.old.items guest.id }
     requires once { (index : ℕ) (group : GroupState) → slice_get groups.old.items index ≡ Some group
         → (id : SpanId) → count_by (λ span. same_span span.id id) group.guests ≤ 1 }
     ensures items { groups.new.items ≡ map_list without_dead groups.old.items }
@@ -67,8 +74,10 @@ fn forget_all(
     ensures room { directory.new.room ≡ directory.old.room }
     ensures noted { KnowsNotes number directory.new.entries notes.new }
     ensures end { end_of notes.new ≡ end_of notes.old }
+    ensures heads { KnowsHeads number groups.old.items heads.new }
+    ensures head_end { end_of heads.new ≡ end_of heads.old }
 {
-    forget_each(groups, directory, notes, number);
+    forget_each(groups, directory, notes, heads, number);
     give_back(groups, room);
 }
 
@@ -89,11 +98,16 @@ fn forget_each(
     groups: &mut Vec<Group<Counted>>,
     directory: &mut Directory,
     notes: &mut GuestNotes,
+    heads: &mut HeadIndexes,
     number: u32,
 )
     requires known { KnowsGuests groups.old.items directory.old.entries }
     requires ascend { Ascend groups.old.items }
     requires noted { KnowsNotes number directory.old.entries notes.old }
+    requires heads { KnowsHeads number groups.old.items heads.old }
+    requires apart { (index place : ℕ) (group : GroupState) (guest : SpanState)
+        → slice_get groups.old.items index ≡ Some group
+        → slice_get group.guests place ≡ Some guest → HasNoHead groups.old.items guest.id }
     requires once { (index : ℕ) (group : GroupState) → slice_get groups.old.items index ≡ Some group
         → (id : SpanId) → count_by (λ span. same_span span.id id) group.guests ≤ 1 }
     ensures items { groups.new.items ≡ map_list without_dead groups.old.items }
@@ -103,9 +117,11 @@ fn forget_each(
     ensures room { directory.new.room ≡ directory.old.room }
     ensures noted { KnowsNotes number directory.new.entries notes.new }
     ensures end { end_of notes.new ≡ end_of notes.old }
+    ensures heads { KnowsHeads number groups.old.items heads.new }
+    ensures head_end { end_of heads.new ≡ end_of heads.old }
 {
     for index in 0..groups.len() {
-        forget_in(&mut groups[index], directory, notes, number);
+        forget_in(&mut groups[index], directory, notes, heads, number);
     }
 }
 
@@ -115,13 +131,12 @@ fn forget_in(
     group: &mut Group<Counted>,
     directory: &mut Directory,
     notes: &mut GuestNotes,
+    heads: &mut HeadIndexes,
     number: u32,
 )
     requires entered { AreEntered (struck directory.old.entries (dead_among group.old.guests))
         (live_among group.old.guests) }
     requires known { KnowsNotes number directory.old.entries notes.old }
-    requires placed { (number : ℕ) (at : Place) → map.get directory.old.entries number ≡ Some at
-        → 1 ≤ at.place }
     ensures group { group.new ≡ without_dead group.old }
     ensures directory { directory.new ≡ record directory.old {
       entries = entered (struck directory.old.entries (dead_among group.old.guests))
@@ -129,10 +144,14 @@ fn forget_in(
     } }
     ensures noted { KnowsNotes number directory.new.entries notes.new }
     ensures end { end_of notes.new ≡ end_of notes.old }
+    ensures heads { (groups : List GroupState) → KnowsHeads number groups heads.old
+        → ((place : ℕ) (guest : SpanState) → slice_get group.old.guests place ≡ Some guest
+        → HasNoHead groups guest.id) → KnowsHeads number groups heads.new }
+    ensures head_end { end_of heads.new ≡ end_of heads.old }
 {
     directory.strike_dead(group.spans().guests());
     notes.strike_dead_guests(number, group.spans().guests());
     group.forget_guests();
     directory.move_all(group.spans().guests(), group.head_id());
-    notes.note_guests(number, 0, group.spans().guests(), group.head_id());
+    heads.note_guests(number, 0, group.spans().guests(), group.head_id());
 }

@@ -11,8 +11,7 @@ ghost use Rattle.shard.specs.Shown.{shown};
 ghost use Rattle.shard.specs.Sound.{IsSound};
 
 use super::{Found, Freed, Shard, head_index};
-use crate::guest_notes::HEADS;
-use crate::head_indexes::is_noted;
+use crate::head_indexes::{HEADS, is_noted};
 use span::{Key, Log, SpanId};
 
 impl<L: Log> Shard<L> {
@@ -34,7 +33,7 @@ impl<L: Log> Shard<L> {
 
     /// What [`Shard::get`] finds, if the span of the key is the head of the group at the index of
     /// its serial, as each head is while the shard has all groups that it opened, and no other;
-    /// else `None`. A caller asks on by [`Shard::get_noted`], [`Shard::get_guest`],
+    /// else `None`. A caller asks on by [`Shard::get_noted`], and then by [`Shard::get_guest`],
     /// [`Shard::is_away`] and [`Shard::get_searched`], each in a function that is not inlined. So
     /// the way that mostly comes saves no registers for the others.
     #[inline(always)]
@@ -63,11 +62,14 @@ impl<L: Log> Shard<L> {
         ensures plain { IfSome result (λ found. value_found found
             ≡ (shown self.now).value_of key.now) }
     {
-        let (noted, _) = self.noted_index(key.span);
-        if !self.is_head(noted, key.span) {
+        let Some(note) = self.heads.note_of(key.span.serial) else {
+            return None;
+        };
+        let index = note as usize;
+        if !self.is_head(index, key.span) {
             return None;
         }
-        Some(self.get_at(noted, 0, key))
+        Some(self.get_at(index, 0, key))
     }
 
     /// What [`Shard::get`] finds, if it is noted that the span of the key is a guest here, and
@@ -262,7 +264,9 @@ impl<L: Log> Shard<L> {
         ensures { IfSome result (λ at. (group : GroupState) × (span : SpanState)
             × IsHere self.now.groups id at.0 at.1 group span) }
     {
-        let note = self.notes.note_of(id.serial);
+        let Some(note) = self.heads.note_of(id.serial) else {
+            return None;
+        };
         let place = (note / HEADS) as usize;
         if place == 0 {
             return None;
@@ -318,8 +322,8 @@ impl<L: Log> Shard<L> {
             → IsHeadOf self.now.groups head index group → result.0 ≡ index }
     {
         let is_noted = is_noted(self.number, self.heads.base(), head);
-        match self.heads.index_of(head.serial) {
-            Some(index) => (index, is_noted),
+        match self.heads.note_of(head.serial) {
+            Some(index) => (index as usize, is_noted),
             None => (self.groups.len(), is_noted),
         }
     }

@@ -1,5 +1,6 @@
 use Rattle.std.proofs.Common.{◌≡◌, ◌+◌, ◌≤◌, drop}
 use Rattle.groups.specs.Directory.{Entries, entered}
+use Rattle.span.specs.declared.id.SpanId.{SpanId}
 use Rattle.shard.specs.GuestNotes.{KnowsNotes}
 use Rattle.shard.specs.HeadWindow.{end_of}
 use Rattle.shard.proofs.guest_notes.GuestNotes.note_guests.Given as goal
@@ -9,6 +10,6 @@ invariant-loop-place g l = record {
   base : l.self.base ≡ l.fn.self.base;
   end : end_of l.self ≡ end_of l.fn.self;
   least : l.first ≤ l.place;
-  known : (entries : Entries) → KnowsNotes l.number entries l.fn.self
-      → (now : Entries) × KnowsNotes l.number now l.self × (entered now (drop l.place l.guests) l.head (l.place + 1) ≡ entered entries (drop l.first l.guests) l.head (l.first + 1));
+  known : (entries : Entries) (head : SpanId) → KnowsNotes l.number entries l.fn.self
+      → (now : Entries) × KnowsNotes l.number now l.self × (entered now (drop l.place l.guests) head (l.place + 1) ≡ entered entries (drop l.first l.guests) head (l.first + 1));
 }

@@ -6,14 +6,10 @@ use Rattle.groups.proofs.ForgottenGuests.{AreEntered-forgotten, KnowsGuests-forg
 use Rattle.shard.specs.Group.{GroupState}
 use Rattle.shard.proofs.ChangedBelow.{changed_below-all, changed_below-next, get-changed_below, length-changed_below}
 use Rattle.shard.proofs.Forgotten.{Ascend-changed_below}
-use Rattle.shard.proofs.NotedGuests.{ArePlaced-known}
 use Rattle.shard.proofs.shard.forgetting.forget_each.Goals as goal
 
 pub forget_in-requires-clause-known : goal.forget_in-requires-clause-known
 forget_in-requires-clause-known c = c.loop-index.invariant.noted
-
-pub forget_in-requires-clause-placed : goal.forget_in-requires-clause-placed
-forget_in-requires-clause-placed c = ArePlaced-known c.loop-index.groups.items c.loop-index.directory.entries c.loop-index.invariant.known
 
 pub forget_in-requires-clause-entered : goal.forget_in-requires-clause-entered
 forget_in-requires-clause-entered c =
@@ -51,6 +47,8 @@ loop-index-preserved c =
       room = rw (c.forget_in.ensures.directory) c.loop-index.invariant.room;
       noted = c.forget_in.ensures.noted;
       end = c.forget_in.ensures.end ∙ c.loop-index.invariant.end;
+      heads = c.forget_in.ensures.heads first c.loop-index.invariant.heads (λ place guest stood. c.requires.apart at place group guest was stood);
+      head_end = c.forget_in.ensures.head_end ∙ c.loop-index.invariant.head_end;
     }
 
 pub returns-clause-items : goal.returns-clause-items

@@ -4,6 +4,7 @@ use Rattle.groups.specs.Dead.{without_dead}
 use Rattle.groups.specs.Directory.{KnowsGuests}
 use Rattle.shard.specs.GuestNotes.{KnowsNotes}
 use Rattle.shard.specs.HeadWindow.{end_of}
+use Rattle.shard.specs.Heads.{KnowsHeads}
 use Rattle.shard.proofs.ChangedBelow.{changed_below}
 use Rattle.shard.proofs.shard.forgetting.forget_each.Given as goal
 
@@ -15,4 +16,6 @@ invariant-loop-index l = record {
   room : l.directory.room ≡ l.fn.directory.room;
   noted : KnowsNotes l.number l.directory.entries l.notes;
   end : end_of l.notes ≡ end_of l.fn.notes;
+  heads : KnowsHeads l.number l.fn.groups.items l.heads;
+  head_end : end_of l.heads ≡ end_of l.fn.heads;
 }

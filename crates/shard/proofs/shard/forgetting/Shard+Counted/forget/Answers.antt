@@ -13,7 +13,7 @@ use Rattle.shard.specs.State.{ShardState}
 use Rattle.shard.proofs.ClassesHere.{HaveRoom-map}
 use Rattle.shard.proofs.Forgotten.{KnowsHeads-without_dead}
 use Rattle.shard.proofs.NotedGuests.{AreNoted-forgotten}
-use Rattle.shard.proofs.Forgotten.{HasGuestRoom-without_dead, HasRooms-without_dead, IsSound-without_dead, guests_once}
+use Rattle.shard.proofs.Forgotten.{HasGuestRoom-without_dead, HasRooms-without_dead, IsSound-without_dead, guests_once, no_head-guest}
 use Rattle.shard.proofs.shard.forgetting.Shard+Counted.forget.Goals as goal
 
 pub forget_all-requires-clause-once : goal.forget_all-requires-clause-once
@@ -21,6 +21,12 @@ forget_all-requires-clause-once c = guests_once c.self.inside.groups.items c.sel
 
 pub forget_all-requires-clause-noted : goal.forget_all-requires-clause-noted
 forget_all-requires-clause-noted c = c.self.invariant.guests_noted.known
+
+pub forget_all-requires-clause-heads : goal.forget_all-requires-clause-heads
+forget_all-requires-clause-heads c = c.self.invariant.heads_known
+
+pub forget_all-requires-clause-apart : goal.forget_all-requires-clause-apart
+forget_all-requires-clause-apart c = no_head-guest c.self.inside.groups.items c.self.invariant.sound.once
 
 sound_after : (c : goal.After-forget_all) → IsSound (record (state_of c.self.inside) { groups = c.forget_all.new.groups.items })
 sound_after c = rw c.forget_all.ensures.items (IsSound-without_dead (state_of c.self.inside) c.self.invariant.sound)
@@ -46,8 +52,8 @@ invariant_of-self c =
           (vec_capacity c.self.inside.guest_room) c.self.invariant.room_for_guests);
       guests_known = c.forget_all.ensures.known;
       room_for_entries = rw c.forget_all.ensures.room c.self.invariant.room_for_entries;
-      heads_known = rw (c.forget_all.ensures.items) (KnowsHeads-without_dead c.self.inside.number c.self.inside.groups.items c.self.inside.heads c.self.invariant.heads_known);
-      room_for_heads = c.self.invariant.room_for_heads;
+      heads_known = rw (c.forget_all.ensures.items) (KnowsHeads-without_dead c.self.inside.number c.self.inside.groups.items c.forget_all.new.heads c.forget_all.ensures.heads);
+      room_for_heads = λ some. let enough = c.self.invariant.room_for_heads some in omega (arith, enough, c.forget_all.ensures.head_end);
       guests_noted = AreNoted-forgotten _ _ _ _ _ _ c.self.invariant.guests_noted _ c.forget_all.new.notes c.forget_all.ensures.noted c.forget_all.ensures.end;
     }
 
