@@ -1,5 +1,5 @@
 // Puts: into the lowest group that has a usable slot, or into a new one.
-ghost use Rattle.std.specs.Prelude.{◌≡◌, ◌<◌, ◌↔◌, Err, IfOk, IsOkUnless, OnErr, false, length, true};
+ghost use Rattle.std.specs.Prelude.{◌+◌, ◌≡◌, ◌≤◌, ◌<◌, ◌↔◌, Err, IfOk, IsOkUnless, OnErr, OnOk, false, length, true, vec_capacity, vec_len};
 ghost use Rattle.span.specs.Classes.{class_of, width_of};
 ghost use Rattle.span.specs.PlainMap as plain;
 ghost use Rattle.shard.specs.Calls.{IsFull, IsSpent, Puts, PutsInNew};
@@ -12,6 +12,7 @@ use crate::group::Group;
 use groups::{Placed, Spans};
 use page::{MaybePage, Page, set_on};
 use span::{Class, Key, Log, Object, Span, SpanId};
+use std::alloc::AllocError;
 
 impl<L: Log> Shard<L> {
     /// Keeps the object at the lowest usable slot of the open group of its class of lowest head
@@ -126,7 +127,7 @@ impl<L: Log> Shard<L> {
         let mut head = Span::with_log(self.alloc, id, class, self.gens);
         let key = head.put_at(0, words)?;
         let mut page = Page::room_for(self.alloc, words)?;
-        self.groups.reserve(1)?;
+        reserve_group(&mut self.groups)?;
         self.rooms.reserve(class, self.groups.len() + 1)?;
         self.heads
             .reserve(self.opened as usize + 1, self.groups.len() + 1)?;
@@ -144,5 +145,23 @@ impl<L: Log> Shard<L> {
         self.opened += 1;
         self.onto = None;
         Ok(key)
+    }
+}
+
+// How many groups come one by one.
+const FEW: usize = 4;
+
+// Makes room for one more group. Of the first few each gets its own room, so that a shard of one
+// page takes little. Later the room doubles.
+fn reserve_group<L: Log>(groups: &mut Vec<Group<L>>) -> Result<(), AllocError>
+    ensures items { groups.new.items ≡ groups.old.items }
+    ensures len { vec_len groups.new ≡ vec_len groups.old }
+    ensures capacity { vec_capacity groups.old ≤ vec_capacity groups.new }
+    ensures ok { OnOk result (vec_len groups.new + 1 ≤ vec_capacity groups.new) }
+{
+    if groups.len() < FEW {
+        groups.reserve_exact(1)
+    } else {
+        groups.reserve(1)
     }
 }

@@ -44,11 +44,11 @@ put_at-requires-clause-not_worn g c = ap (λ (s : SpanState). set.contains (worn
 
 -- where the list of groups could not grow, all is as it was
 pub invariant_of-self : goal.invariant_of-self
-invariant_of-self g c = IsKept-same c.self.inside c.self.invariant c.reserve.new.self c.self.inside.rooms c.reserve.ensures.items
-    (omega (arith, c.reserve.ensures.capacity)) c.self.invariant.rooms (λ class. omega arith)
+invariant_of-self g c = IsKept-same c.self.inside c.self.invariant c.reserve_group.new.groups c.self.inside.rooms c.reserve_group.ensures.items
+    (omega (arith, c.reserve_group.ensures.capacity)) c.self.invariant.rooms (λ class. omega arith)
 
 pub lower_heads-index-requires : goal.lower_heads-index-requires
-lower_heads-index-requires g c = rw (c.as_slice.ensures.value, c.in_ok-reserve.ensures.items) c.self.invariant.sound.ascending
+lower_heads-index-requires g c = rw (c.as_slice.ensures.value, c.in_ok-reserve_group.ensures.items) c.self.invariant.sound.ascending
 
 head_now : (g : _) (c : goal.After-self-3-1 g) → c.put_at.new.self ≡ with_put (new_span c.in-Some.id c.args.class c.self.inside.gens) 0 c.args.words.now
 head_now g c = c.in_ok-key.ensures.ok ∙ ap (λ (s : SpanState). with_put s 0 c.args.words.now) c.with_log-head.ensures
@@ -64,10 +64,10 @@ group_now g c =
     (head_now g c))
 
 list_is : (g : _) (c : goal.After-self-3-1 g) → c.as_slice.result.now ≡ c.self.inside.groups.items
-list_is g c = c.as_slice.ensures.value ∙ c.in_ok-reserve.ensures.items
+list_is g c = c.as_slice.ensures.value ∙ c.in_ok-reserve_group.ensures.items
 
 groups_now : (g : _) (c : goal.After-self-3-1 g) → c.insert_reserved.new.groups.items ≡ insert c.self.inside.groups.items c.lower_heads-index.result (made g c)
-groups_now g c = c.insert_reserved.ensures.items ∙ rw (c.in_ok-reserve.ensures.items, group_now g c) refl
+groups_now g c = c.insert_reserved.ensures.items ∙ rw (c.in_ok-reserve_group.ensures.items, group_now g c) refl
 
 lower_now : (g : _) (c : goal.After-self-3-1 g) → IsLower head_id c.self.inside.groups.items (rank c.in-Some.id) c.lower_heads-index.result
 lower_now g c =
@@ -81,11 +81,11 @@ place_now g c =
 
 below_now : (g : _) (c : goal.After-self-3-1 g) → (class : Class) (n : ℕ) → n < c.lower_heads-index.result
     → contains (rooms_of c.note_arrival.new.self class) n ≡ contains (rooms_of c.self.inside.rooms class) n
-below_now g c class n less = c.note_arrival.ensures.below class n less ∙ ap (λ s. contains s n) (c.in_ok-reserve-2.ensures.same class)
+below_now g c class n less = c.note_arrival.ensures.below class n less ∙ ap (λ s. contains s n) (c.in_ok-reserve.ensures.same class)
 
 above_now : (g : _) (c : goal.After-self-3-1 g) → (class : Class) (n : ℕ) → c.lower_heads-index.result ≤ n
     → contains (rooms_of c.note_arrival.new.self class) (n + 1) ≡ contains (rooms_of c.self.inside.rooms class) n
-above_now g c class n from = c.note_arrival.ensures.above class n from ∙ ap (λ s. contains s n) (c.in_ok-reserve-2.ensures.same class)
+above_now g c class n from = c.note_arrival.ensures.above class n from ∙ ap (λ s. contains s n) (c.in_ok-reserve.ensures.same class)
 
 -- each set that had room for the groups has room for one more
 room_before : (g : _) (c : goal.After-self-3-1 g)
@@ -94,16 +94,16 @@ room_before g c index group there =
     let class = group.head.class in
     let had = c.self.invariant.room_for_rooms index group there in
     let low = slice_get_within c.self.inside.groups.items index group there in
-    let used = c.in_ok-reserve-2.ensures.used class (omega (arith, had, low, c.self.inside.groups.ok.0)) in
+    let used = c.in_ok-reserve.ensures.used class (omega (arith, had, low, c.self.inside.groups.ok.0)) in
     omega (
       arith,
       had,
       used,
-      c.in_ok-reserve-2.ensures.more class,
+      c.in_ok-reserve.ensures.more class,
       c.note_arrival.ensures.room class,
       c.len.ensures,
       c.insert_reserved.ensures.len,
-      c.in_ok-reserve.ensures.len,
+      c.in_ok-reserve_group.ensures.len,
       c.saturating_sub-self-inside.ensures,
     )
 
@@ -111,16 +111,16 @@ room_before g c index group there =
 room_here : (g : _) (c : goal.After-self-3-1 g)
     → vec_len c.insert_reserved.new.groups + c.saturating_sub-self-inside.result ≤ room_of c.note_arrival.new.self c.args.class
 room_here g c =
-    let own = c.in_ok-reserve-2.ensures.ok c.args.class (omega arith) in
+    let own = c.in_ok-reserve.ensures.ok c.args.class (omega arith) in
     elim (cases_lt 0 c.self.inside.group_room) [
       | inl some ↦ omega (
         arith,
         some,
         c.self.invariant.room_for_class some c.args.class,
-        c.in_ok-reserve-2.ensures.more c.args.class,
+        c.in_ok-reserve.ensures.more c.args.class,
         c.note_arrival.ensures.room c.args.class,
         c.insert_reserved.ensures.len,
-        c.in_ok-reserve.ensures.len,
+        c.in_ok-reserve_group.ensures.len,
         c.saturating_sub-self-inside.ensures,
       )
       | inr none ↦ omega (
@@ -130,7 +130,7 @@ room_here g c =
         c.note_arrival.ensures.room c.args.class,
         c.len.ensures,
         c.insert_reserved.ensures.len,
-        c.in_ok-reserve.ensures.len,
+        c.in_ok-reserve_group.ensures.len,
         c.saturating_sub-self-inside.ensures,
       )
     ]
@@ -159,9 +159,9 @@ invariant_of-self-2 g c = record {
     c.self.invariant.room_for_groups,
     c.insert_reserved.ensures.len,
     c.insert_reserved.ensures.capacity,
-    c.in_ok-reserve.ensures.len,
-    c.in_ok-reserve.ensures.ok,
-    c.in_ok-reserve.ensures.capacity,
+    c.in_ok-reserve_group.ensures.len,
+    c.in_ok-reserve_group.ensures.ok,
+    c.in_ok-reserve_group.ensures.capacity,
     c.saturating_sub-self-inside.ensures,
   );
   room_for_rooms = rw (groups_now g c)
@@ -171,8 +171,8 @@ invariant_of-self-2 g c = record {
     c.self.invariant.room_for_class (omega (arith, some, c.saturating_sub-self-inside.ensures)) class,
     some,
     c.insert_reserved.ensures.len,
-    c.in_ok-reserve.ensures.len,
-    c.in_ok-reserve-2.ensures.more class,
+    c.in_ok-reserve_group.ensures.len,
+    c.in_ok-reserve.ensures.more class,
     c.note_arrival.ensures.room class,
     c.saturating_sub-self-inside.ensures,
   );
@@ -183,7 +183,7 @@ invariant_of-self-2 g c = record {
       (place_now g c).within refl);
   room_for_entries = c.self.invariant.room_for_entries;
   heads_known = subst (λ gs. KnowsHeads c.self.inside.number gs c.note_from.new.self) c.as_slice-2.ensures.value c.note_from.ensures.known;
-  room_for_heads = λ some. omega (arith, c.in_ok-reserve-3.ensures.ok, c.note_from.ensures.base, c.note_from.ensures.len);
+  room_for_heads = λ some. omega (arith, c.in_ok-reserve-2.ensures.ok, c.note_from.ensures.base, c.note_from.ensures.len);
   guests_noted = AreNoted-come _ _ _ _ _ _ c.self.invariant.guests_noted _ _ c.self.invariant.guests_noted.known _ _ c.saturating_sub-self-inside.ensures;
 }
 
@@ -204,33 +204,33 @@ returns-clause-ok g c =
     )
 
 -- where the sets of those with room could not grow, all is as it was
-pub invariant_of-self-in_err-reserve-2 : goal.invariant_of-self-in_err-reserve-2
-invariant_of-self-in_err-reserve-2 g c =
-    IsKept-same c.self.inside c.self.invariant c.reserve.new.self c.reserve-2.new.self c.in_ok-reserve.ensures.items
-    (omega (arith, c.in_ok-reserve.ensures.capacity)) (λ class. rw (c.in_err-reserve-2.ensures.same class) (c.self.invariant.rooms class))
-    (λ class. omega (arith, c.in_err-reserve-2.ensures.more class))
+pub invariant_of-self-in_err-reserve : goal.invariant_of-self-in_err-reserve
+invariant_of-self-in_err-reserve g c =
+    IsKept-same c.self.inside c.self.invariant c.reserve_group.new.groups c.reserve.new.self c.in_ok-reserve_group.ensures.items
+    (omega (arith, c.in_ok-reserve_group.ensures.capacity)) (λ class. rw (c.in_err-reserve.ensures.same class) (c.self.invariant.rooms class))
+    (λ class. omega (arith, c.in_err-reserve.ensures.more class))
 
 pub note_arrival-requires-clause-room : goal.note_arrival-requires-clause-room
 note_arrival-requires-clause-room g c =
-    omega (arith, c.in_ok-reserve-2.ensures.ok c.args.class (omega arith), c.len.ensures, c.len-2.ensures, c.insert_reserved.ensures.len, c.in_ok-reserve.ensures.len)
+    omega (arith, c.in_ok-reserve.ensures.ok c.args.class (omega arith), c.len.ensures, c.len-2.ensures, c.insert_reserved.ensures.len, c.in_ok-reserve_group.ensures.len)
 
 pub note_arrival-requires-clause-had : goal.note_arrival-requires-clause-had
 note_arrival-requires-clause-had g c class n member =
-    let noted = ap (λ s. contains s n) (sym (c.in_ok-reserve-2.ensures.same class)) ∙ member in
+    let noted = ap (λ s. contains s n) (sym (c.in_ok-reserve.ensures.same class)) ∙ member in
     let low = (c.self.invariant.rooms class).within n noted in
     let had = HaveRoom-noted c.self.inside.groups.items c.self.inside.rooms _ c.self.invariant.room_for_rooms class (c.self.invariant.rooms class) n noted in
-    let used = c.in_ok-reserve-2.ensures.used class (omega (arith, had, low, c.self.inside.groups.ok.0)) in (
-      omega (arith, low, c.len-2.ensures, c.insert_reserved.ensures.len, c.in_ok-reserve.ensures.len, c.self.inside.groups.ok.0),
-      omega (arith, used, c.len.ensures, c.len-2.ensures, c.insert_reserved.ensures.len, c.in_ok-reserve.ensures.len),
+    let used = c.in_ok-reserve.ensures.used class (omega (arith, had, low, c.self.inside.groups.ok.0)) in (
+      omega (arith, low, c.len-2.ensures, c.insert_reserved.ensures.len, c.in_ok-reserve_group.ensures.len, c.self.inside.groups.ok.0),
+      omega (arith, used, c.len.ensures, c.len-2.ensures, c.insert_reserved.ensures.len, c.in_ok-reserve_group.ensures.len),
     )
 
 -- where the indexes of heads could not grow, all is as it was
-pub invariant_of-self-in_err-reserve-3 : goal.invariant_of-self-in_err-reserve-3
-invariant_of-self-in_err-reserve-3 g c =
-    IsKept-more_heads _ (IsKept-same c.self.inside c.self.invariant c.reserve.new.self c.reserve-2.new.self c.in_ok-reserve.ensures.items
-    (omega (arith, c.in_ok-reserve.ensures.capacity)) (λ class. rw (c.in_ok-reserve-2.ensures.same class) (c.self.invariant.rooms class))
-    (λ class. omega (arith, c.in_ok-reserve-2.ensures.more class)))
-    (c.self.inside.opened + 1) (omega arith) c.reserve-3.new.self c.in_err-reserve-3.ensures.base c.in_err-reserve-3.ensures.same c.in_err-reserve-3.ensures.more
+pub invariant_of-self-in_err-reserve-2 : goal.invariant_of-self-in_err-reserve-2
+invariant_of-self-in_err-reserve-2 g c =
+    IsKept-more_heads _ (IsKept-same c.self.inside c.self.invariant c.reserve_group.new.groups c.reserve.new.self c.in_ok-reserve_group.ensures.items
+    (omega (arith, c.in_ok-reserve_group.ensures.capacity)) (λ class. rw (c.in_ok-reserve.ensures.same class) (c.self.invariant.rooms class))
+    (λ class. omega (arith, c.in_ok-reserve.ensures.more class)))
+    (c.self.inside.opened + 1) (omega arith) c.reserve-2.new.self c.in_err-reserve-2.ensures.base c.in_err-reserve-2.ensures.same c.in_err-reserve-2.ensures.more
 
 pub note_from-requires : goal.note_from-requires
 note_from-requires g c =
@@ -238,18 +238,18 @@ note_from-requires g c =
     ∙ rw (c.of.ensures, c.new-2.ensures, page_made c.args.class 0 c.args.words.now _ c.in_ok-page.page c.in_ok-page.ensures c.set_on.new.words c.set_on.ensures.words)
     (ap (λ (head : SpanState). group_of (record { head = head; guests = [] }) (Some (set_object blank_page c.args.class 0 c.args.words.now)) false)
     (c.in_ok-key.ensures.ok ∙ ap (λ (s : SpanState). with_put s 0 c.args.words.now) c.with_log-head.ensures)) in
-    let lower = subst (λ (groups : List GroupState). IsLower head_id groups (rank c.in-Some.id) c.lower_heads-index.result) (c.as_slice.ensures.value ∙ c.in_ok-reserve.ensures.items)
+    let lower = subst (λ (groups : List GroupState). IsLower head_id groups (rank c.in-Some.id) c.lower_heads-index.result) (c.as_slice.ensures.value ∙ c.in_ok-reserve_group.ensures.items)
     (record { within = c.lower_heads-index.ensures.within; lower = c.lower_heads-index.ensures.lower; others = c.lower_heads-index.ensures.others }) in
     let place = IsPlaceFor-lower c.self.inside.groups.items c.in-Some.id c.lower_heads-index.result lower
     (no_head_next (state_of c.self.inside) c.self.invariant.sound c.in-Some.id c.in-Some.ensures.parts.0 c.in-Some.ensures.parts.1) in
-    let groups = c.as_slice-2.ensures.value ∙ c.insert_reserved.ensures.items ∙ rw (c.in_ok-reserve.ensures.items, group) refl in
+    let groups = c.as_slice-2.ensures.value ∙ c.insert_reserved.ensures.items ∙ rw (c.in_ok-reserve_group.ensures.items, group) refl in
     let pages = subst (λ (s : ShardState). length s.groups < s.page_limit) (sym c.self.view_is) c.requires.pages in
-    subst (λ gs. AreReady c.self.inside.number gs c.reserve-3.new.self c.lower_heads-index.result) (sym groups)
-    (AreReady-arrived (state_of c.self.inside) c.self.invariant.sound c.reserve-3.new.self
-    (KnowsHeads-moved (state_of c.self.inside) c.self.invariant.sound c.self.inside.heads c.self.invariant.heads_known (c.self.inside.opened + 1) (omega arith) c.reserve-3.new.self
-    c.in_ok-reserve-3.ensures.base c.in_ok-reserve-3.ensures.same)
+    subst (λ gs. AreReady c.self.inside.number gs c.reserve-2.new.self c.lower_heads-index.result) (sym groups)
+    (AreReady-arrived (state_of c.self.inside) c.self.invariant.sound c.reserve-2.new.self
+    (KnowsHeads-moved (state_of c.self.inside) c.self.invariant.sound c.self.inside.heads c.self.invariant.heads_known (c.self.inside.opened + 1) (omega arith) c.reserve-2.new.self
+    c.in_ok-reserve-2.ensures.base c.in_ok-reserve-2.ensures.same)
     c.self.invariant.pages_fit c.lower_heads-index.result (new_group c.in-Some.id c.args.class c.self.inside.gens c.args.words.now) place pages
-    (λ own. omega (arith, c.in-Some.ensures.parts.1, c.in_ok-reserve-3.ensures.ok)) (omega (arith, c.in_ok-reserve-3.ensures.ok)))
+    (λ own. omega (arith, c.in-Some.ensures.parts.1, c.in_ok-reserve-2.ensures.ok)) (omega (arith, c.in_ok-reserve-2.ensures.ok)))
 
 -- words are made where the object needs them
 pub set_on-requires-clause-room : goal.set_on-requires-clause-room
