@@ -11,6 +11,9 @@ const SYSTEM_PAGE: usize = 4096;
 /// 64.
 const SEGMENT: usize = 4 << 20;
 
+/// How many blocks come one by one, so that a slab of one page takes little.
+const FEW: usize = 4;
+
 /// How much of free blocks keeps its memory, for the next who takes one.
 const WARM: usize = 256 << 10;
 
@@ -84,9 +87,8 @@ impl Blocks {
         make_room(&mut self.warm, blocks)?;
         make_room(&mut self.cold, blocks)?;
         while self.segments.len() * self.per < blocks {
-            self.segments
-                .try_reserve(1)
-                .map_err(|_| Refused::OutOfMemory)?;
+            let segments = self.segments.len() + 1;
+            make_room(&mut self.segments, segments)?;
             let segment = system::map(self.segment_bytes()).ok_or(Refused::OutOfMemory)?;
             self.segments.push(segment);
         }
@@ -258,10 +260,16 @@ impl Blocks {
     }
 }
 
-/// Sees to it that the list has room for so many in all, with some more for those that come later.
-fn make_room<E>(list: &mut Vec<E>, len: usize) -> Result<(), Refused> {
-    list.try_reserve(len - list.len())
-        .map_err(|_| Refused::OutOfMemory)
+/// Sees to it that the list has room for so many in all, and beyond a few for some more that come
+/// later.
+pub(crate) fn make_room<E>(list: &mut Vec<E>, len: usize) -> Result<(), Refused> {
+    let more = len - list.len();
+    let made = if len <= FEW {
+        list.try_reserve_exact(more)
+    } else {
+        list.try_reserve(more)
+    };
+    made.map_err(|_| Refused::OutOfMemory)
 }
 
 impl Drop for Blocks {

@@ -10,7 +10,7 @@ mod walks;
 
 pub(crate) use walks::{Walk, WalkMut};
 
-use crate::blocks::Blocks;
+use crate::blocks::{make_room, Blocks};
 use crate::boxed::Late;
 use crate::bytes::{slots_for, MOST_WORDS};
 use crate::core::{Core, Stepped};
@@ -265,8 +265,7 @@ impl<T> Values<T> {
     #[cold]
     fn grow(&mut self, spans: usize) -> Result<(), Refused> {
         let Paged { blocks, pages } = &mut *self.paged;
-        let more = blocks.len() - pages.len();
-        pages.try_reserve(more).map_err(|_| Refused::OutOfMemory)?;
+        make_room(pages, blocks.len())?;
         pages.resize(blocks.len(), Page::NONE);
         self.grow_spans(spans)
     }

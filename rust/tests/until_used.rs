@@ -98,7 +98,7 @@ fn one_value_takes_little() {
         Ok::<_, Refused>(store)
     };
     for each in [bytes_each(core), bytes_each(slab), bytes_each(store)] {
-        assert!(each <= 3500, "{each} bytes");
+        assert!(each <= 2700, "{each} bytes");
     }
 }
 

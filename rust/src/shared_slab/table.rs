@@ -4,7 +4,7 @@
 use super::hints::Hints;
 use super::page::{Owned, OwnedPage, Page};
 use super::slot::{Claim, Slot};
-use crate::blocks::Blocks;
+use crate::blocks::{make_room, Blocks};
 use crate::compact::{Compact, Compacted};
 use crate::core::{Core, Limits};
 use crate::names::{Group, Key, Span};
@@ -107,10 +107,7 @@ impl<T> Table<T> {
     #[cold]
     fn make_ready(&mut self) -> Result<(), Refused> {
         self.blocks.reserve()?;
-        let more = self.blocks.len() - self.pages.len();
-        self.pages
-            .try_reserve(more)
-            .map_err(|_| Refused::OutOfMemory)?;
+        make_room(&mut self.pages, self.blocks.len())?;
         self.pages.resize_with(self.blocks.len(), || Sheet::NONE);
         self.spans.reserve(1)?;
         if self.fresh.is_none() {
