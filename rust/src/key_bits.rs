@@ -2,7 +2,7 @@
 
 use crate::names::Key;
 use crate::raw::{self, RawKeyBits};
-use std::num::NonZeroU64;
+use std::num::{NonZeroU64, NonZeroUsize};
 
 /// How many bits the parts of a key take in a number of 64. The slot takes 8.
 ///
@@ -120,11 +120,23 @@ impl Key {
         NonZeroU64::new(says.number)
     }
 
+    /// As [`Key::to_u64`], for programs that keep a `usize`; `None` also if it has too few bits.
+    #[must_use]
+    pub fn to_usize(self, bits: KeyBits) -> Option<NonZeroUsize> {
+        self.to_u64(bits)?.try_into().ok()
+    }
+
     /// The key of the number in the layout, or `None` if no key has it.
     #[must_use]
     pub fn from_u64(bits: KeyBits, number: u64) -> Option<Key> {
         // SAFETY: numbers alone cross.
         let says = unsafe { raw::teurlaks_key_from_u64(bits.raw(), number) };
         Key::of(says.key)
+    }
+
+    /// As [`Key::from_u64`].
+    #[must_use]
+    pub fn from_usize(bits: KeyBits, number: usize) -> Option<Key> {
+        Key::from_u64(bits, number as u64)
     }
 }

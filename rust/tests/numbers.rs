@@ -6,6 +6,11 @@ fn number(key: &str, bits: KeyBits) -> Option<u64> {
     let key: Key = key.parse().expect("a key");
     let number = key.to_u64(bits)?.get();
     assert_eq!(Key::from_u64(bits, number), Some(key));
+    let index = key.to_usize(bits).map_or(0, |index| index.get());
+    assert_eq!(
+        (index as u64, Key::from_usize(bits, index)),
+        (number, Some(key))
+    );
     Some(number)
 }
 
@@ -34,6 +39,7 @@ fn a_key_beyond_its_layout_has_no_number() {
 fn a_number_of_no_key_is_refused() {
     for number in [0, 1, (1 << 40) - 1] {
         assert_eq!(Key::from_u64(KeyBits::BALANCED, number), None);
+        assert_eq!(Key::from_usize(KeyBits::BALANCED, number as usize), None);
     }
     assert_eq!(Key::from_u64(KeyBits::EXACT_IN_DOUBLE, 1 << 53), None);
 }
