@@ -27,25 +27,24 @@ static void no_key(struct teurlaks_key_bits bits, uint64_t number, uint32_t stat
     WANT(from.status == status && !memcmp(&from.key, &zeros, sizeof zeros));
 }
 
-/* A shard that may open two spans has 512 keys, each with a number of 18 bits, and then its slots
+/* A shard that may open two spans has 512 keys, each with a number of 11 bits, and then its slots
  * come again until each has had its three generations. */
 static void within_two_spans(void) {
     struct teurlaks_handle core = {0};
     struct teurlaks_key_bits_reply layout = teurlaks_key_bits(1, 2, 3);
     WANT(layout.status == TEURLAKS_OK);
     WANT(layout.bits.shard + layout.bits.serial + layout.bits.generation + 8 == 11);
-    WANT(teurlaks_new(&core, 1, 4, 1, 3) == TEURLAKS_OK);
+    WANT(teurlaks_new_with_spans(&core, 1, 4, 2, 1, 3) == TEURLAKS_OK);
     for (int generation = 1; generation <= 3; generation++) {
         for (int i = 0; i < 512; i++) {
             struct teurlaks_word word = {(uint64_t)i, 0};
-            struct teurlaks_put_reply put = teurlaks_within(&core, 2, teurlaks_put(&core, 0, word));
+            struct teurlaks_put_reply put = teurlaks_put(&core, 0, word);
             WANT(put.status == TEURLAKS_OK && put.key.generation == (uint32_t)generation);
             struct teurlaks_number_reply number = teurlaks_key_to_u64(layout.bits, put.key);
             WANT(number.status == TEURLAKS_OK && number.number < 1 << 11);
         }
         for (int again = 0; again < 2; again++) {
-            struct teurlaks_put_reply put =
-                teurlaks_within(&core, 2, teurlaks_put(&core, 0, (struct teurlaks_word){7, 0}));
+            struct teurlaks_put_reply put = teurlaks_put(&core, 0, (struct teurlaks_word){7, 0});
             WANT(put.status == TEURLAKS_PAGES_SPENT && put.key.generation == 0);
             struct teurlaks_totals_reply totals = teurlaks_totals(&core);
             WANT(totals.live == 512 && totals.pages == 2);
@@ -54,13 +53,29 @@ static void within_two_spans(void) {
         while ((next = teurlaks_next(&core, next.key)).status == TEURLAKS_OK)
             WANT(teurlaks_free(&core, next.key) == TEURLAKS_OK);
     }
-    struct teurlaks_word word = {7, 0};
-    WANT(teurlaks_within(0, 2, teurlaks_put(0, 0, word)).status == TEURLAKS_NO_CORE);
     teurlaks_drop(&core);
+}
+
+/* A seat of an arena whose shards may open one span each keeps 256 keys, recorded or not. */
+static void within_one_span(int is_recorded) {
+    struct teurlaks_share_handle steward = {0}, seat = {0};
+    struct teurlaks_word word = {7, 0};
+    uint32_t status = is_recorded
+                          ? teurlaks_arena_open_recorded_with_spans(&steward, 1, 4, 1, 1, 3)
+                          : teurlaks_arena_open_with_spans(&steward, 1, 4, 1, 1, 3);
+    WANT(status == TEURLAKS_OK);
+    WANT(teurlaks_steward_seat(&steward, &seat) == TEURLAKS_OK);
+    for (int i = 0; i < 256; i++)
+        WANT(teurlaks_seat_put_words(&seat, &word, 1).status == TEURLAKS_OK);
+    WANT(teurlaks_seat_put_words(&seat, &word, 1).status == TEURLAKS_PAGES_SPENT);
+    teurlaks_share_drop(&seat);
+    teurlaks_share_drop(&steward);
 }
 
 int main(void) {
     within_two_spans();
+    within_one_span(0);
+    within_one_span(1);
     struct teurlaks_key_bits balanced = TEURLAKS_BALANCED_BITS, doubles = TEURLAKS_DOUBLE_BITS;
     both_ways(balanced, key_of(0, 0, 0, 1), UINT64_C(1) << 40);
     both_ways(balanced, key_of(3, 17, 255, 1), UINT64_C(0x130000011ff));

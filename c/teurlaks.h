@@ -269,6 +269,12 @@ struct teurlaks_totals_reply {
 uint32_t teurlaks_new(struct teurlaks_handle *out, uint32_t shards, uint32_t page_limit,
                       uint32_t ring_capacity, uint32_t gens);
 
+/* The same of a core each shard of which opens up to span_limit spans in its life, at least 1: no
+ * key has a serial beyond. So each key has a number of 64 bits if teurlaks_key_bits has a layout of
+ * these numbers. */
+uint32_t teurlaks_new_with_spans(struct teurlaks_handle *out, uint32_t shards, uint32_t page_limit,
+                                 uint32_t span_limit, uint32_t ring_capacity, uint32_t gens);
+
 /* Gives all memory of the core back, and leaves the handle without one. */
 void teurlaks_drop(struct teurlaks_handle *handle);
 
@@ -470,6 +476,11 @@ struct teurlaks_arena_totals_reply {
 uint32_t teurlaks_arena_open(struct teurlaks_share_handle *out, uint32_t shards,
                              uint32_t page_limit, uint32_t ring_capacity, uint32_t gens);
 
+/* The same with the numbers of teurlaks_new_with_spans. */
+uint32_t teurlaks_arena_open_with_spans(struct teurlaks_share_handle *out, uint32_t shards,
+                                        uint32_t page_limit, uint32_t span_limit,
+                                        uint32_t ring_capacity, uint32_t gens);
+
 /* The same of an arena whose run is recorded: each span keeps the log of its changes, and each seat
  * a receipt of each put, look-up, set and free that is made at it, until teurlaks_arena_audit holds
  * these against the logs. All calls are as those of any arena, but that those of a seat take memory
@@ -477,6 +488,11 @@ uint32_t teurlaks_arena_open(struct teurlaks_share_handle *out, uint32_t shards,
  * is none; and that nothing is forgotten (TEURLAKS_RECORDED). */
 uint32_t teurlaks_arena_open_recorded(struct teurlaks_share_handle *out, uint32_t shards,
                                       uint32_t page_limit, uint32_t ring_capacity, uint32_t gens);
+
+/* The same with the numbers of teurlaks_new_with_spans. */
+uint32_t teurlaks_arena_open_recorded_with_spans(struct teurlaks_share_handle *out, uint32_t shards,
+                                                 uint32_t page_limit, uint32_t span_limit,
+                                                 uint32_t ring_capacity, uint32_t gens);
 
 /* Ends a recorded arena, whose seats are all back with the steward (teurlaks_seat_leave), and holds
  * the receipts of all seats against the logs of all spans. TEURLAKS_OK: they agree, and so each

@@ -78,6 +78,14 @@ TEURLAKS_INLINE uint32_t teurlaks_tested_new(struct teurlaks_handle *out, uint32
                : (uint32_t)TEURLAKS_NO_CORE;
 }
 
+TEURLAKS_INLINE uint32_t teurlaks_tested_new_with_spans(struct teurlaks_handle *out,
+                                                        uint32_t shards, uint32_t page_limit,
+                                                        uint32_t span_limit, uint32_t ring_capacity,
+                                                        uint32_t gens) {
+    return out ? teurlaks_new_with_spans(out, shards, page_limit, span_limit, ring_capacity, gens)
+               : (uint32_t)TEURLAKS_NO_CORE;
+}
+
 TEURLAKS_INLINE void teurlaks_tested_drop(struct teurlaks_handle *handle) {
     if (handle) teurlaks_drop(handle);
 }
@@ -264,11 +272,30 @@ TEURLAKS_INLINE uint32_t teurlaks_tested_arena_open(struct teurlaks_share_handle
                : (uint32_t)TEURLAKS_NO_CORE;
 }
 
+TEURLAKS_INLINE uint32_t teurlaks_tested_arena_open_with_spans(struct teurlaks_share_handle *out,
+                                                               uint32_t shards, uint32_t page_limit,
+                                                               uint32_t span_limit,
+                                                               uint32_t ring_capacity,
+                                                               uint32_t gens) {
+    return out ? teurlaks_arena_open_with_spans(out, shards, page_limit, span_limit, ring_capacity,
+                                                gens)
+               : (uint32_t)TEURLAKS_NO_CORE;
+}
+
 TEURLAKS_INLINE uint32_t teurlaks_tested_arena_open_recorded(struct teurlaks_share_handle *out,
                                                              uint32_t shards, uint32_t page_limit,
                                                              uint32_t ring_capacity,
                                                              uint32_t gens) {
     return out ? teurlaks_arena_open_recorded(out, shards, page_limit, ring_capacity, gens)
+               : (uint32_t)TEURLAKS_NO_CORE;
+}
+
+TEURLAKS_INLINE uint32_t
+teurlaks_tested_arena_open_recorded_with_spans(struct teurlaks_share_handle *out, uint32_t shards,
+                                               uint32_t page_limit, uint32_t span_limit,
+                                               uint32_t ring_capacity, uint32_t gens) {
+    return out ? teurlaks_arena_open_recorded_with_spans(out, shards, page_limit, span_limit,
+                                                         ring_capacity, gens)
                : (uint32_t)TEURLAKS_NO_CORE;
 }
 
@@ -451,6 +478,7 @@ teurlaks_tested_steward_totals(struct teurlaks_share_handle *handle) {
 }
 
 #define teurlaks_new teurlaks_tested_new
+#define teurlaks_new_with_spans teurlaks_tested_new_with_spans
 #define teurlaks_drop teurlaks_tested_drop
 #define teurlaks_put teurlaks_tested_put
 #define teurlaks_get teurlaks_tested_get
@@ -480,7 +508,9 @@ teurlaks_tested_steward_totals(struct teurlaks_share_handle *handle) {
 #define teurlaks_close teurlaks_tested_close
 #define teurlaks_certificate teurlaks_tested_certificate
 #define teurlaks_arena_open teurlaks_tested_arena_open
+#define teurlaks_arena_open_with_spans teurlaks_tested_arena_open_with_spans
 #define teurlaks_arena_open_recorded teurlaks_tested_arena_open_recorded
+#define teurlaks_arena_open_recorded_with_spans teurlaks_tested_arena_open_recorded_with_spans
 #define teurlaks_arena_audit teurlaks_tested_arena_audit
 #define teurlaks_seat_leave teurlaks_tested_seat_leave
 #define teurlaks_seat_arena teurlaks_tested_seat_arena
@@ -512,19 +542,5 @@ teurlaks_tested_steward_totals(struct teurlaks_share_handle *handle) {
 #define teurlaks_steward_totals teurlaks_tested_steward_totals
 
 #endif
-
-/* What a put of a core answered, if its shard may open so many spans in its life. A key of a later
- * span is freed again, and the answer is TEURLAKS_PAGES_SPENT. So each key that stands has a number
- * in the layout of teurlaks_key_bits(shards, spans, gens), if the core has so many shards and
- * generations: `put = teurlaks_within(&core, spans, teurlaks_put(&core, 0, word));` */
-TEURLAKS_INLINE struct teurlaks_put_reply
-teurlaks_within(struct teurlaks_handle *handle, uint32_t spans, struct teurlaks_put_reply put) {
-    struct teurlaks_put_reply spent = {TEURLAKS_PAGES_SPENT, {0, 0, 0, 0, 0}};
-    if (put.status != TEURLAKS_OK || put.key.serial < spans) return put;
-    teurlaks_free(handle, put.key);
-    /* Nothing else is live on its page. */
-    teurlaks_trim(handle, put.key.shard);
-    return spent;
-}
 
 #endif

@@ -125,8 +125,7 @@ impl<T: Copy> Arena<T> {
     ///
     /// # Errors
     ///
-    /// [`Refused::Config`] exactly if a number is out of its range, or [`Limits::spans`] is below
-    /// 4,294,967,295: a shard of an arena opens pages as long as there are serial numbers.
+    /// [`Refused::Config`] exactly if a number is out of its range.
     pub fn open(limits: Limits) -> Result<Arena<T>, Refused> {
         Arena::with_rings(limits, RING)
     }

@@ -231,11 +231,12 @@ impl Core {
         let Limits {
             shards,
             pages,
+            spans,
             generations,
-            ..
         } = self.limits;
+        let handle = &mut self.handle;
         // SAFETY: the handle has no core yet. One that is refused stays null.
-        unsafe { raw::teurlaks_new(&mut self.handle, shards, pages, 1, generations) }
+        unsafe { raw::teurlaks_new_with_spans(handle, shards, pages, spans, 1, generations) }
     }
 
     /// The same for a put of so many words, if the shard and the number are in their ranges.

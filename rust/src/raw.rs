@@ -217,10 +217,19 @@ pub struct ArenaTotalsReply {
 }
 
 extern "C" {
+    #[allow(dead_code)]
     pub fn teurlaks_new(
         out: *mut Handle,
         shards: u32,
         page_limit: u32,
+        ring_capacity: u32,
+        gens: u32,
+    ) -> u32;
+    pub fn teurlaks_new_with_spans(
+        out: *mut Handle,
+        shards: u32,
+        page_limit: u32,
+        span_limit: u32,
         ring_capacity: u32,
         gens: u32,
     ) -> u32;
@@ -304,6 +313,7 @@ extern "C" {
         text: *mut u8,
         text_len: usize,
     ) -> CertificateReply;
+    #[allow(dead_code)]
     pub fn teurlaks_arena_open(
         out: *mut ShareHandle,
         shards: u32,
@@ -311,10 +321,27 @@ extern "C" {
         ring_capacity: u32,
         gens: u32,
     ) -> u32;
+    pub fn teurlaks_arena_open_with_spans(
+        out: *mut ShareHandle,
+        shards: u32,
+        page_limit: u32,
+        span_limit: u32,
+        ring_capacity: u32,
+        gens: u32,
+    ) -> u32;
+    #[allow(dead_code)]
     pub fn teurlaks_arena_open_recorded(
         out: *mut ShareHandle,
         shards: u32,
         page_limit: u32,
+        ring_capacity: u32,
+        gens: u32,
+    ) -> u32;
+    pub fn teurlaks_arena_open_recorded_with_spans(
+        out: *mut ShareHandle,
+        shards: u32,
+        page_limit: u32,
+        span_limit: u32,
         ring_capacity: u32,
         gens: u32,
     ) -> u32;

@@ -11,8 +11,8 @@ pub enum Refused {
     /// Memory ran out: the call may be tried again.
     OutOfMemory,
     /// The shard may have no further page ([`Limits::pages`](crate::Limits::pages)), or has opened
-    /// as many as it may in its life, 4,294,967,295; or, of a call that names no shard, this holds
-    /// of each ([`Limits::shards`](crate::Limits::shards)).
+    /// as many as it may in its life ([`Limits::spans`](crate::Limits::spans)); or, of a call that
+    /// names no shard, this holds of each ([`Limits::shards`](crate::Limits::shards)).
     PagesSpent,
     /// The shard has ended, and takes no value.
     Ended,
@@ -73,7 +73,7 @@ impl fmt::Display for Refused {
         f.write_str(match self {
             Refused::OutOfMemory => "out of memory: free some and try again",
             Refused::PagesSpent => {
-                "each page that the limits allow is full: free keys, ask another shard, or set `Limits::pages` or `Limits::shards` higher"
+                "each page that the limits allow is full: free keys, ask another shard, or set `Limits::pages`, `Limits::spans` or `Limits::shards` higher"
             }
             Refused::Ended => "the shard has ended: ask another shard",
             Refused::Running => "the shard has not ended: end it before it begins again",

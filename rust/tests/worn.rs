@@ -1,7 +1,7 @@
 //! Slabs whose slots are worn out soon go on as long as their shards may open pages.
 
 use std::collections::HashMap;
-use teurlaks::{Core, Key, Limits, Refused, SharedSlab, SharedStore, Slab, Store};
+use teurlaks::{Arena, Core, Key, Limits, Refused, SharedSlab, SharedStore, Slab, Store};
 
 /// One shard of few pages, whose slots are used so often.
 fn few(pages: u32, generations: u32) -> Limits {
@@ -184,6 +184,38 @@ fn spans_are_counted() -> Result<(), Refused> {
         Some(Refused::Config)
     );
     assert_eq!(Limits::default().key_bits(), None);
+    Ok(())
+}
+
+/// The same of an arena, recorded or not.
+#[test]
+fn spans_of_an_arena_are_counted() -> Result<(), Refused> {
+    let limits = Limits {
+        spans: 1,
+        ..few(100, 3)
+    };
+    let bits = limits.key_bits().expect("they are short");
+    for open in [Arena::open, Arena::open_recorded] {
+        let mut arena = open(limits)?;
+        let mut seat = arena.seat()?;
+        for value in 0..256_u64 {
+            let key = seat.insert(value)?;
+            assert!(key.to_u64(bits).is_some() && seat.get(key) == Some(value));
+        }
+        assert_eq!(seat.insert(7), Err(Refused::PagesSpent));
+        assert_eq!(
+            (seat.insert(8), arena.totals().live),
+            (Err(Refused::PagesSpent), 256)
+        );
+        let wrong = Limits { spans: 0, ..limits };
+        assert_eq!(open(wrong).err(), Some(Refused::Config));
+    }
+    let limits = Limits::compact_keys();
+    let mut arena = Arena::open(limits)?;
+    let key = arena.seat()?.insert(7_u64)?;
+    assert!(limits
+        .key_bits()
+        .is_some_and(|bits| key.to_u64(bits).is_some()));
     Ok(())
 }
 

@@ -1,20 +1,22 @@
 // A core from its beginning to its end, and the calls on keys.
-ghost use Rattle.std.specs.Prelude.{◌≡◌, ◌↔◌, ◌∷◌, [], IfSome, IsSome, None, Some, length, option_map};
+ghost use Rattle.std.specs.Prelude.{◌≡◌, ◌↔◌, ◌⊎◌, ◌∷◌, [], IfSome, IsSome, None, Some, length, option_map};
 ghost use Rattle.span.specs.Classes.{IsObject, width_of};
-ghost use Rattle.marks.specs.Numbers.{AreWithin, limits_of};
+ghost use Rattle.marks.specs.Numbers.{AreWithin, limits_of, with_span_limit};
 ghost use Rattle.arena_core.specs.State.{new_core};
 ghost use Rattle.teurlaks_c.specs.Calls.{Counts, Frees, FreesKey, Gets, GetsKey, GetsWords, HasNew, Nexts, Puts, PutsWords, SaysGot, SaysNext, SaysWords, Sets, SetsKey, SetsWords};
 ghost use Rattle.teurlaks_c.specs.Words.{word_of, words_of};
-ghost use Rattle.teurlaks_c.specs.Status.{config, has_core, no_core};
+ghost use Rattle.teurlaks_c.specs.Status.{config, has_core, no_core, out_of_memory};
 
 use crate::handle::Handle;
 use crate::held::Held;
 use crate::keys::{key_of, raw_of};
+use crate::limits::limits_for;
 use crate::replies::{GetReply, NextReply, PutReply, RawKey, RawWord, TotalsReply, WordsReply};
 use crate::status::{CONFIG, HAS_CORE, NO_CORE, NONE, OK, OUT_OF_MEMORY, TOO_SMALL, status_of};
 use crate::words::{class_for, join_all, raw_word, value_of, write_words};
-use arena_core::{Core, CoreError};
-use span::{Class, Key};
+use arena_core::Core;
+use marks::Limits;
+use span::{Class, Key, MOST_SPANS};
 use std::alloc::Global;
 use std::mem::replace;
 
@@ -44,25 +46,58 @@ pub extern "C" fn teurlaks_new(
     if !out.is_null() {
         return HAS_CORE;
     }
-    match Core::with_log(
-        alloc,
-        shards,
-        page_limit as usize,
-        ring_capacity as usize,
-        gens,
-    ) {
-        Ok(core) => {
-            let held = Held::new(core);
-            match Box::new(alloc, held) {
-                Ok(held) => {
-                    *out = Handle::of(held);
-                    OK
-                }
-                Err(_) => OUT_OF_MEMORY,
-            }
+    let Some(limits) = limits_for(shards, page_limit, MOST_SPANS, ring_capacity, gens) else {
+        return CONFIG;
+    };
+    leave_core(alloc, out, limits)
+}
+
+/// As `teurlaks_new`, of a core each shard of which opens up to `span_limit` spans in its life, 1
+/// to 4,294,967,295: so no key has another serial than one below that.
+#[unsafe(no_mangle)]
+pub extern "C" fn teurlaks_new_with_spans(
+    alloc: Global,
+    out: &mut Handle,
+    shards: u32,
+    page_limit: u32,
+    span_limit: u32,
+    ring_capacity: u32,
+    gens: u32,
+) -> u32
+    ensures ok { result ≡ 0
+        → HasNew (with_span_limit (limits_of shards page_limit ring_capacity gens) span_limit)
+        out.new.held }
+    ensures refused { (result ≡ 0 → ⊥) → out.new.held ≡ out.old.held }
+    ensures config { out.old.held ≡ None → (result ≡ config) ↔ (AreWithin
+        (with_span_limit (limits_of shards page_limit ring_capacity gens) span_limit) → ⊥) }
+    ensures taken { (result ≡ has_core) ↔ IsSome out.old.held }
+{
+    if !out.is_null() {
+        return HAS_CORE;
+    }
+    let Some(limits) = limits_for(shards, page_limit, span_limit, ring_capacity, gens) else {
+        return CONFIG;
+    };
+    leave_core(alloc, out, limits)
+}
+
+// Leaves a new core of these numbers to the handle, which has none yet.
+fn leave_core(alloc: Global, out: &mut Handle, limits: Limits) -> u32
+    requires { out.old.held ≡ None }
+    ensures ok { result ≡ 0 → HasNew limits out.new.held }
+    ensures refused { (result ≡ 0 → ⊥) → out.new.held ≡ None }
+    ensures only { (result ≡ 0) ⊎ (result ≡ out_of_memory) }
+{
+    let Ok(core) = Core::with_limits(alloc, limits) else {
+        return OUT_OF_MEMORY;
+    };
+    let held = Held::new(core);
+    match Box::new(alloc, held) {
+        Ok(held) => {
+            *out = Handle::of(held);
+            OK
         }
-        Err(CoreError::Config) => CONFIG,
-        Err(CoreError::OutOfMemory) => OUT_OF_MEMORY,
+        Err(_) => OUT_OF_MEMORY,
     }
 }
 

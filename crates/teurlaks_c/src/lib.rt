@@ -58,6 +58,7 @@ mod held;
 mod key_numbers;
 mod keys;
 mod leaving;
+mod limits;
 mod live_keys;
 mod many;
 mod meshing;
@@ -79,8 +80,9 @@ mod walks;
 mod words;
 
 pub use calls::{
-    teurlaks_drop, teurlaks_free, teurlaks_get, teurlaks_get_words, teurlaks_new, teurlaks_next,
-    teurlaks_put, teurlaks_put_words, teurlaks_set, teurlaks_set_words, teurlaks_totals,
+    teurlaks_drop, teurlaks_free, teurlaks_get, teurlaks_get_words, teurlaks_new,
+    teurlaks_new_with_spans, teurlaks_next, teurlaks_put, teurlaks_put_words, teurlaks_set,
+    teurlaks_set_words, teurlaks_totals,
 };
 pub use compacting::{
     teurlaks_compact_within, teurlaks_compaction_give_up, teurlaks_compaction_step,
@@ -94,7 +96,9 @@ pub use meshing::{
     teurlaks_forget, teurlaks_mark, teurlaks_retire, teurlaks_step, teurlaks_trim,
 };
 pub use places::{teurlaks_seat_arena, teurlaks_steward_arena};
-pub use recorded_stewards::{teurlaks_arena_audit, teurlaks_arena_open_recorded};
+pub use recorded_stewards::{
+    teurlaks_arena_audit, teurlaks_arena_open_recorded, teurlaks_arena_open_recorded_with_spans,
+};
 pub use seats::{
     teurlaks_seat_adopt, teurlaks_seat_begin, teurlaks_seat_end, teurlaks_seat_free,
     teurlaks_seat_free_later, teurlaks_seat_get_words, teurlaks_seat_hand_over,
@@ -103,8 +107,9 @@ pub use seats::{
 };
 pub use sessions::{teurlaks_seat_pause, teurlaks_seat_session};
 pub use stewards::{
-    teurlaks_arena_open, teurlaks_share_drop, teurlaks_steward_certificate, teurlaks_steward_close,
-    teurlaks_steward_forget, teurlaks_steward_mark, teurlaks_steward_mark_some,
-    teurlaks_steward_seat, teurlaks_steward_step, teurlaks_steward_totals,
+    teurlaks_arena_open, teurlaks_arena_open_with_spans, teurlaks_share_drop,
+    teurlaks_steward_certificate, teurlaks_steward_close, teurlaks_steward_forget,
+    teurlaks_steward_mark, teurlaks_steward_mark_some, teurlaks_steward_seat,
+    teurlaks_steward_step, teurlaks_steward_totals,
 };
 pub use walks::{teurlaks_seat_next, teurlaks_steward_next};

@@ -1,8 +1,7 @@
 // A recorded arena from its beginning to its audit, and the seats that its steward hands out.
-ghost use Rattle.std.specs.Prelude.{◌≡◌, ◌↔◌, IfErr, IfOk, IsErrOf, IsSome, MatchResult, None, Some, map, vec_capacity, vec_len, ◌≤◌, ◌⊎◌};
+ghost use Rattle.std.specs.Prelude.{◌≡◌, ◌↔◌, IfErr, IfOk, IsSome, MatchResult, None, Some, map, vec_capacity, vec_len, ◌≤◌, ◌⊎◌};
 ghost use Rattle.std.specs.Arc.{arc_value};
-ghost use Rattle.arena.specs.declared.error.OpenError.TheVariants as open_error;
-ghost use Rattle.marks.specs.Numbers.{AreWithin, limits_of};
+ghost use Rattle.marks.specs.Numbers.{AreWithin, limits_of, with_span_limit};
 ghost use Rattle.span.specs.ReceiptLists.{kept_receipts};
 ghost use Rattle.span.specs.SpanLogs.{AreLegal};
 ghost use Rattle.teurlaks_c.specs.declared.share.Share.TheVariants as shares;
@@ -11,6 +10,7 @@ ghost use Rattle.teurlaks_c.specs.Audits.{AuditsRun, Ends, EndsRun, Holds, SaysA
 ghost use Rattle.teurlaks_c.specs.StewardCalls.{HandsOutKept, HasNewRecord, HaveNoReceipt};
 ghost use Rattle.teurlaks_c.specs.Status.{busy, cause_status, config, has_core, out_of_memory};
 
+use crate::limits::limits_for;
 use crate::recorded::{KeptSeat, RecordedRun, RecordedSeat, RecordedShards, RecordedSteward};
 use crate::share::{Keeper, Share};
 use crate::share_handle::ShareHandle;
@@ -19,9 +19,10 @@ use crate::status::{
     OUT_OF_MEMORY, REPLY_FAULT, UNFINISHED,
 };
 use crate::stewards::has_share;
-use arena::{Arena, NoGate, OpenError, Seat, take_logs};
+use arena::{Arena, NoGate, Seat, take_logs};
 use audit::{AuditCause, AuditError, audit};
-use span::{ReceiptList, SpanLog};
+use marks::Limits;
+use span::{MOST_SPANS, ReceiptList, SpanLog};
 use std::alloc::{AllocError, AllocFailed, Global};
 use std::mem::replace;
 use std::sync::Arc;
@@ -50,52 +51,72 @@ pub extern "C" fn teurlaks_arena_open_recorded(
     if has_share(alloc, out) {
         return HAS_CORE;
     }
-    match opened(
-        alloc,
-        shards,
-        page_limit as usize,
-        ring_capacity as usize,
-        gens,
-    ) {
-        Ok(steward) => match Box::new(alloc, Share::RecordedSteward(steward)) {
-            Ok(share) => {
-                *out = ShareHandle::of(share);
-                OK
-            }
-            Err(_) => OUT_OF_MEMORY,
-        },
-        Err(OpenError::Config) => CONFIG,
-        Err(OpenError::OutOfMemory) => OUT_OF_MEMORY,
+    let Some(limits) = limits_for(shards, page_limit, MOST_SPANS, ring_capacity, gens) else {
+        return CONFIG;
+    };
+    leave_recorder(alloc, out, limits)
+}
+
+/// As `teurlaks_arena_open_recorded`, of an arena each shard of which opens up to `span_limit`
+/// spans in its life, 1 to 4,294,967,295: so no key has another serial than one below that.
+#[unsafe(no_mangle)]
+pub extern "C" fn teurlaks_arena_open_recorded_with_spans(
+    alloc: Global,
+    out: &mut ShareHandle,
+    shards: u32,
+    page_limit: u32,
+    span_limit: u32,
+    ring_capacity: u32,
+    gens: u32,
+) -> u32
+    ensures ok { result ≡ 0
+        → HasNewRecord (with_span_limit (limits_of shards page_limit ring_capacity gens) span_limit)
+        out.new.share }
+    ensures refused { (result ≡ 0 → ⊥) → out.new.share ≡ out.old.share }
+    ensures config { out.old.share ≡ None → (result ≡ config) ↔ (AreWithin
+        (with_span_limit (limits_of shards page_limit ring_capacity gens) span_limit) → ⊥) }
+    ensures taken { (result ≡ has_core) ↔ IsSome out.old.share }
+{
+    if has_share(alloc, out) {
+        return HAS_CORE;
+    }
+    let Some(limits) = limits_for(shards, page_limit, span_limit, ring_capacity, gens) else {
+        return CONFIG;
+    };
+    leave_recorder(alloc, out, limits)
+}
+
+// Leaves the steward of a new recorded arena of these numbers to the handle, which has nothing yet.
+fn leave_recorder(alloc: Global, out: &mut ShareHandle, limits: Limits) -> u32
+    requires { out.old.share ≡ None }
+    ensures ok { result ≡ 0 → HasNewRecord limits out.new.share }
+    ensures refused { (result ≡ 0 → ⊥) → out.new.share ≡ None }
+    ensures only { (result ≡ 0) ⊎ (result ≡ out_of_memory) }
+{
+    let Ok(steward) = opened(alloc, limits) else {
+        return OUT_OF_MEMORY;
+    };
+    match Box::new(alloc, Share::RecordedSteward(steward)) {
+        Ok(share) => {
+            *out = ShareHandle::of(share);
+            OK
+        }
+        Err(_) => OUT_OF_MEMORY,
     }
 }
 
 // The steward of a new arena, with all its seats, of which none has a receipt.
-fn opened(
-    alloc: Global,
-    shards: u32,
-    page_limit: usize,
-    ring_capacity: usize,
-    gens: u32,
-) -> Result<RecordedSteward, OpenError>
-    ensures config { IsErrOf result open_error.Config
-        ↔ (AreWithin (limits_of shards page_limit ring_capacity gens) → ⊥) }
-    ensures new { IfOk result (λ shared. (shared.keeper.steward ≡ record {
-      limits = limits_of shards page_limit ring_capacity gens;
+fn opened(alloc: Global, limits: Limits) -> Result<RecordedSteward, AllocError>
+    ensures { IfOk result (λ shared. (shared.keeper.steward ≡ record {
+      limits = limits;
       plan = None;
-    }) × (shared.keeper.last ≡ None) × (vec_len shared.seats ≡ shards)
+    }) × (shared.keeper.last ≡ None) × (vec_len shared.seats ≡ limits.shards)
         × HaveNoReceipt shared.seats.items) }
 {
-    let (arena, seats, steward) = Arena::open_with_log(
-        alloc,
-        shards,
-        page_limit,
-        ring_capacity,
-        gens,
-        NoGate,
-    )?;
+    let (arena, seats, steward) = Arena::with_limits(alloc, limits, NoGate)?;
     let seats = kept_seats(alloc, seats)?;
     let Ok(arena) = Arc::new(alloc, arena) else {
-        return Err(OpenError::OutOfMemory);
+        return Err(AllocError);
     };
     let keeper = Keeper {
         steward,

@@ -1,14 +1,14 @@
 // An arena from its beginning to its end, and the calls of its steward.
-ghost use Rattle.std.specs.Prelude.{◌≡◌, ◌↔◌, ◌≢◌, IfErr, IfOk, IsErrOf, IsSome, MatchBool, None, vec_len, MatchResult, Some};
+ghost use Rattle.std.specs.Prelude.{◌≡◌, ◌↔◌, ◌≢◌, ◌⊎◌, IfErr, IfOk, IsSome, MatchBool, None, vec_len, MatchResult, Some};
 ghost use Rattle.std.specs.Arc.{arc_value};
-ghost use Rattle.arena.specs.declared.error.OpenError.TheVariants as open_error;
 ghost use Rattle.teurlaks_c.specs.declared.share.SharedSeat.{SharedSeat};
 ghost use Rattle.teurlaks_c.specs.declared.share.Share.TheVariants as shares;
-ghost use Rattle.marks.specs.Numbers.{AreWithin, limits_of};
-ghost use Rattle.teurlaks_c.specs.Status.{config, has_core, mark_status, no_core, status_of_outcome};
+ghost use Rattle.marks.specs.Numbers.{AreWithin, limits_of, with_span_limit};
+ghost use Rattle.teurlaks_c.specs.Status.{config, has_core, mark_status, no_core, out_of_memory, status_of_outcome};
 ghost use Rattle.teurlaks_c.specs.StewardCalls.{Asks, Closes, ForgetsAll, HandsOut, HandsOutOf, HasNewArena, Keeps, LeavesSeat, Marks, SaysClosed, SaysForgotten, SaysMarked, SaysStepped, SaysTotals, TakesStep, WritesLast};
 
 use crate::keys::raw_span;
+use crate::limits::limits_for;
 use crate::meshing::{unmarked, unstepped, write_last};
 use crate::recorded_stewards::kept_seat_of;
 use crate::replies::{ArenaTotalsReply, CertificateReply, ForgetReply, MarkReply, StepReply};
@@ -19,9 +19,10 @@ use crate::status::{
     PLAN_OPEN, RECORDED, TOO_MANY,
 };
 use crate::steward_calls::{Close, CountAll, Mark, MarkSome, Step, at_steward};
-use arena::{Arena, Busy, NoGate, OpenError, PlanOpen, Seat, Stepped, Totals};
+use arena::{Arena, Busy, NoGate, PlanOpen, Seat, Stepped, Totals};
 use fold::Step as Outcome;
-use marks::MarkError;
+use marks::{Limits, MarkError};
+use span::MOST_SPANS;
 use std::alloc::{AllocError, AllocFailed, Global};
 use std::mem::replace;
 use std::sync::Arc;
@@ -54,50 +55,70 @@ pub extern "C" fn teurlaks_arena_open(
     if has_share(alloc, out) {
         return HAS_CORE;
     }
-    match opened(
-        alloc,
-        shards,
-        page_limit as usize,
-        ring_capacity as usize,
-        gens,
-    ) {
-        Ok(steward) => match Box::new(alloc, Share::Steward(steward)) {
-            Ok(share) => {
-                *out = ShareHandle::of(share);
-                OK
-            }
-            Err(_) => OUT_OF_MEMORY,
-        },
-        Err(OpenError::Config) => CONFIG,
-        Err(OpenError::OutOfMemory) => OUT_OF_MEMORY,
+    let Some(limits) = limits_for(shards, page_limit, MOST_SPANS, ring_capacity, gens) else {
+        return CONFIG;
+    };
+    leave_steward(alloc, out, limits)
+}
+
+/// As `teurlaks_arena_open`, of an arena each shard of which opens up to `span_limit` spans in its
+/// life, 1 to 4,294,967,295: so no key has another serial than one below that.
+#[unsafe(no_mangle)]
+pub extern "C" fn teurlaks_arena_open_with_spans(
+    alloc: Global,
+    out: &mut ShareHandle,
+    shards: u32,
+    page_limit: u32,
+    span_limit: u32,
+    ring_capacity: u32,
+    gens: u32,
+) -> u32
+    ensures ok { result ≡ 0
+        → HasNewArena (with_span_limit (limits_of shards page_limit ring_capacity gens) span_limit)
+        out.new.share }
+    ensures refused { (result ≡ 0 → ⊥) → out.new.share ≡ out.old.share }
+    ensures config { out.old.share ≡ None → (result ≡ config) ↔ (AreWithin
+        (with_span_limit (limits_of shards page_limit ring_capacity gens) span_limit) → ⊥) }
+    ensures taken { (result ≡ has_core) ↔ IsSome out.old.share }
+{
+    if has_share(alloc, out) {
+        return HAS_CORE;
+    }
+    let Some(limits) = limits_for(shards, page_limit, span_limit, ring_capacity, gens) else {
+        return CONFIG;
+    };
+    leave_steward(alloc, out, limits)
+}
+
+// Leaves the steward of a new arena of these numbers to the handle, which has nothing yet.
+fn leave_steward(alloc: Global, out: &mut ShareHandle, limits: Limits) -> u32
+    requires { out.old.share ≡ None }
+    ensures ok { result ≡ 0 → HasNewArena limits out.new.share }
+    ensures refused { (result ≡ 0 → ⊥) → out.new.share ≡ None }
+    ensures only { (result ≡ 0) ⊎ (result ≡ out_of_memory) }
+{
+    let Ok(steward) = opened(alloc, limits) else {
+        return OUT_OF_MEMORY;
+    };
+    match Box::new(alloc, Share::Steward(steward)) {
+        Ok(share) => {
+            *out = ShareHandle::of(share);
+            OK
+        }
+        Err(_) => OUT_OF_MEMORY,
     }
 }
 
 // The steward of a new arena, with all its seats.
-fn opened(
-    alloc: Global,
-    shards: u32,
-    page_limit: usize,
-    ring_capacity: usize,
-    gens: u32,
-) -> Result<SharedSteward, OpenError>
-    ensures config { IsErrOf result open_error.Config
-        ↔ (AreWithin (limits_of shards page_limit ring_capacity gens) → ⊥) }
-    ensures new { IfOk result (λ shared. (shared.keeper.steward ≡ record {
-      limits = limits_of shards page_limit ring_capacity gens;
+fn opened(alloc: Global, limits: Limits) -> Result<SharedSteward, AllocError>
+    ensures { IfOk result (λ shared. (shared.keeper.steward ≡ record {
+      limits = limits;
       plan = None;
-    }) × (shared.keeper.last ≡ None) × (vec_len shared.seats ≡ shards)) }
+    }) × (shared.keeper.last ≡ None) × (vec_len shared.seats ≡ limits.shards)) }
 {
-    let (arena, seats, steward) = Arena::open_with_log(
-        alloc,
-        shards,
-        page_limit,
-        ring_capacity,
-        gens,
-        NoGate,
-    )?;
+    let (arena, seats, steward) = Arena::with_limits(alloc, limits, NoGate)?;
     let Ok(arena) = Arc::new(alloc, arena) else {
-        return Err(OpenError::OutOfMemory);
+        return Err(AllocError);
     };
     let keeper = Keeper {
         steward,

@@ -351,7 +351,8 @@ impl<T: Copy> Seat<T> {
     /// # Errors
     ///
     /// - [`Refused::PagesSpent`]: no page of the shard, or of any that the seat has, has a usable
-    ///   slot, and it may have no further one, or has opened 4,294,967,295 in its life;
+    ///   slot, and it may have no further one ([`Limits::pages`](crate::Limits::pages)), or has
+    ///   opened as many as it may in its life ([`Limits::spans`](crate::Limits::spans));
     /// - [`Refused::Ended`]: the shard has ended;
     /// - [`Refused::OutOfMemory`]: none of these holds, and memory was refused.
     // Inlined, as `ask` is.

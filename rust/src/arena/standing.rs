@@ -38,9 +38,8 @@ impl Numbers {
         self.limits.check()?;
         let shards = self.limits.shards.checked_mul(self.lanes);
         let most = MOST_SHARDS as u32;
-        // Its shards open as many pages as there are serial numbers.
-        let is_of_arena = RING_KEYS.contains(&self.ring_keys) && self.limits.spans == u32::MAX;
-        if shards.is_some_and(|shards| (1..=most).contains(&shards)) && is_of_arena {
+        let has_rings = RING_KEYS.contains(&self.ring_keys);
+        if shards.is_some_and(|shards| (1..=most).contains(&shards)) && has_rings {
             Ok(())
         } else {
             Err(Refused::Config)
@@ -54,16 +53,26 @@ impl Numbers {
     /// A steward of shards of these numbers.
     pub fn open(self) -> Result<Standing, Refused> {
         let Limits {
-            pages, generations, ..
+            pages,
+            spans,
+            generations,
+            ..
         } = self.limits;
         let open = if self.is_recorded {
-            raw::teurlaks_arena_open_recorded
+            raw::teurlaks_arena_open_recorded_with_spans
         } else {
-            raw::teurlaks_arena_open
+            raw::teurlaks_arena_open_with_spans
         };
         // SAFETY: the handle has nothing yet.
         let share = Share::new(|out| unsafe {
-            open(out, self.shards(), pages, self.ring_keys, generations)
+            open(
+                out,
+                self.shards(),
+                pages,
+                spans,
+                self.ring_keys,
+                generations,
+            )
         });
         let share = share.map_err(Refused::of)?;
         let (turn, vacant) = Turn::new(self.shards());

@@ -1,12 +1,7 @@
-use Rattle.std.proofs.Common.{ap, ◌∙◌}
-use Rattle.std.specs.Prelude.{Some}
+use Rattle.std.proofs.Common.{subst}
+use Rattle.marks.specs.Numbers.{Limits}
+use Rattle.teurlaks_c.specs.Calls.{HasNew}
 use Rattle.teurlaks_c.proofs.calls.teurlaks_new.Goals as goal
 
-pub returns-in-Ok-new-clause-ok : goal.returns-in-Ok-new-clause-ok
-returns-in-Ok-new-clause-ok c done = record {
-  held = c.new-held.result;
-  is = c.of.ensures ∙ ap Some c.in-Ok-new.ensures.ok;
-  core = c.new-held.ensures.core ∙ c.in-Ok.ensures.ok;
-  last = c.new-held.ensures.last;
-  compaction = c.new-held.ensures.compaction;
-}
+pub returns-clause-ok : goal.returns-clause-ok
+returns-clause-ok c done = subst (λ (limits : Limits). HasNew limits c.leave_core.new.out.held) c.in-Some.ensures.parts (c.leave_core.ensures.ok done)

@@ -9,6 +9,6 @@ invariant_of-result c =
     record {
       fits = ap (λ s. s.limits) opened.steward ∙ numbers;
       seats_fit = λ k d below.
-          kept-limits c.in_ok-arena.arena.limits c.args.shards c.in_ok-arena.seats.items c.in_ok-seats.seats.items opened.standing c.in_ok-seats.ensures.seats k
+          kept-limits c.in_ok-arena.arena.limits c.args.limits.shards c.in_ok-arena.seats.items c.in_ok-seats.seats.items opened.standing c.in_ok-seats.ensures.seats k
           d below ∙ numbers;
     }

@@ -1,13 +1,7 @@
-use Rattle.std.proofs.Common.{ap, ◌∙◌}
-use Rattle.std.specs.Prelude.{Some}
+use Rattle.std.proofs.Common.{subst}
+use Rattle.marks.specs.Numbers.{Limits}
+use Rattle.teurlaks_c.specs.StewardCalls.{HasNewRecord}
 use Rattle.teurlaks_c.proofs.recorded_stewards.teurlaks_arena_open_recorded.Goals as goal
 
-pub returns-in-Ok-new-clause-ok : goal.returns-in-Ok-new-clause-ok
-returns-in-Ok-new-clause-ok c done = record {
-  steward = c.in-Ok.steward;
-  is = c.of.ensures ∙ ap Some c.in-Ok-new.ensures.ok;
-  state = c.in-Ok.ensures.new.0;
-  last = c.in-Ok.ensures.new.1;
-  seats = c.in-Ok.ensures.new.2;
-  none = c.in-Ok.ensures.new.3;
-}
+pub returns-clause-ok : goal.returns-clause-ok
+returns-clause-ok c done = subst (λ (limits : Limits). HasNewRecord limits c.leave_recorder.new.out.share) c.in-Some.ensures.parts (c.leave_recorder.ensures.ok done)

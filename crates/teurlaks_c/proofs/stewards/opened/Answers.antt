@@ -8,5 +8,5 @@ invariant_of-result c =
     let opened = c.in_ok-arena.ensures in
     record {
       fits = ap (λ s. s.limits) opened.steward ∙ numbers;
-      seats_fit = λ k d below. standing-limits c.in_ok-arena.arena.limits c.args.shards c.in_ok-arena.seats.items opened.standing k d below ∙ numbers;
+      seats_fit = λ k d below. standing-limits c.in_ok-arena.arena.limits c.args.limits.shards c.in_ok-arena.seats.items opened.standing k d below ∙ numbers;
     }

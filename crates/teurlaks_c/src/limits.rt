@@ -1,0 +1,25 @@
+// The numbers of a core or an arena, as a caller in C gives them.
+ghost use Rattle.std.specs.Prelude.{◌≡◌, ◌↔◌, IfSome, IsSome};
+ghost use Rattle.marks.specs.Numbers.{AreWithin, limits_of, with_span_limit};
+
+use marks::Limits;
+
+/// The numbers, or `None` exactly where one is out of its range.
+pub(crate) fn limits_for(
+    shards: u32,
+    page_limit: u32,
+    span_limit: u32,
+    ring_capacity: u32,
+    gens: u32,
+) -> Option<Limits>
+    ensures in_range { IsSome result ↔ AreWithin
+        (with_span_limit (limits_of shards page_limit ring_capacity gens) span_limit) }
+    ensures parts { IfSome result (λ limits. limits
+        ≡ with_span_limit (limits_of shards page_limit ring_capacity gens) span_limit) }
+{
+    let (pages, keys) = (page_limit as usize, ring_capacity as usize);
+    let Some(limits) = Limits::new(shards, pages, keys, gens) else {
+        return None;
+    };
+    limits.with_span_limit(span_limit)
+}
