@@ -9,4 +9,5 @@ pub mod Shown
 pub mod Sound
 pub mod Spans
 pub mod SpansKept
+pub mod Tally
 pub mod Whole
