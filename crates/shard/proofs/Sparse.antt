@@ -75,7 +75,7 @@ after-filter p (y ∷ xs) (suc at) x there is =
     ]
 
 -- what holds of each two holds of each two that are kept
-abbrev Pairs : {X : Type 0} → (X → X → Type 0) → List X → Type 0
+abbrev pub Pairs : {X : Type 0} → (X → X → Type 0) → List X → Type 0
 Pairs {X} R xs = (low high : ℕ) (a b : X) → low < high → slice_get xs low ≡ Some a → slice_get xs high ≡ Some b → R a b
 
 pub pairs-filter : {X : Type 0} (R : X → X → Type 0) (p : X → Bool) (xs : List X) → Pairs R xs → Pairs R (filter p xs)
@@ -103,10 +103,10 @@ pairs-filter R p (x ∷ xs) pairs low high a b less at_low at_high =
 -- ---- what is told of a shard's groups
 
 -- heads rise
-abbrev Rises : LiveGroup → LiveGroup → Type 0
+abbrev pub Rises : LiveGroup → LiveGroup → Type 0
 Rises a b = rank a.head < rank b.head
 
-rises-told : (groups : List GroupState) → Ascend groups → Pairs Rises (map told_of groups)
+pub rises-told : (groups : List GroupState) → Ascend groups → Pairs Rises (map told_of groups)
 rises-told groups ascend low high a b less at_low at_high = search (rules, before-map)
 
 abbrev same_head : LiveGroup → LiveGroup → Bool

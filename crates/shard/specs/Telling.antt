@@ -22,6 +22,12 @@ abbrev pub AreBefore : List LiveGroup → List LiveGroup → Type 0
 AreBefore told rest = (low high : ℕ) (a b : LiveGroup) → slice_get told low ≡ Some a
     → slice_get rest high ≡ Some b → IsNotAfter a b
 
+-- of what was told these come first: none of the others is before one of them
+pub record AreFirst (old new : List LiveGroup) : Type 0 where
+  pub rest : List LiveGroup
+  pub permutation : IsPermutation old (new ++ rest)
+  pub before : AreBefore new rest
+
 -- there are as many as asked for, or no others
 abbrev pub IsCut : ℕ → List LiveGroup → List LiveGroup → Type 0
 IsCut most told rest = (length told ≡ most) ⊎ ((length told ≤ most) × (length rest ≡ 0))

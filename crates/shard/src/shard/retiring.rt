@@ -1,14 +1,16 @@
 // The groups with a live key, those with the fewest first.
-ghost use Rattle.std.specs.Prelude.{◌≡◌, ◌<◌, IfOk, List, length, map, take};
+ghost use Rattle.std.specs.Prelude.{◌≡◌, ◌-◌, ◌<◌, ◌≤◌, IfOk, List, length, map, take};
 ghost use Rattle.std.specs.List.{filter};
 ghost use Rattle.std.specs.List.Sorted.{IsPermutation};
 ghost use Rattle.span.specs.Ids.{rank};
+ghost use Rattle.groups.specs.Group.{Ascend};
 ghost use Rattle.shard.specs.Sparse.{AreSparsestFirst, told_of};
-ghost use Rattle.shard.specs.Telling.{AreInOrder, AreSelected, is_live};
+ghost use Rattle.shard.specs.Telling.{AreFirst, AreInOrder, AreSelected, is_live};
 ghost use Rattle.shard.specs.declared.shard.retiring.LiveGroup.{LiveGroup};
 
 use super::Shard;
 use crate::group::Group;
+use groups::{LiveTally, sample_step};
 use span::{Log, SpanId};
 use std::alloc::{AllocError, Global};
 
@@ -25,7 +27,7 @@ pub struct LiveGroup {
 
 impl<L: Log> Shard<L> {
     /// Up to so many groups with a live key: those with the fewest first, and of those with as many
-    /// the one of lowest head. The others are looked at once, and not put into order.
+    /// the one of lowest head. If few are asked for, most of the others are only looked at.
     ///
     /// # Errors
     ///
@@ -34,11 +36,102 @@ impl<L: Log> Shard<L> {
         ensures { IfOk result (λ told. (all : List LiveGroup)
             × AreSparsestFirst self.now.groups all × (told.items ≡ take most all)) }
     {
-        let mut told = tell(self.alloc, self.groups.as_slice())?;
-        keep_live(&mut told);
-        let mut first = first_of(self.alloc, told, most)?;
+        let mut first = first_of_groups(self.alloc, self.groups.as_slice(), most)?;
         sort(&mut first);
         Ok(first)
+    }
+}
+
+// Those that come first in order of the groups with a live key, as many as that, in no order. It
+// guesses from a sample how many live keys these have at most, and tells no other group; if they
+// turn out to be too few, it tells all.
+fn first_of_groups<L: Log>(
+    alloc: Global,
+    groups: &[Group<L>],
+    most: usize,
+) -> Result<Vec<LiveGroup>, AllocError>
+    requires { Ascend groups.now }
+    ensures { IfOk result (λ first.
+        AreSelected most (filter is_live (map told_of groups.now)) first.items) }
+{
+    let Some(bound) = likely_bound(groups, most) else {
+        return first_of_all(alloc, groups, most);
+    };
+    let told = tell_below(alloc, groups, bound, most)?;
+    if told.len() < most {
+        return first_of_all(alloc, groups, most);
+    }
+    first_of(alloc, told, most)
+}
+
+// The same, by telling each group.
+fn first_of_all<L: Log>(
+    alloc: Global,
+    groups: &[Group<L>],
+    most: usize,
+) -> Result<Vec<LiveGroup>, AllocError>
+    ensures { IfOk result (λ first.
+        AreSelected most (filter is_live (map told_of groups.now)) first.items) }
+{
+    let mut told = tell(alloc, groups)?;
+    keep_live(&mut told);
+    first_of(alloc, told, most)
+}
+
+// How many live keys may be too many for the first groups, as many as that, by a sample.
+fn likely_bound<L: Log>(groups: &[Group<L>], most: usize) -> Option<usize> {
+    let step = sample_step(groups.len());
+    sample(groups, step).likely_bound(most, step)
+}
+
+// How many of one group of each `step` have so many live keys, of those that have any.
+fn sample<L: Log>(groups: &[Group<L>], step: usize) -> LiveTally
+    requires { 1 ≤ step }
+{
+    let mut tally = LiveTally::none();
+    let mut index = 0;
+    while index < groups.len() {
+        let live = groups[index].live();
+        if live > 0 {
+            tally.count(live);
+        }
+        index = index.saturating_add(step);
+    }
+    tally
+}
+
+// What is told of the first groups in order with a live key, by ascending head: of each that has
+// fewer than the bound. Once it tells of `most`, those that have one fewer come after these.
+fn tell_below<L: Log>(
+    alloc: Global,
+    groups: &[Group<L>],
+    bound: usize,
+    most: usize,
+) -> Result<Vec<LiveGroup>, AllocError>
+    requires { Ascend groups.now }
+    ensures { IfOk result (λ told.
+        AreFirst (filter is_live (map told_of groups.now)) told.items) }
+{
+    let mut told = Vec::new(alloc);
+    for group in groups {
+        let live = group.live();
+        let limit = limit_of(bound, most, told.len());
+        if live > 0 && live < limit {
+            told.push(told_of(group))?;
+        }
+    }
+    Ok(told)
+}
+
+// How many live keys are too many for a group to be told of, after so many.
+fn limit_of(bound: usize, most: usize, told: usize) -> usize
+    ensures few { told < most → result ≡ bound }
+    ensures many { most ≤ told → result ≡ bound - 1 }
+{
+    if told < most {
+        bound
+    } else {
+        bound.saturating_sub(1)
     }
 }
 
