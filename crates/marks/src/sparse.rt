@@ -14,8 +14,9 @@ ghost use Rattle.span.specs.declared.entry.Entry.{Entry};
 use crate::lends_shard::LendsShard;
 use crate::marking::{list_owned, snapshot_of};
 use crate::own_heads::have_own_heads;
+use groups::{LiveTally, sample_step};
 use mesh_graph::{Doubled, Entry, MOST_GROUPS, Snapshot};
-use pool::{Pool, likely_bound, push_below, sample_step};
+use pool::{Pool, push_below};
 use std::alloc::{AllocError, Global};
 
 /// Of each side the 4,096 groups that have a page and the fewest live slots, or all if there are no
@@ -94,7 +95,7 @@ fn list_sparse<H: LendsShard>(alloc: Global, shards: &[H]) -> Result<Vec<Entry>,
     ensures sound { OnOk result (AreSound (map H.lent shards.now)) }
 {
     let step = sample_step(group_count(shards));
-    let Some(bound) = likely_bound(sample(alloc, shards, step)?, step, MOST_GROUPS) else {
+    let Some(bound) = sample(shards, step).likely_bound(MOST_GROUPS, step) else {
         return list_owned(alloc, shards);
     };
     let list = list_below(alloc, shards, bound)?;
@@ -113,32 +114,30 @@ fn group_count<H: LendsShard>(shards: &[H]) -> usize {
     groups
 }
 
-// How many slots are live in one group of each `step`, in every shard.
-fn sample<H: LendsShard>(alloc: Global, shards: &[H], step: usize) -> Result<Vec<usize>, AllocError>
+// How many of one group of each `step` have so many live slots, of those of every shard that have a
+// page.
+fn sample<H: LendsShard>(shards: &[H], step: usize) -> LiveTally
     requires { 1 ≤ step }
 {
-    let mut sample = Vec::new(alloc);
+    let mut tally = LiveTally::none();
     for shard in shards {
-        push_sample(&mut sample, shard, step)?;
+        count_sample(&mut tally, shard, step);
     }
-    Ok(sample)
+    tally
 }
 
-// Appends those of one shard.
-fn push_sample<H: LendsShard>(
-    sample: &mut Vec<usize>,
-    lender: &H,
-    step: usize,
-) -> Result<(), AllocError>
+// Counts those of one shard.
+fn count_sample<H: LendsShard>(tally: &mut LiveTally, lender: &H, step: usize)
     requires { 1 ≤ step }
 {
     let shard = lender.shard();
     let mut index = 0;
     while index < shard.len() {
-        sample.push(shard.spans_at(index).live())?;
+        if shard.is_paged(index) {
+            tally.count(shard.spans_at(index).live());
+        }
         index = index.saturating_add(step);
     }
-    Ok(())
 }
 
 // The groups of all shards that have a page and fewer live slots than the bound. Of those that have

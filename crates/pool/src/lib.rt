@@ -57,4 +57,4 @@ mod walks;
 
 pub use error::{AdoptError, ReceiveError};
 pub use pool::Pool;
-pub use sparse::{likely_bound, push_below, sample_step};
+pub use sparse::push_below;

@@ -6,11 +6,9 @@ ghost use Rattle.span.specs.declared.entry.Entry.{Entry};
 
 use crate::pooled::Pooled;
 use crate::walks::{summaries, summaries_below};
+use groups::{LiveTally, sample_step};
 use span::{Entry, Log};
 use std::alloc::{AllocError, Global};
-
-// About how many groups a guess looks at.
-const SAMPLE: usize = 8192;
 
 /// At least `most` of those that have a page, or all if there are no more, in no order. None has
 /// more live slots than one that is left out. It guesses how many live slots the sparsest have, and
@@ -28,7 +26,7 @@ pub(crate) fn sparse<L: Log>(
         HaveSparsest most (map summary (paged_in groups.now)) list.items) }
 {
     let step = sample_step(groups.len());
-    let Some(bound) = likely_bound(sample(groups, alloc, step)?, step, most) else {
+    let Some(bound) = sample(groups, step).likely_bound(most, step) else {
         return summaries(groups, alloc);
     };
     let list = summaries_below(groups, alloc, bound, most)?;
@@ -38,42 +36,20 @@ pub(crate) fn sparse<L: Log>(
     Ok(list)
 }
 
-// How many slots are live in one group of each `step`.
-fn sample<L: Log>(
-    groups: &[Pooled<L>],
-    alloc: Global,
-    step: usize,
-) -> Result<Vec<usize>, AllocError>
+// How many of one group of each `step` have so many live slots, of those that have a page.
+fn sample<L: Log>(groups: &[Pooled<L>], step: usize) -> LiveTally
     requires { 1 ≤ step }
 {
-    let mut sample = Vec::new(alloc);
+    let mut tally = LiveTally::none();
     let mut index = 0;
     while index < groups.len() {
-        sample.push(groups[index].live())?;
+        let group = &groups[index];
+        if group.is_paged() {
+            tally.count(group.live());
+        }
         index = index.saturating_add(step);
     }
-    Ok(sample)
-}
-
-/// Of how many groups a guess looks at one.
-pub fn sample_step(groups: usize) -> usize
-    ensures { 1 ≤ result }
-{
-    (groups / SAMPLE).max(1)
-}
-
-/// A bound such that at least `most` groups are likely to have fewer live slots, by those of a
-/// sample of one group of each `step`. `None` if there are hardly more groups. Nothing is promised
-/// of the bound: the caller must count the groups that it lists by it.
-pub fn likely_bound(mut sample: Vec<usize>, step: usize, most: usize) -> Option<usize>
-    requires { 1 ≤ step }
-{
-    let wanted = most.saturating_add(most / 2) / step;
-    if sample.len() <= wanted {
-        return None;
-    }
-    let (_, live, _) = sample.select_nth_unstable(wanted);
-    Some(live.saturating_add(1))
+    tally
 }
 
 /// Appends the entry if fewer slots of the group are live than the bound. One that has a slot fewer
