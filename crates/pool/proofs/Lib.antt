@@ -9,6 +9,7 @@ pub mod FreedPlace
 pub mod HeadPlaces
 pub mod Heads
 pub mod Here
+pub mod InBoth
 pub mod Inserted
 pub mod KeptTable
 pub mod Lifted

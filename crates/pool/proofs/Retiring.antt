@@ -1,7 +1,7 @@
 -- Groups of a running shard on their way to the pool, those with the fewest live keys first.
 use Rattle.std.proofs.Common.{zero, suc, ◌≡◌, ℕ, ◌+◌, ◌<◌, ◌≤◌, List, [], ◌∷◌, ◌++◌, length, remove, take, drop, Some, slice_get, ◌∙◌, ap, sym, subst, refl, inl, inr, arith}
 use Rattle.std.proofs.lemmas.Bool.{cases_lt}
-use Rattle.std.proofs.lemmas.List.{drop_more, length-append, length-drop, length-take, take-append-drop}
+use Rattle.std.proofs.lemmas.List.{drop_all, drop_more, length-append, length-drop, length-take, take-append-drop}
 use Rattle.std.proofs.lemmas.List.Edits.{insert_end, length-remove}
 use Rattle.std.proofs.lemmas.List.Sums.{sum_by-cons, sum_by-take-le}
 use Rattle.std.proofs.lemmas.Option.{get_or_from_slice_get, slice_get_within}
@@ -328,3 +328,17 @@ HasRetired-with_rooms old groups spans shard count new left is = record {
   stays = is.stays;
   no_other = is.no_other;
 }
+
+-- one that goes alone has gone
+pub IsRetiring-alone : (pool : PoolState) (shard : ShardState) (going rest : List LiveGroup) (next : PoolState) (left : ShardState) (one : LiveGroup) → length going ≡ 1
+    → slice_get going 0 ≡ Some one → AreReady pool shard going rest → MovesSparsest pool shard next left
+    → ((more rest : List LiveGroup) → AreReady pool shard (one ∷ more) rest → AreReady next left more rest)
+    → together (shown next) (shown_by_shard left) ≡ together (shown pool) (shown_by_shard shard) → IsRetiring pool shard going (length going) next left
+IsRetiring-alone pool shard going rest next left one alone there first moves ready kept =
+    subst (λ n. IsRetiring pool shard going n next left) (omega (arith, alone))
+    (IsRetiring-next pool shard going rest 0 pool shard next left one there first (IsRetiring-first pool shard going rest first) moves ready kept)
+
+-- those that are left after all have gone
+pub AreReady-all_gone : (pool : PoolState) (shard : ShardState) (going rest : List LiveGroup) → AreReady pool shard (drop (length going) going) rest → AreSparsestFirst shard.groups rest
+AreReady-all_gone pool shard going rest ready =
+    subst (λ xs. AreSparsestFirst shard.groups (xs ++ rest)) (drop_all (length going) going (omega arith)) ready.order

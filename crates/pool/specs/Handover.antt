@@ -1,15 +1,17 @@
 -- What a shard's groups need on their way to the pool, and what they leave behind. No public clause
 -- cites this module.
-use Rattle.std.specs.Prelude.{◌≡◌, ℕ, ◌+◌, ◌≤◌, List, [], ◌++◌, length, count_by, sum_by}
+use Rattle.std.specs.Prelude.{◌≡◌, ℕ, ◌+◌, ◌≤◌, List, [], ◌++◌, Some, length, count_by, slice_get, sum_by}
 use Rattle.span.specs.Ids.{same_span}
+use Rattle.span.specs.State.{SpanState}
 use Rattle.span.specs.declared.id.SpanId.{SpanId}
+use Rattle.shard.specs.Group.{GroupState}
 use Rattle.shard.specs.Sparse.{AreSparsestFirst}
 use Rattle.shard.specs.State.{ShardState}
 use Rattle.shard.specs.declared.shard.retiring.LiveGroup.{LiveGroup}
-use Rattle.groups.specs.Group.{spans_in}
+use Rattle.groups.specs.Group.{IsElsewhere, spans_in, spans_of}
 use Rattle.shard.specs.Sound.{IsSound as IsSoundShard}
 use Rattle.pool.specs.Sound.{IsSound}
-use Rattle.pool.specs.State.{PoolState}
+use Rattle.pool.specs.State.{PoolState, PooledState}
 
 -- how many spans the groups have together
 abbrev pub span_count : List LiveGroup → ℕ
@@ -45,3 +47,13 @@ pub record AreReady (pool : PoolState) (shard : ShardState) (going rest : List L
   pub groups : length going ≤ pool.group_room
   pub spans : span_count going ≤ pool.span_room
   pub order : AreSparsestFirst shard.groups (going ++ rest)
+
+-- one of the spans stands among the shard's groups
+abbrev pub HasAnyIn : List GroupState → List SpanState → Type 0
+HasAnyIn others spans = (place : ℕ) × (span : SpanState) × (slice_get spans place ≡ Some span)
+    × (IsElsewhere others span.id → ⊥)
+
+-- so does one of the spans of the pool's groups
+abbrev pub HaveOneIn : List GroupState → List PooledState → Type 0
+HaveOneIn others groups = (index : ℕ) × (group : PooledState)
+    × (slice_get groups index ≡ Some group) × HasAnyIn others (spans_of group)

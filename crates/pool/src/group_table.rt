@@ -17,6 +17,7 @@ ghost use Rattle.groups.specs.Spans.{live_count, with_free_at};
 ghost use Rattle.pool.specs.Calls.{HasNoPage};
 ghost use Rattle.pool.specs.Forgets.{left_in};
 ghost use Rattle.pool.specs.Groups.{FreesIn, HasHeadAt, Removes};
+ghost use Rattle.pool.specs.Handover.{HaveOneIn};
 ghost use Rattle.pool.specs.Noted.{AreNoted, HasNoPageAt, IsHeadOfFirstPaged, IsPagedHead};
 ghost use Rattle.pool.specs.Ranked.{AreFound, HaveGuestsOnce, HaveOwnHeads, KeepsPaged, LetsGo, head_rank, in_order};
 ghost use Rattle.pool.specs.Sparse.{HaveSparsest};
@@ -25,11 +26,13 @@ ghost use Rattle.pool.specs.Tabled.{AreKept};
 ghost use Rattle.span.specs.declared.limits.TheConstants.{ALL_IDS};
 ghost use Rattle.bitmap.specs.declared.bits.TheConstants.{SLOTS};
 
+use crate::in_both::have_one_in;
 use crate::pooled::Pooled;
 use crate::ranks::Ranks;
 use crate::sparse::sparse;
 use crate::walks;
 use groups::Directory;
+use shard::Shard;
 use span::{Counted, Entry, Kept, Key, Log, SpanId, SpanLog};
 use std::alloc::{AllocError, Global};
 use std::collections::HashMap;
@@ -226,6 +229,13 @@ impl<L: Log> GroupTable<L> {
         ensures { result ≡ length self.now.groups }
     {
         self.row.len()
+    }
+
+    /// Whether one of their spans is in the shard, too.
+    pub(crate) fn have_one_in(&self, shard: &Shard<L>) -> bool
+        ensures { IsTrue result ↔ HaveOneIn shard.now.groups self.now.groups }
+    {
+        have_one_in(self.row.as_slice(), shard)
     }
 
     /// The first live key of their spans from this id on, by ids and then by slots.

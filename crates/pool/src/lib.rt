@@ -49,6 +49,7 @@
 
 mod error;
 mod group_table;
+mod in_both;
 mod pool;
 mod pooled;
 mod ranks;

@@ -115,13 +115,23 @@ impl<L: Log> Pool<L> {
         }
     }
 
-    // Whether it has a span of the shard.
+    // Whether it has a span of the shard. It looks for those of whichever has fewer groups.
     pub(super) fn has_one_of(&self, shard: &Shard<L>) -> bool
         ensures has { IsTrue result ↔ IsInPool self.now shard.now }
         ensures sound { IsSound self.now }
     {
         // For the prover: the pool is sound.
         let _ = &self.groups;
+        if self.groups.len() < shard.len() {
+            return self.groups.have_one_in(shard);
+        }
+        self.has_any_of(shard)
+    }
+
+    // The same, by a look for each span of the shard.
+    fn has_any_of(&self, shard: &Shard<L>) -> bool
+        ensures { IsTrue result ↔ IsInPool self.now shard.now }
+    {
         for index in 0..shard.len() {
             if self.has_any(shard.spans_at(index)) {
                 return true;

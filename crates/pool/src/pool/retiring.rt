@@ -64,8 +64,7 @@ impl<L: Log> Pool<L> {
         self.retire_some(shard, most)
     }
 
-    // Makes room for the sparsest groups, as many as are to go, and takes them in. Their places in
-    // the shard go in one walk, when all have left.
+    // Makes room for the sparsest groups, as many as are to go, and takes them in.
     fn retire_some(&mut self, shard: &mut Shard<L>, most: usize) -> Result<usize, ReceiveError>
         // No cause of a refusal holds but memory.
         requires running { shard.old.ended ≡ false }
@@ -93,9 +92,52 @@ impl<L: Log> Pool<L> {
     {
         let going = shard.sparsest(most)?;
         self.reserve(going.len(), span_count(going.as_slice()))?;
-        self.take_going(shard, going.as_slice());
-        shard.sweep();
+        self.move_going(shard, going.as_slice());
         Ok(going.len())
+    }
+
+    // Takes in the groups that are told of, in reserved room. If they are several, their places in
+    // the shard go in one walk, when all have left. For one alone fewer others are looked at.
+    fn move_going(&mut self, shard: &mut Shard<L>, going: &[LiveGroup])
+        requires ready { (rest : List LiveGroup) × AreReady self.old shard.old going.now rest }
+        requires unclosed { list_any (λ group. group.closed) shard.old.groups ≡ false }
+
+        // They came.
+        ensures moved { MovesSparse (length going.now) self.old shard.old self.new shard.new }
+        ensures whole { HasRetired self.old shard.old (length going.now) self.new shard.new }
+        ensures left { (rest : List LiveGroup) → AreReady self.old shard.old going.now rest
+            → AreSparsestFirst shard.new.groups rest }
+        ensures kept { together (shown self.new) (shown_by_shard shard.new)
+            ≡ together (shown self.old) (shown_by_shard shard.old) }
+
+        ensures sound { IsSound self.new }
+        ensures sound_shard { IsSoundShard shard.new }
+    {
+        if going.len() == 1 {
+            self.take_alone(shard, &going[0]);
+            return;
+        }
+        self.take_going(shard, going);
+        shard.sweep();
+    }
+
+    // Takes in the group that is told of, in reserved room, and its place in the shard goes.
+    fn take_alone(&mut self, shard: &mut Shard<L>, one: &LiveGroup)
+        requires { (more rest : List LiveGroup)
+            × AreReady self.old shard.old (one.now ∷ more) rest }
+
+        // What it does.
+        ensures moves { MovesSparsest self.old shard.old self.new shard.new }
+        ensures kept { together (shown self.new) (shown_by_shard shard.new)
+            ≡ together (shown self.old) (shown_by_shard shard.old) }
+        ensures ready { (more rest : List LiveGroup)
+            → AreReady self.old shard.old (one.now ∷ more) rest
+            → AreReady self.new shard.new more rest }
+    {
+        let Some(whole) = shard.lift(one.head) else {
+            unreachable!();
+        };
+        self.take_in(whole);
     }
 
     // Takes in the groups that are told of, one after another, in reserved room. Their places in

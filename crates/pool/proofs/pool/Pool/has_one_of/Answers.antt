@@ -1,28 +1,17 @@
-use Rattle.std.proofs.Common.{refl, subst, sym, arith}
-use Rattle.std.proofs.lemmas.Bool.{false≢true}
-use Rattle.shard.specs.Group.{GroupState}
-use Rattle.groups.specs.Group.{spans_of}
-use Rattle.groups.specs.Spans.{SpansState, all_spans}
-use Rattle.groups.proofs.Lists.{there_at}
-use Rattle.pool.specs.Calls.{HasAny}
-use Rattle.pool.proofs.Searches.{below_next, not_there}
+use Rattle.std.proofs.Common.{subst}
+use Rattle.std.specs.Prelude.{◌↔◌, IsTrue}
+use Rattle.pool.specs.Calls.{IsInPool}
+use Rattle.pool.specs.Kept.{state_of}
+use Rattle.pool.specs.State.{PoolState}
+use Rattle.pool.proofs.InBoth.{Meets-flip}
 use Rattle.pool.proofs.pool.Pool.has_one_of.Goals as goal
 
-pub returns-then-has_any-clause-has : goal.returns-then-has_any-clause-has
-returns-then-has_any-clause-has g c =
-    let at = there_at c.args.shard.now.groups c.loop-index.index (omega arith) in (
-      (λ t. (c.loop-index.index, at.0, at.1, subst (λ (s : SpansState). HasAny c.args.self.now.groups (all_spans s)) (c.spans_at.ensures at.0 at.1) (c.if-has_any.ensures.0 refl))),
-      (λ found. refl),
-    )
-
-pub loop-index-preserved : goal.loop-index-preserved
-loop-index-preserved g c =
-    let at = there_at c.args.shard.now.groups c.loop-index.index (omega arith) in
-    below_next (λ (g : GroupState). HasAny c.args.self.now.groups (spans_of g)) c.args.shard.now.groups c.loop-index.index at.0 at.1
-    (λ found. false≢true (c.if-has_any.ensures.1 (subst (λ (s : SpansState). HasAny c.args.self.now.groups (all_spans s)) (sym (c.spans_at.ensures at.0 at.1)) found))) c.loop-index.invariant
-
-pub returns-clause-has : goal.returns-clause-has
-returns-clause-has g c = (
-  (λ t. absurd (false≢true t)),
-  (λ found. absurd (not_there (λ (g : GroupState). HasAny c.args.self.now.groups (spans_of g)) c.args.shard.now.groups c.loop-index.index (omega arith) c.loop-index.invariant found)),
-)
+pub returns-then-len-clause-has : goal.returns-then-len-clause-has
+returns-then-len-clause-has g c =
+    let ours = c.self.inside.groups.groups in
+    let theirs = c.args.shard.now.groups in
+    let both : IsTrue c.have_one_in.result ↔ IsInPool (state_of c.self.inside) c.args.shard.now = (
+      (λ t. Meets-flip ours theirs (c.have_one_in.ensures.0 t)),
+      (λ found. c.have_one_in.ensures.1 (Meets-flip theirs ours found)),
+    ) in
+    subst (λ (s : PoolState). IsTrue c.have_one_in.result ↔ IsInPool s c.args.shard.now) c.self.view_is both

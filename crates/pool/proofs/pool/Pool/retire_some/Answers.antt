@@ -1,10 +1,7 @@
 use Rattle.std.proofs.Common.{◌∙◌, ◌≡◌, List, ap, arith, drop, length, subst, sym}
-use Rattle.shard.specs.Leaving.{swept}
 use Rattle.shard.specs.Shown.{shown as shown_by_shard}
-use Rattle.shard.specs.Sparse.{AreSparsestFirst}
 use Rattle.shard.specs.State.{ShardState}
 use Rattle.shard.specs.declared.shard.retiring.LiveGroup.{LiveGroup}
-use Rattle.shard.proofs.Left.{swept-open}
 use Rattle.pool.specs.Calls.{with_rooms}
 use Rattle.pool.specs.Handover.{AreReady, span_count}
 use Rattle.pool.specs.Retires.{HasRetired, MovesSparse}
@@ -17,22 +14,22 @@ pub span_count-requires : goal.span_count-requires
 span_count-requires g c = span_count-going c.args.shard.now c.in_ok-going.ensures.0 c.as_slice.result.now c.args.most c.requires.sound_shard
     c.in_ok-going.ensures.1 (c.as_slice.ensures.value ∙ c.in_ok-going.ensures.2)
 
--- those that are to go are ready, and nothing has left before
-ready_with : (pool made : PoolState) (shard : ShardState) (going rest : List LiveGroup) → made ≡ pool → swept shard ≡ shard → AreReady pool shard going rest → AreReady made (swept shard) going rest
-ready_with pool made shard going rest made_is same ready = subst (λ (p : PoolState). AreReady p (swept shard) going rest) (sym made_is)
-    (subst (λ (s : ShardState). AreReady pool s going rest) (sym same) ready)
+-- those that are to go are ready
+ready_with : (pool made : PoolState) (shard : ShardState) (going rest : List LiveGroup) → made ≡ pool → AreReady pool shard going rest → AreReady made shard going rest
+ready_with pool made shard going rest made_is ready = subst (λ (p : PoolState). AreReady p shard going rest) (sym made_is) ready
 
-pub take_going-requires : goal.take_going-requires
-take_going-requires g c = record {
+pub move_going-requires : goal.move_going-requires
+move_going-requires g c = record {
   ready = (
     drop c.args.most c.in_ok-going.ensures.0,
     ready_with (with_rooms c.args.self.now c.len.result c.span_count.result) _ c.args.shard.now c.as_slice-2.result.now
-        (drop c.args.most c.in_ok-going.ensures.0) (c.in_ok-reserve.ensures {u = tt}).ok (swept-open c.args.shard.now c.requires.open)
+        (drop c.args.most c.in_ok-going.ensures.0) (c.in_ok-reserve.ensures {u = tt}).ok
         (AreReady-going c.args.self.now c.args.shard.now c.in_ok-going.ensures.0 c.as_slice-2.result.now c.args.most c.len.result c.span_count.result
         c.requires.sound c.requires.sound_shard c.requires.apart c.in_ok-going.ensures.1
         (c.as_slice-2.ensures.value ∙ c.in_ok-going.ensures.2) (omega (arith, c.len.ensures, c.as_slice-2.ensures.len))
         (c.span_count.ensures ∙ ap span_count (c.as_slice.ensures.value ∙ sym c.as_slice-2.ensures.value))),
   );
+  unclosed = c.requires.open;
 }
 
 pub returns-clause-ok : goal.returns-clause-ok
@@ -42,23 +39,19 @@ returns-clause-ok g c =
     let is = c.as_slice-2.ensures.value ∙ c.in_ok-going.ensures.2 in
     let count : length going ≡ c.len-2.result = omega (arith, c.len-2.ensures, c.as_slice-2.ensures.len) in
     let at_most = length-going told going c.args.most is in
-    let same = swept-open c.args.shard.now c.requires.open in
     let made = with_rooms c.args.self.now c.len.result c.span_count.result in
     record {
       group_room = c.len.result;
       span_room = c.span_count.result;
       running = c.requires.running;
-      moved = subst (λ n. MovesSparse n made c.args.shard.now c.take_going.new.self c.sweep.new.self) count
-          (subst (λ (s : ShardState). MovesSparse (length going) made s c.take_going.new.self c.sweep.new.self) same
-          (subst (λ (s : ShardState). MovesSparse (length going) made (swept c.args.shard.now) c.take_going.new.self s) (sym c.sweep.ensures.swept)
-          (subst (λ (p : PoolState). MovesSparse (length going) p (swept c.args.shard.now) c.take_going.new.self (swept c.take_going.new.shard))
-          (c.in_ok-reserve.ensures {u = tt}).ok c.take_going.ensures.moved)));
+      moved = subst (λ n. MovesSparse n made c.args.shard.now c.move_going.new.self c.move_going.new.shard) count
+          (subst (λ (p : PoolState). MovesSparse (length going) p c.args.shard.now c.move_going.new.self c.move_going.new.shard)
+          (c.in_ok-reserve.ensures {u = tt}).ok c.move_going.ensures.moved);
       at_most = omega arith;
-      all = λ fewer. HasNoLive-fewer c.sweep.new.self.groups told going c.args.most is
-          (subst (λ (s : ShardState). AreSparsestFirst s.groups (drop c.args.most told)) (sym c.sweep.ensures.swept)
-          (c.take_going.ensures.left (drop c.args.most told) (ready_with made _ c.args.shard.now going (drop c.args.most told) (c.in_ok-reserve.ensures {u = tt}).ok same
+      all = λ fewer. HasNoLive-fewer c.move_going.new.shard.groups told going c.args.most is
+          (c.move_going.ensures.left (drop c.args.most told) (ready_with made _ c.args.shard.now going (drop c.args.most told) (c.in_ok-reserve.ensures {u = tt}).ok
           (AreReady-going c.args.self.now c.args.shard.now told going c.args.most c.len.result c.span_count.result c.requires.sound c.requires.sound_shard c.requires.apart c.in_ok-going.ensures.1
-          is (omega (arith, c.len.ensures, c.as_slice-2.ensures.len)) (c.span_count.ensures ∙ ap span_count (c.as_slice.ensures.value ∙ sym c.as_slice-2.ensures.value))))))
+          is (omega (arith, c.len.ensures, c.as_slice-2.ensures.len)) (c.span_count.ensures ∙ ap span_count (c.as_slice.ensures.value ∙ sym c.as_slice-2.ensures.value)))))
           (omega arith);
     }
 
@@ -66,17 +59,12 @@ pub returns-clause-whole : goal.returns-clause-whole
 returns-clause-whole g c =
     let going = c.as_slice-2.result.now in
     let count : length going ≡ c.len-2.result = omega (arith, c.len-2.ensures, c.as_slice-2.ensures.len) in
-    let made = with_rooms c.args.self.now c.len.result c.span_count.result in
-    subst (λ n. HasRetired c.args.self.now c.args.shard.now n c.take_going.new.self c.sweep.new.self) count
-    (HasRetired-with_rooms c.args.self.now c.len.result c.span_count.result c.args.shard.now (length going) c.take_going.new.self c.sweep.new.self
-    (subst (λ (s : ShardState). HasRetired made s (length going) c.take_going.new.self c.sweep.new.self) (swept-open c.args.shard.now c.requires.open)
-    (subst (λ (s : ShardState). HasRetired made (swept c.args.shard.now) (length going) c.take_going.new.self s) (sym c.sweep.ensures.swept)
-    (subst (λ (p : PoolState). HasRetired p (swept c.args.shard.now) (length going) c.take_going.new.self (swept c.take_going.new.shard))
-    (c.in_ok-reserve.ensures {u = tt}).ok c.take_going.ensures.whole))))
+    subst (λ n. HasRetired c.args.self.now c.args.shard.now n c.move_going.new.self c.move_going.new.shard) count
+    (HasRetired-with_rooms c.args.self.now c.len.result c.span_count.result c.args.shard.now (length going) c.move_going.new.self c.move_going.new.shard
+    (subst (λ (p : PoolState). HasRetired p c.args.shard.now (length going) c.move_going.new.self c.move_going.new.shard)
+    (c.in_ok-reserve.ensures {u = tt}).ok c.move_going.ensures.whole))
 
 pub returns-clause-kept : goal.returns-clause-kept
 returns-clause-kept g c =
-    ap (λ (s : ShardState). together (shown c.take_going.new.self) (shown_by_shard s)) c.sweep.ensures.swept
-    ∙ c.take_going.ensures.kept
-    ∙ ap (λ (p : PoolState). together (shown p) (shown_by_shard (swept c.args.shard.now))) (c.in_ok-reserve.ensures {u = tt}).ok
-    ∙ ap (λ (s : ShardState). together (shown c.args.self.now) (shown_by_shard s)) (swept-open c.args.shard.now c.requires.open)
+    c.move_going.ensures.kept
+    ∙ ap (λ (p : PoolState). together (shown p) (shown_by_shard c.args.shard.now)) (c.in_ok-reserve.ensures {u = tt}).ok
