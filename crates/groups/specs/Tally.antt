@@ -7,8 +7,8 @@ use Rattle.groups.specs.declared.live_tally.TheConstants.{MARGIN}
 abbrev pub below : List ℕ → ℕ → ℕ
 below tally bound = sum_by (λ count. count) (take bound tally)
 
--- how many groups are wanted of a sample of one of each so many, if that many of all are: their part
--- of it, half as many more, and eight
+-- how many groups are wanted of a sample of one of each so many, if that many of all are: their
+-- part of it, half as many more, and eight
 abbrev pub wanted : ℕ → ℕ → ℕ
 wanted most step = min (most / step + (most / step / 2 + MARGIN)) (2 ^ 64 - 1)
 
