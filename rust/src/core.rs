@@ -291,53 +291,73 @@ impl Core {
     pub fn insert(&mut self, shard: u32, word: u128) -> Result<Key, Refused> {
         let (low, high) = halves(word);
         // SAFETY: no other call runs.
-        let mut put = unsafe { raw::teurlaks_put(&mut self.handle, shard, low, high) };
-        if put.status != raw::OK {
-            put = self.put_again(put.status, shard, low, high);
-        }
-        self.was_put(put, 1)
+        let put = unsafe { raw::teurlaks_put(&mut self.handle, shard, low, high) };
+        self.plain_key(put, 1)
+            .map_or_else(|| was_put(self.put_again(put, shard, low, high)), Ok)
     }
 
-    /// What a put answers that got this status at first. It comes back in registers, by the
-    /// convention of the library's puts: for an answer in memory the caller would make room each
-    /// time.
+    /// The key that a put of so many words has made live, if there is nothing to do but to count
+    /// it: no slot has given out its last key with this one, nor a shard its last span, and no
+    /// object with fewer words was put yet.
+    // Whoever inlines this keeps the key in registers.
+    #[allow(clippy::inline_always)]
+    #[inline(always)]
+    fn plain_key(&mut self, put: raw::PutReply, len: usize) -> Option<Key> {
+        if put.status != raw::OK
+            || put.key.generation >= self.limits.generations
+            || put.key.serial >= self.limits.spans
+            || len < self.least_words.into()
+        {
+            return None;
+        }
+        let key = Key::of(put.key)?;
+        self.live += 1;
+        Some(key)
+    }
+
+    /// What a put answers in the end that answered this at first, which is no plain key. It comes
+    /// back in registers, by the convention of the library's puts: for an answer in memory the
+    /// caller would make room each time.
     #[cold]
     #[allow(improper_ctypes_definitions)]
     extern "C" fn put_again(
         &mut self,
-        status: u32,
+        put: raw::PutReply,
         shard: u32,
         low: u64,
         high: u64,
     ) -> raw::PutReply {
-        self.again(status, shard, 1, |core| {
+        self.again(put, shard, 1, |core| {
             // SAFETY: as in `insert`.
             unsafe { raw::teurlaks_put(&mut core.handle, shard, low, high) }
         })
     }
 
-    /// Makes a put of so many words again as long as there is a way for it.
+    /// Makes a put of so many words again as long as it is refused and there is a way for it, and
+    /// counts it.
     fn again(
         &mut self,
-        mut status: u32,
+        mut reply: raw::PutReply,
         shard: u32,
         len: usize,
         mut put: impl FnMut(&mut Core) -> raw::PutReply,
     ) -> raw::PutReply {
-        loop {
-            status = self.make_way(status, shard, len);
+        while reply.status != raw::OK {
+            let status = self.make_way(reply.status, shard, len);
             if status != raw::OK {
-                return raw::PutReply {
-                    status,
-                    key: NO_KEY,
-                };
+                return refused_put(status);
             }
-            let reply = put(self);
-            if reply.status == raw::OK {
-                return reply;
-            }
-            status = reply.status;
+            reply = put(self);
         }
+        let Some(key) = Key::of(reply.key) else {
+            return reply;
+        };
+        self.live += 1;
+        if self.note_put(key).is_err() {
+            return refused_put(raw::PAGES_SPENT);
+        }
+        self.least_words = self.least_words.min(len as u8);
+        reply
     }
 
     /// Keeps an object of 1 to 16 words in the shard, and gives its key.
@@ -410,21 +430,43 @@ impl Core {
     ///
     /// So many words stand there. Bytes of them may be uninitialised where no [`Words`] is made of
     /// them.
-    #[inline]
+    // Inlined, it leaves the key in registers.
+    #[allow(clippy::inline_always)]
+    #[inline(always)]
     pub(crate) unsafe fn put_words(
         &mut self,
         shard: u32,
         first: *const u128,
         len: usize,
     ) -> Result<Key, Refused> {
-        // SAFETY: as in `insert`, and a word is its two halves, the lower one first.
-        let mut put =
-            unsafe { raw::teurlaks_put_words(&mut self.handle, shard, first.cast(), len) };
-        if put.status != raw::OK {
+        // SAFETY: as of this call.
+        match unsafe { self.put_words_plainly(shard, first, len) } {
+            Ok(key) => Ok(key),
             // SAFETY: as of this call.
-            put = unsafe { self.put_words_again(put.status, shard, first, len) };
+            Err(put) => was_put(unsafe { self.put_words_again(put, shard, first, len) }),
         }
-        self.was_put(put, len)
+    }
+
+    /// The key that such a put gives, if it is plain; or else what the library answers, of which
+    /// `put_words_again` makes what the put answers in the end.
+    ///
+    /// # Safety
+    ///
+    /// As of [`Core::put_words`].
+    #[allow(clippy::inline_always)]
+    #[inline(always)]
+    pub(crate) unsafe fn put_words_plainly(
+        &mut self,
+        shard: u32,
+        first: *const u128,
+        len: usize,
+    ) -> Result<Key, raw::PutReply> {
+        // SAFETY: as in `insert`, and a word is its two halves, the lower one first.
+        let put = unsafe { raw::teurlaks_put_words(&mut self.handle, shard, first.cast(), len) };
+        match self.plain_key(put, len) {
+            Some(key) => Ok(key),
+            None => Err(put),
+        }
     }
 
     /// As `put_again`, of words that stand there.
@@ -434,27 +476,17 @@ impl Core {
     /// As of [`Core::put_words`].
     #[cold]
     #[allow(improper_ctypes_definitions)]
-    unsafe extern "C" fn put_words_again(
+    pub(crate) unsafe extern "C" fn put_words_again(
         &mut self,
-        status: u32,
+        put: raw::PutReply,
         shard: u32,
         first: *const u128,
         len: usize,
     ) -> raw::PutReply {
-        self.again(status, shard, len, |core| {
+        self.again(put, shard, len, |core| {
             // SAFETY: as of this call.
             unsafe { raw::teurlaks_put_words(&mut core.handle, shard, first.cast(), len) }
         })
-    }
-
-    // What a put of so many words answers, which makes a key live where it is done.
-    #[inline]
-    fn was_put(&mut self, put: raw::PutReply, len: usize) -> Result<Key, Refused> {
-        let key = was_put(put)?;
-        self.live += 1;
-        self.note_put(key)?;
-        self.least_words = self.least_words.min(len as u8);
-        Ok(key)
     }
 
     /// Notes whether a slot has given out its last key with this one, and gives the key back if its
@@ -804,6 +836,14 @@ fn is_length_of_object(len: usize) -> Result<(), Refused> {
         Ok(())
     } else {
         Err(Refused::Config)
+    }
+}
+
+// What a put answers that is refused.
+fn refused_put(status: u32) -> raw::PutReply {
+    raw::PutReply {
+        status,
+        key: NO_KEY,
     }
 }
 

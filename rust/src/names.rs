@@ -289,6 +289,9 @@ impl Span {
     /// The name before all others.
     pub const LEAST: Span = Span(0);
 
+    /// The name that the span of no key has, whose shard has 8 bits.
+    pub const NONE: Span = Span(u64::MAX);
+
     #[inline]
     pub fn new(shard: u32, serial: u32) -> Span {
         Span(u64::from(shard) << 32 | u64::from(serial))

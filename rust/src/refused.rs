@@ -47,6 +47,19 @@ pub enum Refused {
 }
 
 impl Refused {
+    /// The status of which `of` makes this, if a put may have it.
+    #[cold]
+    pub(crate) fn status_of_put(self) -> u32 {
+        match self {
+            Refused::OutOfMemory => raw::OUT_OF_MEMORY,
+            Refused::PagesSpent => raw::PAGES_SPENT,
+            Refused::Ended => raw::ENDED,
+            Refused::Config => raw::CONFIG,
+            Refused::Unknown(status) => status,
+            _ => raw::OK,
+        }
+    }
+
     #[cold]
     pub(crate) fn of(status: u32) -> Refused {
         match status {

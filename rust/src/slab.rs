@@ -10,6 +10,7 @@ pub use vacant::VacantEntry;
 use crate::compact::{Compact, Compacted};
 use crate::core::{ends_turn, Core, Limits, Stepped, SHARDS};
 use crate::names::{Group, Key};
+use crate::raw::PutReply;
 use crate::refused::{InsertError, Refused};
 use crate::values::{self, Spot, Walk, WalkMut};
 use std::ptr::NonNull;
@@ -196,24 +197,37 @@ impl<T> Slab<T> {
     #[allow(clippy::inline_always)]
     #[inline(always)]
     pub fn insert(&mut self, value: T) -> Result<Key, Refused> {
-        let mut why = Refused::OutOfMemory;
-        let (low, high) = self.insert_apart(value, &mut why);
-        Key::of_halves(low, high).ok_or(why)
+        let (low, high) = self.insert_apart(value);
+        // A status has 32 bits.
+        #[allow(clippy::cast_possible_truncation)]
+        Key::of_halves(low, high).ok_or_else(|| Refused::of(high as u32))
     }
 
-    /// The halves of the key, or zeros, and why the value is refused. A key itself would come back
-    /// through memory, written in parts and read as a whole, for which a processor waits.
+    /// The halves of the key, or a zero and the status of why the value is refused. A key itself
+    /// would come back through memory, written in parts and read as a whole, for which a processor
+    /// waits.
     #[inline]
-    fn insert_apart(&mut self, value: T, why: &mut Refused) -> (u64, u64) {
-        match self.insert_key() {
-            Ok((shard, key)) => {
-                self.values.put(shard, key, value);
+    fn insert_apart(&mut self, value: T) -> (u64, u64) {
+        match self.insert_key_plainly() {
+            Ok(key) => {
+                self.keep(key, value);
                 key.halves()
             }
-            Err(refused) => {
-                *why = refused;
-                (0, 0)
+            Err(put) => self.insert_again(put, value),
+        }
+    }
+
+    /// The same after that answer to the call for a key.
+    // All that an insert seldom does is one call, for which no register is kept.
+    #[cold]
+    #[inline(never)]
+    fn insert_again(&mut self, put: Option<PutReply>, value: T) -> (u64, u64) {
+        match self.insert_key_again(put) {
+            Ok(key) => {
+                self.keep(key, value);
+                key.halves()
             }
+            Err(refused) => (0, refused.status_of_put().into()),
         }
     }
 
@@ -234,8 +248,8 @@ impl<T> Slab<T> {
     #[inline]
     pub fn try_insert(&mut self, value: T) -> Result<Key, InsertError<T>> {
         match self.insert_key() {
-            Ok((shard, key)) => {
-                self.values.put(shard, key, value);
+            Ok(key) => {
+                self.keep(key, value);
                 Ok(key)
             }
             Err(refused) => Err(InsertError { value, refused }),
@@ -283,8 +297,10 @@ impl<T> Slab<T> {
     /// ```
     pub fn vacant_entry(&mut self) -> Result<VacantEntry<'_, T>, Refused> {
         self.give_up_vacant();
-        let (shard, key) = self.insert_key()?;
+        let key = self.insert_key()?;
         self.vacant = Some(key);
+        let shard = u32::from(self.first);
+        self.end_turn_with(key);
         Ok(VacantEntry::new(self, shard, key))
     }
 
@@ -352,7 +368,7 @@ impl<T> Slab<T> {
     #[inline]
     pub fn insert_in(&mut self, shard: u32, value: T) -> Result<Key, Refused> {
         let key = self.insert_key_in(shard)?;
-        self.values.put(shard, key, value);
+        self.values.put(key, value, || shard);
         Ok(key)
     }
 
@@ -365,39 +381,75 @@ impl<T> Slab<T> {
     pub fn try_insert_in(&mut self, shard: u32, value: T) -> Result<Key, InsertError<T>> {
         match self.insert_key_in(shard) {
             Ok(key) => {
-                self.values.put(shard, key, value);
+                self.values.put(key, value, || shard);
                 Ok(key)
             }
             Err(refused) => Err(InsertError { value, refused }),
         }
     }
 
-    /// A key of the first shard that has one, for whose value there is room.
+    /// Keeps the value of a key that the first shard has just put, for which there is room.
+    #[allow(clippy::inline_always)]
+    #[inline(always)]
+    fn keep(&mut self, key: Key, value: T) {
+        let first = &self.first;
+        self.values.put(key, value, || u32::from(*first));
+        self.end_turn_with(key);
+    }
+
+    /// Has the next shard be the first if the turn of this one is over with the key.
+    #[allow(clippy::inline_always)]
+    #[inline(always)]
+    fn end_turn_with(&mut self, key: Key) {
+        if self.takes_turns && ends_turn(key) {
+            self.first = ((u32::from(self.first) + 1) % self.core.shards()) as u8;
+        }
+    }
+
+    /// A key of the first shard, for whose value there is room. If that has none, the next one that
+    /// has one is the first from now on.
     #[inline]
-    fn insert_key(&mut self) -> Result<(u32, Key), Refused> {
-        let shard = u32::from(self.first);
-        match self.insert_key_in(shard) {
-            Ok(key) => {
-                if self.takes_turns && ends_turn(key) {
-                    self.first = ((shard + 1) % self.core.shards()) as u8;
-                }
-                Ok((shard, key))
-            }
+    fn insert_key(&mut self) -> Result<Key, Refused> {
+        self.insert_key_plainly()
+            .or_else(|put| self.insert_key_again(put))
+    }
+
+    /// The same, if there is room already and nothing to do but to count the key; or else what the
+    /// library answers, if it was asked.
+    // Inlined, it leaves the key in registers.
+    #[allow(clippy::inline_always)]
+    #[inline(always)]
+    fn insert_key_plainly(&mut self) -> Result<Key, Option<PutReply>> {
+        if !self.values.is_ready() {
+            return Err(None);
+        }
+        values::Values::<T>::insert_key_plainly(&mut self.core, self.first.into()).map_err(Some)
+    }
+
+    /// The same after that answer.
+    #[cold]
+    fn insert_key_again(&mut self, put: Option<PutReply>) -> Result<Key, Refused> {
+        let first = self.first.into();
+        let key = match put {
+            Some(put) => values::Values::<T>::insert_key_again(&mut self.core, put, first),
+            None => self.insert_key_in(first),
+        };
+        match key {
             Err(Refused::PagesSpent | Refused::Ended) => self.insert_key_elsewhere(),
-            Err(refused) => Err(refused),
+            key => key,
         }
     }
 
     /// A key of another shard than the first that was to be asked.
     #[cold]
-    fn insert_key_elsewhere(&mut self) -> Result<(u32, Key), Refused> {
+    fn insert_key_elsewhere(&mut self) -> Result<Key, Refused> {
         let mut why = Refused::Ended;
         let first = u32::from(self.first);
         for shard in (first..self.core.shards()).chain(0..first) {
             match self.insert_key_in(shard) {
                 Ok(key) => {
                     self.first = shard as u8;
-                    return Ok((shard, key));
+                    return Ok(key);
                 }
                 Err(Refused::Ended) => {}
                 Err(Refused::PagesSpent) => why = Refused::PagesSpent,

@@ -20,6 +20,21 @@ pub(crate) struct Home {
     pub live: u32,
 }
 
+impl Home {
+    /// What stands at a free place.
+    const FREE: Home = Home {
+        span: Span::NONE,
+        block: Block::NOWHERE,
+        page: 0,
+        mark: 0,
+        live: 0,
+    };
+
+    fn is_free(&self) -> bool {
+        self.span == Span::NONE
+    }
+}
+
 /// The homes of spans, by the names of spans: it takes memory for as many as there were at one
 /// time, whatever their serial numbers are.
 ///
@@ -28,8 +43,9 @@ pub(crate) struct Home {
 /// a look-up is mostly a product and a comparison: with a `HashMap` of as cheap a hash the look-up
 /// of a value took half as long again.
 pub(crate) struct Spans {
-    // None at first, and then a power of two, of which at most half are homes.
-    places: Box<[Option<Home>]>,
+    // None at first, and then a power of two, of which at most half are homes. The others are free,
+    // which the name tells that no key's span has: so one comparison tells a home.
+    places: Box<[Home]>,
     // How many further spans there is room for.
     room: u32,
     // By the numbers of spans, also of those that are free.
@@ -92,12 +108,12 @@ impl Spans {
         make_room(&mut self.free, len / 2)?;
         let mut places = Vec::new();
         make_room(&mut places, len)?;
-        places.resize(len, None);
+        places.resize(len, Home::FREE);
         let homes = std::mem::replace(&mut self.places, places.into_boxed_slice());
         self.room = (len / 2 - spans) as u32;
-        for home in homes.into_vec().into_iter().flatten() {
+        for home in homes.iter().filter(|home| !home.is_free()) {
             let place = self.free_place(home.span);
-            self.places[place] = Some(home);
+            self.places[place] = *home;
         }
         Ok(())
     }
@@ -105,22 +121,32 @@ impl Spans {
     /// The home of the span, where it has one.
     #[inline]
     pub fn find(&self, span: Span) -> Option<&Home> {
-        match self.places.get(self.first_place(span))? {
-            Some(home) if home.span == span => Some(home),
-            Some(_) => self.places[self.place_of(span)?].as_ref(),
-            None => None,
+        let home = self.places.get(self.first_place(span))?;
+        if home.span == span {
+            Some(home)
+        } else {
+            self.find_behind(span)
         }
     }
 
     /// The home of the span, to be changed, where it has one.
+    // With its steps in line: a call would have its caller keep what it knows of a key elsewhere.
     #[inline]
     pub fn find_mut(&mut self, span: Span) -> Option<&mut Home> {
-        let place = self.first_place(span);
-        if self.places.get(place)?.as_ref()?.span == span {
-            return self.places[place].as_mut();
+        let mut place = self.first_place(span);
+        while self.places.get(place)?.span != span {
+            if self.places[place].is_free() {
+                return None;
+            }
+            place = self.place_after(place);
         }
-        let place = self.place_of(span)?;
-        self.places[place].as_mut()
+        self.places.get_mut(place)
+    }
+
+    /// The home of a span that does not stand at its first place, where it has one.
+    #[inline(never)]
+    fn find_behind(&self, span: Span) -> Option<&Home> {
+        self.place_of(span).map(|place| &self.places[place])
     }
 
     /// How many homes there are.
@@ -130,7 +156,7 @@ impl Spans {
 
     /// All homes.
     pub fn iter(&self) -> impl Iterator<Item = &Home> {
-        self.places.iter().flatten()
+        self.places.iter().filter(|home| !home.is_free())
     }
 
     /// Gives a span that has none a home on the page, with no value yet.
@@ -141,13 +167,15 @@ impl Spans {
     pub fn insert(&mut self, span: Span, page: u32, block: Block) -> &mut Home {
         self.room = self.room.checked_sub(1).expect("room was reserved");
         let (number, place) = (self.number_for(span), self.free_place(span));
-        self.places[place].insert(Home {
+        let home = &mut self.places[place];
+        *home = Home {
             span,
             block,
             page,
             mark: u64::from(number) << 32,
             live: 0,
-        })
+        };
+        home
     }
 
     /// Moves the home of the span of this number, if it has one, to the page of that number and
@@ -164,18 +192,19 @@ impl Spans {
         let Some(mut gap) = self.place_of(span) else {
             return;
         };
-        self.free
-            .extend(self.places[gap].take().map(|home| number_of(home.mark)));
+        self.free.push(number_of(self.places[gap].mark));
         self.room += 1;
         // Of those behind the gap, each that is looked for by way of it closes it.
         let mut place = self.place_after(gap);
-        while let Some(home) = self.places[place] {
-            if self.steps(self.first_place(home.span), place) >= self.steps(gap, place) {
-                self.places[gap] = self.places[place].take();
+        while !self.places[place].is_free() {
+            let first = self.first_place(self.places[place].span);
+            if self.steps(first, place) >= self.steps(gap, place) {
+                self.places[gap] = self.places[place];
                 gap = place;
             }
             place = self.place_after(place);
         }
+        self.places[gap] = Home::FREE;
     }
 
     /// The span of this number, which one has or had.
@@ -199,16 +228,22 @@ impl Spans {
     /// Where the span's home stands, if it has one.
     fn place_of(&self, span: Span) -> Option<usize> {
         let mut place = self.first_place(span);
-        while self.places.get(place)?.as_ref()?.span != span {
+        loop {
+            let home = self.places.get(place)?;
+            if home.span == span {
+                return Some(place);
+            }
+            if home.is_free() {
+                return None;
+            }
             place = self.place_after(place);
         }
-        Some(place)
     }
 
     /// The free place for the span's home, which has none yet.
     fn free_place(&self, span: Span) -> usize {
         let mut place = self.first_place(span);
-        while self.places[place].is_some() {
+        while !self.places[place].is_free() {
             place = self.place_after(place);
         }
         place

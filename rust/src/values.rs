@@ -13,8 +13,9 @@ pub(crate) use walks::{Walk, WalkMut};
 use crate::blocks::{make_room, Blocks};
 use crate::boxed::Late;
 use crate::bytes::{slots_for, MOST_WORDS};
-use crate::core::{Core, Stepped};
+use crate::core::{was_put, Core, Stepped};
 use crate::names::{Group, Key, Span};
+use crate::raw::PutReply;
 use crate::refused::Refused;
 use crate::slots::Slots;
 use crate::spans::{number_of, Home, Spans};
@@ -37,7 +38,7 @@ const VACANT: u32 = 0;
 /// In the lower half of a home's mark: other spans may have values on the page of the span.
 const SHARES: u64 = 1;
 
-const NO_WORDS: [u128; MOST_WORDS] = [0; MOST_WORDS];
+static NO_WORDS: [u128; MOST_WORDS] = [0; MOST_WORDS];
 
 /// How many words the core's object has beside a value of so many bytes. The object is zeros, which
 /// take no memory. The more words it has, the fewer slots a page has. Fewer slots leave fewer
@@ -197,11 +198,25 @@ impl<T> Values<T> {
     /// nothing: where the value is follows from its key.
     #[inline]
     pub fn insert_key(core: &mut Core, shard: u32) -> Result<Key, Refused> {
-        if Self::WORDS == 1 {
-            core.insert(shard, NO_WORDS[0])
-        } else {
-            core.insert_words(shard, &NO_WORDS[..Self::WORDS])
+        match Self::insert_key_plainly(core, shard) {
+            Ok(key) => Ok(key),
+            Err(put) => Self::insert_key_again(core, put, shard),
         }
+    }
+
+    /// The same, if there is nothing to do but to count the key; or else what the library answers.
+    #[allow(clippy::inline_always)]
+    #[inline(always)]
+    pub fn insert_key_plainly(core: &mut Core, shard: u32) -> Result<Key, PutReply> {
+        // SAFETY: so many words are there.
+        unsafe { core.put_words_plainly(shard, NO_WORDS.as_ptr(), Self::WORDS) }
+    }
+
+    /// What becomes of such an answer, which is of the last call of the core.
+    #[cold]
+    pub fn insert_key_again(core: &mut Core, put: PutReply, shard: u32) -> Result<Key, Refused> {
+        // SAFETY: so many words are there.
+        was_put(unsafe { core.put_words_again(put, shard, NO_WORDS.as_ptr(), Self::WORDS) })
     }
 
     /// No values.
@@ -214,6 +229,12 @@ impl<T> Values<T> {
             ready: false,
             owned: PhantomData,
         }
+    }
+
+    /// Whether there is room for one value, wherever a shard puts it.
+    #[inline]
+    pub fn is_ready(&self) -> bool {
+        self.ready
     }
 
     /// Makes room for one value, wherever a shard puts it, so that `put` needs no memory. A refusal
@@ -229,7 +250,9 @@ impl<T> Values<T> {
     #[cold]
     fn make_ready(&mut self) -> Result<(), Refused> {
         self.make_blocks()?.reserve()?;
-        if self.paged.pages.len() < self.paged.blocks.len() || self.spans.is_full() {
+        let lacks_pages = self.paged.pages.len() < self.paged.blocks.len();
+        // Rows may be missing if they were refused memory after the spans had got theirs.
+        if lacks_pages || self.spans.is_full() || self.rows.len() < self.spans.most() {
             self.grow(1)?;
         }
         if Self::APART && self.room.is_none() {
@@ -281,12 +304,15 @@ impl<T> Values<T> {
         Ok(())
     }
 
-    /// Keeps the value of a key that the shard has just put, for which there is room.
-    #[inline]
-    pub fn put(&mut self, shard: u32, key: Key, value: T) {
+    /// Keeps the value of a key that has just been put, for which there is room. The shard is asked
+    /// for if it has a new page.
+    // The value first: what is known of it is then no longer kept in registers.
+    #[allow(clippy::inline_always)]
+    #[inline(always)]
+    pub fn put(&mut self, key: Key, value: T, shard: impl FnOnce() -> u32) {
         let home = match self.spans.find_mut(key.span()) {
             Some(home) => home,
-            None => self.open(shard, key.span()),
+            None => self.open(shard(), key.span()),
         };
         home.live += 1;
         let Home {
@@ -299,16 +325,11 @@ impl<T> Values<T> {
         if live == 1 {
             self.paged.pages[page as usize].spans += 1;
         }
-        let (slot, row) = (slot_of(key), &mut self.rows[number_of(mark) as usize]);
+        let slot = slot_of(key);
         assert!(
             usize::from(slot) < Self::SLOTS,
             "the slot is one of the page's"
         );
-        debug_assert!(!row.live.contains(slot), "the slot is free");
-        row.live.insert(slot);
-        if !LEAN {
-            block.set_generation(slot, key.generation());
-        }
         if Self::APART {
             let room = self.room.take().expect("room was reserved");
             self.ready = false;
@@ -318,6 +339,12 @@ impl<T> Values<T> {
         // SAFETY: the slot is one of the page's and has no value, so one may be written where it
         // stands, or to the room that is there.
         unsafe { block.value::<T>(slot).as_ptr().write(value) };
+        if !LEAN {
+            block.set_generation(slot, key.generation());
+        }
+        let row = &mut self.rows[number_of(mark) as usize];
+        debug_assert!(!row.live.contains(slot), "the slot is free");
+        row.live.insert(slot);
     }
 
     /// A page for the values of the span, which has none.

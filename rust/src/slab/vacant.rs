@@ -33,7 +33,7 @@ impl<'s, T> VacantEntry<'s, T> {
     pub fn insert(mut self, value: T) -> &'s mut T {
         let slab = self.slab.take().expect("the value comes once");
         slab.vacant = None;
-        slab.values.put(self.shard, self.key, value);
+        slab.values.put(self.key, value, || self.shard);
         slab.get_mut(self.key).expect("the value was kept")
     }
 }
