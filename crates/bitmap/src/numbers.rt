@@ -94,6 +94,7 @@ impl NumberSet {
     }
 
     /// The least number of the set.
+    #[inline(always)]
     pub fn lowest(&self) -> Option<usize>
         ensures lowest { MatchOption result (self.now.numbers ≡ set.empty)
             (IsLowest self.now.numbers) }

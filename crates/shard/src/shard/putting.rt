@@ -60,17 +60,36 @@ impl<L: Log> Shard<L> {
             return Err(PutError::Ended);
         }
         let Some(index) = self.rooms.lowest(class) else {
-            return self.put_searched(class, words);
+            return self.put_otherwise(class, words);
         };
         let group = &mut self.groups[index];
         let at = group.span_at(0).changes();
         let Some(Placed { key, is_full }) = group.put(self.alloc, class, words)? else {
-            return self.put_searched(class, words);
+            return self.put_otherwise(class, words);
         };
         // A group that is full now leaves the set at once, by what is known of it in registers and
         // without a branch: every other put would look there first.
         self.rooms.remove_if(class, index, is_full);
         Ok((key, at))
+    }
+
+    // The same, if the first group does not take it. What the search answers lies in memory, which
+    // is cleared for it here alone.
+    #[inline(always)]
+    fn put_otherwise(&mut self, class: Class, words: &[u128]) -> Result<(Key, usize), PutError>
+        requires { length words.now ≡ width_of class }
+        ensures ok { IfOk result (λ made. Puts self.old class words.now made.0 made.1 self.new) }
+        ensures fresh { IfOk result (λ made. (shown self.old).is_issued made.0 ≡ false) }
+        ensures plain { IfOk result (λ made. shown self.new
+            ≡ plain.with_put (shown self.old) made.0 words.now) }
+        ensures sound { IsSound self.new }
+        ensures spent { (result ≡ Err PutError.PagesSpent)
+            ↔ ((self.old.ended ≡ false) × IsSpent class self.old) }
+        ensures ended { (result ≡ Err PutError.Ended) ↔ (self.old.ended ≡ true) }
+        ensures err { OnErr result (self.new ≡ self.old) }
+    {
+        let made = self.put_searched(class, words)?;
+        Ok(made)
     }
 
     // The same, in the lowest group of the class that turns out to have a usable slot, or in a new

@@ -138,8 +138,8 @@ returns-in_default-2-clause-ok g c =
     let group = c.index_mut-group.result.now in
     let here = group_here s c.self.invariant c.args.class c.in-Some.index group c.in-Some.ensures.lowest c.index_mut-group.ensures.value in
     let back = set-kept s.groups.items c.in-Some.index group c.put.new.self here (rw c.in_default-2.is at (c.in_ok-key.ensures {u = tt}).ok) in
-    subst (λ (old : ShardState). IfOk c.put_searched-in_default-2.result (λ (made : Key × ℕ). Puts old c.args.class c.args.words.now made.0 made.1 c.put_searched-in_default-2.new.self))
-    (ap (λ groups. record (state_of s) { groups = groups }) back ∙ c.self.view_is) c.put_searched-in_default-2.ensures.ok
+    subst (λ (old : ShardState). IfOk c.put_otherwise-in_default-2.result (λ (made : Key × ℕ). Puts old c.args.class c.args.words.now made.0 made.1 c.put_otherwise-in_default-2.new.self))
+    (ap (λ groups. record (state_of s) { groups = groups }) back ∙ c.self.view_is) c.put_otherwise-in_default-2.ensures.ok
 
 pub returns-in_default-2-clause-fresh : goal.returns-in_default-2-clause-fresh
 returns-in_default-2-clause-fresh g c =
@@ -147,8 +147,8 @@ returns-in_default-2-clause-fresh g c =
     let group = c.index_mut-group.result.now in
     let here = group_here s c.self.invariant c.args.class c.in-Some.index group c.in-Some.ensures.lowest c.index_mut-group.ensures.value in
     let back = set-kept s.groups.items c.in-Some.index group c.put.new.self here (rw c.in_default-2.is at (c.in_ok-key.ensures {u = tt}).ok) in
-    subst (λ (old : ShardState). IfOk c.put_searched-in_default-2.result (λ (made : Key × ℕ). (shown old).is_issued made.0 ≡ false))
-    (ap (λ groups. record (state_of s) { groups = groups }) back ∙ c.self.view_is) c.put_searched-in_default-2.ensures.fresh
+    subst (λ (old : ShardState). IfOk c.put_otherwise-in_default-2.result (λ (made : Key × ℕ). (shown old).is_issued made.0 ≡ false))
+    (ap (λ groups. record (state_of s) { groups = groups }) back ∙ c.self.view_is) c.put_otherwise-in_default-2.ensures.fresh
 
 pub returns-in_default-2-clause-plain : goal.returns-in_default-2-clause-plain
 returns-in_default-2-clause-plain g c =
@@ -156,8 +156,8 @@ returns-in_default-2-clause-plain g c =
     let group = c.index_mut-group.result.now in
     let here = group_here s c.self.invariant c.args.class c.in-Some.index group c.in-Some.ensures.lowest c.index_mut-group.ensures.value in
     let back = set-kept s.groups.items c.in-Some.index group c.put.new.self here (rw c.in_default-2.is at (c.in_ok-key.ensures {u = tt}).ok) in
-    subst (λ (old : ShardState). IfOk c.put_searched-in_default-2.result (λ (made : Key × ℕ). shown c.put_searched-in_default-2.new.self ≡ with_put (shown old) made.0 c.args.words.now))
-    (ap (λ groups. record (state_of s) { groups = groups }) back ∙ c.self.view_is) c.put_searched-in_default-2.ensures.plain
+    subst (λ (old : ShardState). IfOk c.put_otherwise-in_default-2.result (λ (made : Key × ℕ). shown c.put_otherwise-in_default-2.new.self ≡ with_put (shown old) made.0 c.args.words.now))
+    (ap (λ groups. record (state_of s) { groups = groups }) back ∙ c.self.view_is) c.put_otherwise-in_default-2.ensures.plain
 
 pub returns-in_default-2-clause-spent : goal.returns-in_default-2-clause-spent
 returns-in_default-2-clause-spent g c =
@@ -165,5 +165,5 @@ returns-in_default-2-clause-spent g c =
     let group = c.index_mut-group.result.now in
     let here = group_here s c.self.invariant c.args.class c.in-Some.index group c.in-Some.ensures.lowest c.index_mut-group.ensures.value in
     let back = set-kept s.groups.items c.in-Some.index group c.put.new.self here (rw c.in_default-2.is at (c.in_ok-key.ensures {u = tt}).ok) in
-    subst (λ (old : ShardState). (c.put_searched-in_default-2.result ≡ Err PutError.PagesSpent) ↔ ((old.ended ≡ false) × IsSpent c.args.class old))
-    (ap (λ groups. record (state_of s) { groups = groups }) back ∙ c.self.view_is) c.put_searched-in_default-2.ensures.spent
+    subst (λ (old : ShardState). (c.put_otherwise-in_default-2.result ≡ Err PutError.PagesSpent) ↔ ((old.ended ≡ false) × IsSpent c.args.class old))
+    (ap (λ groups. record (state_of s) { groups = groups }) back ∙ c.self.view_is) c.put_otherwise-in_default-2.ensures.spent
