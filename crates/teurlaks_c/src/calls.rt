@@ -129,16 +129,11 @@ pub extern "C" fn teurlaks_put_words(handle: &mut Handle, shard: u32, words: &[R
         result handle.new.held }
     ensures none { handle.old.held ≡ None → (result.status ≡ no_core) × (handle.new.held ≡ None) }
 {
-    let Some(class) = class_for(words) else {
-        return PutReply {
-            status: or_no_core(CONFIG, handle),
-            key: no_key(),
-        };
-    };
-    let mut room = [0; 16];
-    let values = &mut room[..words.len()];
-    join_all(values, words);
-    put(handle, shard, class, values)
+    match words {
+        [word] => put_one(handle, shard, *word),
+        [first, second] => put_two(handle, shard, *first, *second),
+        _ => put_wider(handle, shard, words),
+    }
 }
 
 /// The word of the key, where it is live and has an object of one word. `NONE` where it is not
@@ -288,6 +283,63 @@ fn put(handle: &mut Handle, shard: u32, class: Class, words: &[u128]) -> PutRepl
             key: no_key(),
         },
     }
+}
+
+// The core keeps the object of this word. Of the narrowest objects the class is known, and their
+// words need no room but their own.
+#[inline(always)]
+fn put_one(handle: &mut Handle, shard: u32, word: RawWord) -> PutReply
+    ensures live { IsSome handle.old.held → PutsWords handle.old.held shard (words_of (word ∷ []))
+        result handle.new.held }
+    ensures none { handle.old.held ≡ None → (result.status ≡ no_core) × (handle.new.held ≡ None) }
+{
+    put(handle, shard, Class::C16, &[value_of(word)])
+}
+
+// The core keeps the object of these two words.
+#[inline(always)]
+fn put_two(handle: &mut Handle, shard: u32, first: RawWord, second: RawWord) -> PutReply
+    ensures live { IsSome handle.old.held → PutsWords handle.old.held shard
+        (words_of (first ∷ second ∷ [])) result handle.new.held }
+    ensures none { handle.old.held ≡ None → (result.status ≡ no_core) × (handle.new.held ≡ None) }
+{
+    put(
+        handle,
+        shard,
+        Class::C32,
+        &[value_of(first), value_of(second)],
+    )
+}
+
+// The core keeps the object of these words, whichever class has as many. What it answers has a
+// place in memory of its own, so that what the puts above answer needs none.
+#[inline(always)]
+fn put_wider(handle: &mut Handle, shard: u32, words: &[RawWord]) -> PutReply
+    ensures live { IsSome handle.old.held → PutsWords handle.old.held shard (words_of words.now)
+        result handle.new.held }
+    ensures none { handle.old.held ≡ None → (result.status ≡ no_core) × (handle.new.held ≡ None) }
+{
+    let PutReply { status, key } = put_wide(handle, shard, words);
+    PutReply { status, key }
+}
+
+// The same, with room for the widest object.
+#[inline(never)]
+fn put_wide(handle: &mut Handle, shard: u32, words: &[RawWord]) -> PutReply
+    ensures live { IsSome handle.old.held → PutsWords handle.old.held shard (words_of words.now)
+        result handle.new.held }
+    ensures none { handle.old.held ≡ None → (result.status ≡ no_core) × (handle.new.held ≡ None) }
+{
+    let Some(class) = class_for(words) else {
+        return PutReply {
+            status: or_no_core(CONFIG, handle),
+            key: no_key(),
+        };
+    };
+    let mut room = [0; 16];
+    let values = &mut room[..words.len()];
+    join_all(values, words);
+    put(handle, shard, class, values)
 }
 
 // The core looks the key up, for its word.
