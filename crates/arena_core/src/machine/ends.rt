@@ -23,7 +23,7 @@ impl<L: Log> Core<L> {
         ensures same { shown self.new ≡ shown self.old }
         ensures sound { IsSound self.new }
     {
-        reach(self.alloc, self.limits, number, &mut self.shards)?;
+        reach(self.alloc, &self.limits, number, &mut self.shards)?;
         let shard = &mut self.shards[number as usize];
         match self.pool.receive(shard) {
             Ok(()) => {}
@@ -169,7 +169,7 @@ impl<L: Log> Core<L> {
         ensures same { shown self.new ≡ shown self.old }
         ensures sound { IsSound self.new }
     {
-        match reach(self.alloc, self.limits, number, &mut self.shards) {
+        match reach(self.alloc, &self.limits, number, &mut self.shards) {
             Ok(()) => {}
             Err(cause) => return Err(self.no_adopter(number, cause)),
         }

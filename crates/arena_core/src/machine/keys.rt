@@ -58,7 +58,7 @@ impl<L: Log> Core<L> {
             (reply.Refused refusal) (shown self.new)) }
         ensures sound { IsSound self.new }
     {
-        reach(self.alloc, self.limits, number, &mut self.shards)?;
+        reach(self.alloc, &self.limits, number, &mut self.shards)?;
         let shard = &mut self.shards[number as usize];
         let (key, _) = shard.put_words(class, words)?;
         Ok(key)

@@ -20,14 +20,14 @@ use std::alloc::{AllocError, Global};
 #[inline(always)]
 pub(super) fn reach<L: Log>(
     alloc: Global,
-    limits: Limits,
+    limits: &Limits,
     number: u32,
     shards: &mut Vec<Shard<L>>,
 ) -> Result<(), Refusal>
-    ensures same { all_shards limits shards.new.items ≡ all_shards limits shards.old.items }
+    ensures same { all_shards limits.now shards.new.items ≡ all_shards limits.now shards.old.items }
     ensures here { OnOk result (number < vec_len shards.new) }
     ensures refused { IfErr result (λ refusal. (vec_len shards.old ≤ number)
-        × CannotReach refusal limits.shards number number) }
+        × CannotReach refusal limits.now.shards number number) }
 {
     if (number as usize) < shards.len() {
         return Ok(());
@@ -40,19 +40,20 @@ pub(super) fn reach<L: Log>(
 #[inline(never)]
 fn make_up_to<L: Log>(
     alloc: Global,
-    limits: Limits,
+    limits: &Limits,
     number: u32,
     shards: &mut Vec<Shard<L>>,
 ) -> Result<(), Refusal>
     requires { vec_len shards.old ≤ number }
-    ensures same { all_shards limits shards.new.items ≡ all_shards limits shards.old.items }
+    ensures same { all_shards limits.now shards.new.items ≡ all_shards limits.now shards.old.items }
     ensures here { OnOk result (number < vec_len shards.new) }
-    ensures refused { IfErr result (λ refusal. CannotReach refusal limits.shards number number) }
+    ensures refused { IfErr result
+        (λ refusal. CannotReach refusal limits.now.shards number number) }
 {
     if number >= limits.shards() {
         return Err(Refusal::Config);
     }
-    add_shards(alloc, limits, number + 1, shards)?;
+    add_shards(alloc, *limits, number + 1, shards)?;
     Ok(())
 }
 
