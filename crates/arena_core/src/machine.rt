@@ -1,13 +1,11 @@
 // The core: all shards as one value that takes events. What it does with each kind of them stands
 // in the files below.
-ghost use Rattle.std.specs.Prelude.{◌≡◌, ◌↔◌, ◌<◌, ◌≤◌, ℕ, IfOk, IfSome, OnOk, OnErr, IsErrOf, IsOkUnless, map, option_map};
-ghost use Rattle.std.specs.List.{range_with_len};
-ghost use Rattle.shard.specs.Sound.{IsSound as IsSoundShard};
+ghost use Rattle.std.specs.Prelude.{◌≡◌, ◌↔◌, ◌<◌, ◌≤◌, ℕ, IfOk, IfSome, IsOk, OnOk, OnErr, IsErrOf, option_map};
 ghost use Rattle.span.specs.Classes.{IsObject};
 ghost use Rattle.span.specs.PlainMap.{empty_map};
 ghost use Rattle.arena_core.specs.Sound.{IsSound};
 ghost use Rattle.marks.specs.Numbers.{AreWithin, limits_of};
-ghost use Rattle.arena_core.specs.State.{HasKeys, live_keys, new_core, new_shard, pages, shown};
+ghost use Rattle.arena_core.specs.State.{HasKeys, live_keys, new_core, pages, shown};
 ghost use Rattle.arena_core.specs.Step.{Answers, CoreStep};
 ghost use Rattle.arena_core.specs.Plain.{ErasedStep};
 
@@ -79,8 +77,8 @@ impl Core<Kept> {
     /// `ring_capacity` keys of deferred frees; its room is made with its first key.
     ///
     /// [`CoreError::Config`] comes exactly where a number is out of its range, which is 1 to 64
-    /// shards, 1 to 1,048,576 pages, 1 to 1,024 entries, and from 1 generation on;
-    /// [`CoreError::OutOfMemory`] only where each number is within its range.
+    /// shards, 1 to 1,048,576 pages, 1 to 1,024 entries, and from 1 generation on. No other error
+    /// comes, since a new core takes no memory.
     pub fn new(
         alloc: Global,
         shards: u32,
@@ -90,8 +88,7 @@ impl Core<Kept> {
     ) -> Result<Core, CoreError>
         ensures config { IsErrOf result CoreError.Config
             ↔ (AreWithin (limits_of shards page_limit ring_capacity gens) → ⊥) }
-        ensures memory { IsErrOf result CoreError.OutOfMemory
-            → AreWithin (limits_of shards page_limit ring_capacity gens) }
+        ensures made { IsOk result ↔ AreWithin (limits_of shards page_limit ring_capacity gens) }
         ensures ok { IfOk result
             (λ core. core ≡ new_core (limits_of shards page_limit ring_capacity gens)) }
         ensures empty { IfOk result (λ core. shown core ≡ empty_map) }
@@ -113,8 +110,7 @@ impl<L: Log> Core<L> {
     ) -> Result<Core<L>, CoreError>
         ensures config { IsErrOf result CoreError.Config
             ↔ (AreWithin (limits_of shards page_limit ring_capacity gens) → ⊥) }
-        ensures memory { IsErrOf result CoreError.OutOfMemory
-            → AreWithin (limits_of shards page_limit ring_capacity gens) }
+        ensures made { IsOk result ↔ AreWithin (limits_of shards page_limit ring_capacity gens) }
         ensures ok { IfOk result
             (λ core. core ≡ new_core (limits_of shards page_limit ring_capacity gens)) }
         ensures empty { IfOk result (λ core. shown core ≡ empty_map) }
@@ -133,7 +129,7 @@ impl<L: Log> Core<L> {
     /// those of lower numbers with it.
     pub fn with_limits(alloc: Global, limits: Limits) -> Result<Core<L>, CoreError>
         ensures ok { IfOk result (λ core. core ≡ new_core limits) }
-        ensures only { IsOkUnless result CoreError.OutOfMemory }
+        ensures made { IsOk result }
         ensures empty { IfOk result (λ core. shown core ≡ empty_map) }
         ensures sound { IfOk result IsSound }
     {
