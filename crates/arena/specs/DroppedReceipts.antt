@@ -5,4 +5,4 @@ use Rattle.arena.specs.declared.receipts.Dropped.{Dropped}
 
 -- the receipts that it was told, the oldest first, which proofs alone carry along
 abbrev pub dropped_receipts : Dropped → List Receipt
-dropped_receipts dropped = dropped.unkept.receipts
+dropped_receipts dropped = dropped.receipts.items

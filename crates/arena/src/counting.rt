@@ -6,9 +6,9 @@ ghost use Rattle.arena.specs.Settled.{AreCounted, AreSameSeats, known_by, taking
 ghost use Rattle.remote_queue.specs.declared.ends.TheConstants.{MOST_KNOWN_KEYS};
 ghost use Rattle.span.specs.declared.limits.TheConstants.{MOST_SHARDS};
 
-use crate::ring_table::RingLists;
 use crate::seat::Seat;
 use remote_queue::Inbox;
+use span::GhostList;
 use std::alloc::{AllocError, Global};
 
 // How many keys are left in each of the rings into a shard, whose ends are given. These ends then
@@ -51,7 +51,7 @@ fn count_shard(alloc: Global, seats: &mut [Seat], shard: usize) -> Result<Vec<us
 {
     let mut counts = Vec::with_capacity(alloc, seats.len())?;
     let mut inboxes = Vec::new(alloc);
-    let mut columns = RingLists::none();
+    let mut columns = GhostList::new();
     seats[shard].swap_inboxes(&mut inboxes, &mut columns);
     count_rings(seats, shard, &mut inboxes, &mut counts);
     seats[shard].swap_inboxes(&mut inboxes, &mut columns);

@@ -102,7 +102,6 @@ mod settling;
 mod steward;
 mod tending;
 mod totals;
-mod unkept;
 mod unlocked;
 mod walk;
 mod word;

@@ -5,8 +5,7 @@ ghost use Rattle.span.specs.declared.receipt.Receipt.{Receipt};
 ghost use Rattle.arena.specs.Receipts.{IsFree};
 ghost use Rattle.arena.specs.DroppedReceipts.{dropped_receipts};
 
-use crate::unkept::Unkept;
-use span::{Receipt, ReceiptList};
+use span::{GhostList, Receipt, ReceiptList};
 use std::alloc::AllocError;
 
 /// Where the receipts of the keys go that are taken from rings, and freed: into a list, which keeps
@@ -58,7 +57,7 @@ impl Receipts for ReceiptList {
 /// carry the receipts along.
 #[derive(Drop)]
 pub struct Dropped {
-    unkept: Unkept,
+    receipts: GhostList<Receipt>,
 }
 
 impl Dropped {
@@ -67,7 +66,7 @@ impl Dropped {
         ensures { dropped_receipts result ≡ [] }
     {
         Dropped {
-            unkept: Unkept::new(),
+            receipts: GhostList::new(),
         }
     }
 }
@@ -84,6 +83,6 @@ impl Receipts for Dropped {
 
     #[inline(always)]
     fn tell(&mut self, receipt: Receipt) {
-        self.unkept = Unkept::with(&self.unkept, &receipt);
+        self.receipts = self.receipts.pushed(&receipt);
     }
 }

@@ -1,78 +1,32 @@
 // Which rings the seats of an arena send and take by, as contracts see it.
-ghost use Rattle.std.specs.Prelude.{◌≡◌, List, []};
-ghost use Rattle.std.specs.Borrow.{ftrue};
-ghost use Rattle.remote_queue.specs.Rings.{Ring, inbox_rings, outbox_rings};
+ghost use Rattle.std.specs.Prelude.{◌≡◌};
+ghost use Rattle.remote_queue.specs.Rings.{inbox_rings, outbox_rings};
 
-use remote_queue::Links;
+use remote_queue::{Inbox, Links, Outbox};
+use span::GhostList;
 use std::marker::Model;
 use std::mem::swap;
-
-// Lists of rings that only proofs read: it has no bytes, and its calls do nothing when they run.
-// Nothing ties them to memory; that ends are of rings of such a list is a fact of the type that has
-// both (`Seat`).
-#[derive(Drop)]
-pub struct RingLists {
-    pub(crate) ghost lists: { List (List Ring) },
-}
-
-impl Model for RingLists {
-    ghost also_owns = { λ _. ftrue };
-}
-
-// It owns nothing.
-unsafe impl Send for RingLists {}
-
-// It owns nothing.
-unsafe impl Sync for RingLists {}
-
-impl RingLists {
-    // No ring.
-    #[inline(always)]
-    pub(crate) fn none() -> RingLists
-        ensures { result.lists ≡ [] }
-    {
-        RingLists {}
-    }
-
-    // The same rings.
-    #[inline(always)]
-    pub(crate) fn again(&self) -> RingLists
-        ensures { result.lists ≡ self.now.lists }
-    {
-        RingLists {}
-    }
-
-    // The rings by worker.
-    #[inline(always)]
-    pub(crate) fn by_worker(links: &Links) -> RingLists
-        ensures { result.lists ≡ outbox_rings links.now.outboxes.items }
-    {
-        RingLists {}
-    }
-
-    // The rings by shard.
-    #[inline(always)]
-    pub(crate) fn by_shard(links: &Links) -> RingLists
-        ensures { result.lists ≡ inbox_rings links.now.inboxes.items }
-    {
-        RingLists {}
-    }
-}
 
 /// Which rings there are between the workers and the shards of an arena. Contracts alone see it: it
 /// has no bytes.
 #[derive(Drop)]
 pub struct RingTable {
-    rows: RingLists,
-    columns: RingLists,
+    // The ends by worker and by shard. That a seat's ends are of rings of these is a fact of the
+    // type that has both (`Seat`).
+    rows: GhostList<Vec<Outbox>>,
+    columns: GhostList<Vec<Inbox>>,
 }
 
 impl Model for RingTable {
+    ghost use Rattle.remote_queue.specs.Rings.{inbox_rings, outbox_rings};
     ghost use Rattle.arena.specs.Seats.{Table};
 
     ghost Value = { Table };
 
-    ghost view = { λ table. record { rows = table.rows.lists; columns = table.columns.lists } };
+    ghost view = { λ table. record {
+      rows = outbox_rings table.rows.items;
+      columns = inbox_rings table.columns.items;
+    } };
 }
 
 impl RingTable {
@@ -84,8 +38,8 @@ impl RingTable {
         } }
     {
         RingTable {
-            rows: RingLists::by_worker(links),
-            columns: RingLists::by_shard(links),
+            rows: GhostList::listed(&links.outboxes),
+            columns: GhostList::listed(&links.inboxes),
         }
     }
 
@@ -100,9 +54,10 @@ impl RingTable {
     }
 
     // Gives its rings by shard for others.
-    pub(crate) fn swap_columns(&mut self, columns: &mut RingLists)
-        ensures table { self.new ≡ record { rows = self.old.rows; columns = columns.old.lists } }
-        ensures columns { columns.new.lists ≡ self.old.columns }
+    pub(crate) fn swap_columns(&mut self, columns: &mut GhostList<Vec<Inbox>>)
+        ensures table { self.new
+            ≡ record { rows = self.old.rows; columns = inbox_rings columns.old.items } }
+        ensures columns { inbox_rings columns.new.items ≡ self.old.columns }
     {
         swap(&mut self.columns, columns);
     }

@@ -9,6 +9,7 @@ ghost use Rattle.arena.specs.Settled.{taken_with_known};
 ghost use Rattle.arena.specs.Tended.{AreLookedAt, IsTended};
 ghost use Rattle.arena.specs.Told.{LooksUp};
 ghost use Rattle.span.specs.Classes.{width_of};
+ghost use Rattle.remote_queue.specs.Rings.{inbox_rings};
 ghost use Rattle.arena.specs.declared.outboxes.TheConstants.{MOST_DELAY};
 ghost use Rattle.remote_queue.specs.declared.ends.TheConstants.{MOST_KNOWN_KEYS};
 ghost use Rattle.span.specs.declared.limits.TheConstants.{MOST_SHARDS};
@@ -20,7 +21,7 @@ use crate::key_calls::{Free, Get, Set};
 use crate::outboxes::{MOST_DELAY, count_call_on, finish_on, hand_over_waiting, leave_on};
 use crate::patience::{Patience, Waits};
 use crate::receipts::Receipts;
-use crate::ring_table::{RingLists, RingTable};
+use crate::ring_table::RingTable;
 use crate::sections::{Issued, Looked, Outcome};
 use crate::settling::{Frees, settle_rings};
 use crate::tending::{look_at_rings, tend_rings};
@@ -29,7 +30,7 @@ use marks::Limits;
 use pool::{AdoptError, ReceiveError};
 use remote_queue::{Inbox, Outbox};
 use shard::PutError;
-use span::{Class, Key, Log, Object, Receipt, SpanId};
+use span::{Class, GhostList, Key, Log, Object, Receipt, SpanId};
 use std::alloc::AllocError;
 use std::marker::Model;
 use std::mem::swap;
@@ -679,18 +680,22 @@ impl Seat {
     }
 
     // Gives its takers' ends for others, which are of its column of another table.
-    pub(crate) fn swap_inboxes(&mut self, inboxes: &mut Vec<Inbox>, columns: &mut RingLists)
+    pub(crate) fn swap_inboxes(
+        &mut self,
+        inboxes: &mut Vec<Inbox>,
+        columns: &mut GhostList<Vec<Inbox>>,
+    )
         requires few { vec_len inboxes.old ≤ MOST_SHARDS }
         requires column { map (λ inbox. inbox.ring) inboxes.old.items
-            ≡ slice_index_or columns.old.lists self.old.worker [] }
+            ≡ slice_index_or (inbox_rings columns.old.items) self.old.worker [] }
         ensures seat { self.new ≡ record self.old {
-          table = record { rows = self.old.table.rows; columns = columns.old.lists };
+          table = record { rows = self.old.table.rows; columns = inbox_rings columns.old.items };
           inboxes = inboxes.old.items;
         } }
         ensures inboxes { inboxes.new.items ≡ self.old.inboxes }
-        ensures columns { columns.new.lists ≡ self.old.table.columns }
+        ensures columns { inbox_rings columns.new.items ≡ self.old.table.columns }
         ensures column { map (λ inbox. inbox.ring) inboxes.new.items
-            ≡ slice_index_or columns.new.lists self.old.worker [] }
+            ≡ slice_index_or (inbox_rings columns.new.items) self.old.worker [] }
         ensures few { vec_len inboxes.new ≤ MOST_SHARDS }
     {
         swap(&mut self.inboxes, inboxes);

@@ -59,7 +59,7 @@ state_of-same c number before after read same =
       pool = c.pool;
       plan = c.plan;
       rings = c.rings;
-      forgotten = c.forgotten.spans;
+      forgotten = c.forgotten.items;
     }
 
 -- a shard and a pool that are as they were leave the fields as they were
@@ -73,7 +73,7 @@ state_of-both_same c number before after pool whereabouts read same pool_is =
       pool = pool_is i;
       plan = c.plan;
       rings = c.rings;
-      forgotten = c.forgotten.spans;
+      forgotten = c.forgotten.items;
     }
 
 pub IsStep-put_fields : {L : Type 0} (c : Inside L) (number : ℕ) (value : Value) (key : Key) (at : ℕ) (before after : ShardState) → IsSound (state_of c)

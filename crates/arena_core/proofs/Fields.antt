@@ -48,7 +48,7 @@ state_of-with_shard_at c number before after read = λ i. record {
   pool = c.pool;
   plan = c.plan;
   rings = c.rings;
-  forgotten = c.forgotten.spans;
+  forgotten = c.forgotten.items;
 }
 
 pub state_of-with_both_at : {L : Type 0} (c : Inside L) (number : ℕ) (before after : ShardState) (pool : PoolState) (whereabouts : WhereaboutsState) → IsRead c number before
@@ -59,11 +59,11 @@ state_of-with_both_at c number before after pool whereabouts read = λ i. record
   pool = pool;
   plan = c.plan;
   rings = c.rings;
-  forgotten = c.forgotten.spans;
+  forgotten = c.forgotten.items;
 }
 
 -- fields that show as they did
-pub state_of-unchanged : {L : Type 0} (c now : Inside L) → now.limits ≡ c.limits → now.plan ≡ c.plan → now.rings ≡ c.rings → now.forgotten.spans ≡ c.forgotten.spans
+pub state_of-unchanged : {L : Type 0} (c now : Inside L) → now.limits ≡ c.limits → now.plan ≡ c.plan → now.rings ≡ c.rings → now.forgotten.items ≡ c.forgotten.items
     → shards_of now ≡ shards_of c → now.pool ≡ c.pool → state_of now ≡ state_of c
 state_of-unchanged c now limits plan rings gone shards pool = λ i. record {
   limits = limits i;

@@ -183,7 +183,7 @@ IsKept-mapped c now kept limits whereabouts closed items sound =
 
 -- fields that show as they did
 pub IsKept-unchanged : {L : Type 0} (c now : Inside L) → IsKept c → now.limits ≡ c.limits → now.plan ≡ c.plan → now.whereabouts ≡ c.whereabouts
-    → now.rings ≡ c.rings → now.forgotten.spans ≡ c.forgotten.spans → shards_of now ≡ shards_of c → now.pool ≡ c.pool → IsKept now
+    → now.rings ≡ c.rings → now.forgotten.items ≡ c.forgotten.items → shards_of now ≡ shards_of c → now.pool ≡ c.pool → IsKept now
 IsKept-unchanged c now kept limits plan whereabouts rings gone shards pool =
     let same : state_of now ≡ state_of c = state_of-unchanged c now limits plan rings gone shards pool in
     record {

@@ -199,12 +199,12 @@ dead_owned-all c = completed-flat_map 0 c.limits.shards (new_shard_of c.limits) 
 -- the fields
 module _ {L : Type 0} (c now : Inside L) (kept : IsKept c) (limits : now.limits ≡ c.limits) (pool : now.pool ≡ without_dead_groups c.pool) (plan : now.plan ≡ c.plan)
     (keeps : KeepsStanding now.shards.items c.whereabouts.entries now.whereabouts.entries) (rings : now.rings ≡ c.rings)
-    (items : now.shards.items ≡ map without_dead_guests c.shards.items) (gone : now.forgotten.spans ≡ c.forgotten.spans ++ dead_spans c.shards.items c.pool) where
+    (items : now.shards.items ≡ map without_dead_guests c.shards.items) (gone : now.forgotten.items ≡ c.forgotten.items ++ dead_spans c.shards.items c.pool) where
   all_are : shards_of now ≡ map without_dead_guests (shards_of c)
   all_are = (λ i. all_shards (limits i) (items i)) ∙ completed-map 0 c.limits.shards (new_shard_of c.limits) without_dead_guests (λ k. refl) c.shards.items
 
-  gone_all : now.forgotten.spans ≡ c.forgotten.spans ++ dead_spans (shards_of c) c.pool
-  gone_all = gone ∙ ap (λ spans. c.forgotten.spans ++ (spans ++ gone_from c.pool.groups)) (sym (dead_owned-all c))
+  gone_all : now.forgotten.items ≡ c.forgotten.items ++ dead_spans (shards_of c) c.pool
+  gone_all = gone ∙ ap (λ spans. c.forgotten.items ++ (spans ++ gone_from c.pool.groups)) (sym (dead_owned-all c))
 
   pub state_of-forgotten : state_of now ≡ with_forgotten (state_of c)
   state_of-forgotten = λ i. record {

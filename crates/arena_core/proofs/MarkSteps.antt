@@ -164,7 +164,7 @@ module _ (old : CoreState) (sound : IsSound old) where
 -- the fields
 
 pub state_of-mapped : {L : Type 0} (c now : Inside L) (change : ShardState → ShardState) → ((number : ℕ) → change (new_shard_of c.limits number) ≡ new_shard_of c.limits number)
-    → now.limits ≡ c.limits → now.rings ≡ c.rings → now.forgotten.spans ≡ c.forgotten.spans → now.shards.items ≡ map change c.shards.items
+    → now.limits ≡ c.limits → now.rings ≡ c.rings → now.forgotten.items ≡ c.forgotten.items → now.shards.items ≡ map change c.shards.items
     → state_of now ≡ record (state_of c) { shards = map change (shards_of c); pool = now.pool; plan = now.plan }
 state_of-mapped c now change same limits rings gone items =
     let all : shards_of now ≡ map change (shards_of c) =
@@ -226,7 +226,7 @@ state_of-with_step_at c number after pool plan whereabouts within = λ i. record
   pool = pool;
   plan = plan;
   rings = c.rings;
-  forgotten = c.forgotten.spans;
+  forgotten = c.forgotten.items;
 }
 
 -- the shard of this number, which was made, has the span
@@ -264,5 +264,5 @@ state_of-refused c id number before after pool whereabouts there read same pool_
       pool = pool_is i;
       plan = c.plan;
       rings = c.rings;
-      forgotten = c.forgotten.spans;
+      forgotten = c.forgotten.items;
     }

@@ -19,7 +19,7 @@ state_of c = record {
   pool = c.pool;
   plan = c.plan;
   rings = c.rings;
-  forgotten = c.forgotten.spans;
+  forgotten = c.forgotten.items;
 }
 
 pub record IsKept {L : Type 0} (c : Inside L) : Type 0 where

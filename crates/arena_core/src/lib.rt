@@ -57,7 +57,6 @@
 
 mod error;
 mod event;
-mod forgotten;
 mod late_plan;
 mod machine;
 mod reply;

@@ -11,7 +11,6 @@ ghost use Rattle.arena_core.specs.Plain.{ErasedStep};
 
 use crate::error::CoreError;
 use crate::event::Event;
-use crate::forgotten::Forgotten;
 use crate::late_plan::LatePlan;
 use crate::reply::{Refusal, Reply};
 use crate::rings::Rings;
@@ -20,7 +19,7 @@ use marks::{Limits, Totals};
 use mesh_graph::{AtHand, Runner};
 use pool::Pool;
 use shard::Shard;
-use span::{Kept, Log, Object};
+use span::{Counted, GhostList, Kept, Log, Object, Span};
 use std::alloc::{AllocError, Global};
 use std::marker::Model;
 
@@ -51,7 +50,8 @@ pub struct Core<L: Log = Kept> {
     plan: LatePlan,
     whereabouts: Whereabouts,
     rings: Rings,
-    forgotten: Forgotten,
+    // Proofs alone read it: the spans that were forgotten, the earliest first.
+    forgotten: GhostList<Span<Counted>>,
 }
 
 impl<L: Log> Model for Core<L> {
@@ -142,7 +142,7 @@ impl<L: Log> Core<L> {
             plan: LatePlan::new(),
             whereabouts: Whereabouts::new(alloc),
             rings,
-            forgotten: Forgotten::new(),
+            forgotten: GhostList::new(),
         })
     }
 

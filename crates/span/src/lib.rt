@@ -54,7 +54,7 @@ mod blocks;
 mod change;
 mod class;
 mod entry;
-mod history;
+mod ghost_list;
 mod id;
 mod key;
 mod limits;

@@ -8,7 +8,7 @@ ghost use Rattle.span.specs.Stored.{AreBlocks, AreWithin, change_of, width_in, w
 use crate::blocks::{base_of, begin_block};
 use crate::change::Change;
 use crate::class::Class;
-use crate::history::History;
+use crate::ghost_list::GhostList;
 use crate::object::Object;
 use crate::stored::{BLOCK, Kind, Stored};
 use crate::view::ChangeView;
@@ -220,13 +220,13 @@ impl Log for Kept {
 /// A log that keeps the number of its changes alone: it never takes memory, and can't be read.
 #[derive(Drop)]
 pub struct Counted {
-    history: History,
+    history: GhostList<Change>,
     len: usize,
-    ghost counts: { len ≡ length history.changes },
+    ghost counts: { len ≡ length history.items },
 }
 
 impl Log for Counted {
-    ghost changes = { λ l. l.history.changes };
+    ghost changes = { λ l. l.history.items };
 
     // There is always room.
     ghost room = { λ l. 2 ^ 64 };
@@ -235,7 +235,7 @@ impl Log for Counted {
 
     fn new(_alloc: Global) -> Self {
         Counted {
-            history: History::new(),
+            history: GhostList::new(),
             len: 0,
         }
     }
@@ -253,7 +253,7 @@ impl Log for Counted {
             generation,
             value,
         };
-        self.history = History::with(&self.history, &change);
+        self.history = self.history.pushed(&change);
         self.len += 1;
     }
 
@@ -274,14 +274,14 @@ impl Log for Counted {
             generation,
             value,
         };
-        self.history = History::with(&self.history, &change);
+        self.history = self.history.pushed(&change);
         self.len += 1;
     }
 
     #[inline(always)]
     fn push_free(&mut self, slot: u8, generation: u32) {
         let change = Change::Free { slot, generation };
-        self.history = History::with(&self.history, &change);
+        self.history = self.history.pushed(&change);
         self.len += 1;
     }
 

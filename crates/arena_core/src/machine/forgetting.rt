@@ -7,10 +7,9 @@ ghost use Rattle.arena_core.specs.Step.{HasPlan};
 ghost use Rattle.span.specs.declared.limits.TheConstants.{ALL_IDS, MOST_SHARDS};
 
 use super::Core;
-use crate::forgotten::Forgotten;
 use crate::reply::Refusal;
 use shard::Shard;
-use span::Counted;
+use span::{Counted, GhostList};
 
 impl Core<Counted> {
     /// Forgets the spans that can never be live again, with their generations, and answers how
@@ -36,7 +35,9 @@ impl Core<Counted> {
         if self.plan.is_open() {
             return Err(Refusal::PlanOpen);
         }
-        self.forgotten = Forgotten::with(&self.forgotten, &self.shards, &self.pool);
+        self.forgotten = self
+            .forgotten
+            .appended(&GhostList::of(&self.shards, &self.pool));
         let owned = forget_guests(&mut self.shards);
         let pooled = self.pool.forget();
         self.whereabouts.forget(&self.shards);

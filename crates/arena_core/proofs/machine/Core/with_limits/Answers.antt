@@ -17,10 +17,10 @@ made : (g : _) (c : After-new-4 g)
       pool = c.with_log.result;
       plan = c.new-2.result;
       rings = c.new-rings.result;
-      forgotten = c.new-4.result.spans;
+      forgotten = c.new-4.result.items;
     })
     (new_core c.args.limits)
-made g c = new_core-fields c.args.limits c.new.result.items c.with_log.result c.new-2.result c.new-rings.result c.new-4.result.spans
+made g c = new_core-fields c.args.limits c.new.result.items c.with_log.result c.new-2.result c.new-rings.result c.new-4.result.items
     c.new.ensures.items c.with_log.ensures.empty c.new-2.ensures
     (c.new-rings.ensures ∙ (λ i. new_rings (c.shards.ensures.shards i) (c.ring_capacity.ensures.ring_capacity i)))
     c.new-4.ensures

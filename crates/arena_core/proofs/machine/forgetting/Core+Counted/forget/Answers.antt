@@ -1,4 +1,4 @@
-use Rattle.std.proofs.Common.{◌≡◌, ◌∙◌, None, ap, arith, length, refl, sym}
+use Rattle.std.proofs.Common.{◌≡◌, ◌∙◌, ◌++◌, None, ap, arith, length, refl, sym}
 use Rattle.std.proofs.lemmas.List.{length-append}
 use Rattle.std.proofs.option.Match.{None-if_not_some}
 use Rattle.span.specs.declared.log.Counted.{Counted}
@@ -18,7 +18,10 @@ forget_guests-owned-requires c =
 
 -- the fields then
 abbrev fields : goal.After-forget → Inside Counted
-fields c = record c.self.inside { shards = c.forget_guests-owned.new.shards; pool = c.forget-pooled.new.self; whereabouts = c.forget.new.self; forgotten = c.with-self-inside.result }
+fields c = record c.self.inside { shards = c.forget_guests-owned.new.shards; pool = c.forget-pooled.new.self; whereabouts = c.forget.new.self; forgotten = c.appended.result }
+
+gone : (c : goal.After-forget) → c.appended.result.items ≡ c.self.inside.forgotten.items ++ dead_spans c.self.inside.shards.items c.self.inside.pool
+gone c = c.appended.ensures ∙ ap (λ spans. c.self.inside.forgotten.items ++ spans) c.of.ensures
 
 none : (c : goal.After-forget) → c.self.inside.plan ≡ None
 none c = None-if_not_some c.self.inside.plan (sym c.is_open.ensures ∙ c.if-is_open.false)
@@ -28,11 +31,11 @@ keeps c = c.forget.ensures
 
 kept : (c : goal.After-forget) → IsKept (fields c)
 kept c = IsKept-forgotten c.self.inside (fields c) c.self.invariant refl c.forget-pooled.ensures.forgets.after refl
-    (keeps c) refl c.forget_guests-owned.ensures.items c.with-self-inside.ensures (none c)
+    (keeps c) refl c.forget_guests-owned.ensures.items (gone c) (none c)
 
 are : (c : goal.After-forget) → state_of (fields c) ≡ with_forgotten (state_of c.self.inside)
 are c = state_of-forgotten c.self.inside (fields c) c.self.invariant refl c.forget-pooled.ensures.forgets.after refl
-    (keeps c) refl c.forget_guests-owned.ensures.items c.with-self-inside.ensures
+    (keeps c) refl c.forget_guests-owned.ensures.items (gone c)
 
 pub invariant_of-self : goal.invariant_of-self
 invariant_of-self c = kept c
