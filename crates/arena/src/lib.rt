@@ -72,7 +72,6 @@
 //! ```
 #![tactic(auto)]
 
-mod about_key;
 mod adopting;
 mod arena;
 mod calling;

@@ -16,7 +16,6 @@ ghost use Rattle.pool.specs.Sound.{IsSound as IsSoundPool};
 ghost use Rattle.arena.specs.Receipts.{IsFreeBy, free_receipt, get_receipt, put_receipt, set_receipt};
 ghost use Rattle.arena.specs.Told.{LooksUp, WritesFound, changes_at, free_told, is_done, set_told};
 
-use crate::about_key::AboutKey;
 use crate::hints::Announced;
 use crate::nowhere::Nowhere;
 use crate::word::{Word, write_words};
@@ -25,6 +24,7 @@ use shard::{Found, Freed, Replaced, Shard};
 use span::{Call, Key, Log, Object, Receipt};
 use std::alloc::AllocError;
 use std::marker::Model;
+use std::snapshot::Snapshot;
 
 /// What a put answers that is not refused. In a clause it is the key, and how many changes stood in
 /// its span's log before.
@@ -89,7 +89,8 @@ impl Issued {
 /// live, and how many changes stand in its span's log.
 #[derive(Drop)]
 pub struct Looked {
-    about: AboutKey,
+    // The key that was asked, which only proofs read: no call copies it for that.
+    about: Snapshot<Key>,
     word_count: Option<usize>,
     at: usize,
 }
@@ -100,7 +101,7 @@ impl Model for Looked {
 
     ghost Value = { Key × Option ℕ × ℕ };
 
-    ghost view = { λ looked. (looked.about.key, looked.word_count, looked.at) };
+    ghost view = { λ looked. (looked.about.value, looked.word_count, looked.at) };
 }
 
 impl Looked {
@@ -113,7 +114,7 @@ impl Looked {
         // For the prover: the key's span is nowhere.
         let _ = nowhere;
         Looked {
-            about: AboutKey::new(key),
+            about: Snapshot::of(key),
             word_count: None,
             at: 0,
         }
@@ -174,7 +175,8 @@ fn first_words(count: usize, room: &[u128]) -> Object
 /// changes stood in its span's log before.
 #[derive(Drop)]
 pub struct Outcome {
-    about: AboutKey,
+    // The key that was asked, which only proofs read: no call copies it for that.
+    about: Snapshot<Key>,
     done: bool,
     at: usize,
 }
@@ -185,7 +187,7 @@ impl Model for Outcome {
 
     ghost Value = { Key × Bool × ℕ };
 
-    ghost view = { λ outcome. (outcome.about.key, outcome.done, outcome.at) };
+    ghost view = { λ outcome. (outcome.about.value, outcome.done, outcome.at) };
 }
 
 impl Outcome {
@@ -206,7 +208,7 @@ impl Outcome {
         ensures { result ≡ (key.now, done, at) }
     {
         Outcome {
-            about: AboutKey::new(key),
+            about: Snapshot::of(key),
             done,
             at,
         }
@@ -312,13 +314,13 @@ fn written<W: Word>(key: &Key, found: Found<'_>, room: &mut [W]) -> Option<Looke
                 write_words(room, words);
             }
             Some(Looked {
-                about: AboutKey::new(key),
+                about: Snapshot::of(key),
                 word_count: Some(words.len()),
                 at,
             })
         }
         Found::Gone(at) => Some(Looked {
-            about: AboutKey::new(key),
+            about: Snapshot::of(key),
             word_count: None,
             at,
         }),

@@ -1,7 +1,7 @@
 -- What the fields of a core keep, where a shard, the pool and the whereabouts change.
-use Rattle.std.proofs.Common.{◌≡◌, ◌≢◌, ℕ, Bool, Option, Some, Result, Ok, Err, IfOk, OnErr, true, false, cond, ap, arith, is_some, length, map, refl, set, slice_get, subst, sym, ◌∙◌}
+use Rattle.std.proofs.Common.{◌≡◌, ◌≢◌, ℕ, Bool, Option, Result, Ok, Err, IfOk, OnErr, true, false, cond, ap, is_some, map, refl, set, subst, sym, ◌∙◌}
 use Rattle.std.specs.declared.alloc.AllocError.{AllocError}
-use Rattle.std.proofs.lemmas.Option.{get_or_from_slice_get, slice_get_within}
+use Rattle.std.proofs.lemmas.Option.{slice_get_within}
 use Rattle.span.specs.declared.id.SpanId.{SpanId}
 use Rattle.span.specs.declared.key.Key.{Key}
 use Rattle.span.specs.Classes.{class_of}
@@ -39,13 +39,6 @@ use Rattle.arena_core.proofs.Trimmed.{IsCall-Trims}
 use Rattle.arena_core.proofs.OneSpan.{ChangesSpan-Frees, ChangesSpan-Sets}
 use Rattle.arena_core.proofs.Retired.{HasGone-Retires}
 use Rattle.arena_core.proofs.Start.{slice_get-range}
-
--- a shard that was made and stands at this number was read there
-pub read-at : {L : Type 0} (c : Inside L) (number : ℕ) (shard : ShardState) → slice_get c.shards.items number ≡ Some shard → IsRead c number shard
-read-at c number shard here = record {
-  within = omega (arith, slice_get_within c.shards.items number shard here, c.shards.ok.0);
-  value = sym (get_or_from_slice_get c.shards.items number shard shard here);
-}
 
 -- the shard gets no span that it did not open
 abbrev pub GetsNone : ℕ → ShardState → ShardState → Type 0

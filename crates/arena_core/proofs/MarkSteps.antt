@@ -1,6 +1,6 @@
 -- What a mark and a close leave: a sound core, which shows the same map.
 use Rattle.std.proofs.Common.{◌≡◌, ℕ, ◌<◌, ◌≤◌, ◌&&◌, is_some, Bool, true, false, refl, sym, ap, subst, ◌∙◌, arith, Option, Some, None, slice_get, set, length, map, get_or}
-use Rattle.std.proofs.lemmas.Option.{get_or_from_slice_get, slice_get_within}
+use Rattle.std.proofs.lemmas.Option.{slice_get_within}
 use Rattle.std.specs.Prelude.{option_map}
 use Rattle.std.proofs.lemmas.Bool.{true≢false}
 use Rattle.std.specs.Vec.{with_item}
@@ -187,13 +187,6 @@ next-IsNext core pair e = by_plan core.plan refl e
     by_plan (Some plan) is some = (plan, record { plan_is = is; pair_is = some })
 
 -- the group of the next pair's owned head
-
--- the shard of this number has the span
-pub shard-named : (core : CoreState) (id : SpanId) (number : ℕ) (shard : ShardState) → StandsIn core.shards id number → shard ≡ get_or core.shards number shard
-    → (slice_get core.shards number ≡ Some shard) × (has_span id shard ≡ true)
-shard-named core id number shard (other, here, has) read =
-    let same : other ≡ shard = sym (get_or_from_slice_get core.shards number other shard here) ∙ sym read in
-    subst (λ s. (slice_get core.shards number ≡ Some s) × (has_span id s ≡ true)) same (here, has)
 
 -- it is below the most that there may be
 pub number-named : (core : CoreState) (id : SpanId) (number : ℕ) → HasSoundGroups core → StandsIn core.shards id number → number < MOST_SHARDS

@@ -1,10 +1,9 @@
 -- An end and an adoption as steps of the core, and their refusals.
-use Rattle.std.proofs.Common.{◌≡◌, ◌≢◌, ℕ, zero, suc, ◌<◌, ◌≤◌, ◌⊎◌, inl, inr, true, false, cond, ◌||◌, List, [], ◌∷◌, length, refl, sym, ap, subst, ◌∙◌, arith, Option, Some, None, slice_get, is_some}
+use Rattle.std.proofs.Common.{◌≡◌, ◌≢◌, ℕ, zero, suc, ◌<◌, ◌⊎◌, inl, inr, true, false, cond, ◌||◌, List, [], ◌∷◌, length, refl, sym, ap, subst, ◌∙◌, arith, Option, Some, None, slice_get, is_some}
 use Rattle.std.specs.Prelude.{◌↔◌, filter}
 use Rattle.std.specs.List.{list_any}
 use Rattle.std.proofs.Math.Bool.{or-true}
 use Rattle.std.proofs.lemmas.Bool.{cases_eq, false_from_ne_true}
-use Rattle.std.proofs.lemmas.Option.{slice_get_past}
 use Rattle.std.proofs.option.Match.{None-if_not_some}
 use Rattle.span.specs.declared.id.SpanId.{SpanId}
 use Rattle.shard.specs.Group.{GroupState}
@@ -24,7 +23,7 @@ use Rattle.arena_core.specs.declared.reply.Refusal.{Refusal}
 use Rattle.arena_core.specs.declared.reply.Refusal.TheVariants as refusal
 use Rattle.arena_core.specs.declared.reply.Reply.TheVariants as reply
 use Rattle.arena_core.specs.Refusals.{refusal_of_adoption, refusal_of_end}
-use Rattle.arena_core.specs.Sound.{HasSoundGroups, IsSound}
+use Rattle.arena_core.specs.Sound.{HasSoundGroups}
 use Rattle.marks.specs.Plans.{AreClosedAsPlanned, OpenPlan}
 use Rattle.arena_core.specs.State.{CoreState, with_pool, with_shard}
 use Rattle.arena_core.specs.Step.{CoreStep, HasClosed, MayTake}
@@ -185,14 +184,6 @@ CoreStep-adopt_refused old number shard adopt_error.NothingToAdopt cause told si
 -- a shard that adopts has not ended
 pub running-adopted : (shard : ShardState) → (shard.page_limit ≡ length shard.groups → ⊥) → ((shard.page_limit ≢ length shard.groups) × (shard.ended ≡ true) → ⊥) → shard.ended ≡ false
 running-adopted shard room ended = false_from_ne_true shard.ended (λ e. ended (room, e))
-
--- no shard of this number stands in the way
-pub may_take-nowhere : (core : CoreState) (number : ℕ) → length core.shards ≤ number → MayTake core number
-may_take-nowhere core number past shard here = absurd (let none : None ≡ Some shard = sym (slice_get_past core.shards number past) ∙ here in cc)
-
--- a number past the core's limit is past its shards
-pub past_last : (core : CoreState) (number : ℕ) → IsSound core → core.limits.shards ≤ number → length core.shards ≤ number
-past_last core number sound past = omega (arith, sound.groups.count)
 
 -- no group has a page, where that many have one
 

@@ -12,7 +12,7 @@ use Rattle.span.specs.declared.limits.TheConstants.{ALL_IDS}
 use Rattle.span.specs.Ids.{rank}
 use Rattle.span.specs.Log.{Value}
 use Rattle.span.specs.FirstLive.{HasNoneBetween, IsFirstLive}
-use Rattle.span.specs.Order.{HasNoneBeyond, HasNoneFrom, IsAfter, IsFirstFrom, IsNextLive}
+use Rattle.span.specs.Order.{HasNoneFrom, IsFirstFrom}
 use Rattle.span.specs.PlainMap.{PlainMap}
 use Rattle.shard.specs.Shown.{shown as shown_by}
 use Rattle.shard.specs.State.{ShardState}
@@ -41,45 +41,8 @@ none-unless (Some value) never = absurd (never refl)
 module _ (map : PlainMap) where
   -- what comes next, at the beginning and after a key
 
-  pub next-first : (o : Option Key) → MatchOption o (HasNoneBetween map 0 ALL_IDS) (IsFirstLive map 0) → MatchOption o (HasNoneBeyond map None) (IsNextLive map None)
-  next-first None none = λ key beyond. none key (omega arith) (omega (arith, key.span.shard_in_range, key.span.serial_in_range))
-  next-first (Some key) first = record { live = first.live; beyond = tt; first = λ other beyond some. first.first other (omega arith) some }
-
   module _ (after : Key) where
-    pub IsNextLive-span : (key : Key) → IsFirstFrom map after.span (after.slot + 1) key → IsNextLive map (Some after) key
-    IsNextLive-span key its = record {
-      live = its.live;
-      beyond = inr (its.span_is, omega (arith, its.not_below));
-      first = λ other beyond some. by_place other beyond some;
-    }
-      where
-        by_place : (other : Key) → IsAfter after other → has_value map other ≡ true → (other ≡ key) ⊎ IsAfter key other
-        by_place other (inl later) some = inr (inl (omega (arith, later, ap rank its.span_is)))
-        by_place other (inr (same, above)) some = elim (its.first other same (omega (arith, above)) some) [
-          | inl equal ↦ inl equal
-          | inr later ↦ inr (inr (same ∙ sym its.span_is, later))
-        ]
-
     module _ (none : HasNoneFrom map after.span (after.slot + 1)) where
-      pub IsNextLive-later : (key : Key) → IsFirstLive map (rank after.span + 1) key → IsNextLive map (Some after) key
-      IsNextLive-later key first = record {
-        live = first.live;
-        beyond = inl (omega (arith, first.not_below));
-        first = λ other beyond some. by_place other beyond some;
-      }
-        where
-          by_place : (other : Key) → IsAfter after other → has_value map other ≡ true → (other ≡ key) ⊎ IsAfter key other
-          by_place other (inl later) some = first.first other (omega (arith, later)) some
-          by_place other (inr (same, above)) some = absurd (has-none map other some (none other same (omega (arith, above))))
-
-      pub next-later : (o : Option Key) → MatchOption o (HasNoneBetween map (rank after.span + 1) ALL_IDS) (IsFirstLive map (rank after.span + 1))
-          → MatchOption o (HasNoneBeyond map (Some after)) (IsNextLive map (Some after))
-      next-later None rest = λ key beyond. by_place key beyond
-        where
-          by_place : (key : Key) → IsAfter after key → map.value_of key ≡ None
-          by_place key (inl later) = rest key (omega (arith, later)) (omega (arith, key.span.shard_in_range, key.span.serial_in_range))
-          by_place key (inr (same, above)) = none key same (omega (arith, above))
-      next-later (Some key) first = IsNextLive-later key first
 
 -- maps that show the same of a span have the same key there
 pub IsFirstFrom-same : (a b : PlainMap) (id : SpanId) (slot : ℕ) (key : Key) → ((other : Key) → other.span ≡ id → b.value_of other ≡ a.value_of other)

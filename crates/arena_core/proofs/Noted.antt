@@ -136,10 +136,6 @@ module _ (groups : List GroupState) (ascend : Ascend groups) (head : SpanId) whe
           let one : its ≡ group = same_group groups ascend head other index its group there here in
           omega (arith, told.spans_is, ap (λ (g : GroupState). length (spans_of g)) one, slice_get_within (spans_of its) place span at)
 
-  pub span_count-brief : (brief : Brief) → IsBriefHere groups head brief → (index : ℕ) (group : GroupState) → IsHeadOf groups head index group → brief.spans ≡ length (spans_of group)
-  span_count-brief brief (other, its, there, told) index group here =
-      told.spans_is ∙ ap (λ (g : GroupState). length (spans_of g)) (same_group groups ascend head other index its group there here)
-
 pub Notes-nowhere : (entries : Entries) (groups : List GroupState) (head : SpanId) (first number : ℕ) → HasNoHead groups head → Notes entries entries groups head first number
 Notes-nowhere entries groups head first number none = record {
   noted = λ place id from member. let (index, group, here, its) = member in absurd (none index group here);

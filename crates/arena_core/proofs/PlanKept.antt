@@ -193,14 +193,10 @@ guests-with_span group (suc place) span now here same id other (guest, there, is
     let (after, at_now, id_is) = after-set (λ (a b : SpanState). b.id ≡ a.id) (λ s. refl) group.guests place span now here same other guest there in
     (after, at_now, id_is ∙ is)
 
-class-with_span : (group : GroupState) (place : ℕ) (span now : SpanState) → slice_get (spans_of group) place ≡ Some span → now.class ≡ span.class
-    → (with_span group place now).head.class ≡ group.head.class
-class-with_span group zero span now here same = let is : group.head ≡ span = same_some here in same ∙ ap (λ (s : SpanState). s.class) (sym is)
-class-with_span group (suc place) span now here same = refl
-
-head-with_span : (group : GroupState) (place : ℕ) (span now : SpanState) → slice_get (spans_of group) place ≡ Some span → now.id ≡ span.id → (with_span group place now).head.id ≡ group.head.id
-head-with_span group zero span now here same = let is : group.head ≡ span = same_some here in same ∙ ap (λ (s : SpanState). s.id) (sym is)
-head-with_span group (suc place) span now here same = refl
+part-with_span : {T : Type 0} (part : SpanState → T) (group : GroupState) (place : ℕ) (span now : SpanState) → slice_get (spans_of group) place ≡ Some span → part now ≡ part span
+    → part (with_span group place now).head ≡ part group.head
+part-with_span part group zero span now here same = let is : group.head ≡ span = same_some here in same ∙ ap part (sym is)
+part-with_span part group (suc place) span now here same = refl
 
 closed-with_span : (group : GroupState) (place : ℕ) (now : SpanState) → (with_span group place now).closed ≡ group.closed
 closed-with_span group zero now = refl
@@ -208,8 +204,8 @@ closed-with_span group (suc place) now = refl
 
 pub IsFewer-with_span : (group : GroupState) (place : ℕ) (span now : SpanState) → slice_get (spans_of group) place ≡ Some span → IsSame span now → IsFewer group (with_span group place now)
 IsFewer-with_span group place span now here same = record {
-  head_is = head-with_span group place span now here same.id_is;
-  class_is = class-with_span group place span now here same.class_is;
+  head_is = part-with_span (λ (s : SpanState). s.id) group place span now here same.id_is;
+  class_is = part-with_span (λ (s : SpanState). s.class) group place span now here same.class_is;
   slots = λ slot live. union_of-fewer (spans_of group) place span now here same.slots slot (ap (λ spans. contains (union_of spans) slot) (sym (spans_of-with_span group place now)) ∙ live);
   guests = guests-with_span group place span now here same.id_is;
   closed_is = closed-with_span group place now;
@@ -230,21 +226,13 @@ KeepsClosed-ChangesSpan before after changes other there at_other closed =
 
 -- the pool
 
-pooled_head : (now group : PooledState) (place : ℕ) (span after : SpanState) → slice_get (spans_of group) place ≡ Some span → after.id ≡ span.id
-    → spans_of now ≡ set (spans_of group) place after → now.head.id ≡ group.head.id
-pooled_head now group zero span after here same is =
+pooled_part : {T : Type 0} (part : SpanState → T) (now group : PooledState) (place : ℕ) (span after : SpanState) → slice_get (spans_of group) place ≡ Some span → part after ≡ part span
+    → spans_of now ≡ set (spans_of group) place after → part now.head ≡ part group.head
+pooled_part part now group zero span after here same is =
     let first : group.head ≡ span = same_some here in
     let head : now.head ≡ after = same_some (ap (λ spans. slice_get spans 0) is) in
-    ap (λ (s : SpanState). s.id) head ∙ same ∙ ap (λ (s : SpanState). s.id) (sym first)
-pooled_head now group (suc place) span after here same is = let head : now.head ≡ group.head = same_some (ap (λ spans. slice_get spans 0) is) in ap (λ (s : SpanState). s.id) head
-
-pooled_class : (now group : PooledState) (place : ℕ) (span after : SpanState) → slice_get (spans_of group) place ≡ Some span → after.class ≡ span.class
-    → spans_of now ≡ set (spans_of group) place after → now.head.class ≡ group.head.class
-pooled_class now group zero span after here same is =
-    let first : group.head ≡ span = same_some here in
-    let head : now.head ≡ after = same_some (ap (λ spans. slice_get spans 0) is) in
-    ap (λ (s : SpanState). s.class) head ∙ same ∙ ap (λ (s : SpanState). s.class) (sym first)
-pooled_class now group (suc place) span after here same is = let head : now.head ≡ group.head = same_some (ap (λ spans. slice_get spans 0) is) in ap (λ (s : SpanState). s.class) head
+    ap part head ∙ same ∙ ap part (sym first)
+pooled_part part now group (suc place) span after here same is = let head : now.head ≡ group.head = same_some (ap (λ spans. slice_get spans 0) is) in ap part head
 
 pub KeepsPooled-ChangesPooled : (before after : PoolState) → ChangesPooled before after → KeepsPooled before.groups after.groups
 KeepsPooled-ChangesPooled before after changes other there at_other = by_place (cases_eq other changes.index)
@@ -257,8 +245,8 @@ KeepsPooled-ChangesPooled before after changes other there at_other = by_place (
           changes.index,
           changes.group_now,
           ap (λ gs. slice_get gs changes.index) changes.groups_are ∙ slice_get-set_same before.groups changes.index changes.group changes.group_now changes.group_is,
-          pooled_head changes.group_now changes.group changes.place changes.span changes.now changes.span_is changes.same.id_is changes.spans_are ∙ ap (λ (g : PooledState). g.head.id) is,
-          pooled_class changes.group_now changes.group changes.place changes.span changes.now changes.span_is changes.same.class_is changes.spans_are ∙ ap (λ (g : PooledState). g.head.class) is,
+          pooled_part (λ (s : SpanState). s.id) changes.group_now changes.group changes.place changes.span changes.now changes.span_is changes.same.id_is changes.spans_are ∙ ap (λ (g : PooledState). g.head.id) is,
+          pooled_part (λ (s : SpanState). s.class) changes.group_now changes.group changes.place changes.span changes.now changes.span_is changes.same.class_is changes.spans_are ∙ ap (λ (g : PooledState). g.head.class) is,
           (λ slot live. ap (λ (g : PooledState). contains (union_of (spans_of g)) slot) (sym is)
               ∙ union_of-fewer (spans_of changes.group) changes.place changes.span changes.now changes.span_is changes.same.slots slot
               (ap (λ spans. contains (union_of spans) slot) (sym changes.spans_are) ∙ live)),

@@ -46,7 +46,7 @@ use Rattle.arena_core.proofs.Retired.{HasGone-Retires}
 use Rattle.arena_core.proofs.Trimmed.{AreClosedAsPlanned-Trims, IsStep-Trims, KeepsClosed-Trims}
 use Rattle.shard.specs.Trims.{Trims}
 use Rattle.arena_core.proofs.Spans.{times-parts, times_in-found, times_in-le}
-use Rattle.arena_core.proofs.Steps.{IsStep, IsStep-Frees, IsStep-FreesPooled, IsStep-Puts, IsStep-Sets, IsStep-SetsPooled, IsStep-dead, IsStep-unset, has_span-here, with_pool-same, with_shard-same}
+use Rattle.arena_core.proofs.Steps.{IsStep, IsStep-Frees, IsStep-FreesPooled, IsStep-Puts, IsStep-Sets, IsStep-SetsPooled, has_span-here, with_pool-same, with_shard-same}
 
 -- what the core keeps, its own step, and that of the plain map, if the plain map knows the event
 pub record IsSoundStep (old : CoreState) (event : Event) (answer : Reply) (new : CoreState) : Type 0 where
@@ -226,10 +226,6 @@ IsSoundStep-Puts old number value key at before after sound here puts fresh plai
     (IsStep-Puts old number value key at before after sound.groups here puts fresh plain sound_after)
     (HasSoundPlan-Puts old sound number value key at before after here puts) sound.rings
 
--- a key that is not live, or whose object has another class, is not set
-pub IsSoundStep-unset : (old : CoreState) (key : Key) (value : Value) → IsSound old → may_set (shown old) key value ≡ false → IsSoundStep old (Set key value) (reply.Replaced false) old
-IsSoundStep-unset old key value sound never = with_plan_kept old (Set key value) (reply.Replaced false) old (IsStep-unset old key value sound.groups never) sound.plan sound.rings
-
 -- a set that is refused
 pub IsSoundStep-set_refused : (old : CoreState) (key : Key) (value : Value) → IsSound old → may_set (shown old) key value ≡ true → IsSoundStep old (Set key value) (reply.Refused OutOfMemory) old
 IsSoundStep-set_refused old key value sound may = record { kept = sound; exact = (may, refl); plain = (may, refl) }
@@ -266,10 +262,6 @@ IsSoundStep-SetsPooled old key value pool answer sound pooled sets found plain s
     by_answer (replaced.Yes at) s = HasSoundPlan-ChangesPooled old sound pool (ChangesPooled-Sets old.pool pool key value at sound.groups.pool s)
     by_answer (replaced.No at) (index, place, group, span, there, unfit, at_is, is) = same is
     by_answer replaced.NotHere (elsewhere, is) = same is
-
--- a key that is not live is not freed
-pub IsSoundStep-dead : (old : CoreState) (key : Key) → IsSound old → (shown old).value_of key ≡ None → IsSoundStep old (Free key) (reply.Freed false) old
-IsSoundStep-dead old key sound none = with_plan_kept old (Free key) (reply.Freed false) old (IsStep-dead old key sound.groups none) sound.plan sound.rings
 
 pub IsSoundStep-Frees : (old : CoreState) (key : Key) (number : ℕ) (before after : ShardState) (answer : Freed) → IsSound old
     → slice_get old.shards number ≡ Some before → has_span key.span before ≡ true → Frees before key answer after

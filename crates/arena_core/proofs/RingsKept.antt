@@ -102,9 +102,6 @@ module _ (rings : List (List RingState)) (worker shard : ℕ) (ring now : RingSt
           (ap (λ o. ring_in o other_worker) (slice_get-set_other rings shard other_shard (set row worker now) differ)
           ∙ by_other (other_worker == worker) (ring_at rings other_worker other_shard))
 
-  pub pending_at-here : pending_at rings worker shard ≡ ring.keys
-  pending_at-here = ap keys_of here
-
   pub pending_at-with : (other_worker other_shard : ℕ)
       → pending_at (with_ring_at rings worker shard now) other_worker other_shard
       ≡ cond ((other_worker == worker) && (other_shard == shard)) now.keys (pending_at rings other_worker other_shard)

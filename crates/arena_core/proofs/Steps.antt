@@ -36,12 +36,12 @@ use Rattle.arena_core.specs.Refusals.{refusal_of}
 use Rattle.arena_core.specs.Sound.{HasSoundGroups}
 use Rattle.arena_core.specs.State.{CoreState, has_span, opened_by, opened_of, shown, shown_at, with_pool, with_shard}
 use Rattle.arena_core.specs.Step.{CoreStep}
-use Rattle.arena_core.proofs.Changes.{HasSoundGroups-with_pool, HasSoundGroups-with_shard, at_most_once, indicator, opened-somewhere, past-indicator}
+use Rattle.arena_core.proofs.Changes.{HasSoundGroups-with_pool, HasSoundGroups-with_shard, at_most_once, opened-somewhere}
 use Rattle.arena_core.proofs.Groups.{IsCall-ChangesSpan, IsCall-Puts, IsPoolCall-ChangesPooled}
 use Rattle.arena_core.proofs.OneSpan.{ChangesPooled-Frees, ChangesPooled-Sets, ChangesSpan-Frees, ChangesSpan-Sets}
-use Rattle.arena_core.proofs.Owners.{value-missed, value-unpooled}
+use Rattle.arena_core.proofs.Owners.{value-missed}
 use Rattle.arena_core.proofs.Shown.{IsLocal-pool, IsLocal-shard, fresh-put, has_pooled, has_pooled-counted, shown-free, shown-put, shown-set, value-before}
-use Rattle.arena_core.proofs.Spans.{has_span-counted, shard_with-here, shard_with-nowhere, times, times-parts, times_in, times_in-found, times_in-le, times_in-missed, times_owned, times_pooled}
+use Rattle.arena_core.proofs.Spans.{has_span-counted, shard_with-here, times-parts, times_in, times_in-found, times_in-le, times_in-missed, times_owned, times_pooled}
 
 -- what the core keeps, its own step, and that of the plain map, if the plain map knows the event
 pub record IsStep (old : CoreState) (event : Event) (answer : Reply) (new : CoreState) : Type 0 where
@@ -86,13 +86,6 @@ module _ (core : CoreState) (sound : HasSoundGroups core) where
   pub value-shard : (key : Key) (number : ℕ) (shard : ShardState) → slice_get core.shards number ≡ Some shard → has_span key.span shard ≡ true
       → (shown core).value_of key ≡ (shown_by shard).value_of key
   value-shard key number shard here has = ap (λ o. (shown_at core.pool o).value_of key) (shard_with-here key.span core.shards number shard here has (owned-once key.span))
-
-  -- a span of a shard that the core does not have was never opened
-  pub value-no_home : (key : Key) → slice_get core.shards key.span.shard ≡ None → (shown core).value_of key ≡ None
-  value-no_home key none =
-      let unopened : times key.span core ≡ 0 = sound.once key.span ∙ ap (λ o. indicator key.span.serial (opened_of o)) none ∙ past-indicator key.span.serial 0 (omega arith) in
-      ap (λ o. (shown_at core.pool o).value_of key) (shard_with-nowhere key.span core.shards (omega (arith, times-parts key.span core)))
-      ∙ value-unpooled core.pool key (omega (arith, times-parts key.span core))
 
   -- no span that moves stands twice
 

@@ -3,9 +3,9 @@ use Rattle.std.proofs.Common.{zero, suc, ◌≡◌, ℕ, ◌+◌, ◌*◌, ◌<�
 use Rattle.std.specs.Int.{sum_through}
 use Rattle.std.proofs.lemmas.Bool.{cases_eq}
 use Rattle.span.specs.declared.change.Change.{Change}
-use Rattle.span.specs.declared.change.Change.TheVariants.{Put, Set, Free}
+use Rattle.span.specs.declared.change.Change.TheVariants.{Put, Free}
 use Rattle.span.specs.Log.{Value, puts_of, all_puts, IsLegal}
-use Rattle.span.proofs.Changes.{puts_of-put_same, puts_of-put_other, puts_of-set, puts_of-free}
+use Rattle.span.proofs.Changes.{puts_of-put_same, puts_of-put_other, puts_of-free}
 use Rattle.span.proofs.LegalLogs.{puts_of-empty, puts_of-le}
 use Rattle.bitmap.specs.declared.bits.TheConstants.{SLOTS}
 
@@ -43,11 +43,6 @@ all_puts-put log slot generation value within =
     sum_through-more (λ q. puts_of q log) (λ q. puts_of q (log ++ Put slot generation value ∷ [])) 255 slot (omega (arith, within))
     (puts_of-put_same log slot generation value)
     (λ q other. puts_of-put_other log slot generation value q (λ e. other (sym e)))
-
-pub all_puts-set : (log : List Change) (slot generation : ℕ) (value : Value) → all_puts (log ++ Set slot generation value ∷ []) ≡ all_puts log
-unfolding all_puts
-all_puts-set log slot generation value =
-    sum_through-same (λ q. puts_of q log) (λ q. puts_of q (log ++ Set slot generation value ∷ [])) 255 (λ q small. puts_of-set log slot generation value q)
 
 pub all_puts-free : (log : List Change) (slot generation : ℕ) → all_puts (log ++ Free slot generation ∷ []) ≡ all_puts log
 unfolding all_puts

@@ -1,4 +1,4 @@
-use Rattle.std.proofs.Common.{◌∙◌, [], None, arith, vec_items}
+use Rattle.std.proofs.Common.{◌∙◌, arith, vec_items}
 use Rattle.arena.proofs.Ended.{all_settled}
 use Rattle.arena.proofs.Linking.{AreLinked-same, still_in_order}
 use Rattle.arena.proofs.SeatRings.{AreLinked-seats, AreSeatsOf-same}
@@ -30,15 +30,7 @@ pub returns-clause-settled : goal.returns-clause-settled
 returns-clause-settled g c =
     all_settled g.K.Receipts.told vec_items c.args.seats.now c.make_room.new.seats c.greatest-section.result c.in_ok-counts.counts.items c.args.receipts.now
     c.make_room.new.receipts c.settle_seats.new.receipts
-    (record {
-      worker = 0;
-      section = 0;
-      limits = c.args.self.now.limits;
-      table = c.args.self.now.table;
-      delay = None;
-      outboxes = [];
-      inboxes = [];
-    }) c.greatest-section.ensures c.make_room.ensures.same c.make_room.ensures.told c.requires.lists c.in_ok-counts.ensures.counted
+    c.args.self.now.limits c.args.self.now.table c.greatest-section.ensures c.make_room.ensures.same c.make_room.ensures.told c.requires.lists c.in_ok-counts.ensures.counted
     c.settle_seats.ensures.freed
 
 pub returns-clause-emptied : goal.returns-clause-emptied
