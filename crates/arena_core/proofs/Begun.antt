@@ -21,10 +21,7 @@ use Rattle.shard.specs.Shown.{shown as shown_by}
 
 IsCall-begun : (shard : ShardState) → IsCall shard (begun shard)
 IsCall-begun shard = record {
-  number_is = refl;
-  page_limit_is = refl;
-  span_limit_is = refl;
-  gens_is = refl;
+  numbers_are = refl;
   opened_more = omega arith;
   spans = λ id. refl;
   strays_are = refl;

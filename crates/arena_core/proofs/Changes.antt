@@ -1,5 +1,5 @@
 -- What a change of one shard, of the pool or of both does to the soundness of the core.
-use Rattle.std.proofs.Common.{◌≡◌, ◌≢◌, ℕ, ◌<◌, ◌≤◌, true, false, cond, eqb, ltb, ◌⊎◌, inl, inr, refl, sym, ap, subst, ◌∙◌, arith, Some, slice_get, eq-eqb}
+use Rattle.std.proofs.Common.{◌≡◌, ◌≢◌, Bool, List, Option, ℕ, ◌<◌, ◌≤◌, true, false, cond, eqb, ltb, ◌⊎◌, inl, inr, refl, sym, ap, subst, ◌∙◌, arith, Some, slice_get, eq-eqb}
 use Rattle.std.proofs.Math.ListN.{length-set}
 use Rattle.std.proofs.lemmas.Bool.{cases_eq, cases_lt, ne_eqb}
 use Rattle.std.proofs.lemmas.Bool.Decides.{nat_tests}
@@ -9,9 +9,12 @@ use Rattle.shard.specs.Sound.{IsSound as IsSoundShard}
 use Rattle.shard.specs.State.{ShardState}
 use Rattle.pool.specs.Sound.{IsSound as IsSoundPool}
 use Rattle.pool.specs.State.{PoolState}
+use Rattle.marks.specs.Plans.{OpenPlan}
+use Rattle.marks.specs.Seen.{with_plan_told}
+use Rattle.arena_core.specs.Rings.{RingState}
 use Rattle.arena_core.specs.Sound.{HasSoundGroups, IsSoundAt}
 use Rattle.arena_core.specs.State.{CoreState, all_spans, opened_by, opened_of, with_pool, with_shard}
-use Rattle.arena_core.proofs.Groups.{IsCall, IsMove, IsPoolCall, own, strays, strays-each, strays-none}
+use Rattle.arena_core.proofs.Groups.{IsCall, IsMove, IsPoolCall, IsSoundAt-same, own, same_number, strays, strays-each, strays-none}
 use Rattle.arena_core.proofs.Lists.{cond-le_one, each-set}
 use Rattle.marks.proofs.Lists.{slice_get-set_other, slice_get-set_same}
 use Rattle.arena_core.proofs.Spans.{named, sum_all, sum_all-with_pool, sum_all-with_shard, sum_in, times}
@@ -37,6 +40,19 @@ opened-somewhere core sound id some = by_order (cases_lt id.serial (opened_by co
 pub no_strays : (core : CoreState) → HasSoundGroups core → sum_all (strays core.limits.gens) core ≡ 0
 no_strays core sound = strays-none core.limits.gens (all_spans core) sound.gens
 
+-- whether the groups are sound does not depend on the plan and the rings
+pub HasSoundGroups-retold : (core : CoreState) (told : Bool) (plan : Option OpenPlan) (rings : List (List RingState)) → HasSoundGroups core
+    → HasSoundGroups (record core { pool = with_plan_told core.pool told; plan = plan; rings = rings })
+HasSoundGroups-retold core told plan rings sound = record {
+  within = sound.within;
+  count = sound.count;
+  shards = sound.shards;
+  pool = record { ascending = sound.pool.ascending; groups = sound.pool.groups; in_use = sound.pool.in_use; once = sound.pool.once };
+  gens = sound.gens;
+  once = sound.once;
+  forgotten = sound.forgotten;
+}
+
 -- one shard changes
 
 module _ (old : CoreState) (sound : HasSoundGroups old) (number : ℕ) (before after : ShardState) (here : slice_get old.shards number ≡ Some before) (call : IsCall before after) where
@@ -49,13 +65,13 @@ module _ (old : CoreState) (sound : HasSoundGroups old) (number : ℕ) (before a
   own-here : (id : SpanId) → id.shard ≡ number → (own id before ≡ indicator id.serial before.opened) × (own id after ≡ indicator id.serial after.opened)
   own-here id same =
       let shard_is : eqb id.shard before.number ≡ true = eq-eqb id.shard before.number (same ∙ sym was.number_is) in
-      let still : eqb id.shard after.number ≡ true = eq-eqb id.shard after.number (same ∙ sym was.number_is ∙ sym call.number_is) in
+      let still : eqb id.shard after.number ≡ true = eq-eqb id.shard after.number (same ∙ sym was.number_is ∙ sym (same_number call)) in
       (rw shard_is refl, rw still refl)
 
   own-other : (id : SpanId) → id.shard ≢ number → (own id before ≡ 0) × (own id after ≡ 0)
   own-other id differ =
       let shard_is : eqb id.shard before.number ≡ false = ne_eqb id.shard before.number (λ e. differ (e ∙ was.number_is)) in
-      let still : eqb id.shard after.number ≡ false = ne_eqb id.shard after.number (λ e. differ (e ∙ call.number_is ∙ was.number_is)) in
+      let still : eqb id.shard after.number ≡ false = ne_eqb id.shard after.number (λ e. differ (e ∙ same_number call ∙ was.number_is)) in
       (rw shard_is refl, rw still refl)
 
   once_new : (id : SpanId) → (id.shard ≡ number) ⊎ (id.shard ≢ number) → times id new ≡ indicator id.serial (opened_by new.shards id.shard)
@@ -87,13 +103,7 @@ module _ (old : CoreState) (sound : HasSoundGroups old) (number : ℕ) (before a
     within = sound.within;
     count = length-set old.shards number after ∙ sound.count;
     shards = each-set (IsSoundAt old.limits) old.shards number after
-        (record {
-          number_is = call.number_is ∙ was.number_is;
-          page_limit_is = call.page_limit_is ∙ was.page_limit_is;
-          span_limit_is = call.span_limit_is ∙ was.span_limit_is;
-          gens_is = call.gens_is ∙ was.gens_is;
-          sound = sound_after;
-        })
+        (IsSoundAt-same old.limits number before after call.numbers_are was sound_after)
         sound.shards;
     pool = sound.pool;
     gens = strays-each old.limits.gens (all_spans new) strays_new;
@@ -145,13 +155,7 @@ module _ (old : CoreState) (sound : HasSoundGroups old) (number : ℕ) (before a
     within = sound.within;
     count = length-set old.shards number after ∙ sound.count;
     shards = each-set (IsSoundAt old.limits) old.shards number after
-        (record {
-          number_is = move.number_is ∙ was_there.number_is;
-          page_limit_is = move.page_limit_is ∙ was_there.page_limit_is;
-          span_limit_is = move.span_limit_is ∙ was_there.span_limit_is;
-          gens_is = move.gens_is ∙ was_there.gens_is;
-          sound = sound_after;
-        })
+        (IsSoundAt-same old.limits number before after move.numbers_are was_there sound_after)
         sound.shards;
     pool = sound_pool;
     gens = strays-each old.limits.gens (all_spans moved) (sum_all-moved (strays old.limits.gens) ∙ no_strays old sound);

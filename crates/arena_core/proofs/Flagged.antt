@@ -9,6 +9,7 @@ use Rattle.shard.specs.State.{ShardState}
 use Rattle.groups.specs.Group.{spans_in}
 use Rattle.arena_core.specs.Sound.{HasSoundGroups, IsSoundAt}
 use Rattle.arena_core.specs.State.{CoreState, all_spans, opened_of, shard_spans, shown}
+use Rattle.arena_core.proofs.Groups.{IsSoundAt-same}
 use Rattle.arena_core.proofs.Changes.{indicator}
 use Rattle.arena_core.proofs.Logged.{shown-same}
 use Rattle.marks.proofs.Flagged.{with_flags, spans_in-flagged, map_back, IsSoundShard-flagged}
@@ -38,13 +39,7 @@ module _ (closed : GroupState → Bool) where
       shards = λ number shard at.
           let (was, here, is) = map_back (with_flags closed) core.shards number shard at in
           let fine = sound.shards number was here in
-          subst (IsSoundAt core.limits number) is (record {
-            number_is = fine.number_is;
-            page_limit_is = fine.page_limit_is;
-            span_limit_is = fine.span_limit_is;
-            gens_is = fine.gens_is;
-            sound = IsSoundShard-flagged closed was fine.sound;
-          });
+          subst (IsSoundAt core.limits number) is (IsSoundAt-same core.limits number was (with_flags closed was) refl fine (IsSoundShard-flagged closed was fine.sound));
       pool = sound.pool;
       gens = λ place span at. sound.gens place span (subst (λ spans. slice_get spans place ≡ Some span) all_spans-flagged at);
       once = λ id.

@@ -29,7 +29,7 @@ use Rattle.arena_core.specs.Moved.{Entries, KeepsStanding, KnowsMoved, StandsIn}
 use Rattle.arena_core.specs.Sound.{HasSoundGroups, IsForgotten, IsSound, IsSoundAt}
 use Rattle.arena_core.specs.State.{CoreState, all_spans, has_span, opened_of, shown}
 use Rattle.arena_core.proofs.Changes.{indicator, no_strays}
-use Rattle.arena_core.proofs.Groups.{strays, strays-each}
+use Rattle.arena_core.proofs.Groups.{IsSoundAt-same, strays, strays-each}
 use Rattle.arena_core.proofs.Logged.{shown-same}
 use Rattle.arena_core.proofs.Made.{completed-flat_map, completed-map, made-get, standing-in_made}
 use Rattle.arena_core.proofs.MarkSteps.{AreOpen-none}
@@ -156,7 +156,7 @@ module _ (core : CoreState) (sound : IsSound core) where
         let (was, here, is) = map_back without_dead_guests core.shards number shard at in
         let fine = sound.groups.shards number was here in
         subst (IsSoundAt core.limits number) is
-        (record { number_is = fine.number_is; page_limit_is = fine.page_limit_is; span_limit_is = fine.span_limit_is; gens_is = fine.gens_is; sound = IsSound-without_dead was fine.sound });
+        (IsSoundAt-same core.limits number was (without_dead_guests was) refl fine (IsSound-without_dead was fine.sound));
     pool = IsSound-left core.pool sound.groups.pool;
     gens = strays-each core.limits.gens (all_spans (with_forgotten core)) (sum_all-forgotten (strays core.limits.gens) core ∙ no_strays core sound.groups);
     once = λ id. sum_all-forgotten (named id) core ∙ sound.groups.once id ∙ ap (indicator id.serial) (sym (opened_of-forgotten core.shards id.shard));

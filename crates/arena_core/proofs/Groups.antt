@@ -18,11 +18,14 @@ use Rattle.page.specs.Words.{Words}
 use Rattle.groups.specs.Pages.{with_object}
 use Rattle.shard.specs.Moves.{TakesIn, with_room}
 use Rattle.groups.specs.Whole.{WholeState, spans_moved, whole_of}
+use Rattle.shard.specs.Sound.{IsSound as IsSoundShard}
 use Rattle.shard.specs.State.{ShardState}
 use Rattle.groups.proofs.Standing.{spans_of-with_span}
 use Rattle.pool.specs.Calls.{Adopts, Receives, TakesAll, TakesIn as TakesInPool, with_rooms}
 use Rattle.pool.specs.State.{PoolState, PooledState}
 use Rattle.fold.proofs.Sums.{sum_by-Lifts}
+use Rattle.marks.specs.Numbers.{Limits}
+use Rattle.arena_core.specs.Sound.{IsSoundAt}
 use Rattle.arena_core.proofs.Lists.{flat-insert, flat-set, sum_by-set_at}
 use Rattle.arena_core.proofs.OneSpan.{ChangesPooled, ChangesSpan}
 use Rattle.arena_core.proofs.Spans.{named, sum_in, sum_pooled, times_in, times_pooled}
@@ -52,16 +55,38 @@ strays-each gens (first ∷ spans) none zero span here =
     by_test false e = absurd (omega (arith, sum_by-cons (strays gens) first spans, ap (λ b. cond {A = ℕ} b 0 1) e))
 strays-each gens (first ∷ spans) none (suc place) span here = strays-each gens spans (omega (arith, sum_by-cons (strays gens) first spans)) place span here
 
+-- the numbers of a shard, which stay for its life
+pub record Numbers : Type 0 where
+  pub number : ℕ
+  pub page_limit : ℕ
+  pub span_limit : ℕ
+  pub gens : ℕ
+
+abbrev pub numbers_of : ShardState → Numbers
+numbers_of shard = record { number = shard.number; page_limit = shard.page_limit; span_limit = shard.span_limit; gens = shard.gens }
+
+-- what is sound of these numbers is sound at the same place
+pub IsSoundAt-same : (limits : Limits) (number : ℕ) (before after : ShardState) → numbers_of after ≡ numbers_of before → IsSoundAt limits number before → IsSoundShard after
+    → IsSoundAt limits number after
+IsSoundAt-same limits number before after same was sound = record {
+  number_is = ap (λ (n : Numbers). n.number) same ∙ was.number_is;
+  page_limit_is = ap (λ (n : Numbers). n.page_limit) same ∙ was.page_limit_is;
+  span_limit_is = ap (λ (n : Numbers). n.span_limit) same ∙ was.span_limit_is;
+  gens_is = ap (λ (n : Numbers). n.gens) same ∙ was.gens_is;
+  sound = sound;
+}
+
 -- the shard has the spans of before and those that it has opened since, each once more, and no span has another greatest generation
 pub record IsCall (before after : ShardState) : Type 0 where
-  pub number_is : after.number ≡ before.number
-  pub page_limit_is : after.page_limit ≡ before.page_limit
-  pub span_limit_is : after.span_limit ≡ before.span_limit
-  pub gens_is : after.gens ≡ before.gens
+  pub numbers_are : numbers_of after ≡ numbers_of before
   pub opened_more : before.opened ≤ after.opened
   pub spans : (id : SpanId) → times_in id after + own id before ≡ times_in id before + own id after
   pub strays_are : sum_in (strays before.gens) after ≡ sum_in (strays before.gens) before
   pub none_lost : (id : SpanId) → times_in id before ≤ times_in id after
+
+-- the call of a shard keeps its number
+pub same_number : {before after : ShardState} → IsCall before after → after.number ≡ before.number
+same_number call = ap (λ (n : Numbers). n.number) call.numbers_are
 
 -- the pool has the spans of before
 pub record IsPoolCall (before after : PoolState) : Type 0 where
@@ -115,10 +140,7 @@ own-more a s n o = grind (arith, nat_tests)
 
 pub IsCall-Puts : (before after : ShardState) (value : Value) (key : Key) (at : ℕ) → Puts before (class_of value) value key at after → IsCall before after
 IsCall-Puts before after value key at (running, inl (index, group, room, span_is, generation_is, at_is, after_is)) = record {
-  number_is = ap (λ (s : ShardState). s.number) after_is;
-  page_limit_is = ap (λ (s : ShardState). s.page_limit) after_is;
-  span_limit_is = ap (λ (s : ShardState). s.span_limit) after_is;
-  gens_is = ap (λ (s : ShardState). s.gens) after_is;
+  numbers_are = ap numbers_of after_is;
   opened_more = omega (arith, ap (λ (s : ShardState). s.opened) after_is);
   spans = λ id.
       let same = sum_in-with_head (named id) before after index group (with_put group.head key.slot value)
@@ -133,10 +155,7 @@ IsCall-Puts before after value key at (running, inl (index, group, room, span_is
   );
 }
 IsCall-Puts before after value key at (running, inr (full, pages, spans, (shard_is, serial_is, slot_is, generation_is, at_is, (index, place, after_is)))) = record {
-  number_is = ap (λ (s : ShardState). s.number) after_is;
-  page_limit_is = ap (λ (s : ShardState). s.page_limit) after_is;
-  span_limit_is = ap (λ (s : ShardState). s.span_limit) after_is;
-  gens_is = ap (λ (s : ShardState). s.gens) after_is;
+  numbers_are = ap numbers_of after_is;
   opened_more = omega (arith, ap (λ (s : ShardState). s.opened) after_is);
   spans = λ id.
       let one : sum_by (named id) (spans_of opened) ≡ cond {A = ℕ} (eqb before.number id.shard && eqb before.opened id.serial) 1 0 =
@@ -165,10 +184,7 @@ IsCall-Puts before after value key at (running, inr (full, pages, spans, (shard_
 -- a span that changes is still there
 pub IsCall-ChangesSpan : (before after : ShardState) → ChangesSpan before after → IsCall before after
 IsCall-ChangesSpan before after changes = record {
-  number_is = ap (λ (s : ShardState). s.number) changes.after_is;
-  page_limit_is = ap (λ (s : ShardState). s.page_limit) changes.after_is;
-  span_limit_is = ap (λ (s : ShardState). s.span_limit) changes.after_is;
-  gens_is = ap (λ (s : ShardState). s.gens) changes.after_is;
+  numbers_are = ap numbers_of changes.after_is;
   opened_more = omega (arith, ap (λ (s : ShardState). s.opened) changes.after_is);
   spans = λ id. omega (arith, ap (own id) changes.after_is, named_still id);
   strays_are = kept (strays before.gens) (ap (λ n. cond {A = ℕ} (eqb n before.gens) 0 1) changes.same.gens_is);
@@ -219,20 +235,14 @@ sum_by-whole_of w (group ∷ groups) =
 
 -- spans move between one shard and the pool, which have as many together as before
 pub record IsMove (before after : ShardState) (pool_before pool_after : PoolState) : Type 0 where
-  pub number_is : after.number ≡ before.number
-  pub page_limit_is : after.page_limit ≡ before.page_limit
-  pub span_limit_is : after.span_limit ≡ before.span_limit
-  pub gens_is : after.gens ≡ before.gens
+  pub numbers_are : numbers_of after ≡ numbers_of before
   pub opened_is : after.opened ≡ before.opened
   pub running : before.ended ≡ false
   pub sums : (w : SpanState → ℕ) → sum_in w after + sum_pooled w pool_after ≡ sum_in w before + sum_pooled w pool_before
 
 pub IsMove-Receives : (before after : ShardState) (pool_before pool_after : PoolState) → Receives pool_before before pool_after after → IsMove before after pool_before pool_after
 IsMove-Receives before after pool_before pool_after receives = record {
-  number_is = ap (λ (s : ShardState). s.number) receives.after;
-  page_limit_is = ap (λ (s : ShardState). s.page_limit) receives.after;
-  span_limit_is = ap (λ (s : ShardState). s.span_limit) receives.after;
-  gens_is = ap (λ (s : ShardState). s.gens) receives.after;
+  numbers_are = ap numbers_of receives.after;
   opened_is = ap (λ (s : ShardState). s.opened) receives.after;
   running = receives.running;
   sums = λ w.
@@ -243,10 +253,7 @@ IsMove-Receives before after pool_before pool_after receives = record {
 pub IsMove-Adopts : (before after : ShardState) (pool_before pool_after : PoolState) (head : SpanId) → before.ended ≡ false
     → Adopts pool_before before head pool_after after → IsMove before after pool_before pool_after
 IsMove-Adopts before after pool_before pool_after head running adopts = record {
-  number_is = ap (λ (s : ShardState). s.number) adopts.takes_in.after;
-  page_limit_is = ap (λ (s : ShardState). s.page_limit) adopts.takes_in.after;
-  span_limit_is = ap (λ (s : ShardState). s.span_limit) adopts.takes_in.after;
-  gens_is = ap (λ (s : ShardState). s.gens) adopts.takes_in.after;
+  numbers_are = ap numbers_of adopts.takes_in.after;
   opened_is = ap (λ (s : ShardState). s.opened) adopts.takes_in.after;
   running = running;
   sums = λ w. omega (arith, came w, sum_by-Lifts w pool_before pool_after head adopts.whole adopts.lifts);

@@ -21,7 +21,7 @@ use Rattle.certificate.specs.declared.certificate.Certificate.{Certificate}
 use Rattle.marks.specs.Closings.{AreOpen, closed_as_planned, closed_onto, reopened}
 use Rattle.arena_core.specs.Kept.{shards_of, state_of}
 use Rattle.arena_core.specs.Made.{all_shards, new_shard_of}
-use Rattle.marks.specs.Seen.{IsLargestInPart, with_plan_told}
+use Rattle.marks.specs.Seen.{IsLargestInPart}
 use Rattle.marks.specs.Plans.{next_pair, plans_onto, with_next_done, OpenPlan}
 use Rattle.arena_core.specs.Moved.{StandsIn, WhereaboutsState}
 use Rattle.arena_core.specs.Plan.{IsNext, IsOwned, IsUnderWay}
@@ -37,27 +37,13 @@ use Rattle.arena_core.proofs.Flagged.{HasSoundGroups-flagged, shown-flagged, wit
 use Rattle.marks.proofs.Flagged.{map_back}
 use Rattle.marks.proofs.Lists.{slice_get-map_at}
 use Rattle.arena_core.proofs.PlanMarks.{IsUnderWay-marked}
-use Rattle.arena_core.proofs.Changes.{at_most_once}
+use Rattle.arena_core.proofs.Changes.{HasSoundGroups-retold, at_most_once}
 use Rattle.arena_core.proofs.PlanSteps.{AreAllClosedAsPlanned, IsSoundStep, HasSoundPlan-none, plans_onto-none}
 use Rattle.arena_core.proofs.Spans.{shard_with-here, times-parts, times_owned}
 use Rattle.arena_core.proofs.Stepping.{IsSoundStep-Steps, waits}
 use Rattle.arena_core.proofs.Steps.{has_span-here}
 
 -- the core with another flag of its pool and another plan
-abbrev retold : CoreState → Bool → Option OpenPlan → CoreState
-retold core told plan = record core { pool = with_plan_told core.pool told; plan = plan }
-
-HasSoundGroups-retold : (core : CoreState) (told : Bool) (plan : Option OpenPlan) → HasSoundGroups core → HasSoundGroups (retold core told plan)
-HasSoundGroups-retold core told plan sound = record {
-  within = sound.within;
-  count = sound.count;
-  shards = sound.shards;
-  pool = record { ascending = sound.pool.ascending; groups = sound.pool.groups; in_use = sound.pool.in_use; once = sound.pool.once };
-  gens = sound.gens;
-  once = sound.once;
-  forgotten = sound.forgotten;
-}
-
 -- no plan is open, so no group is closed
 pub AreOpen-none : (core : CoreState) → IsSound core → core.plan ≡ None → AreOpen core.shards
 AreOpen-none core sound none = subst (λ plan. AreAllClosedAsPlanned plan core.shards) none sound.plan.closed
@@ -85,7 +71,7 @@ module _ (old : CoreState) (sound : IsSound old) (found : Certificate) (largest 
   flag group = is_some group.page && plans_onto found.plan group.head.id
 
   marked_groups : HasSoundGroups marked
-  marked_groups = HasSoundGroups-retold (with_all_flags flag old) true (Some (record { pairs = found.plan; done = 0 })) (HasSoundGroups-flagged flag old sound.groups)
+  marked_groups = HasSoundGroups-retold (with_all_flags flag old) true (Some (record { pairs = found.plan; done = 0 })) old.rings (HasSoundGroups-flagged flag old sound.groups)
 
   owned_still : (head : SpanId) (group : GroupState) → IsOwned old head group
       → (now : GroupState) × IsOwned marked head now × (now.head.class ≡ group.head.class) × (occupied now ≡ occupied group) × (now.page ≡ group.page)
@@ -150,7 +136,7 @@ module _ (old : CoreState) (sound : IsSound old) (found : Certificate) (largest 
 module _ (old : CoreState) (sound : IsSound old) where
   pub IsSound-closed : IsSound (with_plan_closed old)
   IsSound-closed = record {
-    groups = HasSoundGroups-retold (with_all_flags (λ group. false) old) false None (HasSoundGroups-flagged (λ group. false) old sound.groups);
+    groups = HasSoundGroups-retold (with_all_flags (λ group. false) old) false None old.rings (HasSoundGroups-flagged (λ group. false) old sound.groups);
     plan = HasSoundPlan-none (with_plan_closed old) refl refl (λ number shard here index group at.
         let (was, there, is) = map_back reopened old.shards number shard here in
         let (before, stood, same) = map_back opened_group was.groups index group (subst (λ (s : ShardState). slice_get s.groups index ≡ Some group) (sym is) at) in

@@ -30,7 +30,7 @@ use Rattle.arena_core.proofs.Changes.{at_most_once, opened-somewhere}
 use Rattle.marks.proofs.Flagged.{map_back, spans_in-flagged, with_flags}
 use Rattle.marks.specs.Numbers.{Limits}
 use Rattle.arena_core.proofs.Made.{unmade-new}
-use Rattle.arena_core.proofs.Groups.{IsCall, own, sum_in-TakesIn}
+use Rattle.arena_core.proofs.Groups.{IsCall, own, same_number, sum_in-TakesIn}
 use Rattle.arena_core.proofs.Lists.{find-counted}
 use Rattle.marks.proofs.Lists.{slice_get-set_other, slice_get-set_same}
 use Rattle.arena_core.proofs.Entries.{named-with_taken, named-with_taken_here, taken_by-abroad}
@@ -169,7 +169,7 @@ has_span-flagged closed shard id = ap (λ spans. is_some (span_named spans id)) 
 pub kept-IsCall : (before after : ShardState) (number : ℕ) → before.number ≡ number → IsCall before after → (id : SpanId) → number ≢ id.shard → has_span id after ≡ true → has_span id before ≡ true
 kept-IsCall before after number number_is call id foreign has =
     let not_before : eqb id.shard before.number ≡ false = ne_eqb id.shard before.number (λ e. foreign (sym number_is ∙ sym e)) in
-    let not_after : eqb id.shard after.number ≡ false = ne_eqb id.shard after.number (λ e. foreign (sym number_is ∙ sym call.number_is ∙ sym e)) in
+    let not_after : eqb id.shard after.number ≡ false = ne_eqb id.shard after.number (λ e. foreign (sym number_is ∙ sym (same_number call) ∙ sym e)) in
     let none_before : own id before ≡ 0 = rw not_before refl in
     let none_after : own id after ≡ 0 = rw not_after refl in
     has_span-counted id before (omega (arith, times_in-found id after has, call.spans id, none_before, none_after))

@@ -11,7 +11,7 @@ use Rattle.shard.specs.State.{ShardState}
 use Rattle.pool.specs.Calls.{with_rooms}
 use Rattle.pool.specs.Retires.{MovesSparse, MovesSparsest, Retires}
 use Rattle.pool.specs.State.{PoolState}
-use Rattle.arena_core.proofs.Groups.{IsMove, sum_moved, sum_pooled-TakesIn}
+use Rattle.arena_core.proofs.Groups.{IsMove, numbers_of, sum_moved, sum_pooled-TakesIn}
 use Rattle.arena_core.proofs.PlanKept.{HasStill, HasStill-TakesIn, has_plan-TakesIn}
 use Rattle.arena_core.proofs.Spans.{sum_in, sum_pooled}
 
@@ -21,10 +21,7 @@ IsPartOf left groups = (index : ℕ) (group : GroupState) → slice_get left ind
 
 -- what the moves leave
 pub record HasGone (pool_before : PoolState) (before : ShardState) (pool_after : PoolState) (after : ShardState) : Type 0 where
-  pub number_is : after.number ≡ before.number
-  pub page_limit_is : after.page_limit ≡ before.page_limit
-  pub span_limit_is : after.span_limit ≡ before.span_limit
-  pub gens_is : after.gens ≡ before.gens
+  pub numbers_are : numbers_of after ≡ numbers_of before
   pub opened_is : after.opened ≡ before.opened
   pub sums : (w : SpanState → ℕ) → sum_in w after + sum_pooled w pool_after ≡ sum_in w before + sum_pooled w pool_before
   pub part : IsPartOf after.groups before.groups
@@ -33,10 +30,7 @@ pub record HasGone (pool_before : PoolState) (before : ShardState) (pool_after :
 
 HasGone-one : (old : PoolState) (shard : ShardState) (new : PoolState) (left : ShardState) → MovesSparsest old shard new left → HasGone old shard new left
 HasGone-one old shard new left moves = record {
-  number_is = ap (λ (s : ShardState). s.number) moves.after;
-  page_limit_is = ap (λ (s : ShardState). s.page_limit) moves.after;
-  span_limit_is = ap (λ (s : ShardState). s.span_limit) moves.after;
-  gens_is = ap (λ (s : ShardState). s.gens) moves.after;
+  numbers_are = ap numbers_of moves.after;
   opened_is = ap (λ (s : ShardState). s.opened) moves.after;
   sums = λ w.
       let out = taken_out spans_of shard.groups moves.index moves.group moves.sparsest.here in
@@ -61,10 +55,7 @@ HasGone-one old shard new left moves = record {
 
 HasGone-sparse : (count : ℕ) (old : PoolState) (shard : ShardState) (new : PoolState) (left : ShardState) → MovesSparse count old shard new left → HasGone old shard new left
 HasGone-sparse zero old shard new left (new_is, left_is) = record {
-  number_is = ap (λ (s : ShardState). s.number) left_is;
-  page_limit_is = ap (λ (s : ShardState). s.page_limit) left_is;
-  span_limit_is = ap (λ (s : ShardState). s.span_limit) left_is;
-  gens_is = ap (λ (s : ShardState). s.gens) left_is;
+  numbers_are = ap numbers_of left_is;
   opened_is = ap (λ (s : ShardState). s.opened) left_is;
   sums = λ w. omega (arith, ap (λ (s : ShardState). sum_in w s) left_is, ap (λ (p : PoolState). sum_pooled w p) new_is);
   part = λ index group at. (index, ap (λ (s : ShardState). slice_get s.groups index) (sym left_is) ∙ at);
@@ -75,10 +66,7 @@ HasGone-sparse (suc count) old shard new left (mid, others, rest, last) =
     let first = HasGone-sparse count old shard mid others rest in
     let then = HasGone-one mid others new left last in
     record {
-      number_is = then.number_is ∙ first.number_is;
-      page_limit_is = then.page_limit_is ∙ first.page_limit_is;
-      span_limit_is = then.span_limit_is ∙ first.span_limit_is;
-      gens_is = then.gens_is ∙ first.gens_is;
+      numbers_are = then.numbers_are ∙ first.numbers_are;
       opened_is = then.opened_is ∙ first.opened_is;
       sums = λ w. then.sums w ∙ first.sums w;
       part = λ index group at. let (was, there) = then.part index group at in first.part was group there;
@@ -86,31 +74,12 @@ HasGone-sparse (suc count) old shard new left (mid, others, rest, last) =
       has_plan_is = then.has_plan_is ∙ first.has_plan_is;
     }
 
-pub HasGone-Retires : (old : PoolState) (shard : ShardState) (most count : ℕ) (new : PoolState) (left : ShardState) → Retires old shard most count new left → HasGone old shard new left
-HasGone-Retires old shard most count new left retires =
-    let gone = HasGone-sparse count (with_rooms old retires.group_room retires.span_room) shard new left retires.moved in
-    record {
-      number_is = gone.number_is;
-      page_limit_is = gone.page_limit_is;
-      span_limit_is = gone.span_limit_is;
-      gens_is = gone.gens_is;
-      opened_is = gone.opened_is;
-      sums = gone.sums;
-      part = gone.part;
-      still = gone.still;
-      has_plan_is = gone.has_plan_is;
-    }
+pub HasGone-Retires : (old : PoolState) (shard : ShardState) (most count : ℕ) (new : PoolState) (left : ShardState) → (retires : Retires old shard most count new left)
+    → HasGone (with_rooms old retires.group_room retires.span_room) shard new left
+HasGone-Retires old shard most count new left retires = HasGone-sparse count (with_rooms old retires.group_room retires.span_room) shard new left retires.moved
 
 pub IsMove-Retires : (before after : ShardState) (pool_before pool_after : PoolState) (most count : ℕ) → Retires pool_before before most count pool_after after
     → IsMove before after pool_before pool_after
 IsMove-Retires before after pool_before pool_after most count retires =
     let gone = HasGone-Retires pool_before before most count pool_after after retires in
-    record {
-      number_is = gone.number_is;
-      page_limit_is = gone.page_limit_is;
-      span_limit_is = gone.span_limit_is;
-      gens_is = gone.gens_is;
-      opened_is = gone.opened_is;
-      running = retires.running;
-      sums = gone.sums;
-    }
+    record { numbers_are = gone.numbers_are; opened_is = gone.opened_is; running = retires.running; sums = gone.sums }

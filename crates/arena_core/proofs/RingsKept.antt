@@ -12,6 +12,7 @@ use Rattle.arena_core.specs.Rings.{RingState, keys_of, new_ring, new_rings, pend
 use Rattle.arena_core.specs.Sound.{AreRings, IsSound}
 use Rattle.arena_core.specs.State.{CoreState, shown, with_rings}
 use Rattle.marks.specs.Numbers.{Limits}
+use Rattle.arena_core.proofs.Changes.{HasSoundGroups-retold}
 use Rattle.arena_core.proofs.Lists.{each-set}
 use Rattle.marks.proofs.Lists.{slice_get-set_other, slice_get-set_same}
 use Rattle.arena_core.proofs.PlanKept.{KeepsAllClosed-same, KeepsPooled-same}
@@ -144,15 +145,7 @@ IsOutside-none limits rings worker shard are none = by_shard (slice_get_cases ri
 
 pub IsSound-with_rings : (core : CoreState) (rings : List (List RingState)) → IsSound core → AreRings core.limits rings → IsSound (with_rings core rings)
 IsSound-with_rings core rings sound are = record {
-  groups = record {
-    within = sound.groups.within;
-    count = sound.groups.count;
-    shards = sound.groups.shards;
-    pool = sound.groups.pool;
-    gens = sound.groups.gens;
-    once = sound.groups.once;
-    forgotten = sound.groups.forgotten;
-  };
+  groups = HasSoundGroups-retold core core.pool.has_plan core.plan rings sound.groups;
   plan = HasSoundPlan-kept core (with_rings core rings) sound.plan refl refl (KeepsPooled-same core.pool.groups) (KeepsAllClosed-same core.shards) sound.plan.closed;
   rings = are;
 }

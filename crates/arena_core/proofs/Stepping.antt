@@ -28,7 +28,7 @@ use Rattle.arena_core.specs.Sound.{IsSound}
 use Rattle.arena_core.specs.State.{CoreState, has_span, pages, with_plan, with_pool, with_shard}
 use Rattle.arena_core.specs.declared.event.Event.TheVariants.{Step}
 use Rattle.arena_core.specs.declared.reply.Reply.TheVariants.{Stepped}
-use Rattle.arena_core.proofs.Changes.{HasSoundGroups-moved, at_most_once, sum_all-moved}
+use Rattle.arena_core.proofs.Changes.{HasSoundGroups-moved, HasSoundGroups-retold, at_most_once, sum_all-moved}
 use Rattle.arena_core.proofs.Groups.{IsMove}
 use Rattle.arena_core.proofs.Lists.{sum_by-set_at}
 use Rattle.arena_core.proofs.Logged.{shown-same}
@@ -42,10 +42,12 @@ use Rattle.arena_core.proofs.Steps.{has_span-here, not_doubled_in, with_shard-sa
 pub IsMove-Folds : (pool_before pool_after : PoolState) (before after : ShardState) (a b : SpanId) → before.ended ≡ false
     → Folds pool_before before a b pool_after after → IsMove before after pool_before pool_after
 IsMove-Folds pool_before pool_after before after a b running folds = record {
-  number_is = number-Folds pool_before before a b pool_after after folds;
-  page_limit_is = page_limit-Folds pool_before before a b pool_after after folds;
-  span_limit_is = span_limit-Folds pool_before before a b pool_after after folds;
-  gens_is = gens-Folds pool_before before a b pool_after after folds;
+  numbers_are = λ i. record {
+    number = number-Folds pool_before before a b pool_after after folds i;
+    page_limit = page_limit-Folds pool_before before a b pool_after after folds i;
+    span_limit = span_limit-Folds pool_before before a b pool_after after folds i;
+    gens = gens-Folds pool_before before a b pool_after after folds i;
+  };
   opened_is = opened-Folds pool_before before a b pool_after after folds;
   running = running;
   sums = sum_by-Folds pool_before before a b pool_after after folds;
@@ -163,15 +165,7 @@ module _ (old : CoreState) (sound : IsSound old) (plan : OpenPlan) (pair : SpanI
     emptied : IsEmptyInPool old pair → IsSoundStep old Step (Stepped pair.0 pair.1 Emptied) (with_plan old (Some (with_next_done plan)))
     emptied empty = record {
       kept = record {
-        groups = record {
-          within = sound.groups.within;
-          count = sound.groups.count;
-          shards = sound.groups.shards;
-          pool = sound.groups.pool;
-          gens = sound.groups.gens;
-          once = sound.groups.once;
-          forgotten = sound.groups.forgotten;
-        };
+        groups = HasSoundGroups-retold old old.pool.has_plan (Some (with_next_done plan)) old.rings sound.groups;
         plan = record {
           told = sound.plan.told ∙ ap is_some next.plan_is;
           closed = subst (λ p. AreAllClosedAsPlanned p old.shards) next.plan_is sound.plan.closed;

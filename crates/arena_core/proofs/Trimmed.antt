@@ -19,7 +19,7 @@ use Rattle.arena_core.specs.State.{CoreState, has_span, with_shard}
 use Rattle.arena_core.specs.declared.event.Event.TheVariants.{Trim}
 use Rattle.arena_core.specs.declared.reply.Reply.TheVariants as reply
 use Rattle.arena_core.proofs.Changes.{HasSoundGroups-with_shard, at_most_once}
-use Rattle.arena_core.proofs.Groups.{IsCall, own, strays}
+use Rattle.arena_core.proofs.Groups.{IsCall, numbers_of, own, strays}
 use Rattle.arena_core.proofs.PlanKept.{IsFewer-same, KeepsClosed}
 use Rattle.arena_core.proofs.Shown.{IsLocal-shard, shown-unchanged}
 use Rattle.arena_core.proofs.Steps.{IsStep}
@@ -42,10 +42,7 @@ sum_in-Trims w before after count trims = ap (λ (s : ShardState). sum_in w s) t
 
 pub IsCall-Trims : (before after : ShardState) (count : ℕ) → Trims before count after → IsCall before after
 IsCall-Trims before after count trims = record {
-  number_is = ap (λ (s : ShardState). s.number) trims.after;
-  page_limit_is = ap (λ (s : ShardState). s.page_limit) trims.after;
-  span_limit_is = ap (λ (s : ShardState). s.span_limit) trims.after;
-  gens_is = ap (λ (s : ShardState). s.gens) trims.after;
+  numbers_are = ap numbers_of trims.after;
   opened_more = omega (arith, ap (λ (s : ShardState). s.opened) trims.after);
   spans = λ id. omega (arith, ap (own id) trims.after, named_still id);
   strays_are = sum_in-Trims (strays before.gens) before after count trims;
