@@ -1,7 +1,7 @@
 -- The serials and classes that a version names: of what is read in it, and of what is written in it.
 use Rattle.std.proofs.Common.{ℕ, ◌<◌, ◌≡◌, ◌||◌, not, nat_eq, arith, Bool, true, false, List, [], ◌∷◌, map, Ok, refl, sym, ◌∙◌, ap, subst, rules}
 use Rattle.std.specs.List.{AllByRecursion, list_any}
-use Rattle.std.proofs.lemmas.Bool.{cases_Bool, leb-false, lt-leb, not-false, or_left}
+use Rattle.std.proofs.lemmas.Bool.{cases_Bool, leb-false, lt-leb, not-false, or_left, or_parts}
 use Rattle.span.specs.Classes.{width_of}
 use Rattle.span.specs.declared.class.Class.{Class}
 use Rattle.span.specs.declared.class.Class.TheVariants.{C16}
@@ -101,15 +101,11 @@ needs_version_three-read version parts o h small =
 
 -- ---- what is written
 
-or-none : (a b : Bool) → (a || b) ≡ false → (a ≡ false) × (b ≡ false)
-or-none true b h = cc
-or-none false b h = (refl, h)
-
 -- what holds of all that fail the test, of a list of which none passes
 none-passes : {X Y : Type 0} (f : Y → X) (test : X → Bool) (P : Y → Type 0) → ((y : Y) → test (f y) ≡ false → P y) → (ys : List Y) → list_any test (map f ys) ≡ false → AllByRecursion P ys
 none-passes f test P has [] none = tt
 none-passes f test P has (y ∷ ys) none =
-    let both = or-none (test (f y)) (list_any test (map f ys)) none in
+    let both = or_parts (test (f y)) (list_any test (map f ys)) none in
     (has y both.0, none-passes f test P has ys both.1)
 
 -- what holds of each holds of all
@@ -121,10 +117,10 @@ small-serial : (id : SpanId) → is_large (id_parts id) ≡ false → HasSerial 
 small-serial id none = leb-false TEXT_SPANS id.serial none
 
 small-names : (x : Entry) → is_beyond_version_two (entry_parts x) ≡ false → HasNames Two x
-small-names x none = search (rules, or-none, small-serial, not-false)
+small-names x none = search (rules, or_parts, small-serial, not-false)
 
 IsNamed-small : (c : Certificate) → needs_version_three (outline_of c) ≡ false → IsNamed Two c
-IsNamed-small c none = search (rules, or-none, none-passes, HasNames, small-names, HasSerial, small-serial)
+IsNamed-small c none = search (rules, or_parts, none-passes, HasNames, small-names, HasSerial, small-serial)
 
 IsNamed-large : (c : Certificate) → needs_version_three (outline_of c) ≡ true → IsNamed Three c
 IsNamed-large c some = search (rules, each-one, HasNames, HasSerial)

@@ -1,25 +1,13 @@
 -- Bytes that went in one after another.
-use Rattle.std.proofs.Common.{◌≡◌, ◌∙◌, ℕ, ◌+◌, List, Option, Some, None, Ok, Err, take, drop, refl, rules}
+use Rattle.std.proofs.Common.{◌≡◌, ℕ, ◌+◌, List, Option, Ok, Err, take, drop, rules}
 use Rattle.std.specs.Prelude.{Result}
 use Rattle.std.proofs.Math.Seq.{take-add}
-use Rattle.std.proofs.KnownBytes.{Appends-trans}
+use Rattle.std.proofs.KnownBytes.{Appends-trans, Keeps-trans}
 use Rattle.std.specs.Io.KnownBytes.{Appends, Keeps, WriteAppends}
 
 -- a prefix of the bytes, and then a prefix of the rest
 pub Appends-take : (a b c : Option (List ℕ)) (n m : ℕ) (bytes rest : List ℕ) → rest ≡ drop n bytes → Appends a b (take n bytes) → Appends b c (take m rest) → Appends a c (take (n + m) bytes)
 Appends-take a b c n m bytes rest e p q = rw (take-add n m bytes) (Appends-trans a b c (take n bytes) (take m (drop n bytes)) p (rw e at q))
-
--- ---- what is kept where nothing was taken
-
-pub Keeps-refl : (o : Option (List ℕ)) → Keeps o o
-Keeps-refl None = tt
-Keeps-refl (Some xs) = refl
-
-pub Keeps-trans : (o p q : Option (List ℕ)) → Keeps o p → Keeps p q → Keeps o q
-Keeps-trans None p q first second = tt
-Keeps-trans (Some xs) None q first second = absurd first
-Keeps-trans (Some xs) (Some ys) None first second = absurd second
-Keeps-trans (Some xs) (Some ys) (Some zs) first second = second ∙ first
 
 -- a write after which nothing was taken before
 pub Keeps-write : {E : Type 0} (o p q : Option (List ℕ)) (r : Result ℕ E) (bytes : List ℕ) → Keeps o p → WriteAppends p q r bytes → WriteAppends o q r bytes

@@ -1,6 +1,7 @@
 use Rattle.std.proofs.Common.{◌≡◌, Ok}
 use Rattle.std.specs.declared.io.Error.{Error}
-use Rattle.trace_runner.proofs.Taken.{Keeps-refl, Keeps-trans, Keeps-write, WriteAppends-err}
+use Rattle.std.proofs.KnownBytes.{Keeps-refl, Keeps-trans}
+use Rattle.trace_runner.proofs.Taken.{Keeps-write, WriteAppends-err}
 use Rattle.trace_runner.proofs.sink.interrupted.write_once.Goals as goal
 
 pub loop-init : goal.loop-init
