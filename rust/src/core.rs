@@ -297,15 +297,14 @@ impl Core {
     }
 
     /// The key that a put of so many words has made live, if there is nothing to do but to count
-    /// it: no slot has given out its last key with this one, nor a shard its last span, and no
-    /// object with fewer words was put yet.
+    /// it: no slot has given out its last key with this one, and no object with fewer words was put
+    /// yet.
     // Whoever inlines this keeps the key in registers.
     #[allow(clippy::inline_always)]
     #[inline(always)]
     fn plain_key(&mut self, put: raw::PutReply, len: usize) -> Option<Key> {
         if put.status != raw::OK
             || put.key.generation >= self.limits.generations
-            || put.key.serial >= self.limits.spans
             || len < self.least_words.into()
         {
             return None;
@@ -353,9 +352,7 @@ impl Core {
             return reply;
         };
         self.live += 1;
-        if self.note_put(key).is_err() {
-            return refused_put(raw::PAGES_SPENT);
-        }
+        self.note_put(key);
         self.least_words = self.least_words.min(len as u8);
         reply
     }
@@ -489,23 +486,10 @@ impl Core {
         })
     }
 
-    /// Notes whether a slot has given out its last key with this one, and gives the key back if its
-    /// span is one too many.
+    /// Notes whether a slot has given out its last key with this one.
     #[inline]
-    fn note_put(&mut self, key: Key) -> Result<(), Refused> {
+    fn note_put(&mut self, key: Key) {
         self.has_worn |= key.generation() >= self.limits.generations;
-        if key.serial() >= self.limits.spans {
-            return Err(self.refuse_span(key));
-        }
-        Ok(())
-    }
-
-    #[cold]
-    fn refuse_span(&mut self, key: Key) -> Refused {
-        self.free_live(key);
-        // Its shard is there.
-        let _ = self.trim(key.shard());
-        Refused::PagesSpent
     }
 
     /// The word of the key, where it is live and has an object of one word.

@@ -44,7 +44,7 @@ impl Core {
         }
         for mut words in words.chunks(BLOCK) {
             while !words.is_empty() {
-                let (count, status) = self.insert_some(shard, words, keys)?;
+                let (count, status) = self.insert_some(shard, words, keys);
                 words = &words[count..];
                 if status != raw::OK {
                     done(self.make_way(status, shard, 1))?;
@@ -55,13 +55,13 @@ impl Core {
     }
 
     /// Keeps objects for a block of words until one is refused, and gives how many were kept, and
-    /// the status; or says that the shard may open no further page.
+    /// the status.
     fn insert_some(
         &mut self,
         shard: u32,
         words: &[u128],
         keys: &mut Vec<Key>,
-    ) -> Result<(usize, u32), Refused> {
+    ) -> (usize, u32) {
         let mut room = [NO_KEY; BLOCK];
         let (first, len) = (words.as_ptr().cast(), words.len());
         // SAFETY: no other call runs, a word is its two halves, the lower one first, and so many
@@ -73,18 +73,15 @@ impl Core {
         if reply.count > 0 {
             self.least_words = 1;
         }
-        let mut refused = None;
         for key in room
             .iter()
             .take(reply.count)
             .filter_map(|key| Key::of(*key))
         {
-            match self.note_put(key) {
-                Ok(()) => keys.push(key),
-                Err(spent) => refused = Some(spent),
-            }
+            self.note_put(key);
+            keys.push(key);
         }
-        refused.map_or(Ok((reply.count, reply.status)), Err)
+        (reply.count, reply.status)
     }
 
     /// Frees each of the keys that is live, in their order, and counts these: as so many calls of
