@@ -12,7 +12,8 @@ use crate::gate::Gate;
 use crate::hints::Place;
 use pool::{AdoptError, Pool};
 use shard::Shard;
-use span::{Log, SpanId};
+use span::names::SpanId;
+use span::spans::Log;
 
 impl<G: Gate, L: Log> Arena<G, L> {
     /// Moves the group of lowest head that has a page from the pool to the shard of this number,

@@ -22,7 +22,8 @@ use marks::{Limits, MarkError, Totals};
 use mesh_graph::{AtHand, Runner};
 use pool::Pool;
 use shard::Shard;
-use span::{Kept, Log, SpanId};
+use span::names::SpanId;
+use span::spans::{Kept, Log};
 use std::alloc::{AllocError, Global};
 use std::sync::Wait;
 

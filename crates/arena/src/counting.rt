@@ -8,7 +8,7 @@ ghost use Rattle.span.specs.declared.limits.TheConstants.{MOST_SHARDS};
 
 use crate::seat::Seat;
 use remote_queue::Inbox;
-use span::GhostList;
+use span::ghost_list::GhostList;
 use std::alloc::{AllocError, Global};
 
 // How many keys are left in each of the rings into a shard, whose ends are given. These ends then

@@ -10,7 +10,7 @@ use crate::receipts::Receipts;
 use crate::seat::Seat;
 use crate::settling::{greatest, know_rings, make_room, settle_seats};
 use crate::unlocked::{Unlocked, unlock};
-use span::SpanLog;
+use span::spans::SpanLog;
 use std::alloc::AllocError;
 
 /// What an arena leaves when its run is over.

@@ -13,7 +13,8 @@ use crate::nowhere::Nowhere;
 use crate::patience::Tries;
 use latch::{Busy, LatchGuard};
 use pool::Pool;
-use span::{Log, SpanId};
+use span::names::SpanId;
+use span::spans::Log;
 
 impl<G: Gate, L: Log> Arena<G, L> {
     /// Looks for the span in the pool, and then in one shard after the other, and notes where it

@@ -16,7 +16,8 @@ use fold::{Step, fold_one};
 use marks::LendsShard;
 use pool::Pool;
 use shard::Shard;
-use span::{Log, SpanId};
+use span::names::SpanId;
+use span::spans::Log;
 use std::alloc::AllocError;
 
 /// What came of a pair, or that memory was refused. Only this module makes one: in the shard that

@@ -8,7 +8,7 @@ use crate::gate::Gate;
 use crate::patience::{Patience, Tries, Waits};
 use crate::steward::Steward;
 use latch::Busy;
-use span::Counted;
+use span::spans::Counted;
 use std::sync::Wait;
 
 impl<G: Gate> Arena<G, Counted> {

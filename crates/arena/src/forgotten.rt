@@ -10,7 +10,7 @@ use crate::gate::Gate;
 use crate::locks::{LockedShard, forget_all};
 use latch::LatchGuard;
 use pool::Pool;
-use span::Counted;
+use span::spans::Counted;
 
 /// How many spans the pool and all shards have forgotten under their locks. Only this module makes
 /// one.

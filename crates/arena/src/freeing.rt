@@ -11,7 +11,8 @@ use crate::patience::Patience;
 use crate::receipts::Receipts;
 use crate::sections::free_in;
 use shard::Shard;
-use span::{Key, Log};
+use span::names::Key;
+use span::spans::Log;
 
 impl<G: Gate, L: Log> Arena<G, L> {
     // Frees the first of the keys for the worker, and gives how many: under one lock those in a row

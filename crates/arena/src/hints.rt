@@ -6,7 +6,8 @@ ghost use Rattle.span.specs.declared.limits.TheConstants.{MOST_SHARDS};
 
 use crate::nowhere::Nowhere;
 use shard::Shard;
-use span::{Log, MOST_SPANS, SpanId};
+use span::names::{MOST_SPANS, SpanId};
+use span::spans::Log;
 use std::alloc::{AllocError, Global};
 use std::sync::atomic::Ordering::SeqCst;
 use std::sync::atomic::{AtomicIn, Rule};

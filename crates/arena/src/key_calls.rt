@@ -11,7 +11,8 @@ use crate::sections::{Looked, Outcome, free_in, free_pool, get_in, get_pool, set
 use crate::word::Word;
 use pool::Pool;
 use shard::Shard;
-use span::{Key, Log, SpanId};
+use span::names::{Key, SpanId};
+use span::spans::Log;
 use std::alloc::AllocError;
 
 /// A look-up of the key, whose words go into the room.

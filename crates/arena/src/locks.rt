@@ -13,7 +13,8 @@ use arrayvec::ArrayVec;
 use latch::{Latch, LatchGuard};
 use marks::LendsShard;
 use shard::Shard;
-use span::{Counted, Log, MOST_SHARDS, SpanId};
+use span::names::{MOST_SHARDS, SpanId};
+use span::spans::{Counted, Log};
 
 // As a length.
 const MOST_LOCKED: usize = MOST_SHARDS as usize;

@@ -10,7 +10,8 @@ use crate::hints::{Hints, Place};
 use crate::locks::LockedShard;
 use latch::LatchGuard;
 use pool::Pool;
-use span::{Log, SpanId};
+use span::names::SpanId;
+use span::spans::Log;
 
 /// That a span is nowhere: it was not opened yet, or it was forgotten, so its keys find nothing.
 /// Only this module makes one: if the span's hint says so, or if nobody has the span under the

@@ -17,7 +17,7 @@ use marks::Limits;
 use pool::Pool;
 use remote_queue::{LinkError, Links, link};
 use shard::{Config, Shard};
-use span::{Kept, Log};
+use span::spans::{Kept, Log};
 use std::alloc::{AllocError, Global};
 use std::mem::replace;
 

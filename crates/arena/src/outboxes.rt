@@ -7,7 +7,7 @@ ghost use Rattle.remote_queue.specs.declared.ends.TheConstants.{MOST_KNOWN_KEYS}
 ghost use Rattle.arena.specs.declared.outboxes.TheConstants.{MOST_DELAY};
 
 use remote_queue::{Inbox, Outbox, finish};
-use span::Key;
+use span::names::Key;
 
 /// How long a key waits at its seat for its block to be full, in calls of that seat: the 64th
 /// further call hands it over.

@@ -12,7 +12,8 @@ use crate::gate::Gate;
 use crate::hints::Announced;
 use crate::sections::Issued;
 use shard::{PutError, Shard};
-use span::{Class, Log};
+use span::names::Class;
+use span::spans::Log;
 
 impl<G: Gate, L: Log> Arena<G, L> {
     /// Puts the object of these words into a shard that is lent, as [`Shard::put_words`] does, and

@@ -5,7 +5,8 @@ ghost use Rattle.span.specs.declared.receipt.Receipt.{Receipt};
 ghost use Rattle.arena.specs.Receipts.{IsFree};
 ghost use Rattle.arena.specs.DroppedReceipts.{dropped_receipts};
 
-use span::{GhostList, Receipt, ReceiptList};
+use span::ghost_list::GhostList;
+use span::receipts::{Receipt, ReceiptList};
 use std::alloc::AllocError;
 
 /// Where the receipts of the keys go that are taken from rings, and freed: into a list, which keeps

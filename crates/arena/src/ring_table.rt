@@ -3,7 +3,7 @@ ghost use Rattle.std.specs.Prelude.{◌≡◌};
 ghost use Rattle.remote_queue.specs.Rings.{inbox_rings, outbox_rings};
 
 use remote_queue::{Inbox, Links, Outbox};
-use span::GhostList;
+use span::ghost_list::GhostList;
 use std::marker::Model;
 use std::mem::swap;
 

@@ -23,7 +23,8 @@ use crate::sections::{Issued, Looked, Outcome, free_in, get_in, set_in};
 use crate::word::Word;
 use latch::{Busy, Hold};
 use shard::{PutError, Shard};
-use span::{Class, Kept, Key, Log};
+use span::names::{Class, Key};
+use span::spans::{Kept, Log};
 use std::alloc::{AllocError, Global};
 use std::sync::Arc;
 

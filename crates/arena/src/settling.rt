@@ -15,7 +15,9 @@ use crate::patience::Waits;
 use crate::receipts::Receipts;
 use crate::seat::Seat;
 use remote_queue::Inbox;
-use span::{Key, Log, Receipt};
+use span::names::Key;
+use span::receipts::Receipt;
+use span::spans::Log;
 use std::alloc::{AllocError, Global};
 use std::sync::Wait;
 

@@ -19,7 +19,8 @@ use latch::LatchGuard;
 use marks::{CurrentPlan, Limits, MarkError, mark_in, mark_some_in};
 use mesh_graph::{MOST_GROUPS, Runner};
 use pool::Pool;
-use span::{Log, SpanId};
+use span::names::SpanId;
+use span::spans::Log;
 use std::alloc::{AllocError, Global};
 use std::marker::Model;
 

@@ -9,7 +9,7 @@ use crate::gate::Gate;
 use crate::receipts::Receipts;
 use crate::seat::Tended;
 use remote_queue::Inbox;
-use span::Log;
+use span::spans::Log;
 
 // How many keys are seen on the rings, at most that many of each. Their ends then know them.
 pub(crate) fn look_at_rings(inboxes: &mut Vec<Inbox>, most: usize) -> usize

@@ -9,7 +9,7 @@ use crate::locks::LockedShard;
 use latch::LatchGuard;
 use marks::{LendsShard, Totals};
 use pool::Pool;
-use span::Log;
+use span::spans::Log;
 
 /// What was counted under the locks of the pool and of all shards, so that no group is counted
 /// twice or left out. Only this module makes one.

@@ -13,7 +13,9 @@ use crate::settling::Frees;
 use latch::Latch;
 use pool::Pool;
 use shard::{Config, Found, Shard};
-use span::{Call, Kept, Key, Receipt, SpanLog};
+use span::names::Key;
+use span::receipts::{Call, Receipt};
+use span::spans::{Kept, SpanLog};
 use std::alloc::{AllocError, Global};
 use std::mem::replace;
 

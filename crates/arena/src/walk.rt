@@ -12,7 +12,8 @@ use crate::patience::{Tries, Waits};
 use latch::Busy;
 use pool::Pool;
 use shard::Shard;
-use span::{Key, Log, SpanId};
+use span::names::{Key, SpanId};
+use span::spans::Log;
 use std::sync::Wait;
 
 /// Where a walk over the live keys of an arena stands: at this slot of the span that this shard

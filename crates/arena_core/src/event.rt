@@ -1,5 +1,5 @@
 // What the core is asked.
-use span::{Key, Object};
+use span::names::{Key, Object};
 
 /// One call on the core: what it is asked.
 #[derive(Clone, Copy, Debug)]

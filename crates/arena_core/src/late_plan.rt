@@ -3,7 +3,7 @@ ghost use Rattle.std.specs.Prelude.{◌≡◌, None, IsSome, is_some, option_map
 ghost use Rattle.marks.specs.Plans.{next_pair, with_next_done};
 
 use marks::CurrentPlan;
-use span::SpanId;
+use span::names::SpanId;
 use std::marker::Model;
 
 /// The open plan of folds, if there is one. The room of a plan comes with the mark that opens it,

@@ -19,7 +19,9 @@ use marks::{Limits, Totals};
 use mesh_graph::{AtHand, Runner};
 use pool::Pool;
 use shard::Shard;
-use span::{Counted, GhostList, Kept, Log, Object, Span};
+use span::ghost_list::GhostList;
+use span::names::Object;
+use span::spans::{Counted, Kept, Log, Span};
 use std::alloc::{AllocError, Global};
 use std::marker::Model;
 

@@ -8,7 +8,7 @@ use fold::Step;
 use marks::MarkError;
 use pool::{AdoptError, ReceiveError};
 use shard::PutError;
-use span::{Key, Object, SpanId};
+use span::names::{Key, Object, SpanId};
 use std::alloc::AllocError;
 use thiserror::Error;
 

@@ -9,7 +9,7 @@ ghost use Rattle.arena_core.specs.Filled.{CannotReach, CannotSendIn, SendsIn, Ta
 ghost use Rattle.arena_core.specs.Rings.{CannotEnter, CannotSend, Sends, Takes, new_ring, new_rings, ring_at};
 
 use crate::reply::Refusal;
-use span::Key;
+use span::names::Key;
 use std::alloc::{AllocError, Global};
 use std::collections::VecDeque;
 use std::marker::Model;

@@ -8,7 +8,8 @@ ghost use Rattle.span.specs.declared.id.SpanId.{SpanId};
 ghost use Rattle.arena_core.specs.Moved.{HasAtMost, KeepsStanding, Notes, StandsIn, TellsStanding, entries_of, named, with_taken};
 
 use shard::Shard;
-use span::{Log, MOST_SPANS, SpanId};
+use span::names::{MOST_SPANS, SpanId};
+use span::spans::Log;
 use std::alloc::{AllocError, Global};
 use std::collections::HashMap;
 use std::marker::Model;

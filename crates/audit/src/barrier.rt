@@ -9,7 +9,8 @@ ghost use Rattle.audit.specs.Tables.{AreEntered, AreFull, IsTable, StandsBetween
 use crate::log::{LogPlaces, index_of};
 use crate::row::Sections;
 use crate::section::is_between;
-use span::{ReceiptList, ReceiptView, SpanLog};
+use span::receipts::{ReceiptList, ReceiptView};
+use span::spans::SpanLog;
 
 // Whether the call's section stands between those of the changes at its place.
 fn stands_between(

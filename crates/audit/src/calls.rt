@@ -6,7 +6,9 @@ ghost use Rattle.audit.specs.Receipts.{changes_after, makes_change};
 ghost use Rattle.audit.specs.Agreement.{CallMakes};
 ghost use Rattle.audit.specs.Changes.{slot_of, left_by, generation_of, issued_by};
 
-use span::{CallView, ChangeView, Key, ReceiptView};
+use span::names::Key;
+use span::receipts::{CallView, ReceiptView};
+use span::spans::ChangeView;
 
 /// Whether the call makes a change: a put does, and a set and a free that were done.
 pub fn makes_change(receipt: &ReceiptView<'_>) -> bool

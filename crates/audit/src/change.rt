@@ -12,7 +12,8 @@ use crate::calls::{call_makes, makes_change};
 use crate::log::{LogPlaces, index_of};
 use crate::row::{Row, Sections};
 use crate::section::{are_full, empty_rows, full_rows, mark};
-use span::{Kept, Log, ReceiptList, ReceiptView, SpanLog};
+use span::receipts::{ReceiptList, ReceiptView};
+use span::spans::{Kept, Log, SpanLog};
 use std::alloc::{AllocError, Global};
 
 // Whether the log has a change at the call's place, and the call makes it.

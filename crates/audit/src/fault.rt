@@ -10,7 +10,8 @@ use crate::change::sections_of_changes;
 use crate::legal::table_of_legal;
 use crate::order::workers_are_in_order;
 use crate::reply::replies_are_right;
-use span::{ReceiptList, SpanLog};
+use span::receipts::ReceiptList;
+use span::spans::SpanLog;
 use std::alloc::{AllocError, Global};
 use std::fmt;
 

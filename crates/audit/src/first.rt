@@ -1,7 +1,7 @@
 // Where the changes of each slot begin among a log's changes by slot.
 use crate::slot::SlotChange;
 use bitmap::SLOTS;
-use span::Key;
+use span::names::Key;
 use std::alloc::{AllocError, Global};
 
 /// A log of at most so many changes has no table: halving finds a change there in nine steps, and

@@ -13,7 +13,8 @@ ghost use Rattle.audit.specs.Tables.{IsTable};
 use crate::calls::{generation_left_by, issued_by, slot_of};
 use crate::log::{LogPlaces, table_of};
 use bitmap::SLOTS;
-use span::{ChangeView, Class, Kept, Log, SpanLog};
+use span::names::Class;
+use span::spans::{ChangeView, Kept, Log, SpanLog};
 use std::alloc::{AllocError, Global};
 
 // No slot holds anything.

@@ -1,7 +1,7 @@
 //! The audit of a run: whether what its calls answered agrees with the logs of its spans.
 //!
-//! A worker keeps a [`Receipt`](span::Receipt) of each of its calls, in a
-//! [`ReceiptList`](span::ReceiptList). When the run is over, [`audit`] compares all lists
+//! A worker keeps a [`Receipt`](span::receipts::Receipt) of each of its calls, in a
+//! [`ReceiptList`](span::receipts::ReceiptList). When the run is over, [`audit`] compares all lists
 //! with the logs.
 //!
 //! ```text

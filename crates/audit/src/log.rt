@@ -5,7 +5,8 @@ ghost use Rattle.audit.specs.Agreement.{HaveOneSpanEach};
 ghost use Rattle.audit.specs.Tables.{AreByRank, ArePlaces, AreSortedFrom, HasTwice, HasNoLog, IsLogAt, IsTable};
 ghost use Rattle.audit.specs.declared.log.LogPlace.{LogPlace};
 
-use span::{MOST_SHARDS, SpanId, SpanLog};
+use span::names::{MOST_SHARDS, SpanId};
+use span::spans::SpanLog;
 use std::alloc::{AllocError, Global};
 
 /// Where the log of a span stands.

@@ -7,7 +7,9 @@ ghost use Rattle.audit.specs.Tables.{IsTable, place_in};
 
 use crate::calls::changes_after;
 use crate::log::{LogPlaces, index_of};
-use span::{ReceiptList, SpanId, SpanLog};
+use span::names::SpanId;
+use span::receipts::ReceiptList;
+use span::spans::SpanLog;
 use std::alloc::{AllocError, Global};
 
 // For each log, and for all spans without one, that no change has stood in it.

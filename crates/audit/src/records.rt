@@ -3,7 +3,7 @@ use crate::first::Firsts;
 use crate::log::LogPlaces;
 use crate::row::Sections;
 use crate::slot::SlotChange;
-use span::SpanLog;
+use span::spans::SpanLog;
 
 /// The logs, and the tables that were made of them and of the receipts: what the calls of each
 /// worker are held against, whichever thread does so.

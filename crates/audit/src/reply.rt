@@ -15,7 +15,9 @@ ghost use Rattle.audit.specs.Tables.{IsTable};
 use crate::first::Firsts;
 use crate::log::{LogPlaces, index_of};
 use crate::slot::{SlotChange, all_by_slot, last_before};
-use span::{CallView, ChangeView, Kept, Key, Log, ObjectView, ReceiptList, ReceiptView, SpanLog};
+use span::names::Key;
+use span::receipts::{CallView, ObjectView, ReceiptList, ReceiptView};
+use span::spans::{ChangeView, Kept, Log, SpanLog};
 use std::alloc::{AllocError, Global};
 
 // The words that a key of the generation holds after the change of its slot, if any.

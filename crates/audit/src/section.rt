@@ -3,7 +3,7 @@ ghost use Rattle.std.specs.Prelude.{◌≡◌, ◌↔◌, ◌<◌, IsTrue, IfOk,
 ghost use Rattle.audit.specs.Tables.{AreRowsOf, AreFull, IsFull, IsBetween, filled_row, full_row, sections_in};
 
 use crate::row::{Row, Sections};
-use span::{Log, SpanLog};
+use span::spans::{Log, SpanLog};
 use std::alloc::{AllocError, Global};
 
 // A row in which no change was seen.

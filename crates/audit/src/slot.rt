@@ -7,7 +7,7 @@ ghost use Rattle.audit.specs.declared.slot.TheConstants.{MOST_PLACES};
 ghost use Rattle.audit.specs.Slots.{change_rank, place_of, slot_rank, HasChanges, HaveChanges, IsBySlot, IsSortedFrom, AreBySlot, IsQuiet, IsLast, IsSplitAt};
 
 use crate::calls::slot_of;
-use span::{Kept, Log, SpanLog};
+use span::spans::{Kept, Log, SpanLog};
 use std::alloc::{AllocError, Global};
 use std::mem::size_of;
 use std::thread;

@@ -10,7 +10,7 @@ use crate::fault::AuditCause;
 use crate::order::list_is_in_order;
 use crate::records::Records;
 use crate::reply::list_is_right;
-use span::ReceiptList;
+use span::receipts::ReceiptList;
 use std::alloc::{AllocError, Global};
 
 /// The part of the agreement that the calls of one worker fail first, if any.

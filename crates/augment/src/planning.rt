@@ -8,7 +8,7 @@ use crate::mates::Mates;
 use crate::phases::turn_phase;
 use certificate::{Plan, Short};
 use mesh_graph::Graph;
-use span::SpanId;
+use span::names::SpanId;
 use std::alloc::{AllocError, Global};
 
 /// A plan with the most pairs (found by Hopcroft and Karp's phases), and the short set that shows

@@ -10,7 +10,7 @@ use crate::distinct::{IdList, are_once};
 use crate::partner::partner_count;
 use crate::plan::{Plan, Short};
 use mesh_graph::Snapshot;
-use span::SpanId;
+use span::names::SpanId;
 
 /// Whether the pairs are a plan of the snapshot and the short set shows that no plan has more: its
 /// ids are distinct and of abandoned groups, and there are as many pairs and ids together as

@@ -9,7 +9,7 @@ ghost use Rattle.certificate.specs.Chosen.{AreOnce, HasSeen, ids_in};
 
 use crate::place_set::PlaceSet;
 use mesh_graph::{Entry, MOST_GROUPS, place_of};
-use span::SpanId;
+use span::names::SpanId;
 
 /// A list of ids, as it lies in a plan or a short set.
 #[derive(Clone, Copy)]

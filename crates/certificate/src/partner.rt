@@ -18,7 +18,7 @@ use crate::place_set::PlaceSet;
 use crate::plan::Short;
 use lane_kernels::{Planes, SlotRows};
 use mesh_graph::{Entry, MOST_GROUPS, Runner, Snapshot, place_of, sets_by_slots, steps_over};
-use span::{CLASSES, SpanId};
+use span::names::{CLASSES, SpanId};
 use std::alloc::{AllocError, Global};
 
 /// The owned groups that are compatible with some abandoned group of the short set, by ascending

@@ -1,7 +1,7 @@
 // A plan and a short set, as lists of ids.
 ghost use Rattle.std.specs.Prelude.{◌≡◌};
 
-use span::SpanId;
+use span::names::SpanId;
 use std::marker::Model;
 
 /// Pairs of an abandoned group and the owned group that it is to be folded onto, each by the id of

@@ -5,7 +5,7 @@ ghost use Rattle.compaction.specs.Told.{standing_of, told};
 use crate::compacted::Standing;
 use arena_core::{Refusal, Reply};
 use fold::Step;
-use span::SpanId;
+use span::names::SpanId;
 
 /// What one step of a compaction did, so that a caller who keeps something beside each page can
 /// follow it.

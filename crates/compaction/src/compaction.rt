@@ -17,7 +17,7 @@ use crate::turn::Turn;
 use arena_core::{Core, Event, Refusal, Reply};
 use certificate::Certificate;
 use mesh_graph::Snapshot;
-use span::Counted;
+use span::spans::Counted;
 use std::marker::Model;
 
 /// A plan or a round that folds one of so many groups of its smaller side is worth another one.

@@ -12,7 +12,8 @@ ghost use Rattle.groups.specs.Group.{paged_in};
 use crate::step::Step;
 use pool::Pool;
 use shard::Shard;
-use span::{Log, SpanId};
+use span::names::SpanId;
+use span::spans::Log;
 use std::alloc::AllocError;
 
 /// Folds the pool's group of head `a` onto the shard's group of head `b`, where that can be, and

@@ -7,7 +7,8 @@ ghost use Rattle.groups.specs.Directory.{entered, struck};
 ghost use Rattle.groups.specs.Dead.{AreEntered, dead_among};
 
 use crate::live::is_live;
-use span::{Log, Span, SpanId};
+use span::names::SpanId;
+use span::spans::{Log, Span};
 use std::alloc::{AllocError, Global};
 use std::collections::HashMap;
 use std::marker::Model;

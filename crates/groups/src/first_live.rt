@@ -6,7 +6,8 @@ ghost use Rattle.groups.specs.Spans.{all_spans};
 ghost use Rattle.span.specs.declared.limits.TheConstants.{ALL_IDS};
 
 use crate::spans::Spans;
-use span::{Key, Log, Span, SpanId};
+use span::names::{Key, SpanId};
+use span::spans::{Log, Span};
 
 impl<L: Log> Spans<L> {
     /// The first live key of its spans from this id on, by ids and then by slots. It takes no

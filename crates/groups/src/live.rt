@@ -2,7 +2,7 @@
 ghost use Rattle.std.specs.Prelude.{◌≡◌};
 ghost use Rattle.groups.specs.Dead as dead;
 
-use span::{Log, Span};
+use span::spans::{Log, Span};
 
 // Whether one of its slots is live.
 pub(crate) fn is_live<L: Log>(span: &Span<L>) -> bool

@@ -6,7 +6,7 @@ ghost use Rattle.groups.specs.Spans.{all_spans, with_set_at, with_span_at};
 
 use crate::spans::Spans;
 use page::Page;
-use span::Log;
+use span::spans::Log;
 use std::alloc::{AllocError, Global};
 
 /// Sets the object of the slot in the span at the place as [`Spans::set`] does, and gives its page,

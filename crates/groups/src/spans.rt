@@ -15,7 +15,8 @@ ghost use Rattle.bitmap.specs.declared.bits.TheConstants.{SLOTS};
 
 use crate::live::is_live;
 use bitmap::{Bits256, Vacancy, WordSet};
-use span::{Class, Counted, Entry, Kept, Key, Log, Span, SpanId, SpanLog};
+use span::names::{Class, Entry, Key, SpanId};
+use span::spans::{Counted, Kept, Log, Span, SpanLog};
 use std::alloc::{AllocError, Global};
 use std::marker::Model;
 use std::mem::swap;

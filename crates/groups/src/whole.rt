@@ -4,7 +4,8 @@ ghost use Rattle.groups.specs.Whole.{IsSoundWhole, whole_with};
 
 use crate::spans::Spans;
 use page::MaybePage;
-use span::{Kept, Log, SpanId};
+use span::names::SpanId;
+use span::spans::{Kept, Log};
 use std::marker::Model;
 
 /// A group on its way from one owner to another: its spans, and the words of its page, if it has

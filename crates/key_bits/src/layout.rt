@@ -4,7 +4,7 @@ ghost use Rattle.span.specs.declared.key.Key.{Key};
 
 use crate::parts::{Parts, have_room, joined, key_of, parted};
 use crate::width::width_of;
-use span::{Key, SpanId};
+use span::names::{Key, SpanId};
 use thiserror::Error;
 
 /// How many bits the parts of a key take in its number, of 64. The slot takes 8.

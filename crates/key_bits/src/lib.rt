@@ -1,7 +1,7 @@
 //! Keys as numbers of 64 bits.
 //!
 //! A token of an event loop, the user data of a kernel ring and a `uint64_t` of C have room for one
-//! number. A [`Key`](span::Key) has four: a shard, a serial, a slot and a generation. A
+//! number. A [`Key`](span::names::Key) has four: a shard, a serial, a slot and a generation. A
 //! [`KeyBits`] says how many bits each takes, and turns keys into numbers and numbers into keys.
 //!
 //! ```text

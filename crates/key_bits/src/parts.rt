@@ -4,7 +4,7 @@ ghost use Rattle.span.specs.declared.key.Key.{Key};
 ghost use Rattle.key_bits.specs.Numbers.{HasParts, HaveRoom, number_of_parts};
 
 use crate::layout::KeyBits;
-use span::{Key, SpanId};
+use span::names::{Key, SpanId};
 
 /// The parts of a key's number, whatever numbers they are.
 #[derive(Clone, Copy)]

@@ -11,7 +11,8 @@ ghost use Rattle.marks.specs.Seen.{owned_entries};
 
 use crate::lends_shard::LendsShard;
 use shard::Shard;
-use span::{Log, SpanId};
+use span::names::SpanId;
+use span::spans::Log;
 
 /// Closes each owned group that has a page and onto which a pair folds, in the shard that has it,
 /// so that it takes no put. It takes no memory.

@@ -4,7 +4,7 @@ ghost use Rattle.marks.specs.Plans.{next_pair, with_next_done};
 ghost use Rattle.mesh_graph.specs.declared.build.TheConstants.{MOST_GROUPS};
 
 use mesh_graph::MOST_GROUPS;
-use span::SpanId;
+use span::names::SpanId;
 use std::alloc::{AllocError, Global};
 use std::marker::Model;
 

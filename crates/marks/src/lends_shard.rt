@@ -5,7 +5,8 @@ ghost use Rattle.shard.specs.Sound.{IsSound};
 ghost use Rattle.shard.specs.State.{ShardState};
 
 use shard::Shard;
-use span::{Log, SpanId};
+use span::names::SpanId;
+use span::spans::Log;
 
 /// A value that lends a shard: the shard itself, or, as in `arena`, the guard of a lock that holds
 /// one. A mark of shards behind locks is so the same code as one of shards alone.

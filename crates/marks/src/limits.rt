@@ -3,7 +3,7 @@ ghost use Rattle.std.specs.Prelude.{◌≡◌, ◌↔◌, ◌≤◌, IfSome, IsS
 ghost use Rattle.marks.specs.Numbers.{AreWithin, limits_of, with_span_limit};
 ghost use Rattle.span.specs.declared.limits.TheConstants.{MOST_SPANS};
 
-use span::{MOST_PAGES, MOST_RING_KEYS, MOST_SHARDS, MOST_SPANS};
+use span::names::{MOST_PAGES, MOST_RING_KEYS, MOST_SHARDS, MOST_SPANS};
 use std::marker::Model;
 
 /// The numbers of a core or an arena, each within its range. The seats and the steward of an arena

@@ -13,7 +13,7 @@ use crate::graph::Graph;
 use crate::runner::Runner;
 use crate::snapshot::Snapshot;
 use lane_kernels::{LEAST_BY_SLOTS, MOST_BY_SLOTS, Planes, SlotRows};
-use span::Entry;
+use span::names::Entry;
 use std::alloc::{AllocError, Global};
 
 /// The most groups that a graph has on a side.

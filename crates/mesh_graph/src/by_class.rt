@@ -10,7 +10,7 @@ ghost use Rattle.span.specs.declared.class.TheConstants.{CLASSES};
 ghost use Rattle.mesh_graph.specs.Masked.{AreAsWide, AreMasks, AreOfOneClass, HasRows, is_kept, is_of, mask_in};
 
 use crate::graph::row_of;
-use span::{CLASSES, Class, Entry};
+use span::names::{CLASSES, Class, Entry};
 use std::alloc::{AllocError, Global};
 
 /// The owned groups of each class, as a row of bits: that of a class stands at its number.

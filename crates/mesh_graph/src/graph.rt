@@ -7,7 +7,7 @@ ghost use Rattle.lane_kernels.specs.Rows.{row_at};
 ghost use Rattle.mesh_graph.specs.declared.build.TheConstants.{MOST_GROUPS};
 
 use crate::snapshot::Snapshot;
-use span::SpanId;
+use span::names::SpanId;
 use std::marker::Model;
 use std::simd::Simd;
 use std::simd::prelude::*;

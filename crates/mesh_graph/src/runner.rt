@@ -11,7 +11,7 @@ use crate::by_class::Masks;
 use bitmap::SLOTS;
 use lane_kernels::{Planes, SlotRows};
 use rayon::prelude::*;
-use span::Entry;
+use span::names::Entry;
 use std::thread::Threads;
 
 /// From how many steps on threads are worth their beginning. A step is a slot of a group and 64

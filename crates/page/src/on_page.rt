@@ -4,7 +4,7 @@ ghost use Rattle.page.specs.Words.{blank_page, is_zeros, object_in, set_object};
 ghost use Rattle.span.specs.Classes.{slots_in, width_of};
 
 use crate::page::Page;
-use span::Class;
+use span::names::Class;
 
 // The widest object, where it is zeros.
 static ZEROS: [u128; 16] = [0; 16];

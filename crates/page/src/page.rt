@@ -7,7 +7,7 @@ ghost use Rattle.span.specs.Classes.{slots_in, width_of};
 
 use crate::on_page::{is_zeros, value_on};
 use bitmap::{Bits256, SLOTS};
-use span::Class;
+use span::names::Class;
 use std::alloc::{AllocError, Global};
 use std::marker::Model;
 

@@ -4,7 +4,7 @@ ghost use Rattle.std.specs.Prelude.{◌≤◌};
 
 use bitmap::Bits256;
 use mesh_graph::{AtHand, BuildError, ByThreads, Entry, Graph, Snapshot};
-use span::{CLASSES, Class, SpanId};
+use span::names::{CLASSES, Class, SpanId};
 use std::alloc::Global;
 use std::thread::Threads;
 

@@ -5,7 +5,7 @@ ghost use Rattle.std.specs.Prelude.{◌≤◌};
 use bitmap::Bits256;
 use certificate::{Short, partners};
 use mesh_graph::{AtHand, ByThreads, Entry, Runner, Snapshot};
-use span::{CLASSES, Class, SpanId};
+use span::names::{CLASSES, Class, SpanId};
 use std::alloc::Global;
 use std::thread::Threads;
 

@@ -3,7 +3,7 @@ use augment::{plan, plan_counted};
 use bitmap::Bits256;
 use certificate::{Plan, Short, check};
 use mesh_graph::{AtHand, BuildError, Entry, Graph, Snapshot};
-use span::{Class, SpanId};
+use span::names::{Class, SpanId};
 use std::alloc::{AllocError, Global};
 
 // Two owned groups with which an abandoned one is compatible, or one that is told twice, by their

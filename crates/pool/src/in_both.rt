@@ -6,7 +6,7 @@ ghost use Rattle.pool.specs.Handover.{HasAnyIn, HaveOneIn};
 use crate::pooled::Pooled;
 use groups::Spans;
 use shard::Shard;
-use span::Log;
+use span::spans::Log;
 
 /// Whether one of the groups' spans is in the shard, too.
 pub(crate) fn have_one_in<L: Log>(groups: &[Pooled<L>], shard: &Shard<L>) -> bool

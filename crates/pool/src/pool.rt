@@ -20,7 +20,8 @@ use crate::group_table::GroupTable;
 use crate::pooled::Pooled;
 use groups::Directory;
 use shard::{Found, Freed};
-use span::{Entry, Kept, Key, Log, SpanId};
+use span::names::{Entry, Key, SpanId};
+use span::spans::{Kept, Log};
 use std::alloc::{AllocError, Global};
 use std::marker::Model;
 

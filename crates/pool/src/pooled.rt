@@ -16,7 +16,8 @@ ghost use Rattle.bitmap.specs.declared.bits.TheConstants.{SLOTS};
 
 use groups::{Brief, Spans, set_on_zeros};
 use page::{MaybePage, Page, is_zeros, set_on, value_on};
-use span::{Class, Counted, Entry, Log, Span, SpanId};
+use span::names::{Class, Entry, SpanId};
+use span::spans::{Counted, Log, Span};
 use std::alloc::{AllocError, Global};
 use std::marker::Model;
 

@@ -7,7 +7,8 @@ ghost use Rattle.span.specs.declared.entry.Entry.{Entry};
 use crate::pooled::Pooled;
 use crate::walks::{summaries, summaries_below};
 use groups::{LiveTally, sample_step};
-use span::{Entry, Log};
+use span::names::Entry;
+use span::spans::Log;
 use std::alloc::{AllocError, Global};
 
 /// At least `most` of those that have a page, or all if there are no more, in no order. None has

@@ -12,7 +12,8 @@ ghost use Rattle.bitmap.specs.declared.bits.TheConstants.{SLOTS};
 use crate::pooled::Pooled;
 use crate::sparse::push_below;
 use groups::earlier;
-use span::{Entry, Kept, Key, Log, SpanId, SpanLog};
+use span::names::{Entry, Key, SpanId};
+use span::spans::{Kept, Log, SpanLog};
 use std::alloc::{AllocError, Global};
 
 /// How many of them have a page.

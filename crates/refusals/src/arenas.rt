@@ -6,7 +6,8 @@ use marks::MarkError;
 use mesh_graph::AtHand;
 use pool::{AdoptError, ReceiveError};
 use shard::PutError;
-use span::{Class, Key, Object, ReceiptList, SpanId};
+use span::names::{Class, Key, Object, SpanId};
+use span::receipts::ReceiptList;
 use std::alloc::Global;
 use std::sync::Wait;
 

@@ -2,7 +2,8 @@
 use crate::refusing::{Rounds, Script, Subject};
 use arena_core::{Core, Refusal};
 use compaction::{Compacted, Compaction, Standing};
-use span::{Counted, Key, Object, SpanId};
+use span::names::{Key, Object, SpanId};
+use span::spans::Counted;
 use std::alloc::{AllocError, Global};
 use std::sync::Wait;
 
@@ -59,7 +60,7 @@ fn tell_put(put: Result<Key, Refusal>) -> Told {
 }
 
 fn object(shard: u32) -> Object {
-    Object::of(span::Class::C256, &[u128::from(shard); 16])
+    Object::of(span::names::Class::C256, &[u128::from(shard); 16])
 }
 
 impl Subject for Compacting {

@@ -2,7 +2,7 @@
 use crate::refusing::{Rounds, Script, Subject};
 use arena_core::{Core, Event, Refusal, Reply};
 use fold::Step;
-use span::{Class, Key, Object, SpanId};
+use span::names::{Class, Key, Object, SpanId};
 use std::alloc::{AllocError, Global};
 use std::sync::Wait;
 

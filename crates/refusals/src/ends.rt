@@ -5,7 +5,9 @@ ghost use Rattle.arena.specs.Seats.{AreSeatsOf};
 use crate::refusing::{Fault, MOST, Round, Rounds, refuse, was_refused};
 use arena::{Arena, Finished, NoGate, Seat, Unfinished, finish};
 use audit::{AuditError, audit};
-use span::{Log, Object, ReceiptList};
+use span::names::Object;
+use span::receipts::ReceiptList;
+use span::spans::Log;
 use std::alloc::Global;
 use std::sync::Wait;
 

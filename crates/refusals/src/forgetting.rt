@@ -5,7 +5,8 @@ use arena_core::Core;
 use fold::{Step, fold_one};
 use pool::Pool;
 use shard::Shard;
-use span::{Counted, MOST_SPANS, Object, SpanId};
+use span::names::{MOST_SPANS, Object, SpanId};
+use span::spans::Counted;
 use std::alloc::Global;
 use std::sync::Wait;
 

@@ -2,7 +2,7 @@
 use crate::cores::{Told, tell};
 use crate::refusing::{Rounds, Script, Subject};
 use arena_core::{Core, Event, Reply};
-use span::{Key, Object, SpanId};
+use span::names::{Key, Object, SpanId};
 use std::alloc::Global;
 use std::sync::Wait;
 

@@ -3,7 +3,7 @@ use crate::refusing::{Rounds, Script, Subject};
 use fold::{Step, fold_one};
 use pool::{AdoptError, Pool, ReceiveError};
 use shard::{Found, Freed, PutError, Replaced, Shard};
-use span::{Class, Entry, Key, Object, SpanId};
+use span::names::{Class, Entry, Key, Object, SpanId};
 use std::alloc::{AllocError, Global};
 use std::sync::Wait;
 

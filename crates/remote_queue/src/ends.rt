@@ -8,7 +8,7 @@ ghost use Rattle.span.specs.declared.limits.TheConstants.{MOST_RING_KEYS};
 ghost use Rattle.remote_queue.specs.declared.ends.TheConstants.{BLOCK, MOST_KNOWN_KEYS};
 
 use rtrb::{Consumer, Producer, Protocol, PushError, RingBuffer};
-use span::{Key, MOST_RING_KEYS, SpanId};
+use span::names::{Key, MOST_RING_KEYS, SpanId};
 use std::alloc::{AllocError, Global};
 use std::marker::Model;
 

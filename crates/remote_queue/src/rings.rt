@@ -5,7 +5,7 @@ ghost use Rattle.span.specs.declared.limits.TheConstants.{MOST_RING_KEYS};
 
 use crate::ends::{Inbox, Outbox, ring};
 use crate::error::LinkError;
-use span::{MOST_RING_KEYS, MOST_SHARDS};
+use span::names::{MOST_RING_KEYS, MOST_SHARDS};
 use std::alloc::{AllocError, Global};
 
 /// The ends of the rings from all workers to all shards.

@@ -6,7 +6,7 @@ use certificate::check;
 use mesh_graph::{AtHand, Entry, Graph, Snapshot};
 use pool::Pool;
 use shard::{Found, Freed, Shard};
-use span::{Class, Key, Object, SpanId};
+use span::names::{Class, Key, Object, SpanId};
 use std::process::Abort;
 use std::test::Fail;
 use trace_runner::{Memory, replay_serial};

@@ -10,7 +10,8 @@ ghost use Rattle.span.specs.State.{SpanState};
 ghost use Rattle.std.specs.FinMap as map;
 
 use crate::head_indexes::{is_noted, most_entries};
-use span::{Log, Span, SpanId};
+use span::names::SpanId;
+use span::spans::{Log, Span};
 use std::alloc::{AllocError, Global};
 use std::marker::Model;
 

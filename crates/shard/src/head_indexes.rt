@@ -7,7 +7,8 @@ ghost use Rattle.shard.specs.Heads.{AreReady, IsLastOf, IsNoted, KnowsHeads, not
 ghost use Rattle.span.specs.State.{SpanState};
 
 use crate::group::Group;
-use span::{Log, Span, SpanId};
+use span::names::SpanId;
+use span::spans::{Log, Span};
 use std::alloc::{AllocError, Global};
 use std::marker::Model;
 

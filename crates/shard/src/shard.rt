@@ -15,7 +15,8 @@ use crate::group::Group;
 use crate::guest_notes::GuestNotes;
 use crate::head_indexes::HeadIndexes;
 use groups::Directory;
-use span::{Entry, Kept, Log, MOST_PAGES, MOST_SHARDS, MOST_SPANS, Span, SpanId};
+use span::names::{Entry, MOST_PAGES, MOST_SHARDS, MOST_SPANS, SpanId};
+use span::spans::{Kept, Log, Span};
 use std::alloc::{AllocError, Global};
 use std::marker::Model;
 

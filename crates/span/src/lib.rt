@@ -1,6 +1,6 @@
 //! Spans, the keys of their slots, and their logs. The crate has three doors: [`names`], of which
 //! every crate speaks, [`spans`], one span with its log, and [`receipts`], what workers note of
-//! their calls.
+//! their calls. Beside them is [`ghost_list`], a list that only proofs read.
 //!
 //! A [`Span`](spans::Span) is the slots of a page that one shard opened together: 256 of one word
 //! each, or fewer that are wider. Their values lie on the page, which is not kept here. A span
@@ -54,7 +54,7 @@ mod blocks;
 mod change;
 mod class;
 mod entry;
-mod ghost_list;
+pub mod ghost_list;
 mod id;
 mod key;
 mod limits;

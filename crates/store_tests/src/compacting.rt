@@ -2,7 +2,8 @@
 //! object at each place where one may stop.
 use arena_core::{Core, Event, Refusal};
 use compaction::{Compacted, Compaction, Standing};
-use span::{Counted, Key, Object};
+use span::names::{Key, Object};
+use span::spans::Counted;
 use std::alloc::{AllocError, Global};
 
 // How many objects of 16 words are put, and how many of a page stay.
@@ -20,7 +21,7 @@ struct Thinned {
 }
 
 fn object(number: u32) -> Object {
-    Object::of(span::Class::C256, &[u128::from(number); 16])
+    Object::of(span::names::Class::C256, &[u128::from(number); 16])
 }
 
 // Whether the object of this number stays: on each page others do.

@@ -3,7 +3,8 @@
 use arena_core::{Core, CoreError, Event, Refusal, Reply};
 use fold::Step;
 use marks::Totals;
-use span::{Counted, Key, Log, Object, SpanId};
+use span::names::{Key, Object, SpanId};
+use span::spans::{Counted, Log};
 use std::alloc::Global;
 
 mod beginning;

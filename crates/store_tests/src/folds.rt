@@ -3,7 +3,7 @@ use crate::objects::{Sought, object};
 use fold::{Step, fold_one};
 use pool::Pool;
 use shard::{PutError, Shard};
-use span::{CLASSES, Class, Key, Object, SpanId};
+use span::names::{CLASSES, Class, Key, Object, SpanId};
 use std::alloc::Global;
 
 // What is seen of pool and shard: their pages, their live keys, and what both find of a key of the

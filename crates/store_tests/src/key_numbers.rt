@@ -1,7 +1,7 @@
 //! Keys as numbers: numbers that were worked out by hand, keys beyond their layout, and layouts for
 //! limits.
 use key_bits::{KeyBits, LayoutError};
-use span::{Key, SpanId};
+use span::names::{Key, SpanId};
 
 // The number of the key of these parts.
 fn number(bits: KeyBits, shard: u32, serial: u32, slot: u8, generation: u32) -> Option<u64> {

@@ -4,7 +4,8 @@ use arena_core::{Core, Event, Reply};
 use fold::{Step, fold_one};
 use pool::Pool;
 use shard::{Freed, Replaced, Shard};
-use span::{Class, Counted, Kept, Key, Log, MOST_RING_KEYS, MOST_SPANS, Object, SpanId};
+use span::names::{Class, Key, MOST_RING_KEYS, MOST_SPANS, Object, SpanId};
+use span::spans::{Counted, Kept, Log};
 use std::alloc::Global;
 
 // How many pages a shard gets.

@@ -2,7 +2,7 @@
 ghost use Rattle.shard.specs.Calls.{FindsObject};
 
 use shard::Found;
-use span::{Class, Object};
+use span::names::{Class, Object};
 
 /// The object of 64 bytes that this word tells.
 pub(crate) fn wide(word: u128) -> Object {

@@ -7,7 +7,7 @@ ghost use Rattle.span.specs.Classes.{slots_in};
 
 use crate::objects::{object, zeros};
 use page::Page;
-use span::{CLASSES, Class, Object};
+use span::names::{CLASSES, Class, Object};
 use std::alloc::Global;
 
 fn blank(alloc: Global) -> Option<Page> {

@@ -8,7 +8,7 @@ ghost use Rattle.std.specs.Prelude.{◌<◌};
 use crate::objects::{Sought, wide, widest};
 use pool::{AdoptError, Pool, ReceiveError};
 use shard::{Freed, PutError, Shard};
-use span::{Key, Object, SpanId};
+use span::names::{Key, Object, SpanId};
 use std::alloc::Global;
 
 // The first span that a shard of this number opens.

@@ -1,6 +1,7 @@
 //! A span at work: the generations that it gives out, and what its log tells. A put that was
 //! refused memory is made again.
-use span::{ChangeView, Class, Counted, Kept, Key, Log, Span, SpanId, SpanLog};
+use span::names::{Class, Key, SpanId};
+use span::spans::{ChangeView, Counted, Kept, Log, Span, SpanLog};
 use std::test::Fail;
 
 // The id of a span, 3.17.

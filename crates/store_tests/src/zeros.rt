@@ -3,7 +3,7 @@ use crate::objects::{Sought, object, zeros};
 use fold::{Step, fold_one};
 use pool::Pool;
 use shard::{PutError, Replaced, Shard};
-use span::{Class, Key, Object};
+use span::names::{Class, Key, Object};
 use std::alloc::Global;
 
 // Puts the object, and asks again where memory was refused.

@@ -3,9 +3,9 @@
 ghost use Rattle.std.specs.Prelude.{◌≡◌, ◌≤◌, OnOk};
 
 use audit::{AuditCause, AuditError, audit, audit_by_threads};
-use span::{
-    CLASSES, Call, Change, Class, Kept, Key, Log, Object, Receipt, ReceiptList, SpanId, SpanLog,
-};
+use span::names::{CLASSES, Class, Key, Object, SpanId};
+use span::receipts::{Call, Receipt, ReceiptList};
+use span::spans::{Change, Kept, Log, SpanLog};
 use std::alloc::{AllocError, Global};
 use std::test::Fail;
 use std::thread::Threads;

@@ -5,7 +5,7 @@ ghost use Rattle.std.specs.Prelude.{◌≡◌};
 use arena::{Arena, Dropped, NoGate, Seat};
 use latch::Busy;
 use marks::Totals;
-use span::{Key, Object};
+use span::names::{Key, Object};
 use std::alloc::Global;
 use std::sync::Wait;
 use std::test::Fail;

@@ -2,7 +2,8 @@
 ghost use Rattle.std.specs.Prelude.{◌≡◌};
 
 use arena::{Arena, Dropped, Gate, Seat};
-use span::{Counted, Key, Object};
+use span::names::{Key, Object};
+use span::spans::Counted;
 use std::alloc::Global;
 use std::sync::Wait;
 use std::sync::atomic::AtomicU64;

@@ -4,7 +4,8 @@ ghost use Rattle.std.specs.Prelude.{◌≡◌};
 
 use arena::{Arena, Dropped, Gate, Seat, Steward, Totals};
 use mesh_graph::AtHand;
-use span::{Counted, Key, Object, SpanId};
+use span::names::{Key, Object, SpanId};
+use span::spans::Counted;
 use std::alloc::Global;
 use std::hint::spin_loop;
 use std::sync::Wait;

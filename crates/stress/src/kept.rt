@@ -7,7 +7,7 @@ use crate::shared::{
 use arena::{Busy, PlanOpen, Seat, Stepped, Steward, Walk};
 use fold::Step;
 use marks::{MarkError, Totals};
-use span::{Key, Object};
+use span::names::{Key, Object};
 use std::alloc::Global;
 use std::test::Fail;
 

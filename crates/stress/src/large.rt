@@ -6,7 +6,7 @@ use certificate::Certificate;
 use fold::Step;
 use marks::{MarkError, Totals};
 use mesh_graph::AtHand;
-use span::{Class, Key, Object, SpanId};
+use span::names::{Class, Key, Object, SpanId};
 use std::alloc::Global;
 use std::sync::{Arc, Wait};
 use std::test::Fail;

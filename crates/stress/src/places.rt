@@ -8,7 +8,9 @@ use arena::{Arena, Finished, NoGate, Seat, Stepped, Steward, Unfinished, finish}
 use fold::Step;
 use marks::Totals;
 use mesh_graph::AtHand;
-use span::{CallView, Key, Log, Object, ReceiptList};
+use span::names::{Key, Object};
+use span::receipts::{CallView, ReceiptList};
+use span::spans::Log;
 use std::alloc::Global;
 use std::sync::Wait;
 use std::test::Fail;

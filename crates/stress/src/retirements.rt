@@ -2,7 +2,7 @@
 use crate::shared::{Shards, Shared, make_shared, put_object, retire};
 use arena::Seat;
 use marks::Totals;
-use span::{Class, Object};
+use span::names::{Class, Object};
 use std::alloc::Global;
 use std::test::Fail;
 

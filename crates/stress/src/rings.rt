@@ -3,7 +3,7 @@ ghost use Rattle.std.specs.Prelude.{◌≡◌, All, IfOk, IfSome, vec_len};
 ghost use Rattle.remote_queue.specs.Rings.{AreTransposed, inbox_rings, outbox_rings};
 
 use remote_queue::{Inbox, LinkError, Links, Outbox, finish, link};
-use span::{Key, SpanId};
+use span::names::{Key, SpanId};
 use std::alloc::Global;
 use std::test::Fail;
 

@@ -6,7 +6,8 @@ use arena::Outcome;
 use arena::sections::{free_in, free_pool, get_in, get_pool, set_in, set_pool};
 use pool::Pool;
 use shard::Shard;
-use span::{Call, Class, Key, Object, Receipt};
+use span::names::{Class, Key, Object};
+use span::receipts::{Call, Receipt};
 use std::test::Fail;
 
 // The receipt of such a call of worker 3 in section 2.

@@ -4,7 +4,7 @@ use crate::shared::{
     Kept, Shards, Shared, adopt, get, get_word, keep, make_shared, pause, put, put_kept, retire,
 };
 use arena::{Busy, Seat, Walk};
-use span::{Key, Object};
+use span::names::{Key, Object};
 use std::alloc::Global;
 use std::test::Fail;
 

@@ -3,7 +3,7 @@
 ghost use Rattle.std.specs.Prelude.{◌≡◌};
 
 use arena::{Arena, NoGate, Seat};
-use span::{Class, Key, Object, SpanId};
+use span::names::{Class, Key, Object, SpanId};
 use std::alloc::{AllocError, Global};
 use std::sync::Wait;
 use std::test::Fail;

@@ -3,7 +3,8 @@
 // clauses is kept here.
 use arena::{Arena, Busy, NoGate, Seat, Session, Stepped, Steward};
 use marks::Totals;
-use span::{Class, Counted, Key, Object};
+use span::names::{Class, Key, Object};
+use span::spans::Counted;
 use std::alloc::Global;
 use std::sync::Arc;
 

@@ -3,7 +3,8 @@ ghost use Rattle.std.specs.Prelude.{◌≡◌};
 ghost use Rattle.span.specs.ReceiptLists.{kept_receipts, receipt_room};
 
 use arena::{Arena, NoGate, Receipts, Seat};
-use span::{Key, Object, Receipt, ReceiptList};
+use span::names::{Key, Object};
+use span::receipts::{Receipt, ReceiptList};
 use std::alloc::{AllocError, Global};
 use std::sync::Wait;
 use std::test::Fail;

@@ -3,7 +3,7 @@ ghost use Rattle.std.specs.Prelude.{◌≡◌};
 
 use arena::{Arena, NoGate, Seat};
 use marks::Totals;
-use span::{Key, Object};
+use span::names::{Key, Object};
 use std::alloc::Global;
 use std::sync::Wait;
 use std::test::Fail;

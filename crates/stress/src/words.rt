@@ -5,7 +5,8 @@ use crate::held::{Holding, Signals, TURNS, Three, make_three};
 use crate::shared::first_of;
 use arena::{Arena, Seat, Stepped, Steward};
 use fold::Step;
-use span::{CLASSES, Class, Counted, Key, Object};
+use span::names::{CLASSES, Class, Key, Object};
+use span::spans::Counted;
 use std::alloc::Global;
 use std::test::Fail;
 

@@ -7,7 +7,8 @@ use pool::{AdoptError, ReceiveError};
 use rand_core::utils::NextWord;
 use rand_pcg::Pcg32;
 use shard::PutError;
-use span::{Class, Key, Object, ReceiptList};
+use span::names::{Class, Key, Object};
+use span::receipts::ReceiptList;
 use std::alloc::{AllocError, Global};
 use std::sync::Wait;
 

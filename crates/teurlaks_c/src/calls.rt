@@ -16,7 +16,7 @@ use crate::status::{CONFIG, HAS_CORE, NO_CORE, NONE, OK, OUT_OF_MEMORY, TOO_SMAL
 use crate::words::{class_for, join_all, raw_word, value_of, write_words};
 use arena_core::Core;
 use marks::Limits;
-use span::{Class, Key, MOST_SPANS};
+use span::names::{Class, Key, MOST_SPANS};
 use std::alloc::Global;
 use std::mem::replace;
 

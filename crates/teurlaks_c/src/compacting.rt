@@ -10,7 +10,7 @@ use crate::meshing::no_span;
 use crate::replies::{AdvanceReply, CompactReply};
 use crate::status::{NO_CORE, OK, status_of};
 use compaction::{Advanced, Compacted, Standing, Taken};
-use span::SpanId;
+use span::names::SpanId;
 
 /// Takes steps of the compaction of the core up to the budget, at least one, and counts the pages
 /// that went.

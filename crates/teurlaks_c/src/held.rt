@@ -6,7 +6,7 @@ ghost use Rattle.compaction.specs.Progress.{fresh};
 use arena_core::Core;
 use certificate::Certificate;
 use compaction::Compaction;
-use span::Counted;
+use span::spans::Counted;
 
 /// A core whose changes are only counted, and what its last mark answered, so that a caller can ask
 /// for the text of it afterwards.

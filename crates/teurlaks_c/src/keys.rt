@@ -3,7 +3,7 @@ ghost use Rattle.std.specs.Prelude.{◌≡◌, MatchOption};
 ghost use Rattle.teurlaks_c.specs.Keys.{IsKeyOf, IsNoKey, IsIdOf};
 
 use crate::replies::{RawKey, RawSpan};
-use span::{Key, SpanId};
+use span::names::{Key, SpanId};
 
 /// The key of these numbers, or `None` where no key has them.
 #[inline(always)]

@@ -8,7 +8,7 @@ use crate::handle::Handle;
 use crate::keys::key_of;
 use crate::replies::RawKey;
 use crate::status::{NO_CORE, NONE, OK};
-use span::Key;
+use span::names::Key;
 
 /// Whether the key is live: `OK` where it is, else `NONE`. Nothing changes, and no word of its
 /// object is read.

@@ -10,7 +10,8 @@ use crate::replies::{GetReply, ManyReply, RawKey, RawWord};
 use crate::status::{NO_CORE, OK, status_of};
 use crate::words::value_of;
 use arena_core::Core;
-use span::{Class, Counted};
+use span::names::Class;
+use span::spans::Counted;
 
 /// Keeps an object of one word for each of the words in the shard, in their order, as so many calls
 /// of `teurlaks_put` do, and leaves their keys in `keys`, in the same order. It stops where `words`

@@ -19,7 +19,7 @@ use crate::status::{
 use arena_core::{Event, Refusal, Reply};
 use certificate::{Certificate, write};
 use fold::Step;
-use span::SpanId;
+use span::names::SpanId;
 use std::alloc::Global;
 use std::mem::replace;
 

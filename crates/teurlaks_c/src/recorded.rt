@@ -4,7 +4,8 @@ ghost use Rattle.std.specs.Prelude.{◌≡◌, All};
 
 use crate::share::Keeper;
 use arena::{Arena, NoGate, Seat};
-use span::{ReceiptList, SpanLog};
+use span::receipts::ReceiptList;
+use span::spans::SpanLog;
 use std::alloc::Global;
 use std::sync::Arc;
 

@@ -18,7 +18,8 @@ use crate::share::{Share, SharedSeat};
 use crate::share_handle::ShareHandle;
 use crate::status::{BUSY, OUT_OF_MEMORY};
 use arena::{Busy, Dropped, Tended};
-use span::{Key, Object, Receipt, ReceiptList};
+use span::names::{Key, Object};
+use span::receipts::{Receipt, ReceiptList};
 use std::alloc::{AllocError, Global};
 use std::mem::replace;
 

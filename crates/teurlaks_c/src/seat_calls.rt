@@ -14,7 +14,8 @@ use crate::status::{BUSY, NONE, OK, TOO_SMALL};
 use arena::{Arena, Busy, Issued, Looked, NoGate, Outcome, Seat};
 use pool::{AdoptError, ReceiveError};
 use shard::PutError;
-use span::{Class, Key, Log, SpanId};
+use span::names::{Class, Key, SpanId};
+use span::spans::Log;
 use std::alloc::{AllocError, Global};
 use std::mem::replace;
 

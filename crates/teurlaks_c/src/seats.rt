@@ -25,7 +25,7 @@ use crate::status::{
 use crate::words::{class_for, join_all, value_of};
 use arena::{Busy, Tended};
 use pool::{AdoptError, ReceiveError};
-use span::{Class, Key, SpanId};
+use span::names::{Class, Key, SpanId};
 use std::alloc::{AllocError, Global};
 
 /// Keeps an object of 1 to 16 words in the seat's shard, and answers its key. Refused with `BUSY`,

@@ -18,7 +18,7 @@ use crate::share_handle::ShareHandle;
 use crate::status::{BUSY, ENDED, NO_CORE, NONE, OK, OUT_OF_MEMORY, PAGES_SPENT, RING_FULL};
 use arena::{Busy, Issued, Outcome};
 use shard::PutError;
-use span::Key;
+use span::names::Key;
 use std::alloc::{AllocError, Global};
 use std::mem::replace;
 

@@ -5,7 +5,7 @@ ghost use Rattle.std.specs.Prelude.{◌≡◌, All};
 use crate::held::Witness;
 use crate::recorded::{RecordedRun, RecordedSeat, RecordedSteward};
 use arena::{Arena, NoGate, Seat, Session, Steward};
-use span::Counted;
+use span::spans::Counted;
 use std::alloc::Global;
 use std::sync::Arc;
 

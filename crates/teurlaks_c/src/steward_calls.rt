@@ -14,7 +14,7 @@ use crate::share_handle::ShareHandle;
 use arena::{Arena, Busy, NoGate, Stepped, Totals};
 use certificate::Certificate;
 use marks::MarkError;
-use span::Log;
+use span::spans::Log;
 use std::alloc::{AllocError, Global};
 use std::mem::replace;
 

@@ -22,7 +22,7 @@ use crate::steward_calls::{Close, CountAll, Mark, MarkSome, Step, at_steward};
 use arena::{Arena, Busy, NoGate, PlanOpen, Seat, Stepped, Totals};
 use fold::Step as Outcome;
 use marks::{Limits, MarkError};
-use span::MOST_SPANS;
+use span::names::MOST_SPANS;
 use std::alloc::{AllocError, AllocFailed, Global};
 use std::mem::replace;
 use std::sync::Arc;

@@ -13,7 +13,8 @@ use crate::share_handle::ShareHandle;
 use crate::status::{BUSY, NO_CORE, NONE, OK};
 use crate::steward_calls::{StewardCall, at_steward};
 use arena::{Arena, Busy, NoGate, Seat, Walk};
-use span::{Key, Log};
+use span::names::Key;
+use span::spans::Log;
 use std::alloc::Global;
 
 /// The live key of the arena that comes next in the walk, behind which the walk stands from now on;

@@ -5,7 +5,7 @@ ghost use Rattle.teurlaks_c.specs.Words.{word_of, words_of};
 
 use crate::replies::RawWord;
 use arena::Word;
-use span::Class;
+use span::names::Class;
 
 /// The word of these halves.
 #[inline(always)]

@@ -9,7 +9,8 @@ ghost use Rattle.thread_runner.specs.declared.diary.Entry.TheVariants as entry;
 ghost use Rattle.thread_runner.specs.Told.{answer_of, answer_without, call_line, diary_lines, entry_lines, is_free, lineless, other_line, receipts_after, told_lines};
 
 use arena::{Arena, Gate, Seat};
-use span::{Call, Receipt, ReceiptList, SpanId};
+use span::names::SpanId;
+use span::receipts::{Call, Receipt, ReceiptList};
 use std::alloc::{AllocError, Global};
 use std::sync::Wait;
 use trace_runner::{Answer, LineAnswer};

@@ -5,7 +5,7 @@ ghost use Rattle.thread_runner.specs.Asked.{GivenKeys};
 ghost use Rattle.thread_runner.specs.Known.{AreApart, AreApart-prop, AreFresh, AreKept, IsGiven, key_from};
 
 use crate::error::Halt;
-use span::Key;
+use span::names::Key;
 use std::alloc::{AllocError, Global};
 
 /// What puts one after another gave: keys of slots one after another of one span, with one

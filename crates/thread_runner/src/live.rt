@@ -9,7 +9,7 @@ ghost use Rattle.span.specs.declared.change.Change.{Change};
 ghost use Rattle.groups.specs.Spans.{live_count};
 
 use bitmap::Bits256;
-use span::{ChangeView, Kept, Log, SpanLog};
+use span::spans::{ChangeView, Kept, Log, SpanLog};
 use std::alloc::AllocError;
 
 // Enters the change into the live slots.

@@ -7,7 +7,7 @@ ghost use Rattle.span.specs.declared.key.Key.{Key};
 ghost use Rattle.trace_runner.specs.declared.key_list.Stretch.{Stretch};
 ghost use Rattle.trace_runner.specs.declared.key_list.TheConstants.{MOST_REFUSED};
 
-use span::Key;
+use span::names::Key;
 use std::alloc::{AllocError, Global};
 use std::marker::Model;
 

@@ -15,7 +15,7 @@ use crate::report::{CloseNews, Heads, MarkNews, PlanNews, Steps, TakenStep};
 use arena_core::{Core, Event, Refusal, Reply};
 use certificate::{Certificate, partners, write};
 use mesh_graph::Runner;
-use span::Counted;
+use span::spans::Counted;
 use std::alloc::{AllocError, Global};
 use std::mem;
 

@@ -17,7 +17,7 @@ use crate::writing::push_ending;
 use arena_core::{Core, CoreError};
 use marks::Limits;
 use mesh_graph::Runner;
-use span::Counted;
+use span::spans::Counted;
 use std::alloc::{AllocError, Global};
 use trace_text::{Header, Trace, parse};
 

@@ -11,7 +11,7 @@ ghost use Rattle.trace_runner.specs.Report.{answer_line, news_text};
 use crate::key_list::KeyList;
 use crate::report::{Answer, PlanNews};
 use crate::writing::{push_answer_line, push_news};
-use span::{Key, Object};
+use span::names::{Key, Object};
 use std::alloc::{AllocError, Global};
 
 /// What a run keeps of the replies to its lines: the keys, which later lines may name, and the

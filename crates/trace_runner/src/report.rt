@@ -4,7 +4,7 @@ ghost use Rattle.std.specs.Prelude.{◌≡◌, ◌++◌, ◌∷◌, [], OnOk, On
 
 use certificate::{Plan, Short};
 use fold::Step;
-use span::{Key, Object, SpanId};
+use span::names::{Key, Object, SpanId};
 use std::alloc::{AllocError, Global};
 use std::marker::Model;
 

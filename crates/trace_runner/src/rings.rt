@@ -8,7 +8,7 @@ ghost use Rattle.trace_runner.specs.Recalls.{Carries, Drains, KeepsPlan, Settles
 ghost use Rattle.trace_runner.specs.Runs.{rings_asked};
 
 use arena_core::{Core, Event, Reply};
-use span::Counted;
+use span::spans::Counted;
 use std::alloc::AllocError;
 
 /// The sum. More keys than a number counts find no memory.

@@ -19,7 +19,7 @@ use crate::replies::Replies;
 use crate::rings::settle_rings;
 use arena_core::{Core, Event, Refusal, Reply};
 use mesh_graph::Runner;
-use span::Counted;
+use span::spans::Counted;
 use std::alloc::{AllocError, Global};
 use std::collections::HashSet;
 use trace_text::{Call, Line, LineList, Trace};

@@ -7,7 +7,7 @@ ghost use Rattle.trace_runner.specs.Report.{end_line};
 
 use crate::report::Ending;
 use itoa::{Buffer, Integer};
-use span::{Key, SpanId};
+use span::names::{Key, SpanId};
 use std::alloc::AllocError;
 
 mod answers;

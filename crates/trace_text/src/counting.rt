@@ -5,7 +5,7 @@ ghost use Rattle.std.specs.List.{range_with_len};
 ghost use Rattle.span.specs.Classes.{width_of};
 ghost use Rattle.trace_text.specs.Objects.{counted_from, last_word};
 
-use span::{Class, Object};
+use span::names::{Class, Object};
 
 /// Writes the base into the first of the words, and into each further one one more than into the
 /// word before it.

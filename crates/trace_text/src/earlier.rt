@@ -13,7 +13,7 @@ use super::header::Header;
 use super::line::{Binding, Call, Keys, Line};
 use super::name::{Name, Reference};
 use super::text_seed::TextSeed;
-use span::Class;
+use span::names::Class;
 use std::alloc::{AllocError, Global};
 use std::collections::{HashMap, HashSet};
 

@@ -16,7 +16,7 @@ use super::cause::{Cause, ParseError};
 use super::numeral::{Number, parse_number};
 use super::verb::{class_filled, class_put};
 use super::words::{first_line, words};
-use span::{MOST_RING_KEYS, MOST_SHARDS};
+use span::names::{MOST_RING_KEYS, MOST_SHARDS};
 
 /// How many pages a shard of a trace may have at most, in each version of the grammar that there
 /// is: which texts are refused rests on it, and what their reports tell of a shard that may have no

@@ -1,7 +1,7 @@
 //! Lines of a trace.
 
 use super::name::{Name, Reference};
-use span::Class;
+use span::names::Class;
 
 /// A call that a thread makes.
 #[derive(Drop)]

@@ -14,7 +14,7 @@ use super::name::{Name, Reference};
 use super::numeral::{Number, clipped_number, parse_number};
 use super::verb::{class_filled, class_put};
 use super::words::words;
-use span::Class;
+use span::names::Class;
 
 /// A call with no more words than its verb.
 fn bare_call(verb: &[u8]) -> Result<Call, Cause>

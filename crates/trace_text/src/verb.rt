@@ -5,7 +5,7 @@ ghost use Rattle.std.specs.Prelude.{◌≡◌, codes};
 ghost use Rattle.trace_text.specs.Form.{class_behind, class_filled, class_of_bytes, class_of_size, class_put};
 
 use super::numeral::{Number, parse_number};
-use span::Class;
+use span::names::Class;
 
 /// The class of objects of that many bytes, which are more than one word.
 fn class_of_bytes(bytes: u128) -> Option<Class>

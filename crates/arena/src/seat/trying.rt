@@ -19,7 +19,8 @@ use crate::word::Word;
 use latch::Busy;
 use pool::{AdoptError, ReceiveError};
 use shard::PutError;
-use span::{Class, Key, Log, SpanId};
+use span::names::{Class, Key, SpanId};
+use span::spans::Log;
 use std::alloc::AllocError;
 
 /// What a [`Seat::try_tend`] came to.

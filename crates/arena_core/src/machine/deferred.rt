@@ -10,7 +10,8 @@ ghost use Rattle.arena_core.specs.declared.reply.Reply.TheVariants as reply;
 
 use super::Core;
 use crate::reply::Refusal;
-use span::{Key, Log};
+use span::names::Key;
+use span::spans::Log;
 
 impl<L: Log> Core<L> {
     // Puts the key last on the ring from this worker to the shard that opened the key's span.

@@ -12,7 +12,8 @@ use super::Core;
 use super::making::reach;
 use super::plans::spans_to_come;
 use crate::reply::{Refusal, adopt_refusal, end_refusal};
-use span::{Log, SpanId};
+use span::names::SpanId;
+use span::spans::Log;
 
 impl<L: Log> Core<L> {
     // Ends the shard of this number: its groups go to the pool.

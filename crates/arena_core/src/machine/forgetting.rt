@@ -9,7 +9,8 @@ ghost use Rattle.span.specs.declared.limits.TheConstants.{ALL_IDS, MOST_SHARDS};
 use super::Core;
 use crate::reply::Refusal;
 use shard::Shard;
-use span::{Counted, GhostList};
+use span::ghost_list::GhostList;
+use span::spans::Counted;
 
 impl Core<Counted> {
     /// Forgets the spans that can never be live again, with their generations, and answers how

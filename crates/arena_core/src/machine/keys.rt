@@ -15,7 +15,8 @@ use super::Core;
 use super::making::reach;
 use crate::reply::Refusal;
 use shard::{Found, Freed, Shard};
-use span::{Class, Key, Log, Object, SpanId};
+use span::names::{Class, Key, Object, SpanId};
+use span::spans::Log;
 
 impl<L: Log> Core<L> {
     /// Keeps the object in the shard of this number, at the slot that the shard chooses among those

@@ -7,7 +7,7 @@ ghost use Rattle.marks.specs.Numbers.{AreWithin};
 use crate::reply::Refusal;
 use marks::Limits;
 use shard::Shard;
-use span::Log;
+use span::spans::Log;
 use std::alloc::{AllocError, Global};
 
 /// Makes the shards up to the one of this number, if they do not go as far yet. All shards show as

@@ -22,7 +22,8 @@ use marks::{CurrentPlan, has_too_many, mark_some_in, reopen_all};
 use mesh_graph::Runner;
 use pool::Pool;
 use shard::Shard;
-use span::{Log, SpanId};
+use span::names::SpanId;
+use span::spans::Log;
 use std::alloc::AllocError;
 
 impl<L: Log> Core<L> {

@@ -13,7 +13,8 @@ ghost use Rattle.arena_core.specs.declared.reply.Reply.TheVariants as reply;
 use super::Core;
 use crate::reply::Refusal;
 use shard::Replaced;
-use span::{Key, Log, SpanId};
+use span::names::{Key, SpanId};
+use span::spans::Log;
 use std::alloc::AllocError;
 
 impl<L: Log> Core<L> {

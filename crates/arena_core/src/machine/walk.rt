@@ -11,7 +11,8 @@ use super::Core;
 use groups::earlier;
 use pool::Pool;
 use shard::Shard;
-use span::{Key, Log, SpanId};
+use span::names::{Key, SpanId};
+use span::spans::Log;
 
 impl<L: Log> Core<L> {
     /// The live key that comes next after the given one, or the first one where none is given.

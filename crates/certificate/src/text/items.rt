@@ -12,7 +12,7 @@ use super::lines::Lines;
 use super::version::Version;
 use super::words::{parse_count, parse_entry, parse_id, parse_pair};
 use mesh_graph::Entry;
-use span::SpanId;
+use span::names::SpanId;
 use std::alloc::Global;
 
 /// Whether the id stands after the last one of its list.

@@ -16,7 +16,7 @@ use std::alloc::Global;
 
 /// Reads a certificate of version 1, 2 or 3. It accepts exactly the texts of the grammar: those
 /// that [`write`](crate::write()) gives, in version 2 or 3, and those of version 1, in which each
-/// group is of the class [`C16`](span::Class::C16). For any other text it returns the first
+/// group is of the class [`C16`](span::names::Class::C16). For any other text it returns the first
 /// line at fault and that line's first cause.
 ///
 /// # Errors

@@ -5,10 +5,10 @@ ghost use Rattle.certificate.specs.Grammar.{entry_parts, id_parts, is_beyond_ver
 
 use crate::certificate::Certificate;
 use mesh_graph::Entry;
-use span::{Class, MOST_SPANS, SpanId};
+use span::names::{Class, MOST_SPANS, SpanId};
 
 /// A serial in a certificate's text of version 1 or 2 is below this. In a text of version 3 it is
-/// below [`MOST_SPANS`](span::MOST_SPANS), and some serial is not below this, or some class
+/// below [`MOST_SPANS`](span::names::MOST_SPANS), and some serial is not below this, or some class
 /// is not of 16, 64 or 256 bytes a slot.
 pub const TEXT_SPANS: u32 = 1024;
 

@@ -12,7 +12,7 @@ use super::parts::parts;
 use super::version::Version;
 use bitmap::Bits256;
 use mesh_graph::{Entry, MOST_GROUPS};
-use span::{Class, SpanId};
+use span::names::{Class, SpanId};
 
 /// A shard, a full stop and a serial.
 pub(super) fn parse_id(version: Version, word: &[u8]) -> Result<SpanId, Cause>

@@ -10,7 +10,7 @@ use super::version::Version;
 use crate::certificate::Certificate;
 use itoa::Buffer;
 use mesh_graph::Entry;
-use span::{Class, SpanId};
+use span::names::{Class, SpanId};
 use std::alloc::{AllocError, Global};
 
 /// The text of a certificate, which [`read`](crate::read) reads again. It is of version 2 if each

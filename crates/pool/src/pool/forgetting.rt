@@ -7,7 +7,7 @@ ghost use Rattle.pool.specs.Sound.{IsSound};
 ghost use Rattle.span.specs.declared.limits.TheConstants.{ALL_IDS};
 
 use super::Pool;
-use span::Counted;
+use span::spans::Counted;
 
 impl Pool<Counted> {
     /// Forgets the groups in which no slot is live, which have no page, with all their spans, and

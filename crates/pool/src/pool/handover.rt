@@ -19,7 +19,8 @@ use super::Pool;
 use crate::error::{AdoptError, ReceiveError};
 use groups::Spans;
 use shard::Shard;
-use span::{Log, SpanId};
+use span::names::SpanId;
+use span::spans::Log;
 
 impl<L: Log> Pool<L> {
     /// The end of a shard: all its groups come here whole, and those with no live slot give up

@@ -5,7 +5,7 @@ ghost use Rattle.groups.specs.Group.{spans_in};
 ghost use Rattle.span.specs.declared.limits.TheConstants.{ALL_IDS};
 
 use super::Pool;
-use span::{Kept, Log, SpanLog};
+use span::spans::{Kept, Log, SpanLog};
 
 impl<L: Log> Pool<L> {
     /// How many spans it has, heads and guests, of groups with a page and without.

@@ -10,7 +10,8 @@ use super::Pool;
 use crate::pooled::Pooled;
 use groups::{Brief, Spans, Whole};
 use page::MaybePage;
-use span::{Log, SpanId};
+use span::names::SpanId;
+use span::spans::Log;
 use std::alloc::AllocError;
 
 impl<L: Log> Pool<L> {

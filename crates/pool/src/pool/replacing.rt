@@ -8,7 +8,8 @@ ghost use Rattle.pool.specs.Sound.{IsSound};
 
 use super::Pool;
 use shard::Replaced;
-use span::{Key, Log};
+use span::names::Key;
+use span::spans::Log;
 use std::alloc::AllocError;
 
 impl<L: Log> Pool<L> {

@@ -16,7 +16,7 @@ ghost use Rattle.pool.specs.Sound.{IsSound};
 use super::Pool;
 use crate::error::ReceiveError;
 use shard::{LiveGroup, Shard};
-use span::Log;
+use span::spans::Log;
 
 impl<L: Log> Pool<L> {
     /// Up to `most` groups of the shard come here whole, and the shard goes on: those with the

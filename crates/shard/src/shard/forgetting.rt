@@ -21,7 +21,7 @@ use crate::group::Group;
 use crate::guest_notes::GuestNotes;
 use crate::head_indexes::HeadIndexes;
 use groups::Directory;
-use span::Counted;
+use span::spans::Counted;
 
 impl Shard<Counted> {
     /// Forgets each guest in which no slot is live, and answers how many. A guest takes no put, so

@@ -12,7 +12,8 @@ ghost use Rattle.shard.specs.Sound.{IsSound};
 
 use super::{Found, Freed, Shard, head_index};
 use crate::head_indexes::{HEADS, is_noted};
-use span::{Key, Log, SpanId};
+use span::names::{Key, SpanId};
+use span::spans::Log;
 
 impl<L: Log> Shard<L> {
     /// The words of the key's object, where it is live here. They are lent from the page, which all

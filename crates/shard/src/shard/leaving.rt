@@ -10,7 +10,8 @@ use super::Shard;
 use crate::class_rooms::ClassRooms;
 use crate::group::Group;
 use groups::Whole;
-use span::{Log, SpanId};
+use span::names::SpanId;
+use span::spans::Log;
 use std::mem::replace;
 
 impl<L: Log> Shard<L> {

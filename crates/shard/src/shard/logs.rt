@@ -5,7 +5,7 @@ ghost use Rattle.groups.specs.Group.{spans_in};
 ghost use Rattle.span.specs.declared.limits.TheConstants.{ALL_IDS};
 
 use super::Shard;
-use span::{Kept, Log, SpanLog};
+use span::spans::{Kept, Log, SpanLog};
 
 impl<L: Log> Shard<L> {
     /// How many spans it has, heads and guests.

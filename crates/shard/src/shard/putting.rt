@@ -11,7 +11,8 @@ use crate::error::PutError;
 use crate::group::Group;
 use groups::{Placed, Spans};
 use page::{MaybePage, Page, set_on};
-use span::{Class, Key, Log, Object, Span, SpanId};
+use span::names::{Class, Key, Object, SpanId};
+use span::spans::{Log, Span};
 use std::alloc::AllocError;
 
 impl<L: Log> Shard<L> {

@@ -9,7 +9,8 @@ ghost use Rattle.shard.specs.Shown.{shown};
 ghost use Rattle.shard.specs.Sound.{IsSound};
 
 use crate::shard::Shard;
-use span::{Key, Log};
+use span::names::Key;
+use span::spans::Log;
 use std::alloc::AllocError;
 
 /// What a set did. A `usize` is the number of changes that the log of the key's span had before.

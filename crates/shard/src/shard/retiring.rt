@@ -11,7 +11,8 @@ ghost use Rattle.shard.specs.declared.shard.retiring.LiveGroup.{LiveGroup};
 use super::Shard;
 use crate::group::Group;
 use groups::{LiveTally, sample_step};
-use span::{Log, SpanId};
+use span::names::SpanId;
+use span::spans::Log;
 use std::alloc::{AllocError, Global};
 
 /// What a shard tells of a group in which a key is live.

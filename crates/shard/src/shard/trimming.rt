@@ -8,7 +8,7 @@ ghost use Rattle.shard.specs.Trims.{Trims, is_idle, trimmed};
 
 use super::Shard;
 use crate::group::Group;
-use span::Log;
+use span::spans::Log;
 use std::alloc::AllocError;
 
 impl<L: Log> Shard<L> {

@@ -11,7 +11,8 @@ ghost use Rattle.shard.specs.Sound.{IsSound};
 use super::Shard;
 use crate::group::Group;
 use groups::earlier;
-use span::{Key, Log, SpanId};
+use span::names::{Key, SpanId};
+use span::spans::Log;
 
 impl<L: Log> Shard<L> {
     /// The first live key here of the spans from this id on, by ids and then by slots. It looks at

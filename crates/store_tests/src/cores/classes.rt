@@ -4,7 +4,7 @@ use crate::objects::{wide, widest};
 use arena_core::{Event, Refusal};
 use fold::Step;
 use marks::Totals;
-use span::Object;
+use span::names::Object;
 use std::alloc::Global;
 
 fn put_object(shard: u32, value: Object) -> Event {

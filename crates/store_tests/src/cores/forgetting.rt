@@ -2,7 +2,8 @@
 use super::{Told, answer, found, key, new_counted_core, put};
 use arena_core::{Core, Event, Refusal};
 use fold::Step;
-use span::{Counted, Key};
+use span::names::Key;
+use span::spans::Counted;
 use std::alloc::Global;
 
 // Whether each event is answered as wanted, one after another.

@@ -5,7 +5,8 @@ use crate::objects::first_of;
 use arena_core::{Core, Event, Refusal};
 use fold::Step;
 use marks::Totals;
-use span::{Class, Counted, Key, Log, Object};
+use span::names::{Class, Key, Object};
+use span::spans::{Counted, Log};
 use std::alloc::Global;
 
 fn new_core(alloc: Global, shards: u32, pages: usize) -> Option<Core<Counted>> {

@@ -3,7 +3,7 @@ use super::{Told, answer, are_answered, found, key, new_core, put, tell};
 use arena_core::{Core, Event, Refusal};
 use fold::Step;
 use marks::Totals;
-use span::{Key, SpanId};
+use span::names::{Key, SpanId};
 use std::alloc::Global;
 
 // Keys of shard 0, of which the first is freed, and of shard 1.

@@ -4,7 +4,7 @@ use crate::objects::{object, wide, widest};
 use arena_core::{Core, Event};
 use fold::Step;
 use marks::Totals;
-use span::{Class, Key, Object};
+use span::names::{Class, Key, Object};
 use std::alloc::Global;
 
 // A set to an object of one word, and whether it is done.

@@ -3,7 +3,7 @@ use super::{Told, are_answered, found, key, put};
 use crate::objects::{wide, widest};
 use arena_core::{Core, CoreError, Event, Refusal};
 use marks::{Limits, Totals};
-use span::MOST_SPANS;
+use span::names::MOST_SPANS;
 use std::alloc::Global;
 
 // The numbers of a core of two shards, each of four pages, which may open that many spans.

@@ -4,7 +4,7 @@ use crate::objects::wide;
 use arena_core::{Core, Event, Refusal};
 use fold::Step;
 use marks::Totals;
-use span::Key;
+use span::names::Key;
 use std::alloc::Global;
 
 fn trim(shard: u32, count: usize) -> (Event, Told) {

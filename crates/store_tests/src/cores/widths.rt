@@ -5,7 +5,8 @@ use crate::objects::object;
 use arena_core::{Core, Event};
 use fold::Step;
 use marks::Totals;
-use span::{CLASSES, Class, Counted, Key, SpanId};
+use span::names::{CLASSES, Class, Key, SpanId};
+use span::spans::Counted;
 use std::alloc::Global;
 
 const SHARDS: u32 = 4;

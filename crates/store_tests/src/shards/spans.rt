@@ -2,7 +2,7 @@
 use super::{Put, get, id, key, put, put_object, sizes};
 use crate::objects::{Sought, object};
 use shard::{PutError, Shard};
-use span::{Class, MOST_SPANS};
+use span::names::{Class, MOST_SPANS};
 use std::alloc::Global;
 
 // Shard 3, of up to four pages, which may open that many spans.

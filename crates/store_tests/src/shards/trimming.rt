@@ -5,7 +5,7 @@ use super::{
 };
 use crate::objects::{Sought, object};
 use shard::{Freed, PutError, Shard};
-use span::{Class, Key, Object, SpanId};
+use span::names::{Class, Key, Object, SpanId};
 use std::test::Fail;
 
 fn trim(shard: &mut Shard) -> usize {

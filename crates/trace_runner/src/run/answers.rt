@@ -9,7 +9,7 @@ ghost use Rattle.arena_core.specs.declared.reply.Reply.TheVariants as reply;
 use crate::replies::{answer_to_free, answer_to_set};
 use crate::report::Answer;
 use arena_core::{Refusal, Reply};
-use span::{Key, Object};
+use span::names::{Key, Object};
 use std::alloc::AllocError;
 
 /// What the report tells of the reply to a call.

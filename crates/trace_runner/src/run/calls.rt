@@ -17,7 +17,7 @@ use super::answers::{answer_to, key_of_put, was_replaced};
 use crate::report::Answer;
 use crate::rings::settle_shard;
 use arena_core::Event;
-use span::{Class, Key};
+use span::names::{Class, Key};
 use std::alloc::AllocError;
 use trace_text::{Call, Reference, counted_in};
 

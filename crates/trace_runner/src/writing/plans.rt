@@ -8,7 +8,7 @@ ghost use Rattle.trace_runner.specs.Report.{close_text, fold_line, id_word, ids_
 use crate::report::{CloseNews, MarkNews, PlanNews, TakenStep};
 use crate::writing::{push_id, push_number};
 use fold::Step;
-use span::SpanId;
+use span::names::SpanId;
 use std::alloc::AllocError;
 
 fn push_counted(out: &mut Vec<u8>, title: &[u8], count: usize) -> Result<(), AllocError>
