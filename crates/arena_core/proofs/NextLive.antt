@@ -38,12 +38,6 @@ none-unless : (o : Option Value) → (is_some o ≡ true → ⊥) → o ≡ None
 none-unless None never = refl
 none-unless (Some value) never = absurd (never refl)
 
-module _ (map : PlainMap) where
-  -- what comes next, at the beginning and after a key
-
-  module _ (after : Key) where
-    module _ (none : HasNoneFrom map after.span (after.slot + 1)) where
-
 -- maps that show the same of a span have the same key there
 pub IsFirstFrom-same : (a b : PlainMap) (id : SpanId) (slot : ℕ) (key : Key) → ((other : Key) → other.span ≡ id → b.value_of other ≡ a.value_of other)
     → IsFirstFrom a id slot key → IsFirstFrom b id slot key
