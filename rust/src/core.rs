@@ -155,9 +155,9 @@ pub(crate) fn ends_turn(key: Key) -> bool {
 // The handle first, where a reference to the core is one to it: no call has to add.
 #[repr(C)]
 pub struct Core {
-    // SAFETY: only this module has it. It is null until `open`, and then what `teurlaks_new` left
-    // there until `drop`. Of a handle without a core the library answers `NO_CORE`, counts nothing,
-    // and drops nothing.
+    // SAFETY: only this module has it. It is null until `open`, and then what
+    // `teurlaks_new_with_spans` left there until `drop`. Of a handle without a core the library
+    // answers `NO_CORE`, counts nothing, and drops nothing.
     handle: raw::Handle,
     limits: Limits,
     // How many words the least object has that was put.

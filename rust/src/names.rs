@@ -332,8 +332,9 @@ pub struct Group(pub(crate) RawSpan);
 
 impl Group {
     /// Its head.
+    // A shard has 8 bits, as in a key: so no head is `Span::NONE`, whatever the library answers.
     pub(crate) fn head(self) -> Span {
-        Span::new(self.0.shard, self.0.serial)
+        Span::new(self.0.shard & 0xff, self.0.serial)
     }
 
     /// The shard that opened its head.

@@ -141,3 +141,22 @@ impl<T> fmt::Debug for InsertError<T> {
 }
 
 impl<T> Error for InsertError<T> {}
+
+#[cfg(test)]
+mod tests {
+    use super::Refused;
+
+    /// What refuses a put comes back by its status as it was.
+    #[test]
+    fn refusals_of_puts_come_back() {
+        for refused in [
+            Refused::OutOfMemory,
+            Refused::PagesSpent,
+            Refused::Ended,
+            Refused::Config,
+            Refused::Unknown(99),
+        ] {
+            assert_eq!(Refused::of(refused.status_of_put()), refused);
+        }
+    }
+}
