@@ -1,5 +1,5 @@
 -- The live slots of a log of a class, and of marks that follow it.
-use Rattle.std.proofs.Common.{◌≡◌, ◌%◌, ◌<◌, ◌≤◌, ℕ, true, false, List, length, Option, Some, None, get_or, is_some, ap, sym, subst, ◌∙◌, refl, inl, inr, eq-eqb, arith}
+use Rattle.std.proofs.Common.{◌≡◌, ◌%◌, ◌<◌, ◌≤◌, ℕ, true, false, List, length, length-set, Option, Some, None, get_or, slice_set, is_some, ap, sym, subst, ◌∙◌, refl, inl, inr, eq-eqb, arith}
 use Rattle.std.specs.FinMap as map
 use Rattle.std.specs.FinSet.{contains, empty, len, empty_of_len}
 use Rattle.std.proofs.lemmas.Bool.{cases_lt, false_from_ne_true}
@@ -7,12 +7,11 @@ use Rattle.bitmap.specs.Slots.{IsBelow, slots_where}
 use Rattle.bitmap.specs.declared.bits.TheConstants.{SLOTS}
 use Rattle.span.specs.Kept.{Follows}
 use Rattle.span.specs.Log.{Held, IsOfClass, live_slots, replay}
-use Rattle.span.specs.Marks.{HasAllOrNone, HasNoLiveFrom, IsFirstLiveFrom, is_live_at, marks_of}
+use Rattle.span.specs.Marks.{FitInto, HasNoLiveFrom, IsFirstLiveFrom, is_live_at, marks_of}
 use Rattle.span.specs.Order.{HasNoMemberFrom, IsLowestFrom}
 use Rattle.span.specs.declared.change.Change.{Change}
 use Rattle.span.specs.declared.class.Class.{Class}
 use Rattle.span.specs.declared.marks.Marks.{Marks}
-use Rattle.span.specs.declared.marks.Marks.TheVariants.{Bytes, Words, Longs}
 use Rattle.span.proofs.Keeping.{live-at}
 use Rattle.span.proofs.OfClass.{Fits-replay}
 use Rattle.span.proofs.Slots.{contains-live_slots}
@@ -32,11 +31,12 @@ len-live-most class log of_class =
     subst (λ s. len s ≤ SLOTS) (slots_where-below (live_slots log) SLOTS (IsBelow-live class log of_class)) (len-slots_where-le (contains (live_slots log)) SLOTS)
 
 -- no more slots have a mark than a page has
-pub few-marks : (class : Class) (marks : Marks) → HasAllOrNone class marks → length (marks_of marks) ≤ SLOTS
-few-marks class (Bytes bytes) all = omega (arith, all, slots_in-most class)
-few-marks class (Words words) all = omega (arith, all, slots_in-most class)
-few-marks class (Longs longs) (inl none) = omega (arith, none)
-few-marks class (Longs longs) (inr all) = omega (arith, all, slots_in-most class)
+pub few-marks : (class : Class) (marks : Marks) → FitInto class marks → length (marks_of marks) ≤ SLOTS
+few-marks class marks fit = omega (arith, fit, slots_in-most class)
+
+-- another mark takes no other place
+pub FitInto-set : (class : Class) (before after : Marks) (slot mark : ℕ) → FitInto class before → marks_of after ≡ slice_set (marks_of before) slot mark → FitInto class after
+FitInto-set class before after slot mark fit given = omega (arith, fit, ap (λ (marks : List ℕ). length marks) given, length-set (marks_of before) slot mark)
 
 module _ (class : Class) (gens : ℕ) (log : List Change) (marks : List ℕ) (of_class : IsOfClass class log) (follows : Follows gens log marks) where
   -- the slots with a mark of a live one are the live ones

@@ -1,5 +1,5 @@
 -- What a span keeps of each slot: a mark. No public clause cites this module.
-use Rattle.std.specs.Prelude.{◌≡◌, ◌⊎◌, ◌+◌, ◌*◌, ◌/◌, ◌%◌, ◌^◌, ◌<◌, ◌≤◌, ◌==◌, ℕ, Bool, List, length, slice_index}
+use Rattle.std.specs.Prelude.{◌≡◌, ◌+◌, ◌/◌, ◌%◌, ◌^◌, ◌<◌, ◌≤◌, ◌==◌, ℕ, Bool, List, length, slice_index}
 use Rattle.span.specs.Classes.{slots_in}
 use Rattle.span.specs.declared.class.Class.{Class}
 use Rattle.span.specs.declared.marks.Marks.{Marks}
@@ -30,11 +30,9 @@ pub record IsFirstLiveFrom (marks : List ℕ) (from slot : ℕ) : Type 0 where
   pub not_below : from ≤ slot
   pub first : (other : ℕ) → from ≤ other → other < slot → slice_index marks other % 2 ≡ 0
 
--- each slot of the class has its place, or none has
-abbrev pub HasAllOrNone : Class → Marks → Type 0
-HasAllOrNone class (Bytes bytes) = length bytes.items ≡ slots_in class
-HasAllOrNone class (Words words) = length words.items ≡ slots_in class
-HasAllOrNone class (Longs longs) = (length longs.items ≡ 0) ⊎ (length longs.items ≡ slots_in class)
+-- no more slots have a place than a page of the class has slots
+abbrev pub FitInto : Class → Marks → Type 0
+FitInto class marks = length (marks_of marks) ≤ slots_in class
 
 -- the slot has its place, where its mark after one more put fits
 abbrev pub HasRoom : ℕ → Marks → Type 0
@@ -44,8 +42,8 @@ HasRoom slot (Words words) = (slot < length words.items)
     × (slice_index words.items slot + 3 < 2 ^ 32)
 HasRoom slot (Longs longs) = slot < length longs.items
 
--- another list would have more room: these are not the widest, or none
-abbrev pub IsToWiden : Marks → Type 0
-IsToWiden (Bytes bytes) = Unit {0}
-IsToWiden (Words words) = Unit {0}
-IsToWiden (Longs longs) = length longs.items ≡ 0
+-- there is a wider list
+abbrev pub IsNarrow : Marks → Type 0
+IsNarrow (Bytes bytes) = Unit {0}
+IsNarrow (Words words) = Unit {0}
+IsNarrow (Longs longs) = ⊥

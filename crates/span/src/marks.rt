@@ -1,20 +1,19 @@
 // What a span keeps of each slot: its last generation, and whether it is live.
-ghost use Rattle.std.specs.Prelude.{◌≡◌, ◌+◌, ◌-◌, ◌*◌, ◌/◌, ◌%◌, ◌<◌, ◌≤◌, ◌^◌, ◌==◌, ◌↔◌, ℕ, [], length, slice_index, slice_set, IfOk, IsTrue, MatchOption, OnOk, OnErr};
+ghost use Rattle.std.specs.Prelude.{◌≡◌, ◌+◌, ◌-◌, ◌*◌, ◌/◌, ◌%◌, ◌<◌, ◌≤◌, ◌^◌, ◌==◌, ◌↔◌, ℕ, [], length, slice_index, slice_index_or, slice_set, IfOk, IsTrue, MatchOption, OnOk, OnErr, vec_len};
 ghost use Rattle.bitmap.specs.Slots.{slots_where};
 ghost use Rattle.bitmap.specs.declared.bits.TheConstants.{SLOTS};
 ghost use Rattle.span.specs.Classes.{slots_in};
 
 use crate::class::Class;
-use bitmap::Bits256;
+use bitmap::{Bits256, SLOTS};
 use std::alloc::{AllocError, Global};
 
 /// A mark for each slot: twice its last generation, and one more while it is live. So one compare
 /// says whether a slot is live at a generation.
 ///
 /// The marks are bytes as long as none passes 255, as up to the slot's 127th put, and then 4 bytes
-/// each, or 8 from its 2^31st put on. A list has each slot of the class, but for that of 8 bytes
-/// before the first put, which is empty. So whether a slot has its place in a list of bytes is
-/// never asked.
+/// each, or 8 from its 2^31st put on. A list ends behind the slots that were put, at 16, at 64 or
+/// with the class: slots are taken the lowest first, so the marks of few objects take few bytes.
 #[derive(Drop)]
 pub(crate) enum Marks {
     Bytes(Vec<u8>),
@@ -23,59 +22,95 @@ pub(crate) enum Marks {
 }
 
 impl Marks {
-    ghost use Rattle.span.specs.Marks.{HasAllOrNone, HasNoLiveFrom, HasRoom, IsFirstLiveFrom, IsToWiden, is_live_at, last_given, marks_of};
+    ghost use Rattle.span.specs.Marks.{FitInto, HasNoLiveFrom, HasRoom, IsFirstLiveFrom, IsNarrow, is_live_at, last_given, marks_of};
 
     /// No slot was put. Takes no memory.
     pub(crate) fn new(alloc: Global) -> Self
-        ensures none { marks_of result ≡ [] }
-        ensures all_or_none { (class : Class) → HasAllOrNone class result }
+        ensures { marks_of result ≡ [] }
     {
-        Marks::Longs(Vec::new(alloc))
+        Marks::Bytes(Vec::new(alloc))
     }
 
-    /// Makes room for the slot's next put. It takes memory at the first put of all, and where a
-    /// slot's mark is the first to pass a byte, or 4 bytes.
+    /// Makes room for the slot's next put. It takes memory where the list ends before the slot, and
+    /// where the slot's mark is the first to pass a byte, or 4 bytes.
     #[inline(always)]
     pub(crate) fn reserve_all(&mut self, class: Class, slot: u8) -> Result<(), AllocError>
         requires on_page { slot < slots_in class }
-        requires all_or_none { HasAllOrNone class self.old }
+        requires fit { FitInto class self.old }
         ensures ok { OnOk result (HasRoom slot self.new) }
         ensures err { OnErr result (self.new ≡ self.old) }
-        ensures all_or_none { HasAllOrNone class self.new }
+        ensures fit { FitInto class self.new }
         ensures same { (slot : ℕ) →
             slice_index (marks_of self.new) slot ≡ slice_index (marks_of self.old) slot }
     {
+        if self.has_room(slot) {
+            return Ok(());
+        }
+        self.grow(class, slot)
+    }
+
+    // Whether the slot has its place, where its mark after one more put fits.
+    #[inline(always)]
+    fn has_room(&self, slot: u8) -> bool
+        ensures { IsTrue result ↔ HasRoom slot self.now }
+    {
+        let slot = usize::from(slot);
         match self {
-            Marks::Bytes(bytes) if bytes[usize::from(slot)] < u8::MAX - 2 => Ok(()),
-            Marks::Words(words) if words[usize::from(slot)] < u32::MAX - 2 => Ok(()),
-            Marks::Longs(longs) if longs.len() > 0 => Ok(()),
-            _ => self.widen(class, slot),
+            Marks::Bytes(bytes) => slot < bytes.len() && bytes[slot] < u8::MAX - 2,
+            Marks::Words(words) => slot < words.len() && words[slot] < u32::MAX - 2,
+            Marks::Longs(longs) => slot < longs.len(),
         }
     }
 
-    // Makes the first list, which is of bytes, or takes a wider one in place of this. It stands
-    // apart, so that a put has none of it.
+    // Takes a longer list in place of this if it ends before the slot, and else a wider one. It
+    // stands apart, so that a put has none of it.
     #[inline(never)]
-    fn widen(&mut self, class: Class, slot: u8) -> Result<(), AllocError>
+    fn grow(&mut self, class: Class, slot: u8) -> Result<(), AllocError>
         requires on_page { slot < slots_in class }
-        requires all_or_none { HasAllOrNone class self.old }
-        requires is_to { IsToWiden self.old }
+        requires fit { FitInto class self.old }
+        requires full { HasRoom slot self.old → ⊥ }
         ensures ok { OnOk result (HasRoom slot self.new) }
         ensures err { OnErr result (self.new ≡ self.old) }
-        ensures all_or_none { HasAllOrNone class self.new }
+        ensures fit { FitInto class self.new }
         ensures same { (slot : ℕ) →
             slice_index (marks_of self.new) slot ≡ slice_index (marks_of self.old) slot }
     {
-        let wider = match self {
-            Marks::Bytes(bytes) => Marks::Words(as_words(bytes)?),
-            Marks::Words(words) => Marks::Longs(as_longs(words)?),
-            Marks::Longs(longs) => {
-                let alloc = *longs.allocator();
-                Marks::Bytes(vec![in alloc; 0; usize::from(class.slots())]?)
-            }
-        };
-        *self = wider;
+        if usize::from(slot) < self.len() {
+            *self = self.wider()?;
+        } else {
+            *self = self.longer(places_for(class, slot))?;
+        }
         Ok(())
+    }
+
+    // The same marks in a wider list, where all have room.
+    fn wider(&self) -> Result<Marks, AllocError>
+        requires { IsNarrow self.now }
+        ensures same { IfOk result (λ wider. marks_of wider ≡ marks_of self.now) }
+        ensures room { IfOk result (λ wider. (slot : ℕ) → slot < length (marks_of self.now)
+            → HasRoom slot wider) }
+    {
+        match self {
+            Marks::Bytes(bytes) => Ok(Marks::Words(as_words(bytes)?)),
+            Marks::Words(words) => Ok(Marks::Longs(as_longs(words)?)),
+            Marks::Longs(_) => unreachable!(),
+        }
+    }
+
+    // The same marks in a list with that many places, where the new ones have room.
+    fn longer(&self, places: usize) -> Result<Marks, AllocError>
+        requires { length (marks_of self.now) ≤ places }
+        ensures same { IfOk result (λ longer. (slot : ℕ) →
+            slice_index (marks_of longer) slot ≡ slice_index (marks_of self.now) slot) }
+        ensures len { IfOk result (λ longer. length (marks_of longer) ≡ places) }
+        ensures room { IfOk result (λ longer. (slot : ℕ) → length (marks_of self.now) ≤ slot
+            → slot < places → HasRoom slot longer) }
+    {
+        match self {
+            Marks::Bytes(bytes) => Ok(Marks::Bytes(with_places(bytes, places, 0)?)),
+            Marks::Words(words) => Ok(Marks::Words(with_places(words, places, 0)?)),
+            Marks::Longs(longs) => Ok(Marks::Longs(with_places(longs, places, 0)?)),
+        }
     }
 
     /// Whether the slot is live at the generation.
@@ -180,8 +215,6 @@ impl Marks {
         ensures next { result ≡ last_given (marks_of self.old) slot + 1 }
         ensures given { marks_of self.new ≡ slice_set (marks_of self.old) slot
             (slice_index (marks_of self.old) slot + 3) }
-        ensures all_or_none { (class : Class) → HasAllOrNone class self.old
-            → HasAllOrNone class self.new }
     {
         match self {
             Marks::Bytes(bytes) => {
@@ -209,8 +242,6 @@ impl Marks {
         requires live { slice_index (marks_of self.old) slot % 2 ≡ 1 }
         ensures given { marks_of self.new ≡ slice_set (marks_of self.old) slot
             (slice_index (marks_of self.old) slot - 1) }
-        ensures all_or_none { (class : Class) → HasAllOrNone class self.old
-            → HasAllOrNone class self.new }
     {
         match self {
             Marks::Bytes(bytes) => bytes[usize::from(slot)] -= 1,
@@ -218,6 +249,35 @@ impl Marks {
             Marks::Longs(longs) => longs[usize::from(slot)] -= 1,
         }
     }
+}
+
+// How many places a list gets that has none for the slot yet: few as long as slots are low.
+fn places_for(class: Class, slot: u8) -> usize
+    requires { slot < slots_in class }
+    ensures above { slot < result }
+    ensures fit { result ≤ slots_in class }
+{
+    let places = if slot < 16 {
+        16
+    } else if slot < 64 {
+        64
+    } else {
+        SLOTS
+    };
+    usize::from(class.slots()).min(places)
+}
+
+// The list, with this item behind it as far as that many places.
+fn with_places<T: Copy>(list: &Vec<T>, places: usize, item: T) -> Result<Vec<T>, AllocError>
+    requires { vec_len list.now ≤ places }
+    ensures same { IfOk result (λ longer. (index : ℕ) →
+        slice_index_or longer.items index item ≡ slice_index_or list.now.items index item) }
+    ensures len { IfOk result (λ longer. length longer.items ≡ places) }
+{
+    let mut longer = Vec::with_capacity(*list.allocator(), places)?;
+    longer.extend_from_slice(list.as_slice())?;
+    longer.resize(places, item)?;
+    Ok(longer)
 }
 
 // The same numbers, as words.

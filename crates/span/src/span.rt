@@ -19,7 +19,8 @@ use std::marker::Model;
 /// them.
 ///
 /// A span is moved whenever a list of spans grows, so what is kept of each slot stands outside of
-/// the struct, and comes with the first put: a byte a slot, and 4 bytes once one was put 128 times.
+/// the struct, and comes with puts: a byte for each of 16 slots, of 64 or of all, as far as one was
+/// put, and 4 bytes each once one was put 128 times.
 /// The log has room for the free of each live slot at all times, so a free takes no memory. A log
 /// that is only [`Counted`](crate::spans::Counted) takes none at all.
 #[derive(Drop)]
@@ -80,7 +81,7 @@ impl<L: Log> Span<L> {
 
     /// Puts an object, given by its words, at a slot that is neither live nor worn, and answers its
     /// key, which was never given out before. It grows a log that is kept for this put and for the
-    /// frees of all live slots. It grows the list of marks at the first put of all, and where a
+    /// frees of all live slots. It grows the list of marks if that ends before the slot, or if the
     /// slot is the first that is put 128 times, or 2^31 times. `Err` comes where memory runs out,
     /// and then the span is as before.
     #[inline(always)]

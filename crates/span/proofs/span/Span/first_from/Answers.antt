@@ -9,7 +9,7 @@ use Rattle.bitmap.specs.declared.bits.TheConstants.{SLOTS}
 use Rattle.span.proofs.span.Span.first_from.Goals as goal
 
 pub first_live-requires : goal.first_live-requires
-first_live-requires g c = few-marks c.self.inside.class c.self.inside.marks c.self.invariant.all_or_none
+first_live-requires g c = few-marks c.self.inside.class c.self.inside.marks c.self.invariant.fit
 
 pub returns-then-self-eq0-clause-first : goal.returns-then-self-eq0-clause-first
 returns-then-self-eq0-clause-first g c =
@@ -29,7 +29,7 @@ generation_of-generation-requires-clause-within g c = c.in-Some.ensures.within
 pub generation_of-generation-requires-clause-in_range : goal.generation_of-generation-requires-clause-in_range
 generation_of-generation-requires-clause-in_range g c =
     let inside = c.self.inside in
-    let small : c.in-Some.slot < SLOTS = omega (arith, c.in-Some.ensures.within, few-marks inside.class inside.marks c.self.invariant.all_or_none) in
+    let small : c.in-Some.slot < SLOTS = omega (arith, c.in-Some.ensures.within, few-marks inside.class inside.marks c.self.invariant.fit) in
     omega (
       arith,
       c.self.invariant.gens_fit,
@@ -41,7 +41,7 @@ pub invariant_of-result : goal.invariant_of-result
 invariant_of-result g c =
     let inside = c.self.inside in
     let log = g.L.Log.changes inside.log in
-    let small : c.in-Some.slot < SLOTS = omega (arith, c.in-Some.ensures.within, few-marks inside.class inside.marks c.self.invariant.all_or_none) in
+    let small : c.in-Some.slot < SLOTS = omega (arith, c.in-Some.ensures.within, few-marks inside.class inside.marks c.self.invariant.fit) in
     let held : Holds log c.in-Some.slot c.generation_of-generation.result =
     kept-Holds inside.gens log (marks_of inside.marks) c.self.invariant.follows c.in-Some.slot small c.generation_of-generation.result
     (omega (arith, c.in-Some.ensures.live, c.generation_of-generation.ensures)) in
@@ -51,7 +51,7 @@ pub returns-clause-first : goal.returns-clause-first
 returns-clause-first g c =
     let inside = c.self.inside in
     let log = g.L.Log.changes inside.log in
-    let small : c.in-Some.slot < SLOTS = omega (arith, c.in-Some.ensures.within, few-marks inside.class inside.marks c.self.invariant.all_or_none) in
+    let small : c.in-Some.slot < SLOTS = omega (arith, c.in-Some.ensures.within, few-marks inside.class inside.marks c.self.invariant.fit) in
     let held : Holds log c.in-Some.slot c.generation_of-generation.result =
     kept-Holds inside.gens log (marks_of inside.marks) c.self.invariant.follows c.in-Some.slot small c.generation_of-generation.result
     (omega (arith, c.in-Some.ensures.live, c.generation_of-generation.ensures)) in

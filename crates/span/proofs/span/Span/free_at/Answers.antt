@@ -10,6 +10,7 @@ use Rattle.span.proofs.OfClass.{IsOfClass-push}
 use Rattle.span.specs.declared.change.Change.{Change}
 use Rattle.span.specs.declared.change.Change.TheVariants.{Free}
 use Rattle.span.proofs.Counting.{all_puts-free, all_puts-le}
+use Rattle.span.proofs.LiveSlots.{FitInto-set}
 use Rattle.span.proofs.Slots.{live_slots-free, worn_slots-free}
 use Rattle.span.proofs.Keeping.{Follows-free, Holds-kept, len-remove_member, live-if_held, live-within, some_member}
 use Rattle.bitmap.specs.declared.bits.TheConstants.{SLOTS}
@@ -78,7 +79,7 @@ invariant_of-self g c =
       none_worn = λ none. rw c.push_free.ensures.changes
           (worn_slots-free inside.gens (g.L.Log.changes inside.log) c.args.slot c.args.generation ∙ c.self.invariant.none_worn none);
       count_is = rw c.push_free.ensures.changes (sym (one_less c.self.invariant c.args.slot c.args.generation c.ranges.slot.fits holds));
-      all_or_none = c.take_back.ensures.all_or_none inside.class c.self.invariant.all_or_none;
+      fit = FitInto-set inside.class inside.marks c.take_back.new.self c.args.slot _ c.self.invariant.fit c.take_back.ensures.given;
       gens_fit = c.self.invariant.gens_fit;
       of_class = rw c.push_free.ensures.changes (IsOfClass-push inside.class (g.L.Log.changes inside.log) _ c.self.invariant.of_class tt);
       few_sets = rw c.push_free.ensures.changes (count_after_free c.self.invariant c.args.slot c.args.generation c.ranges.slot.fits holds);

@@ -4,7 +4,7 @@ use Rattle.span.proofs.LiveSlots.{few-marks, live-are, live-none}
 use Rattle.span.proofs.span.Span.live.Goals as goal
 
 pub live-requires : goal.live-requires
-live-requires g c = few-marks c.self.inside.class c.self.inside.marks c.self.invariant.all_or_none
+live-requires g c = few-marks c.self.inside.class c.self.inside.marks c.self.invariant.fit
 
 pub returns : goal.returns
 returns g c =

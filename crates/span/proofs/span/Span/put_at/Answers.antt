@@ -17,7 +17,7 @@ use Rattle.span.specs.declared.change.Change.TheVariants.{Put}
 use Rattle.span.proofs.Counting.{all_puts-put, all_puts-le}
 use Rattle.span.proofs.LegalLogs.{puts_of-lt, was_issued-next}
 use Rattle.span.proofs.Keeping.{Follows-room, Follows-put, dead-at, none_worn-put, len-insert_new}
-use Rattle.span.proofs.LiveSlots.{len-live-most}
+use Rattle.span.proofs.LiveSlots.{FitInto-set, len-live-most}
 use Rattle.span.proofs.Slots.{live_slots-put}
 use Rattle.span.proofs.span.Span.put_at.Goals as goal
 use Rattle.span.proofs.span.Span.put_at.Goals.{then-generation-self, else-generation-self}
@@ -117,7 +117,7 @@ invariant_of-self-2 g c =
             (Follows-put s.gens (g.L.Log.changes s.log) marks follows c.args.slot c.ranges.slot.fits long c.args.words.now not_live not_worn);
         none_worn = λ none. absurd (true≢false none);
         count_is = rw (c.push_put.ensures.changes, c.in_ok-reserve.ensures.changes) (sym (one _ c.args.words.now));
-        all_or_none = c.give_next-generation.ensures.all_or_none s.class c.in_ok-reserve_all.ensures.all_or_none;
+        fit = FitInto-set s.class c.reserve_all.new.self c.give_next-generation.new.self c.args.slot _ c.in_ok-reserve_all.ensures.fit c.give_next-generation.ensures.given;
         gens_fit = c.self.invariant.gens_fit;
         of_class = rw (c.push_put.ensures.changes, c.in_ok-reserve.ensures.changes)
             (IsOfClass-push s.class (g.L.Log.changes s.log) _ c.self.invariant.of_class
@@ -133,7 +133,7 @@ invariant_of-self-2 g c =
             (none_worn-put s.gens (g.L.Log.changes s.log) marks follows c.args.slot c.ranges.slot.fits long c.args.words.now not_live not_worn
             (λ e. w.if-generation-self.false (c.give_next-generation.ensures.next ∙ e)) (c.self.invariant.none_worn none));
         count_is = rw (c.push_put.ensures.changes, c.in_ok-reserve.ensures.changes) (sym (one _ c.args.words.now));
-        all_or_none = c.give_next-generation.ensures.all_or_none s.class c.in_ok-reserve_all.ensures.all_or_none;
+        fit = FitInto-set s.class c.reserve_all.new.self c.give_next-generation.new.self c.args.slot _ c.in_ok-reserve_all.ensures.fit c.give_next-generation.ensures.given;
         gens_fit = c.self.invariant.gens_fit;
         of_class = rw (c.push_put.ensures.changes, c.in_ok-reserve.ensures.changes)
             (IsOfClass-push s.class (g.L.Log.changes s.log) _ c.self.invariant.of_class

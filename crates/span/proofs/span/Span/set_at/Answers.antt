@@ -54,7 +54,7 @@ invariant_of-self-2 g c =
       count_is = rw (c.push_set.ensures.changes, c.in_ok-reserve_set.ensures.changes)
           (c.self.invariant.count_is ∙ sym (ap set.len (live_slots-set (g.L.Log.changes inside.log) c.args.slot c.args.generation c.args.words.now
           (holds c.self.invariant c.args.self.now c.self.view_is c.args.slot c.args.generation c.ranges.slot.fits c.args.words.now c.requires))));
-      all_or_none = c.self.invariant.all_or_none;
+      fit = c.self.invariant.fit;
       gens_fit = c.self.invariant.gens_fit;
       of_class = rw (c.push_set.ensures.changes, c.in_ok-reserve_set.ensures.changes)
           (of_class_set c.self.invariant c.args.self.now c.self.view_is c.args.slot c.args.generation c.ranges.slot.fits c.args.words.now c.requires);

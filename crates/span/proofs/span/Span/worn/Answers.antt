@@ -5,7 +5,7 @@ use Rattle.span.proofs.LiveSlots.{few-marks}
 use Rattle.span.proofs.span.Span.worn.Goals as goal
 
 pub slots_at-requires-clause-few : goal.slots_at-requires-clause-few
-slots_at-requires-clause-few g c = few-marks c.self.inside.class c.self.inside.marks c.self.invariant.all_or_none
+slots_at-requires-clause-few g c = few-marks c.self.inside.class c.self.inside.marks c.self.invariant.fit
 
 pub returns : goal.returns
 returns g c =
