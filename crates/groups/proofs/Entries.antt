@@ -1,49 +1,17 @@
--- The entries of a directory, before and after a change of its table.
-use Rattle.std.proofs.Common.{suc, ◌≡◌, ℕ, ◌+◌, ◌-◌, ◌≤◌, Bool, true, false, not, cond, List, [], ◌∷◌, length, drop, slice_get, Option, Some, None, is_some, ap, sym, ◌∙◌, refl, inl, inr, arith, eq-eqb, eqb, nat_eq}
-use Rattle.std.specs.Cmp.{nat_cmp_total}
+-- The entries of a directory, before and after a change.
+use Rattle.std.proofs.Common.{suc, ◌≡◌, ℕ, ◌+◌, ◌-◌, ◌≤◌, Bool, true, false, not, cond, List, ◌∷◌, length, drop, slice_get, Some, is_some, ap, sym, ◌∙◌, refl, arith, eqb}
 use Rattle.std.specs.FinMap as map
-use Rattle.std.specs.HashMap as hash
-use Rattle.std.specs.HashMap.{HashMap}
-use Rattle.std.proofs.lemmas.Bool.{cases_eq, ne_eqb}
 use Rattle.std.proofs.lemmas.List.{drop_all}
-use Rattle.groups.proofs.Maps.{Sets, Sets-number, drop_step, find-lookup, get-insert, get-remove, same_nat_map}
+use Rattle.groups.proofs.Maps.{drop_step, get-insert}
 use Rattle.span.specs.Ids.{rank}
 use Rattle.span.specs.State.{SpanState}
 use Rattle.span.specs.declared.id.SpanId.{SpanId}
 use Rattle.groups.specs.Dead.{AreEntered, dead_among, is_live}
 use Rattle.groups.specs.Directory.{DirectoryState, entered, struck}
-use Rattle.groups.specs.DirectoryKept.{entries_of}
-use Rattle.groups.specs.declared.directory.Place.{Place}
 
 -- a directory is given by its parts
 pub same_directory : (a b : DirectoryState) → a.entries ≡ b.entries → a.room ≡ b.room → a ≡ b
 same_directory a b entries room i = record { entries = entries i; room = room i }
-
-module _ {S : Type 0} where
-  pub get-entries_of : (m : HashMap ℕ Place S) (q : ℕ) → map.get (entries_of m) q ≡ hash.get nat_eq m q
-  unfolding entries_of
-  get-entries_of m q = map.get-from_entries nat_cmp_total m.entries q ∙ find-lookup q m.entries
-
-  pub entries_of-empty : (m : HashMap ℕ Place S) → m.entries ≡ [] → entries_of m ≡ map.empty
-  unfolding entries_of
-  entries_of-empty m none = ap map.from_entries none
-
-  module _ (m n : HashMap ℕ Place S) where
-    pub entries_of-same : ((q : ℕ) → hash.get nat_eq n q ≡ hash.get nat_eq m q) → entries_of n ≡ entries_of m
-    entries_of-same same = same_nat_map _ _ (λ q. get-entries_of n q ∙ same q ∙ sym (get-entries_of m q))
-
-    set_at : (key : ℕ) (value : Option Place) → Sets (hash.get nat_eq m) (hash.get nat_eq n) key value → (q : ℕ) → hash.get nat_eq n q ≡ cond (eqb q key) value (map.get (entries_of m) q)
-    set_at key value set q = elim (cases_eq q key) [
-      | inl here ↦ ap (hash.get nat_eq n) here ∙ set.changed ∙ sym (ap (λ b. cond b value (map.get (entries_of m) q)) (eq-eqb q key here))
-      | inr other ↦ set.others q other ∙ sym (get-entries_of m q) ∙ sym (ap (λ b. cond b value (map.get (entries_of m) q)) (ne_eqb q key other))
-    ]
-
-    pub entries_of-insert : (key : ℕ) (place : Place) → hash.Updates nat_eq m n key (Some place) → entries_of n ≡ map.insert (entries_of m) key place
-    entries_of-insert key place updates = same_nat_map _ _
-        (λ q. get-entries_of n q ∙ set_at key (Some place) (Sets-number m n key (Some place) updates) q ∙ sym (get-insert (entries_of m) key place q))
-
-    pub entries_of-remove : (key : ℕ) → hash.Updates nat_eq m n key None → entries_of n ≡ map.remove (entries_of m) key
-    entries_of-remove key updates = same_nat_map _ _ (λ q. get-entries_of n q ∙ set_at key None (Sets-number m n key None updates) q ∙ sym (get-remove (entries_of m) key q))
 
 -- the guests from the first on are entered, up to this place; with the others it comes to all of them
 pub record IsEntering (before now : DirectoryState) (guests : List SpanState) (head : SpanId) (first place : ℕ) : Type 0 where

@@ -30,6 +30,7 @@ pub mod ShownChanges
 pub mod ShownGroups
 pub mod SpanCounts
 pub mod Standing
+pub mod Tables
 pub mod StoredObjects
 pub mod Unions
 pub mod OpenWords

@@ -4,6 +4,7 @@ pub mod Directory
 pub mod DirectoryKept
 pub mod FirstLive
 pub mod Group
+pub mod LateTable
 pub mod Pages
 pub mod Shown
 pub mod Sound

@@ -1,16 +1,15 @@
 // Where guests stand.
-ghost use Rattle.std.specs.Prelude.{◌≡◌, ◌<◌, ◌≤◌, ◌-◌, ◌+◌, ℕ, OnOk, OnErr, Some, drop, is_some, length, max, nat_eq, true};
+ghost use Rattle.std.specs.Prelude.{◌≡◌, ◌<◌, ◌≤◌, ◌-◌, ◌+◌, OnOk, OnErr, drop, is_some, length, max, true};
 ghost use Rattle.std.specs.FinMap as map;
-ghost use Rattle.std.specs.HashMap as hash;
 ghost use Rattle.span.specs.Ids.{rank};
 ghost use Rattle.groups.specs.Directory.{entered, struck};
 ghost use Rattle.groups.specs.Dead.{AreEntered, dead_among};
 
+use crate::late_table::LateTable;
 use crate::live::is_live;
 use span::names::SpanId;
 use span::spans::{Log, Span};
 use std::alloc::{AllocError, Global};
-use std::collections::HashMap;
 use std::marker::Model;
 
 /// Where a span stands: the head of its group, and its place there, 0 being the head.
@@ -30,7 +29,7 @@ pub struct Place {
 #[derive(Drop)]
 pub struct Directory {
     // By the rank of the guest.
-    places: HashMap<u64, Place>,
+    places: LateTable<Place>,
     // For how many more entries the table has room.
     room: usize,
 }
@@ -43,9 +42,9 @@ impl Model for Directory {
 
     ghost coded = { directory_code (Prim.hlevel codes) };
 
-    ghost use Rattle.groups.specs.DirectoryKept.{IsKept, entries_of};
+    ghost use Rattle.groups.specs.DirectoryKept.{IsKept};
 
-    ghost view = { λ d. record { entries = entries_of d.places; room = d.room } };
+    ghost view = { λ d. record { entries = d.places.entries; room = d.room } };
 
     ghost invariant = { IsKept };
 }
@@ -56,7 +55,7 @@ impl Directory {
         ensures { result ≡ record { entries = map.empty; room = 0 } }
     {
         Directory {
-            places: HashMap::new(alloc),
+            places: LateTable::new(alloc),
             room: 0,
         }
     }
@@ -70,7 +69,7 @@ impl Directory {
         if self.places.is_empty() {
             return None;
         }
-        self.places.get(&guest.rank()).copied()
+        self.places.get(guest.rank())
     }
 
     /// Makes room for that many more entries, where less is reserved.
@@ -110,7 +109,8 @@ impl Directory {
           room = self.old.room - 1;
         } }
     {
-        insert_reserved(&mut self.places, guest.rank(), Place { head, place });
+        self.places
+            .insert_reserved(guest.rank(), Place { head, place });
         self.room -= 1;
     }
 
@@ -143,7 +143,7 @@ impl Directory {
     pub fn give_back(&mut self)
         ensures { self.new ≡ self.old }
     {
-        give_back(&mut self.places, self.room);
+        self.places.give_back(self.room);
     }
 
     /// Writes into the entries of the guests, each of which has one, that they are the guests of
@@ -167,7 +167,7 @@ impl Directory {
               (record { head = head; place = place });
         } }
     {
-        write_over(&mut self.places, guest.rank(), Place { head, place });
+        self.places.write_over(guest.rank(), Place { head, place });
     }
 
     // Strikes the entry of the span, if it has one.
@@ -177,46 +177,6 @@ impl Directory {
               (rank guest);
         } }
     {
-        self.places.remove(&guest.rank());
-    }
-}
-
-// Inserts where there is room, which needs no memory.
-fn insert_reserved(places: &mut HashMap<u64, Place>, guest: u64, place: Place)
-    requires { 0 < hash.spare places.old }
-    ensures updates { hash.Updates nat_eq places.old places.new guest (Some place) }
-    ensures spare { hash.spare places.old ≤ hash.spare places.new + 1 }
-{
-    match places.insert(guest, place) {
-        Ok(_) => {}
-        Err(_) => unreachable!(),
-    }
-}
-
-// Writes over an entry, which needs neither memory nor room.
-fn write_over(places: &mut HashMap<u64, Place>, guest: u64, place: Place)
-    requires { is_some (hash.get nat_eq places.old guest) ≡ true }
-    ensures updates { hash.Updates nat_eq places.old places.new guest (Some place) }
-    ensures spare { hash.spare places.old ≤ hash.spare places.new }
-{
-    match places.get_mut(&guest) {
-        Some(entry) => *entry = place,
-        None => unreachable!(),
-    }
-}
-
-// Gives memory back where a quarter of the room in the table would do for the entries and those
-// that room is reserved for. Twice as much stays, so that entries that come and go move the table
-// only where it has halved or doubled.
-fn give_back(places: &mut HashMap<u64, Place>, room: usize)
-    requires { room ≤ hash.spare places.old }
-    ensures same { (number : ℕ)
-        → hash.get nat_eq places.new number ≡ hash.get nat_eq places.old number }
-    ensures spare { room ≤ hash.spare places.new }
-{
-    let capacity = places.capacity();
-    let wanted = places.len() + room;
-    if wanted < capacity / 4 {
-        places.shrink_to(2 * wanted);
+        self.places.remove(guest.rank());
     }
 }

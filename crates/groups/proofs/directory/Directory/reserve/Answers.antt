@@ -1,11 +1,10 @@
 use Rattle.std.proofs.Common.{refl}
 use Rattle.groups.proofs.Maps.{at_err}
-use Rattle.groups.proofs.Entries.{entries_of-same, same_directory}
+use Rattle.groups.proofs.Entries.{same_directory}
 use Rattle.groups.proofs.directory.Directory.reserve.Goals as goal
 
 pub returns-in_err-reserve-clause-err : goal.returns-in_err-reserve-clause-err
-returns-in_err-reserve-clause-err c = at_err c.from_residual.result
-    (rw (← c.self.view_is) (same_directory _ _ (entries_of-same c.self.inside.places c.reserve.new.self c.reserve.ensures.entries.2) refl))
+returns-in_err-reserve-clause-err c = at_err c.from_residual.result (rw (← c.self.view_is) (same_directory _ _ c.reserve.ensures.entries refl))
 
 pub returns-clause-ok : goal.returns-clause-ok
-returns-clause-ok c = rw (← c.self.view_is) (same_directory _ _ (entries_of-same c.self.inside.places c.reserve.new.self c.reserve.ensures.entries.2) c.max-self-inside.ensures)
+returns-clause-ok c = rw (← c.self.view_is) (same_directory _ _ c.reserve.ensures.entries c.max-self-inside.ensures)
