@@ -1,5 +1,5 @@
 -- A list whose elements are changed one after another.
-use Rattle.std.proofs.Common.{zero, suc, ◌≡◌, ℕ, ◌+◌, List, [], ◌∷◌, length, map, Some, set, slice_get, ap, sym, refl, arith}
+use Rattle.std.proofs.Common.{zero, suc, ◌≡◌, ℕ, ◌+◌, ◌≤◌, List, [], ◌∷◌, length, map, Some, set, slice_get, ap, sym, refl, arith}
 use Rattle.groups.proofs.Lists.{same_some}
 
 module _ {X : Type 0} (change : X → X) where
@@ -26,7 +26,8 @@ module _ {X : Type 0} (change : X → X) where
   pub changed_below-next : (at : ℕ) (xs : List X) (x : X) → slice_get (changed_below at xs) at ≡ Some x → set (changed_below at xs) at (change x) ≡ changed_below (at + 1) xs
   changed_below-next at xs x here = let next : at + 1 ≡ suc at = omega arith in rw next (next_below at xs x here)
 
-  pub changed_below-all : (at : ℕ) (xs : List X) → at ≡ length xs → changed_below at xs ≡ map change xs
+  pub changed_below-all : (at : ℕ) (xs : List X) → length xs ≤ at → changed_below at xs ≡ map change xs
   changed_below-all zero [] all = refl
+  changed_below-all (suc at) [] all = refl
   changed_below-all (suc at) (x ∷ xs) all = ap (λ rest. change x ∷ rest) (changed_below-all at xs (omega arith))
-  changed_below-all at xs all = absurd (omega arith)
+  changed_below-all zero (x ∷ xs) all = absurd (omega arith)

@@ -1,20 +1,22 @@
 -- Where the heads that a shard opened stand, before and after each change.
-use Rattle.std.proofs.Common.{◌≡◌, ℕ, ◌+◌, ◌-◌, ◌<◌, ◌≤◌, List, [], length, length-set, insert, set, None, Some, slice_get, get_or-set_other, get_or-set_same, ◌∙◌, ap, sym, subst, refl, inl, inr, arith, rules}
-use Rattle.std.specs.Prelude.{map as map_list}
+use Rattle.std.proofs.Common.{suc, ◌≡◌, ℕ, ◌+◌, ◌-◌, ◌<◌, ◌≤◌, List, [], length, length-set, insert, set, None, Some, slice_get, get_or-set_other, get_or-set_same, le-leb, le-ltb, lt-ltb, nat_lt, option_map, ◌∙◌, ap, sym, subst, refl, inl, inr, arith, rules}
+use Rattle.std.specs.Prelude.{map as map_list, nat_le}
 use Rattle.std.specs.Prelude.{remove}
 use Rattle.std.specs.List.{filter}
-use Rattle.std.proofs.lemmas.Bool.{cases_eq}
-use Rattle.std.proofs.lemmas.List.Edits.{length-remove}
-use Rattle.std.proofs.lemmas.Option.{get_or_from_slice_get, slice_get-get_or, slice_get_within}
+use Rattle.std.proofs.Math.Bool.{and-false}
+use Rattle.std.proofs.lemmas.Bool.{cases_eq, lt-leb}
+use Rattle.std.proofs.lemmas.List.{length-map}
+use Rattle.std.proofs.lemmas.Option.{get_or_from_slice_get, slice_get-get_or, slice_get-map, slice_get_within}
 use Rattle.span.proofs.Ids.{same_id}
 use Rattle.span.specs.Ids.{rank}
 use Rattle.span.specs.declared.id.SpanId.{SpanId}
 use Rattle.span.specs.declared.limits.TheConstants.{MOST_PAGES}
-use Rattle.groups.specs.Group.{Ascend, HasNoHead, IsPlaceFor}
-use Rattle.groups.proofs.Lists.{cases-insert, cases-set, length_insert, pairs-insert, same_some}
-use Rattle.groups.proofs.Removed.{before-remove, cases-remove, pairs-remove}
+use Rattle.groups.specs.Group.{Ascend, HasNoHead}
+use Rattle.groups.proofs.Lists.{cases-insert, cases-set, get-insert, same_some}
+use Rattle.groups.proofs.Removed.{cases-remove}
 use Rattle.shard.specs.Group.{GroupState}
-use Rattle.shard.specs.Heads.{AreReady, FitHeads, IsNoted, KnowsBelow, KnowsHeads}
+use Rattle.shard.specs.Heads.{AreReady, FitHeads, IsNoted, KnowsBelow, KnowsHeads, KnowsOthers, lowered, raised}
+use Rattle.shard.specs.declared.head_indexes.TheConstants.{FAR}
 use Rattle.shard.specs.HeadWindow.{HeadWindow, end_of, entry_of}
 use Rattle.shard.specs.Leaving.{has_stayed}
 use Rattle.shard.specs.Sound.{IsSound}
@@ -47,18 +49,8 @@ module _ (number : ℕ) (groups : List GroupState) (window : HeadWindow) (knows 
       let within = own.1 in
       same group.head.id.serial index own.1 (low index group there own.0) (knows index group there (own.0, omega (arith, within, base)))
 
-  -- a group that comes, and one that goes: those before it stay
-  pub KnowsBelow-insert : (index : ℕ) (group : GroupState) → index ≤ length groups → KnowsBelow number (insert groups index group) window index
-  KnowsBelow-insert index group within q g low there own = search (rules, cases-insert)
-
-  pub KnowsBelow-remove : (index : ℕ) → KnowsBelow number (remove groups index) window index
-  KnowsBelow-remove index q g low there own = search (rules, cases-remove)
-
   FitHeads-known : (index : ℕ) (group : GroupState) → slice_get groups index ≡ Some group → IsNoted number window.base group.head.id → group.head.id.serial < end_of window
   FitHeads-known index group there own = search (rules, slice_get_within)
-
-  pub FitHeads-remove : (index : ℕ) → FitHeads number (remove groups index) window
-  FitHeads-remove index q g there own = let was = before-remove groups index q g there in FitHeads-known was.0 g was.2 own
 
   pub FitHeads-some : (after : List GroupState) → ((index : ℕ) (group : GroupState) → slice_get after index ≡ Some group → (before : ℕ) × (slice_get groups before ≡ Some group))
       → FitHeads number after window
@@ -72,6 +64,116 @@ KnowsHeads-written number groups window now base id none others knows index grou
     let low : window.base ≤ group.head.id.serial = let l = own.1 in omega (arith, l, base) in
     others group.head.id.serial low (λ shard serial. none index group (record { here = there; head_is = same_id group.head.id id (own.0 ∙ sym shard) serial }))
     ∙ knows index group there (own.0, low)
+
+-- ---- indexes that move
+
+-- an index below stays, one from there on is one higher, and what is no index stays
+raised-below : (from entry : ℕ) → entry < from → raised from entry ≡ entry
+raised-below from entry less = rw (lt-leb from entry less) refl
+
+raised-from : (from entry : ℕ) → from ≤ entry → entry < FAR → raised from entry ≡ entry + 1
+raised-from from entry high near = rw (le-leb from entry high, lt-ltb entry FAR near) refl
+
+raised-far : (from entry : ℕ) → FAR ≤ entry → raised from entry ≡ entry
+raised-far from entry far = rw (le-ltb entry FAR far, and-false (nat_le from entry)) refl
+
+lowered-within : (at entry : ℕ) → entry ≤ at → lowered at entry ≡ entry
+lowered-within at entry low = rw (le-ltb at entry low) refl
+
+lowered-behind : (at entry : ℕ) → at < entry → entry < FAR → lowered at entry ≡ entry - 1
+lowered-behind at entry high near = rw (lt-ltb at entry high, lt-ltb entry FAR near) refl
+
+lowered-far : (at entry : ℕ) → FAR ≤ entry → lowered at entry ≡ entry
+lowered-far at entry far = rw (le-ltb entry FAR far, and-false (nat_lt at entry)) refl
+
+-- the entry of a serial where all are changed alike
+module _ (window now : HeadWindow) (base : now.base ≡ window.base) (change : ℕ → ℕ) (all : now.entries ≡ map_list change window.entries) where
+  pub end_of-changed : end_of now ≡ end_of window
+  end_of-changed = omega (arith, base, ap (λ (xs : List ℕ). length xs) all, length-map window.entries change)
+
+  pub entry_of-changed : (serial entry after : ℕ) → entry_of window serial ≡ Some entry → change entry ≡ after → entry_of now serial ≡ Some after
+  entry_of-changed serial entry after was is =
+      ap (λ (xs : List ℕ). slice_get xs (serial - now.base)) all ∙ ap (λ b. slice_get (map_list change window.entries) (serial - b)) base
+      ∙ slice_get-map change window.entries (serial - window.base) ∙ ap (option_map change) was ∙ ap Some is
+
+-- what guests have is no index, and so it stays
+pub guests-raised : (window now : HeadWindow) → now.base ≡ window.base → (from : ℕ) → now.entries ≡ map_list (raised from) window.entries → (serial note : ℕ) → FAR ≤ note
+    → entry_of window serial ≡ Some note → entry_of now serial ≡ Some note
+guests-raised window now base from all serial note far was = entry_of-changed window now base (raised from) all serial note note was (raised-far from note far)
+
+pub guests-lowered : (window now : HeadWindow) → now.base ≡ window.base → (at : ℕ) → now.entries ≡ map_list (lowered at) window.entries → (serial note : ℕ) → FAR ≤ note
+    → entry_of window serial ≡ Some note → entry_of now serial ≡ Some note
+guests-lowered window now base at all serial note far was = entry_of-changed window now base (lowered at) all serial note note was (lowered-far at note far)
+
+module _ (number : ℕ) (groups : List GroupState) (window : HeadWindow) (knows : KnowsHeads number groups window) where
+  -- a group comes behind all others
+  pub KnowsOthers-appended : (index : ℕ) (group : GroupState) → index ≡ length groups → KnowsOthers number (insert groups index group) window index
+  KnowsOthers-appended index group last q g apart there own = elim (cases-insert groups index group (omega (arith, last)) q g there) [
+    | inl low ↦ knows q g low.1 own
+    | inr (inl here) ↦ absurd (apart here.0)
+    | inr (inr high) ↦ absurd (let less = slice_get_within groups high.0 g high.3 in omega (arith, less, high.2, last))
+  ]
+
+  -- a group comes, and each index from there on is one higher
+  pub KnowsOthers-raised : (index : ℕ) (group : GroupState) → index ≤ length groups → length groups < MOST_PAGES → (now : HeadWindow) → now.base ≡ window.base
+      → now.entries ≡ map_list (raised index) window.entries → KnowsOthers number (insert groups index group) now index
+  KnowsOthers-raised index group within few now base all q g apart there own =
+      let mine : IsNoted number window.base g.head.id = subst (λ b. IsNoted number b g.head.id) base own in
+      elim (cases-insert groups index group within q g there) [
+        | inl low ↦ entry_of-changed window now base (raised index) all g.head.id.serial q q (knows q g low.1 mine) (raised-below index q low.0)
+        | inr (inl here) ↦ absurd (apart here.0)
+        | inr (inr high) ↦
+            let less = slice_get_within groups high.0 g high.3 in
+            entry_of-changed window now base (raised index) all g.head.id.serial high.0 q (knows high.0 g high.3 mine)
+            (raised-from index high.0 high.2 (omega (arith, less, few)) ∙ sym high.1)
+      ]
+
+  -- the last group goes
+  pub KnowsHeads-last : (index : ℕ) → length groups ≡ index + 1 → KnowsHeads number (remove groups index) window
+  KnowsHeads-last index last q g there own = elim (cases-remove groups index q g there) [
+    | inl low ↦ knows q g low.1 own
+    | inr high ↦ absurd (let less = slice_get_within groups (suc q) g high.1 in omega (arith, less, high.0, last))
+  ]
+
+  -- a group goes, and each index behind it is one lower
+  pub KnowsHeads-lowered : (index : ℕ) → length groups ≤ MOST_PAGES → (now : HeadWindow) → now.base ≡ window.base
+      → now.entries ≡ map_list (lowered index) window.entries → KnowsHeads number (remove groups index) now
+  KnowsHeads-lowered index few now base all q g there own =
+      let mine : IsNoted number window.base g.head.id = subst (λ b. IsNoted number b g.head.id) base own in
+      elim (cases-remove groups index q g there) [
+        | inl low ↦ entry_of-changed window now base (lowered index) all g.head.id.serial q q (knows q g low.1 mine) (lowered-within index q (let less = low.0 in omega (arith, less)))
+        | inr high ↦
+            let less = slice_get_within groups (suc q) g high.1 in
+            let from = high.0 in
+            let back : suc q - 1 ≡ q = omega arith in
+            entry_of-changed window now base (lowered index) all g.head.id.serial (suc q) q (knows (suc q) g high.1 mine)
+            (lowered-behind index (suc q) (omega (arith, from)) (omega (arith, less, few)) ∙ back)
+      ]
+
+-- the others are noted, and then the head that came
+pub KnowsHeads-own : (number : ℕ) (groups : List GroupState) (at : ℕ) (group : GroupState) → at ≤ length groups → (head : SpanId) → group.head.id ≡ head → HasNoHead groups head
+    → (window now : HeadWindow) → now.base ≡ window.base → KnowsOthers number (insert groups at group) window at
+    → (IsNoted number window.base head → entry_of now head.serial ≡ Some at)
+    → ((serial : ℕ) → window.base ≤ serial → (head.shard ≡ number → serial ≡ head.serial → ⊥) → entry_of now serial ≡ entry_of window serial)
+    → KnowsHeads number (insert groups at group) now
+KnowsHeads-own number groups at group within head head_is none window now base others this same q g there own =
+    let mine : IsNoted number window.base g.head.id = subst (λ b. IsNoted number b g.head.id) base own in
+    elim (cases_eq q at) [
+      | inl is ↦
+          let one : group ≡ g = same_some (sym (get-insert groups at group within) ∙ ap (slice_get (insert groups at group)) (sym is) ∙ there) in
+          let id : g.head.id ≡ head = ap (λ (x : GroupState). x.head.id) (sym one) ∙ head_is in
+          ap (λ (i : SpanId). entry_of now i.serial) id ∙ this (subst (IsNoted number window.base) id mine) ∙ ap Some (sym is)
+      | inr apart ↦
+          same g.head.id.serial mine.1 (λ shard serial. elsewhere q g apart there (same_id g.head.id head (mine.0 ∙ sym shard) serial))
+          ∙ others q g apart there mine
+    ]
+  where
+    elsewhere : (q : ℕ) (g : GroupState) → (q ≡ at → ⊥) → slice_get (insert groups at group) q ≡ Some g → g.head.id ≡ head → ⊥
+    elsewhere q g apart there is = elim (cases-insert groups at group within q g there) [
+      | inl low ↦ none q g (record { here = low.1; head_is = is })
+      | inr (inl here) ↦ apart here.0
+      | inr (inr high) ↦ none high.0 g (record { here = high.3; head_is = is })
+    ]
 
 -- a change of pages and flags
 pub KnowsHeads-alike : (number : ℕ) (groups after : List GroupState) (window : HeadWindow) → map_list bare after ≡ map_list bare groups → KnowsHeads number groups window
@@ -92,21 +194,8 @@ pub KnowsHeads-moved : (shard : ShardState) → IsSound shard → (window : Head
 KnowsHeads-moved shard sound window knows count enough more base same = KnowsHeads-more shard.number shard.groups window knows count
     (λ index group there own. let low = sound.serials index 0 group group.head (there, refl) own in omega (arith, low, enough)) more base same
 
--- what is noted from an index on, where a group comes there, goes from there, and where groups have left
+-- what is noted where groups have left
 module _ (shard : ShardState) (sound : IsSound shard) (window : HeadWindow) (knows : KnowsHeads shard.number shard.groups window) (pages : shard.page_limit ≤ MOST_PAGES) where
-  pub AreReady-arrived : (index : ℕ) (group : GroupState) → IsPlaceFor shard.groups group.head.id index → length shard.groups < shard.page_limit
-      → (IsNoted shard.number window.base group.head.id → group.head.id.serial < end_of window) → shard.opened ≤ end_of window
-      → AreReady shard.number (insert shard.groups index group) window index
-  AreReady-arrived index group place less fits enough = search (rules, pairs-insert, length_insert, cases-insert, FitHeads-sound, KnowsBelow-insert)
-
-  pub AreReady-departed : (index : ℕ) → index < length shard.groups → AreReady shard.number (remove shard.groups index) window index
-  AreReady-departed index within = record {
-    ascend = pairs-remove (λ (a b : GroupState). rank a.head.id < rank b.head.id) shard.groups index sound.ascending;
-    few = let long = length-remove shard.groups index within in let limit = sound.limit in omega (arith, long, limit, pages);
-    fit = FitHeads-remove shard.number shard.groups window knows index;
-    below = KnowsBelow-remove shard.number shard.groups window knows index;
-  }
-
   pub AreReady-swept : AreReady shard.number (filter has_stayed shard.groups) window 0
   AreReady-swept = record {
     ascend = pairs-filter (λ (a b : GroupState). rank a.head.id < rank b.head.id) has_stayed shard.groups sound.ascending;

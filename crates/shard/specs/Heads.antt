@@ -1,5 +1,5 @@
 -- Where the heads that a shard opened stand. No public clause cites this module.
-use Rattle.std.specs.Prelude.{◌≡◌, ℕ, ◌+◌, ◌*◌, ◌%◌, ◌<◌, ◌≤◌, ◌==◌, ◌&&◌, List, Some, if◌then◌else◌, length, nat_lt, slice_get}
+use Rattle.std.specs.Prelude.{◌≡◌, ℕ, ◌+◌, ◌-◌, ◌*◌, ◌%◌, ◌<◌, ◌≤◌, ◌==◌, ◌&&◌, List, Some, if◌then◌else◌, length, nat_le, nat_lt, slice_get}
 use Rattle.groups.specs.Group.{Ascend}
 use Rattle.groups.specs.declared.directory.Place.{Place}
 use Rattle.span.specs.State.{SpanState}
@@ -24,6 +24,20 @@ abbrev pub KnowsHeads : ℕ → List GroupState → HeadWindow → Type 0
 KnowsHeads number groups window = (index : ℕ) (group : GroupState)
     → slice_get groups index ≡ Some group → IsNoted number window.base group.head.id
     → entry_of window group.head.id.serial ≡ Some index
+
+-- so it is for each such head but that at the place
+abbrev pub KnowsOthers : ℕ → List GroupState → HeadWindow → ℕ → Type 0
+KnowsOthers number groups window place = (index : ℕ) (group : GroupState) → (index ≡ place → ⊥)
+    → slice_get groups index ≡ Some group → IsNoted number window.base group.head.id
+    → entry_of window group.head.id.serial ≡ Some index
+
+-- the entry, one higher if it is the index of a group from this one on
+abbrev pub raised : (from entry : ℕ) → ℕ
+raised from entry = if nat_le from entry && nat_lt entry FAR then entry + 1 else entry
+
+-- the entry, one lower if it is the index of a group behind this one
+abbrev pub lowered : (at entry : ℕ) → ℕ
+lowered at entry = if nat_lt at entry && nat_lt entry FAR then entry - 1 else entry
 
 -- the serial of each such head is below the end of the window
 abbrev pub FitHeads : ℕ → List GroupState → HeadWindow → Type 0

@@ -1,10 +1,11 @@
 // Where the heads that a shard opened stand, and the ways to its guests.
-ghost use Rattle.std.specs.Prelude.{◌≡◌, ◌+◌, ◌-◌, ◌%◌, ◌<◌, ◌≤◌, ℕ, List, OnOk, Some, false, length, min, slice_get, true};
+ghost use Rattle.std.specs.Prelude.{◌≡◌, ◌+◌, ◌-◌, ◌%◌, ◌<◌, ◌≤◌, ℕ, List, OnOk, Some, false, insert, length, map, min, remove, slice_get, true};
 ghost use Rattle.groups.specs.Group.{HasNoHead};
 ghost use Rattle.shard.specs.Group.{GroupState};
 ghost use Rattle.shard.specs.HeadWindow.{HeadWindow, end_of, entry_of, most_entries};
-ghost use Rattle.shard.specs.Heads.{AreReady, IsLastOf, IsNoted, KnowsHeads, note_at};
+ghost use Rattle.shard.specs.Heads.{AreReady, IsLastOf, IsNoted, KnowsHeads, KnowsOthers, lowered, note_at, raised};
 ghost use Rattle.span.specs.State.{SpanState};
+ghost use Rattle.span.specs.declared.limits.TheConstants.{MOST_PAGES};
 
 use crate::group::Group;
 use span::names::SpanId;
@@ -140,6 +141,65 @@ impl HeadIndexes {
         note_heads(self.base, &mut self.indexes, groups, from, number);
     }
 
+    /// Notes that a group of the head came to the index, of so many groups of the shard of this
+    /// number now. Those from there on have moved up by one. What is noted of guests stays. It
+    /// takes no memory, and reads no group.
+    pub fn note_arrival(&mut self, number: u32, head: SpanId, index: usize, count: usize)
+        requires within { index < count }
+        requires few { count ≤ MOST_PAGES }
+        ensures known { (groups : List GroupState) (group : GroupState)
+            → length groups + 1 ≡ count → group.head.id ≡ head → HasNoHead groups head
+            → (IsNoted number self.old.base head → head.serial < end_of self.old)
+            → KnowsHeads number groups self.old
+            → KnowsHeads number (insert groups index group) self.new }
+        ensures guests { (serial note : ℕ) → self.old.base ≤ serial → FAR ≤ note
+            → (head.shard ≡ number → serial ≡ head.serial → ⊥)
+            → entry_of self.old serial ≡ Some note → entry_of self.new serial ≡ Some note }
+        ensures base { self.new.base ≡ self.old.base }
+        ensures end { end_of self.new ≡ end_of self.old }
+    {
+        self.make_place(index, count);
+        self.write(number, head, index as u32);
+    }
+
+    // Has the groups from the index on stand one higher, of so many with one that is to be noted
+    // there. Where that is the last, none does.
+    fn make_place(&mut self, index: usize, count: usize)
+        requires within { index < count }
+        requires few { count ≤ MOST_PAGES }
+        ensures known { (number : ℕ) (groups : List GroupState) (group : GroupState)
+            → length groups + 1 ≡ count → KnowsHeads number groups self.old
+            → KnowsOthers number (insert groups index group) self.new index }
+        ensures guests { (serial note : ℕ) → FAR ≤ note → entry_of self.old serial ≡ Some note
+            → entry_of self.new serial ≡ Some note }
+        ensures base { self.new.base ≡ self.old.base }
+        ensures end { end_of self.new ≡ end_of self.old }
+    {
+        if index + 1 >= count {
+            return;
+        }
+        raise_from(&mut self.indexes, index as u32);
+    }
+
+    /// Notes that the group at the index went, where so many are left. Those behind it have moved
+    /// down by one. What is noted of guests stays. It takes no memory, and reads no group.
+    pub fn note_departure(&mut self, index: usize, count: usize)
+        requires within { index ≤ count }
+        requires few { count < MOST_PAGES }
+        ensures known { (number : ℕ) (groups : List GroupState) → length groups ≡ count + 1
+            → KnowsHeads number groups self.old
+            → KnowsHeads number (remove groups index) self.new }
+        ensures guests { (serial note : ℕ) → FAR ≤ note → entry_of self.old serial ≡ Some note
+            → entry_of self.new serial ≡ Some note }
+        ensures base { self.new.base ≡ self.old.base }
+        ensures end { end_of self.new ≡ end_of self.old }
+    {
+        if index >= count {
+            return;
+        }
+        lower_behind(&mut self.indexes, index as u32);
+    }
+
     /// Notes where the guests of the head stand, from the place `first` on, counted from 0: of
     /// those that the shard of this number opened. It takes no memory.
     pub fn note_guests<L: Log>(
@@ -225,6 +285,63 @@ fn move_down(indexes: &mut Vec<u32>, gone: usize)
     ensures len { length indexes.new.items ≡ length indexes.old.items }
 {
     indexes.copy_within(gone.., 0);
+}
+
+// Makes each entry that is an index from this one on one higher. No group is read, and what guests
+// have is no index.
+fn raise_from(indexes: &mut Vec<u32>, from: u32)
+    ensures { indexes.new.items ≡ map (raised from) indexes.old.items }
+{
+    raise_each(indexes.as_mut_slice(), from);
+}
+
+// The same of a slice. With no branch to a write, a loop takes several entries at once.
+fn raise_each(entries: &mut [u32], from: u32)
+    ensures { entries.new ≡ map (raised from) entries.old }
+{
+    for entry in entries.iter_mut() {
+        *entry = raised(from, *entry);
+    }
+}
+
+// The entry, one higher if it is an index from this one on.
+#[inline(always)]
+fn raised(from: u32, entry: u32) -> u32
+    ensures { result ≡ raised from entry }
+{
+    if from <= entry && entry < FAR {
+        entry + 1
+    } else {
+        entry
+    }
+}
+
+// Makes each entry that is an index behind this one one lower.
+fn lower_behind(indexes: &mut Vec<u32>, at: u32)
+    ensures { indexes.new.items ≡ map (lowered at) indexes.old.items }
+{
+    lower_each(indexes.as_mut_slice(), at);
+}
+
+// The same of a slice. With no branch to a write, a loop takes several entries at once.
+fn lower_each(entries: &mut [u32], at: u32)
+    ensures { entries.new ≡ map (lowered at) entries.old }
+{
+    for entry in entries.iter_mut() {
+        *entry = lowered(at, *entry);
+    }
+}
+
+// The entry, one lower if it is an index behind this one.
+#[inline(always)]
+fn lowered(at: u32, entry: u32) -> u32
+    ensures { result ≡ lowered at entry }
+{
+    if at < entry && entry < FAR {
+        entry - 1
+    } else {
+        entry
+    }
 }
 
 // Gives room back where half of it is enough for that many entries, and keeps no more of them.

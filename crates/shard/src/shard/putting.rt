@@ -160,7 +160,7 @@ impl<L: Log> Shard<L> {
         );
         self.rooms.note_arrival(class, index, self.groups.len());
         self.heads
-            .note_from(self.groups.as_slice(), index, self.number);
+            .note_arrival(self.number, id, index, self.groups.len());
         self.group_room = self.group_room.saturating_sub(1);
         self.opened += 1;
         self.onto = None;

@@ -21,9 +21,8 @@ use Rattle.shard.specs.Kept.{state_of}
 use Rattle.shard.specs.Rooms.{HaveRoom, room_of, rooms_of}
 use Rattle.shard.specs.State.{ShardState}
 use Rattle.span.specs.declared.class.Class.{Class}
-use Rattle.shard.specs.Heads.{AreReady, KnowsHeads}
 use Rattle.shard.proofs.ClassesHere.{HaveRoom-insert, HaveRoom-noted}
-use Rattle.shard.proofs.KnownHeads.{AreReady-arrived, KnowsHeads-moved}
+use Rattle.shard.proofs.KnownHeads.{KnowsHeads-moved}
 use Rattle.shard.proofs.Classes.{cases_class}
 use Rattle.shard.proofs.GuestRoom.{HasGuestRoom-none}
 use Rattle.shard.proofs.HeadPlaces.{IsPlaceFor-lower, no_head_next}
@@ -182,8 +181,14 @@ invariant_of-self-2 g c = record {
       (KnowsGuests-alone c.self.inside.groups.items c.self.inside.directory.entries c.self.invariant.guests_known c.lower_heads-index.result (made g c)
       (place_now g c).within refl);
   room_for_entries = c.self.invariant.room_for_entries;
-  heads_known = subst (λ gs. KnowsHeads c.self.inside.number gs c.note_from.new.self) c.as_slice-2.ensures.value c.note_from.ensures.known;
-  room_for_heads = λ some. omega (arith, c.in_ok-reserve-2.ensures.ok, c.note_from.ensures.base, c.note_from.ensures.len);
+  heads_known = rw (groups_now g c)
+      (c.note_arrival-2.ensures.known c.self.inside.groups.items (made g c)
+      (omega (arith, c.len-4.ensures, c.insert_reserved.ensures.len, c.in_ok-reserve_group.ensures.len, c.self.inside.groups.ok.0)) refl
+      (λ index group at. no_head_next (state_of c.self.inside) c.self.invariant.sound c.in-Some.id c.in-Some.ensures.parts.0 c.in-Some.ensures.parts.1 index group at.here at.head_is)
+      (λ own. omega (arith, c.in-Some.ensures.parts.1, c.in_ok-reserve-2.ensures.ok))
+      (KnowsHeads-moved (state_of c.self.inside) c.self.invariant.sound c.self.inside.heads c.self.invariant.heads_known (c.self.inside.opened + 1) (omega arith) c.reserve-2.new.self
+      c.in_ok-reserve-2.ensures.base c.in_ok-reserve-2.ensures.same));
+  room_for_heads = λ some. omega (arith, c.in_ok-reserve-2.ensures.ok, c.note_arrival-2.ensures.end);
   guests_noted = AreNoted-come _ _ _ _ _ _ c.self.invariant.guests_noted _ _ c.self.invariant.guests_noted.known _ _ c.saturating_sub-self-inside.ensures;
 }
 
@@ -231,25 +236,6 @@ invariant_of-self-in_err-reserve-2 g c =
     (omega (arith, c.in_ok-reserve_group.ensures.capacity)) (λ class. rw (c.in_ok-reserve.ensures.same class) (c.self.invariant.rooms class))
     (λ class. omega (arith, c.in_ok-reserve.ensures.more class)))
     (c.self.inside.opened + 1) (omega arith) c.reserve-2.new.self c.in_err-reserve-2.ensures.base c.in_err-reserve-2.ensures.same c.in_err-reserve-2.ensures.more
-
-pub note_from-requires : goal.note_from-requires
-note_from-requires g c =
-    let group : c.of-2.result ≡ new_group c.in-Some.id c.args.class c.self.inside.gens c.args.words.now = c.of-2.ensures
-    ∙ rw (c.of.ensures, c.new-2.ensures, page_made c.args.class 0 c.args.words.now _ c.in_ok-page.page c.in_ok-page.ensures c.set_on.new.words c.set_on.ensures.words)
-    (ap (λ (head : SpanState). group_of (record { head = head; guests = [] }) (Some (set_object blank_page c.args.class 0 c.args.words.now)) false)
-    (c.in_ok-key.ensures.ok ∙ ap (λ (s : SpanState). with_put s 0 c.args.words.now) c.with_log-head.ensures)) in
-    let lower = subst (λ (groups : List GroupState). IsLower head_id groups (rank c.in-Some.id) c.lower_heads-index.result) (c.as_slice.ensures.value ∙ c.in_ok-reserve_group.ensures.items)
-    (record { within = c.lower_heads-index.ensures.within; lower = c.lower_heads-index.ensures.lower; others = c.lower_heads-index.ensures.others }) in
-    let place = IsPlaceFor-lower c.self.inside.groups.items c.in-Some.id c.lower_heads-index.result lower
-    (no_head_next (state_of c.self.inside) c.self.invariant.sound c.in-Some.id c.in-Some.ensures.parts.0 c.in-Some.ensures.parts.1) in
-    let groups = c.as_slice-2.ensures.value ∙ c.insert_reserved.ensures.items ∙ rw (c.in_ok-reserve_group.ensures.items, group) refl in
-    let pages = subst (λ (s : ShardState). length s.groups < s.page_limit) (sym c.self.view_is) c.requires.pages in
-    subst (λ gs. AreReady c.self.inside.number gs c.reserve-2.new.self c.lower_heads-index.result) (sym groups)
-    (AreReady-arrived (state_of c.self.inside) c.self.invariant.sound c.reserve-2.new.self
-    (KnowsHeads-moved (state_of c.self.inside) c.self.invariant.sound c.self.inside.heads c.self.invariant.heads_known (c.self.inside.opened + 1) (omega arith) c.reserve-2.new.self
-    c.in_ok-reserve-2.ensures.base c.in_ok-reserve-2.ensures.same)
-    c.self.invariant.pages_fit c.lower_heads-index.result (new_group c.in-Some.id c.args.class c.self.inside.gens c.args.words.now) place pages
-    (λ own. omega (arith, c.in-Some.ensures.parts.1, c.in_ok-reserve-2.ensures.ok)) (omega (arith, c.in_ok-reserve-2.ensures.ok)))
 
 -- words are made where the object needs them
 pub set_on-requires-clause-room : goal.set_on-requires-clause-room
