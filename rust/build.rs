@@ -6,22 +6,21 @@
 //! that reads LLVM's bitcode, as `-C linker-plugin-lto` asks of rustc, inlines its calls on one
 //! object.
 //!
-//! `TEURLAKS_ARCHIVE` names the folder where the archive lies. Where it is not set, it is `lib/` of
-//! a release, beside the crate's folder; and where there is none, the Rattle kit's `rt lib` proves
-//! and makes it in `crates/teurlaks_c` of the repository. A release's `libteurlaks.a` has the three
-//! functions in it, so that no C compiler is needed. The kit is `KIT`, or the folder above the
-//! `bin` where `rt` is found on the `PATH`, or `/opt/rattle`.
+//! `TEURLAKS_ARCHIVE` names the folder where the archive lies. If it is not set, that is `lib/` of
+//! a release, beside the crate's folder; or else `crates/teurlaks_c/out` of the repository, if
+//! `./check --archive` has proved and made the archive of the sources as they stand. Nothing is
+//! proved here: that takes up to an hour, of which cargo shows nothing. A release's
+//! `libteurlaks.a` has the three functions in it, so that no C compiler is needed.
 
 use std::env;
 use std::path::{Path, PathBuf};
-use std::process::Command;
+use std::process::{exit, Command};
 
 fn main() {
     println!("cargo:rerun-if-env-changed=TEURLAKS_ARCHIVE");
-    println!("cargo:rerun-if-env-changed=KIT");
     let archive = match env::var_os("TEURLAKS_ARCHIVE") {
         Some(folder) => PathBuf::from(folder),
-        None => of_release().unwrap_or_else(prove),
+        None => of_release().unwrap_or_else(of_repository),
     };
     let is_bitcode = env::var_os("CARGO_FEATURE_BITCODE").is_some();
     if is_release(&archive) {
@@ -100,31 +99,24 @@ fn link(folder: &Path, name: &str) {
     println!("cargo:rustc-link-lib=static={name}");
 }
 
-/// Proves the library and makes the archive, which takes seconds where nothing has changed and
-/// minutes at first.
-fn prove() -> PathBuf {
-    let crates = Path::new(env!("CARGO_MANIFEST_DIR")).join("../crates");
-    let folder = crates.join("teurlaks_c");
-    println!("cargo:rerun-if-changed={}", crates.display());
-    let made = Command::new(kit().join("bin/rt"))
-        .arg("lib")
-        .current_dir(&folder)
+/// The folder of the repository's archive, if that was proved of the sources as they stand. If not,
+/// this says how it is made, and ends.
+fn of_repository() -> PathBuf {
+    let top = Path::new(env!("CARGO_MANIFEST_DIR")).join("..");
+    println!("cargo:rerun-if-changed={}", top.join("crates").display());
+    let is_current = Command::new("bash")
+        .args(["-c", ". tools/lib.sh && archive_is_current"])
+        .current_dir(&top)
         .status();
-    assert!(
-        made.is_ok_and(|status| status.success()),
-        "`rt lib` could not make the archive in {}: set TEURLAKS_ARCHIVE to the folder of a libteurlaks_c.a",
-        folder.display()
-    );
-    folder.join("out")
+    if !is_current.is_ok_and(|status| status.success()) {
+        eprintln!("{HOW_TO_MAKE_IT}");
+        exit(1);
+    }
+    top.join("crates/teurlaks_c/out")
 }
 
-fn kit() -> PathBuf {
-    // `rt` may be a link into the kit.
-    let of_rt = |rt: PathBuf| Some(rt.canonicalize().ok()?.parent()?.parent()?.to_path_buf());
-    let on_path =
-        || env::split_paths(&env::var_os("PATH")?).find_map(|folder| of_rt(folder.join("rt")));
-    env::var_os("KIT")
-        .map(PathBuf::from)
-        .or_else(on_path)
-        .unwrap_or_else(|| PathBuf::from("/opt/rattle"))
-}
+const HOW_TO_MAKE_IT: &str = "\
+There is no archive that was proved of these sources. At the top of the repository
+    ./check --archive                     proves and makes it: up to an hour at first
+    tools/unproved out/libteurlaks_c.a    makes one in minutes, of which nothing is proved
+Set TEURLAKS_ARCHIVE to the folder of an archive that is elsewhere, as the second one is.";

@@ -1,120 +1,27 @@
 //! All shards as one value.
 
+mod compacting;
+mod lent;
+mod limits;
 mod many;
 mod meshing;
+mod words;
 mod worn;
 
-pub(crate) use meshing::{
-    certificate_text, done, letting_go, marked, meshing, stepped, MOST_GROUPS,
-};
+pub(crate) use lent::{letting_go, meshing};
+pub use limits::Limits;
+pub(crate) use limits::{ends_turn, MOST_SHARDS, SHARDS};
+pub(crate) use meshing::{certificate_text, done, marked, stepped, MOST_GROUPS};
 pub use meshing::{Marked, Stepped};
 
-use crate::bytes::{slots_for, words_for, Bytes, BytesKey, Words, MOST_BYTES, MOST_WORDS};
-use crate::key_bits::KeyBits;
+use crate::bytes::{slots_for, MOST_WORDS};
 use crate::names::{Key, Span};
 use crate::occupancy::Occupancy;
 use crate::raw;
 use crate::refused::Refused;
 use crate::walk::{Drain, Iter, Keys};
 use std::fmt;
-use std::mem::MaybeUninit;
 use std::ptr;
-
-/// The numbers of a core.
-#[derive(Clone, Copy, Debug, PartialEq, Eq, Hash)]
-pub struct Limits {
-    /// How many shards there are, 1 to 64.
-    pub shards: u32,
-    /// How many pages of 4,096 bytes a shard may have, 1 to 1,048,576. It costs nothing until they
-    /// are used. Each adoption by a shard costs a step for each page that it has, so many shards of
-    /// few pages are compacted sooner than one of many, where much of what is retired comes back.
-    pub pages: u32,
-    /// How many pages a shard may open in its life, 1 to 4,294,967,295. Each insert that finds no
-    /// room opens one, and a fold uses one up. Fewer make keys shorter ([`Limits::key_bits`]).
-    pub spans: u32,
-    /// How often a slot may be used, at least once. A slot that was used so often is never used
-    /// again. A page of such slots makes way for another one once it has no value: when an insert
-    /// finds no other room, and at each forgetting and compaction.
-    pub generations: u32,
-}
-
-impl Default for Limits {
-    /// One shard, with as many pages and generations as there can be.
-    fn default() -> Limits {
-        Limits {
-            shards: 1,
-            pages: MOST_PAGES,
-            spans: u32::MAX,
-            generations: u32::MAX,
-        }
-    }
-}
-
-impl Limits {
-    /// Limits whose keys are numbers of 64 bits by [`KeyBits::BALANCED`]: 16 shards, each of which
-    /// may have 1,048,576 pages and open 268,435,456, and 16,777,215 generations. No key beyond
-    /// them is given out.
-    ///
-    /// ```
-    /// # use teurlaks::{Key, KeyBits, Limits, Slab};
-    /// let limits = Limits::compact_keys();
-    /// let bits = limits.key_bits().expect("they come to 64 bits");
-    /// assert_eq!(bits, KeyBits::BALANCED);
-    /// let mut slab = Slab::with_limits(limits)?;
-    /// let key = slab.insert("a")?;
-    /// let number = key.to_u64(bits).expect("each key has one");
-    /// assert_eq!(Key::from_u64(bits, number.get()), Some(key));
-    /// # Ok::<(), teurlaks::Refused>(())
-    /// ```
-    #[must_use]
-    pub const fn compact_keys() -> Limits {
-        Limits {
-            shards: SHARDS,
-            pages: MOST_PAGES,
-            spans: 1 << 28,
-            generations: (1 << 24) - 1,
-        }
-    }
-
-    /// How many bits of a number the parts of a key take, whose slot takes 8: the fewest in which
-    /// each key within these limits has one. `None` if they come to more than 64.
-    #[must_use]
-    pub fn key_bits(self) -> Option<KeyBits> {
-        KeyBits::for_limits(self.shards, self.spans, self.generations)
-    }
-
-    /// That each number is in its range, as the library has it.
-    pub(crate) fn check(self) -> Result<(), Refused> {
-        let in_range = (1..=MOST_SHARDS as u32).contains(&self.shards)
-            && (1..=MOST_PAGES).contains(&self.pages)
-            && self.spans >= 1
-            && self.generations >= 1;
-        if in_range {
-            Ok(())
-        } else {
-            Err(Refused::Config)
-        }
-    }
-}
-
-/// How many shards there are at most.
-pub(crate) const MOST_SHARDS: usize = 64;
-
-/// How many pages a shard may have at most.
-const MOST_PAGES: u32 = 1 << 20;
-
-/// How many shards a slab or a store has where nobody says so: enough that each has few pages,
-/// whose number an adoption goes by. Each takes 464 bytes from its first value on.
-pub(crate) const SHARDS: u32 = 16;
-
-/// How many pages a shard opens until it is the turn of the next one, where nobody has set limits.
-const TURN: u32 = 1024;
-
-/// Whether a key is the first of a page with which the turn of its shard is over.
-#[inline]
-pub(crate) fn ends_turn(key: Key) -> bool {
-    key.serial() % TURN == 0 && key.slot() == 0 && key.generation() == 1 && key.serial() > 0
-}
 
 /// Objects of 1 to 16 words of 16 bytes under keys, in shards: the proved library as it is.
 ///
@@ -160,14 +67,15 @@ pub struct Core {
     // answers `NO_CORE`, counts nothing, and drops nothing.
     handle: raw::Handle,
     limits: Limits,
+    // How many generations a slot may have before its last one.
+    earlier: u32,
     // How many words the least object has that was put.
     least_words: u8,
     // Whose plan is open.
     plan: Plan,
     // Whether groups may be in the pool: ends and retirements leave some there.
     pool: bool,
-    // Whether a slot has got all its generations.
-    has_worn: bool,
+    order: Order,
     // How many keys are live: a put makes one live, and a free takes one away, as each tells.
     live: usize,
     // A bit for each shard that has ended.
@@ -187,6 +95,18 @@ pub(crate) enum Plan {
     Compaction,
 }
 
+/// Whether the first shard has filled its pages one after another, each from its lowest free slot
+/// on, and does so still.
+#[derive(Clone, Copy, PartialEq, Eq, PartialOrd, Ord)]
+enum Order {
+    Kept,
+    /// A caller has ended a shard or moved groups by hand, or another shard than the first has
+    /// adopted one.
+    Regrouped,
+    /// A slot has got all its generations.
+    Worn,
+}
+
 impl Core {
     /// A core of new shards, numbered from 0 on. It takes no memory until its first object.
     ///
@@ -200,10 +120,11 @@ impl Core {
                 at: ptr::null_mut(),
             },
             limits,
+            earlier: limits.generations - 1,
             least_words: MOST_WORDS as u8,
             plan: Plan::None,
             pool: false,
-            has_worn: false,
+            order: Order::Kept,
             live: 0,
             ended: 0,
             emptied: 0,
@@ -303,10 +224,11 @@ impl Core {
     #[allow(clippy::inline_always)]
     #[inline(always)]
     fn plain_key(&mut self, put: raw::PutReply, len: usize) -> Option<Key> {
-        if put.status != raw::OK
-            || put.key.generation >= self.limits.generations
-            || len < self.least_words.into()
-        {
+        // No key has generation 0, which is passed over here too.
+        let is_plain = put.status == raw::OK
+            && put.key.generation.wrapping_sub(1) < self.earlier
+            && len >= self.least_words.into();
+        if !is_plain {
             return None;
         }
         let key = Key::of(put.key)?;
@@ -357,139 +279,12 @@ impl Core {
         reply
     }
 
-    /// Keeps an object of 1 to 16 words in the shard, and gives its key.
-    ///
-    /// A page has objects of one number of words, as many as fit its 256 words. Only such pages are
-    /// folded onto each other.
-    ///
-    /// # Errors
-    ///
-    /// As of [`Core::insert`], and [`Refused::Config`] if there are no words, or more than 16.
-    ///
-    /// ```
-    /// # use teurlaks::{Core, Limits};
-    /// let mut core = Core::new(Limits::default())?;
-    /// for place in 0..86 {
-    ///     let key = core.insert_words(0, &[place, 7, 9])?;
-    ///     assert_eq!(core.get_words(key).as_deref(), Some(&[place, 7, 9][..]));
-    /// }
-    /// assert_eq!(core.pages(), 2); // 85 objects of three words fill one
-    /// # Ok::<(), teurlaks::Refused>(())
-    /// ```
-    #[inline]
-    pub fn insert_words(&mut self, shard: u32, words: &[u128]) -> Result<Key, Refused> {
-        // SAFETY: so many words are there.
-        unsafe { self.put_words(shard, words.as_ptr(), words.len()) }
-    }
-
-    /// Keeps 1 to 256 bytes in the shard, in as few words as hold them, and gives their name.
-    ///
-    /// # Errors
-    ///
-    /// As of [`Core::insert`], and [`Refused::Config`] where the bytes are none, or more than 256.
-    ///
-    /// ```
-    /// # use teurlaks::{Core, Limits};
-    /// let mut core = Core::new(Limits::default())?;
-    /// let key = core.insert_bytes(0, b"a cached page, as it was fetched")?;
-    /// assert_eq!(&core.get_bytes(key).unwrap()[..8], b"a cached");
-    /// core.free(key.key());
-    /// assert_eq!(core.get_bytes(key), None);
-    /// # Ok::<(), teurlaks::Refused>(())
-    /// ```
-    #[inline]
-    pub fn insert_bytes(&mut self, shard: u32, bytes: &[u8]) -> Result<BytesKey, Refused> {
-        // SAFETY: so many words stand there.
-        let key = words_of(bytes, |first, len| unsafe {
-            self.put_words(shard, first, len)
-        })?;
-        Ok(BytesKey::new(key, bytes.len()))
-    }
-
-    /// Sets the key of this name to 1 to 256 bytes, and gives the name that they have from now on:
-    /// if the key is live, and they take as many words as its object has.
-    ///
-    /// # Errors
-    ///
-    /// As of [`Core::set`], and [`Refused::Config`] where the bytes are none, or more than 256.
-    #[inline]
-    pub fn set_bytes(&mut self, key: BytesKey, bytes: &[u8]) -> Result<Option<BytesKey>, Refused> {
-        // SAFETY: so many words stand there.
-        let done = words_of(bytes, |first, len| unsafe {
-            self.set_all_words(key.key(), first, len)
-        })?;
-        Ok(done.then(|| BytesKey::new(key.key(), bytes.len())))
-    }
-
-    /// Keeps an object of the words that stand there.
-    ///
-    /// # Safety
-    ///
-    /// So many words stand there. Bytes of them may be uninitialised where no [`Words`] is made of
-    /// them.
-    // Inlined, it leaves the key in registers.
-    #[allow(clippy::inline_always)]
-    #[inline(always)]
-    pub(crate) unsafe fn put_words(
-        &mut self,
-        shard: u32,
-        first: *const u128,
-        len: usize,
-    ) -> Result<Key, Refused> {
-        // SAFETY: as of this call.
-        match unsafe { self.put_words_plainly(shard, first, len) } {
-            Ok(key) => Ok(key),
-            // SAFETY: as of this call.
-            Err(put) => was_put(unsafe { self.put_words_again(put, shard, first, len) }),
-        }
-    }
-
-    /// The key that such a put gives, if it is plain; or else what the library answers, of which
-    /// `put_words_again` makes what the put answers in the end.
-    ///
-    /// # Safety
-    ///
-    /// As of [`Core::put_words`].
-    #[allow(clippy::inline_always)]
-    #[inline(always)]
-    pub(crate) unsafe fn put_words_plainly(
-        &mut self,
-        shard: u32,
-        first: *const u128,
-        len: usize,
-    ) -> Result<Key, raw::PutReply> {
-        // SAFETY: as in `insert`, and a word is its two halves, the lower one first.
-        let put = unsafe { raw::teurlaks_put_words(&mut self.handle, shard, first.cast(), len) };
-        match self.plain_key(put, len) {
-            Some(key) => Ok(key),
-            None => Err(put),
-        }
-    }
-
-    /// As `put_again`, of words that stand there.
-    ///
-    /// # Safety
-    ///
-    /// As of [`Core::put_words`].
-    #[cold]
-    #[allow(improper_ctypes_definitions)]
-    pub(crate) unsafe extern "C" fn put_words_again(
-        &mut self,
-        put: raw::PutReply,
-        shard: u32,
-        first: *const u128,
-        len: usize,
-    ) -> raw::PutReply {
-        self.again(put, shard, len, |core| {
-            // SAFETY: as of this call.
-            unsafe { raw::teurlaks_put_words(&mut core.handle, shard, first.cast(), len) }
-        })
-    }
-
     /// Notes whether a slot has given out its last key with this one.
     #[inline]
     fn note_put(&mut self, key: Key) {
-        self.has_worn |= key.generation() >= self.limits.generations;
+        if key.generation() >= self.limits.generations {
+            self.order = Order::Worn;
+        }
     }
 
     /// The word of the key, where it is live and has an object of one word.
@@ -501,43 +296,6 @@ impl Core {
         let got = unsafe { raw::teurlaks_get(&self.handle, low, high) };
         (got.status == raw::OK)
             .then(|| u128::from(got.value.high) << 64 | u128::from(got.value.low))
-    }
-
-    /// The words of the key's object, where it is live.
-    #[inline]
-    #[must_use]
-    pub fn get_words(&self, key: Key) -> Option<Words> {
-        let (low, high) = key.numbers();
-        Words::written(|first| {
-            // SAFETY: as in `get`, and there is room for 16 words, of which it writes as many as it
-            // says.
-            let got = unsafe {
-                raw::teurlaks_get_words(&self.handle, low, high, first.cast(), MOST_WORDS)
-            };
-            (got.status == raw::OK).then_some(got.len)
-        })
-    }
-
-    /// What is read of the words of the key's object, where it is live, as they are written for
-    /// this call.
-    #[inline]
-    pub(crate) fn read_words<R>(&self, key: Key, read: impl FnOnce(*const u128) -> R) -> Option<R> {
-        let mut words = [MaybeUninit::<u128>::uninit(); MOST_WORDS];
-        let first = words.as_mut_ptr().cast();
-        let (low, high) = key.numbers();
-        // SAFETY: as in `get_words`.
-        let got = unsafe { raw::teurlaks_get_words(&self.handle, low, high, first, MOST_WORDS) };
-        if got.status != raw::OK {
-            return None;
-        }
-        Some(read(words.as_ptr().cast()))
-    }
-
-    /// The bytes of this name, where their key is live.
-    #[inline]
-    #[must_use]
-    pub fn get_bytes(&self, key: BytesKey) -> Option<Bytes> {
-        Bytes::of(self.get_words(key.key())?, key.len())
     }
 
     /// Whether the key is live.
@@ -585,40 +343,6 @@ impl Core {
         let status = unsafe { raw::teurlaks_set(&mut self.handle, key, key_high, low, high) };
         if status == raw::NO_CORE {
             return Ok(false);
-        }
-        was_set(status)
-    }
-
-    /// Sets the key to an object of these words, as [`Core::set`] does with one, where its object
-    /// has as many.
-    ///
-    /// # Errors
-    ///
-    /// As of [`Core::set`], and [`Refused::Config`] if there are no words, or more than 16.
-    #[inline]
-    pub fn set_words(&mut self, key: Key, words: &[u128]) -> Result<bool, Refused> {
-        // SAFETY: so many words are there.
-        unsafe { self.set_all_words(key, words.as_ptr(), words.len()) }
-    }
-
-    /// Sets the key to an object of the words that stand there.
-    ///
-    /// # Safety
-    ///
-    /// As of [`Core::put_words`].
-    #[inline]
-    pub(crate) unsafe fn set_all_words(
-        &mut self,
-        key: Key,
-        first: *const u128,
-        len: usize,
-    ) -> Result<bool, Refused> {
-        let (key, key_high) = key.numbers();
-        // SAFETY: as in `put_words`.
-        let status =
-            unsafe { raw::teurlaks_set_words(&mut self.handle, key, key_high, first.cast(), len) };
-        if status == raw::NO_CORE {
-            return is_length_of_object(len).map(|()| false);
         }
         was_set(status)
     }
@@ -789,29 +513,6 @@ pub(crate) const NO_KEY: raw::RawKey = raw::RawKey {
     slot: 0,
     reserved: 0,
 };
-
-// Lends the words of the least object that holds the bytes, and how many they are.
-#[inline]
-fn words_of<R>(
-    bytes: &[u8],
-    keep: impl FnOnce(*const u128, usize) -> Result<R, Refused>,
-) -> Result<R, Refused> {
-    if bytes.is_empty() || bytes.len() > MOST_BYTES {
-        return Err(Refused::Config);
-    }
-    let mut words = [MaybeUninit::<u128>::uninit(); MOST_WORDS];
-    let first = words.as_mut_ptr().cast::<u128>();
-    let len = words_for(bytes.len());
-    // SAFETY: there is room for the bytes in so many words, of which they fill all but the last,
-    // which is a zero before.
-    unsafe {
-        first.add(len - 1).write(0);
-        first
-            .cast::<u8>()
-            .copy_from_nonoverlapping(bytes.as_ptr(), bytes.len());
-    }
-    keep(first, len)
-}
 
 // That an object may have so many words.
 #[cold]

@@ -1,6 +1,6 @@
-//! The calls of the archive, as `crates/teurlaks_c` exports them. `tests/declarations.rs` compares
-//! the two, and `c/teurlaks.h` too. The parameter `alloc` there takes no bytes, and stands nowhere
-//! here.
+//! The calls of the archive, as `crates/teurlaks_c` exports them, but those that this crate never
+//! makes. `tests/declarations.rs` compares the two, and `c/teurlaks.h` too. The parameter `alloc`
+//! there takes no bytes, and stands nowhere here.
 //!
 //! The calls on one object get a key and a word as two numbers each. C's convention hands a struct
 //! of 12 or 16 bytes over in the same two registers, and LLVM inlines a call only if both sides
@@ -99,14 +99,6 @@ pub struct RawWalk {
     pub shard: u32,
     pub serial: u32,
     pub slot: u32,
-}
-
-/// C compares these. Here an arena's seats bear its turn.
-#[repr(C)]
-#[derive(Clone, Copy)]
-#[allow(dead_code)]
-pub struct RawPlace {
-    pub at: *const u8,
 }
 
 #[repr(C)]
@@ -217,14 +209,6 @@ pub struct ArenaTotalsReply {
 }
 
 extern "C" {
-    #[allow(dead_code)]
-    pub fn teurlaks_new(
-        out: *mut Handle,
-        shards: u32,
-        page_limit: u32,
-        ring_capacity: u32,
-        gens: u32,
-    ) -> u32;
     pub fn teurlaks_new_with_spans(
         out: *mut Handle,
         shards: u32,
@@ -295,7 +279,6 @@ extern "C" {
     pub fn teurlaks_retire(handle: *mut Handle, shard: u32, most: usize) -> RetireReply;
     pub fn teurlaks_trim(handle: *mut Handle, shard: u32) -> TrimReply;
     pub fn teurlaks_forget(handle: *mut Handle) -> ForgetReply;
-    #[allow(dead_code)]
     pub fn teurlaks_compact_within(handle: *mut Handle, budget: usize) -> CompactReply;
     pub fn teurlaks_compaction_step(
         handle: *mut Handle,
@@ -313,27 +296,11 @@ extern "C" {
         text: *mut u8,
         text_len: usize,
     ) -> CertificateReply;
-    #[allow(dead_code)]
-    pub fn teurlaks_arena_open(
-        out: *mut ShareHandle,
-        shards: u32,
-        page_limit: u32,
-        ring_capacity: u32,
-        gens: u32,
-    ) -> u32;
     pub fn teurlaks_arena_open_with_spans(
         out: *mut ShareHandle,
         shards: u32,
         page_limit: u32,
         span_limit: u32,
-        ring_capacity: u32,
-        gens: u32,
-    ) -> u32;
-    #[allow(dead_code)]
-    pub fn teurlaks_arena_open_recorded(
-        out: *mut ShareHandle,
-        shards: u32,
-        page_limit: u32,
         ring_capacity: u32,
         gens: u32,
     ) -> u32;
@@ -347,10 +314,6 @@ extern "C" {
     ) -> u32;
     pub fn teurlaks_arena_audit(handle: *mut ShareHandle) -> u32;
     pub fn teurlaks_seat_leave(handle: *mut ShareHandle, seat: *mut ShareHandle) -> u32;
-    #[allow(dead_code)]
-    pub fn teurlaks_seat_arena(handle: *mut ShareHandle, out: *mut RawPlace) -> u32;
-    #[allow(dead_code)]
-    pub fn teurlaks_steward_arena(handle: *mut ShareHandle, out: *mut RawPlace) -> u32;
     pub fn teurlaks_steward_seat(handle: *mut ShareHandle, out: *mut ShareHandle) -> u32;
     pub fn teurlaks_share_drop(handle: *mut ShareHandle);
     pub fn teurlaks_seat_session(handle: *mut ShareHandle) -> u32;
@@ -412,9 +375,6 @@ pub const TOO_SMALL: u32 = 12;
 pub const RING_FULL: u32 = 13;
 // A handle of this crate has what its calls are for, but that of a recorded arena that has ended.
 pub const NO_CORE: u32 = 14;
-// What is made goes to a handle without anything.
-#[allow(dead_code)]
-pub const HAS_CORE: u32 = 15;
 pub const BUSY: u32 = 16;
 pub const RUNNING: u32 = 17;
 pub const RECORDED: u32 = 18;

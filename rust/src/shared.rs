@@ -10,7 +10,7 @@ pub use iter::Iter;
 
 use crate::background::{Background, Compacts, Policy};
 use crate::compact::Compacted;
-use crate::core::{ends_turn, Limits, MOST_SHARDS};
+use crate::core::{ends_turn, Limits};
 use crate::names::Key;
 use crate::refused::Refused;
 use crate::store::Store;
@@ -96,10 +96,7 @@ impl<T: Copy> SharedStore<T> {
     ///
     /// [`Refused::OutOfMemory`] where memory was refused.
     pub fn new() -> Result<SharedStore<T>, Refused> {
-        SharedStore::with_limits(Limits {
-            shards: MOST_SHARDS as u32,
-            ..Limits::default()
-        })
+        SharedStore::with_limits(Limits::most())
     }
 
     /// A store of these limits. A shard takes some 8 KB with its first value, and nothing before.

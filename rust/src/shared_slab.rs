@@ -67,7 +67,7 @@ pub use unique::UniqueIter;
 use crate::background::{Background, Compacts, Policy};
 use crate::boxed::boxed;
 use crate::compact::Compacted;
-use crate::core::{ends_turn, Limits, MOST_SHARDS};
+use crate::core::{ends_turn, Limits};
 use crate::names::Key;
 use crate::refused::{InsertError, Refused};
 use crate::shared::homes::{Home, Homes};
@@ -101,7 +101,8 @@ const SLEEP: Duration = Duration::from_micros(50);
 /// [`SharedSlab::get`] lends a value by a guard, an [`Entry`]. As long as that is there the value
 /// stays, also when its key is removed, and no compaction moves it: the last guard drops what was
 /// removed. A look-up that finds its value takes no lock. A call that keeps or takes out a value,
-/// or that finds none, takes the lock of one shard of up to 64.
+/// or that finds none, takes the lock of one shard of up to 64. A page has room for all its values
+/// from the first one on, since a value with a guard could not move as it grows.
 ///
 /// ```
 /// use std::thread;
@@ -189,10 +190,7 @@ impl<T> SharedSlab<T> {
     ///
     /// None: the limits are in range.
     pub fn new() -> Result<SharedSlab<T>, Refused> {
-        SharedSlab::with_limits(Limits {
-            shards: MOST_SHARDS as u32,
-            ..Limits::default()
-        })
+        SharedSlab::with_limits(Limits::most())
     }
 
     /// A slab of these limits. A shard has no core until its first value.

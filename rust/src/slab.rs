@@ -1,5 +1,7 @@
 //! A slab that owns its values, its iterators, and an entry of it that waits for its value.
 
+mod folding;
+mod inserting;
 mod iterators;
 mod operators;
 mod vacant;
@@ -7,11 +9,9 @@ mod vacant;
 pub use iterators::{Drain, IntoIter, Iter, IterMut, Keys, Values, ValuesMut};
 pub use vacant::VacantEntry;
 
-use crate::compact::{Compact, Compacted};
-use crate::core::{ends_turn, Core, Limits, Stepped, SHARDS};
-use crate::names::{Group, Key};
-use crate::raw::PutReply;
-use crate::refused::{InsertError, Refused};
+use crate::core::{Core, Limits, SHARDS};
+use crate::names::Key;
+use crate::refused::Refused;
 use crate::values::{self, Spot, Walk, WalkMut};
 use std::ptr::NonNull;
 
@@ -22,8 +22,9 @@ use std::ptr::NonNull;
 /// gives the memory of a page of values back to the system. [`Slab::compact`] folds as much as can
 /// be. Beside a value there are 4 bytes of its key, and the core's object of zeros, which take no
 /// memory: one word or, from 16 bytes on, more. For then a page has fewer slots, and more pages fit
-/// each other: 256, or 128 of 16 bytes, or 64 of 240, or 16 of 4,096. A value of more bytes stands
-/// in a block of the global allocator.
+/// each other: 256, or 128 of 16 bytes, or 64 of 240, or 16 of 4,096. The first page begins with
+/// room for 4 values, and gets twice as much each time that it is full. A value of more bytes
+/// stands in a block of the global allocator.
 ///
 /// A look-up compares the key's generation with the one beside the value, and does not ask the
 /// core, which is proved never to give a key out twice; with debug assertions it asks, and panics
@@ -76,7 +77,9 @@ impl<T> Slab<T> {
     /// back.
     ///
     /// A shard that has opened 1,024 pages leaves the next ones to the next shard, since a
-    /// compaction goes by how many pages a shard has.
+    /// compaction goes by how many pages a shard has. A compaction asks each shard, used or not:
+    /// with 64 shards that of four pages would take twice as long. And keys of 16 shards fit
+    /// [`KeyBits::BALANCED`](crate::KeyBits::BALANCED).
     ///
     /// # Errors
     ///
@@ -150,7 +153,8 @@ impl<T> Slab<T> {
 
     /// Makes room beside the core for the pages of so many further values. They take memory as they
     /// are filled, and so do the core's: so an insert may be refused memory all the same. There is
-    /// no need of it: a slab grows page by page, and no value moves as it grows.
+    /// no need of it: a slab grows page by page, and as it grows only the values of its first page
+    /// move.
     ///
     /// # Errors
     ///
@@ -164,7 +168,7 @@ impl<T> Slab<T> {
         if values > self.capacity() {
             return Err(Refused::PagesSpent);
         }
-        self.values.reserve_pages(additional)
+        self.values.reserve_pages(&self.core, additional)
     }
 
     /// Gives back the pages on which no value is, and says how many went. No value moves:
@@ -182,288 +186,6 @@ impl<T> Slab<T> {
         let went = self.core.trim_all();
         self.values.cool();
         went
-    }
-
-    /// Keeps a value in the first shard that has room for it, and gives its key, which was never
-    /// given out before. A value that is refused is dropped, and [`Slab::try_insert`] gives it
-    /// back.
-    ///
-    /// # Errors
-    ///
-    /// - [`Refused::Ended`] only where each shard has ended;
-    /// - [`Refused::PagesSpent`] only where each that has not may have no further page;
-    /// - [`Refused::OutOfMemory`] where memory was refused.
-    // So that the halves become a key in registers, where it is used.
-    #[allow(clippy::inline_always)]
-    #[inline(always)]
-    pub fn insert(&mut self, value: T) -> Result<Key, Refused> {
-        let (low, high) = self.insert_apart(value);
-        // A status has 32 bits.
-        #[allow(clippy::cast_possible_truncation)]
-        Key::of_halves(low, high).ok_or_else(|| Refused::of(high as u32))
-    }
-
-    /// The halves of the key, or a zero and the status of why the value is refused. A key itself
-    /// would come back through memory, written in parts and read as a whole, for which a processor
-    /// waits.
-    #[inline]
-    fn insert_apart(&mut self, value: T) -> (u64, u64) {
-        match self.insert_key_plainly() {
-            Ok(key) => {
-                self.keep(key, value);
-                key.halves()
-            }
-            Err(put) => self.insert_again(put, value),
-        }
-    }
-
-    /// The same after that answer to the call for a key.
-    // All that an insert seldom does is one call, for which no register is kept.
-    #[cold]
-    #[inline(never)]
-    fn insert_again(&mut self, put: Option<PutReply>, value: T) -> (u64, u64) {
-        match self.insert_key_again(put) {
-            Ok(key) => {
-                self.keep(key, value);
-                key.halves()
-            }
-            Err(refused) => (0, refused.status_of_put().into()),
-        }
-    }
-
-    /// As [`Slab::insert`], and gives a value that is refused back.
-    ///
-    /// # Errors
-    ///
-    /// As of [`Slab::insert`], with the value.
-    ///
-    /// ```
-    /// # use teurlaks::{Limits, Refused, Slab};
-    /// let mut slab = Slab::with_limits(Limits { pages: 1, ..Limits::default() })?;
-    /// slab.try_extend((0..128).map(|i| i.to_string()))?;
-    /// let refused = slab.try_insert("one more".to_string()).unwrap_err();
-    /// assert_eq!((refused.refused, refused.value.as_str()), (Refused::PagesSpent, "one more"));
-    /// # Ok::<(), Refused>(())
-    /// ```
-    #[inline]
-    pub fn try_insert(&mut self, value: T) -> Result<Key, InsertError<T>> {
-        match self.insert_key() {
-            Ok(key) => {
-                self.keep(key, value);
-                Ok(key)
-            }
-            Err(refused) => Err(InsertError { value, refused }),
-        }
-    }
-
-    /// Keeps the value that is made with its own key. Where that panics, nothing is kept.
-    ///
-    /// # Errors
-    ///
-    /// As of [`Slab::insert`]; no value is made then.
-    ///
-    /// ```
-    /// # use teurlaks::{Key, Slab};
-    /// struct Node {
-    ///     own: Key,
-    /// }
-    /// let mut slab = Slab::new()?;
-    /// let key = slab.insert_with_key(|own| Node { own })?;
-    /// assert_eq!(slab[key].own, key);
-    /// # Ok::<(), teurlaks::Refused>(())
-    /// ```
-    pub fn insert_with_key(&mut self, value: impl FnOnce(Key) -> T) -> Result<Key, Refused> {
-        let entry = self.vacant_entry()?;
-        let key = entry.key();
-        entry.insert(value(key));
-        Ok(key)
-    }
-
-    /// A key for a value that is still to come. Where the entry is dropped without one, nothing is
-    /// kept, and the key finds nothing, now and for ever: it has used up a generation of its slot.
-    ///
-    /// # Errors
-    ///
-    /// As of [`Slab::insert`].
-    ///
-    /// ```
-    /// # use teurlaks::Slab;
-    /// let mut slab = Slab::new()?;
-    /// let entry = slab.vacant_entry()?;
-    /// let key = entry.key();
-    /// entry.insert((key, "hello"));
-    /// assert_eq!(slab[key], (key, "hello"));
-    /// # Ok::<(), teurlaks::Refused>(())
-    /// ```
-    pub fn vacant_entry(&mut self) -> Result<VacantEntry<'_, T>, Refused> {
-        self.give_up_vacant();
-        let key = self.insert_key()?;
-        self.vacant = Some(key);
-        let shard = u32::from(self.first);
-        self.end_turn_with(key);
-        Ok(VacantEntry::new(self, shard, key))
-    }
-
-    /// Frees the key of an entry that has come to nothing.
-    fn give_up_vacant(&mut self) {
-        if let Some(key) = self.vacant.take() {
-            self.core.free_live(key);
-        }
-    }
-
-    /// Keeps each value in turn, until one is refused. Those before it stay, and of an iterator
-    /// that is lent, those after it are left. [`Iterator::collect`] over [`Slab::insert`] gives
-    /// their keys.
-    ///
-    /// # Errors
-    ///
-    /// As of [`Slab::insert`], with the first value that was refused.
-    ///
-    /// ```
-    /// # use teurlaks::Slab;
-    /// let mut slab = Slab::new()?;
-    /// slab.try_extend(["a", "b"])?;
-    /// let keys = ["c", "d"].into_iter().map(|value| slab.insert(value));
-    /// let keys = keys.collect::<Result<Vec<_>, _>>()?;
-    /// assert_eq!((slab.len(), slab[keys[1]]), (4, "d"));
-    /// # Ok::<(), teurlaks::Refused>(())
-    /// ```
-    pub fn try_extend(
-        &mut self,
-        values: impl IntoIterator<Item = T>,
-    ) -> Result<(), InsertError<T>> {
-        values
-            .into_iter()
-            .try_for_each(|value| self.try_insert(value).map(drop))
-    }
-
-    /// A slab of these values, as [`Slab::new`] and [`Slab::try_extend`] make it.
-    ///
-    /// # Errors
-    ///
-    /// As of [`Slab::new`] and [`Slab::insert`]; all values are dropped then.
-    ///
-    /// ```
-    /// # use teurlaks::Slab;
-    /// let slab = Slab::try_from_iter("a b c".split(' '))?;
-    /// assert_eq!(slab.values().copied().collect::<String>(), "abc");
-    /// # Ok::<(), teurlaks::Refused>(())
-    /// ```
-    pub fn try_from_iter(values: impl IntoIterator<Item = T>) -> Result<Slab<T>, Refused> {
-        let mut slab = Slab::new()?;
-        slab.try_extend(values)?;
-        Ok(slab)
-    }
-
-    /// Keeps a value in the shard. A value that is refused is dropped, and [`Slab::try_insert_in`]
-    /// gives it back.
-    ///
-    /// # Errors
-    ///
-    /// - [`Refused::PagesSpent`]: no page of the shard has a usable slot, and it may have no
-    ///   further one;
-    /// - [`Refused::Ended`]: the shard has ended;
-    /// - [`Refused::Config`]: there is no such shard;
-    /// - [`Refused::OutOfMemory`]: memory was refused.
-    #[inline]
-    pub fn insert_in(&mut self, shard: u32, value: T) -> Result<Key, Refused> {
-        let key = self.insert_key_in(shard)?;
-        self.values.put(key, value, || shard);
-        Ok(key)
-    }
-
-    /// As [`Slab::insert_in`], and gives a value that is refused back.
-    ///
-    /// # Errors
-    ///
-    /// As of [`Slab::insert_in`], with the value.
-    #[inline]
-    pub fn try_insert_in(&mut self, shard: u32, value: T) -> Result<Key, InsertError<T>> {
-        match self.insert_key_in(shard) {
-            Ok(key) => {
-                self.values.put(key, value, || shard);
-                Ok(key)
-            }
-            Err(refused) => Err(InsertError { value, refused }),
-        }
-    }
-
-    /// Keeps the value of a key that the first shard has just put, for which there is room.
-    #[allow(clippy::inline_always)]
-    #[inline(always)]
-    fn keep(&mut self, key: Key, value: T) {
-        let first = &self.first;
-        self.values.put(key, value, || u32::from(*first));
-        self.end_turn_with(key);
-    }
-
-    /// Has the next shard be the first if the turn of this one is over with the key.
-    #[allow(clippy::inline_always)]
-    #[inline(always)]
-    fn end_turn_with(&mut self, key: Key) {
-        if self.takes_turns && ends_turn(key) {
-            self.first = ((u32::from(self.first) + 1) % self.core.shards()) as u8;
-        }
-    }
-
-    /// A key of the first shard, for whose value there is room. If that has none, the next one that
-    /// has one is the first from now on.
-    #[inline]
-    fn insert_key(&mut self) -> Result<Key, Refused> {
-        self.insert_key_plainly()
-            .or_else(|put| self.insert_key_again(put))
-    }
-
-    /// The same, if there is room already and nothing to do but to count the key; or else what the
-    /// library answers, if it was asked.
-    // Inlined, it leaves the key in registers.
-    #[allow(clippy::inline_always)]
-    #[inline(always)]
-    fn insert_key_plainly(&mut self) -> Result<Key, Option<PutReply>> {
-        if !self.values.is_ready() {
-            return Err(None);
-        }
-        values::Values::<T>::insert_key_plainly(&mut self.core, self.first.into()).map_err(Some)
-    }
-
-    /// The same after that answer.
-    #[cold]
-    fn insert_key_again(&mut self, put: Option<PutReply>) -> Result<Key, Refused> {
-        let first = self.first.into();
-        let key = match put {
-            Some(put) => values::Values::<T>::insert_key_again(&mut self.core, put, first),
-            None => self.insert_key_in(first),
-        };
-        match key {
-            Err(Refused::PagesSpent | Refused::Ended) => self.insert_key_elsewhere(),
-            key => key,
-        }
-    }
-
-    /// A key of another shard than the first that was to be asked.
-    #[cold]
-    fn insert_key_elsewhere(&mut self) -> Result<Key, Refused> {
-        let mut why = Refused::Ended;
-        let first = u32::from(self.first);
-        for shard in (first..self.core.shards()).chain(0..first) {
-            match self.insert_key_in(shard) {
-                Ok(key) => {
-                    self.first = shard as u8;
-                    return Ok(key);
-                }
-                Err(Refused::Ended) => {}
-                Err(Refused::PagesSpent) => why = Refused::PagesSpent,
-                Err(refused) => return Err(refused),
-            }
-        }
-        Err(why)
-    }
-
-    /// A key of the shard's, for whose value there is room.
-    #[inline]
-    fn insert_key_in(&mut self, shard: u32) -> Result<Key, Refused> {
-        self.values.reserve()?;
-        values::Values::<T>::insert_key(&mut self.core, shard)
     }
 
     /// The value of the key, where it is live.
@@ -708,162 +430,5 @@ impl<T> Slab<T> {
     pub fn values_mut(&mut self) -> ValuesMut<'_, T> {
         let left = self.len();
         ValuesMut::new(WalkMut::new(&mut self.values, left))
-    }
-
-    crate::core::letting_go!();
-
-    /// How many pages of 4,096 bytes there are.
-    #[must_use]
-    pub fn pages(&self) -> usize {
-        self.core.pages()
-    }
-
-    /// The last mark's certificate, as [`Core::certificate`].
-    ///
-    /// # Errors
-    ///
-    /// [`Refused::OutOfMemory`] where memory was refused for the text.
-    pub fn certificate(&self) -> Result<Option<String>, Refused> {
-        self.core.certificate()
-    }
-
-    /// Moves a group of the pool to a shard, as [`Core::adopt`].
-    ///
-    /// # Errors
-    ///
-    /// As of [`Core::adopt`].
-    pub fn adopt(&mut self, shard: u32) -> Result<Group, Refused> {
-        let group = self.core.adopt(shard)?;
-        self.values.note_adopted(group, shard);
-        self.first = self.first.min(shard as u8);
-        Ok(group)
-    }
-
-    /// Carries out the next fold, as [`Core::step`]. The values move with it, and their page goes
-    /// back.
-    ///
-    /// # Errors
-    ///
-    /// As of [`Core::step`].
-    pub fn step(&mut self) -> Result<Stepped, Refused> {
-        self.values.step(&mut self.core)
-    }
-
-    /// Closes the plan, as [`Core::close`].
-    ///
-    /// # Errors
-    ///
-    /// [`Refused::NoPlan`] alone, where no plan is open.
-    pub fn close(&mut self) -> Result<(), Refused> {
-        self.first = 0;
-        self.core.close()
-    }
-
-    /// Marks, takes all steps and closes, as [`Core::mesh`]. The values move with the folds, and
-    /// their pages go back.
-    ///
-    /// # Errors
-    ///
-    /// As of [`Core::mesh`].
-    pub fn mesh(&mut self) -> Result<usize, Refused> {
-        let values = &mut self.values;
-        let meshed = self.core.mesh_with(|core| values.step(core));
-        self.first = 0;
-        meshed
-    }
-
-    /// Gives back the pages on which no value is, folds sparse pages onto others until that hardly
-    /// gives any back, and says how many pages went; each that is folded takes its page of values
-    /// with it. Every key stays valid, and all groups are in shards afterwards, also those that an
-    /// end or a retirement had left to the pool.
-    ///
-    /// It takes the steps of [`Core::compact`].
-    ///
-    /// Each fold copies the values of a page, and a plan looks at each pair of up to 4,096 pages on
-    /// each side, those with the fewest values. A page that is folded takes no value of its own any
-    /// more, so each fold uses up one of the 4,294,967,295 pages that a shard may open in its life;
-    /// what can never have a value again is forgotten. [`Slab::compact_within`] does the same in
-    /// parts. At the end pages of values move together, each once at most, so that the memory
-    /// between them goes to the system too.
-    ///
-    /// # Errors
-    ///
-    /// - [`Refused::PlanOpen`]: a mark has opened a plan; then nothing has changed;
-    /// - [`Refused::OutOfMemory`]: memory was refused; it stops where it is, every key has its
-    ///   value, and it may be tried again.
-    ///
-    /// ```
-    /// # use teurlaks::Slab;
-    /// let mut slab = Slab::new()?;
-    /// let keys: Vec<_> = (0..1024).map(|i| slab.insert(i)).collect::<Result<_, _>>()?;
-    /// slab.retain(|_, i| *i % 19 == 0); // 54 of 1,024 are left, on four pages
-    /// assert_eq!(slab.compact()?, 3);
-    /// assert_eq!((slab.pages(), slab.len(), slab.get(keys[38])), (1, 54, Some(&38)));
-    /// # Ok::<(), teurlaks::Refused>(())
-    /// ```
-    pub fn compact(&mut self) -> Result<usize, Refused> {
-        self.give_up_vacant();
-        let went = self.compact_all();
-        self.first = 0;
-        self.is_packing = self.values.pack(usize::MAX);
-        went
-    }
-
-    /// Takes at most so many steps of a [compaction](Slab::compact), at least one, and says how
-    /// many pages went and whether there is more to do. The next call goes on where this one
-    /// stopped. After the last step each call moves at most so many pages of values together,
-    /// until none is left to move.
-    ///
-    /// What a step is, what a plan looks at, and which calls may be refused with
-    /// [`Refused::PlanOpen`] between two calls, is as of [`Core::compact_within`].
-    ///
-    /// # Errors
-    ///
-    /// As of [`Core::compact_within`].
-    ///
-    /// ```
-    /// # use teurlaks::Slab;
-    /// let mut slab = Slab::try_from_iter(0..25_600)?;
-    /// slab.retain(|_, i| *i % 19 == 0);
-    /// let mut gone = 0;
-    /// while slab.len() > 0 {
-    ///     let done = slab.compact_within(16)?; // between other work
-    ///     gone += done.pages;
-    ///     if !done.more {
-    ///         break;
-    ///     }
-    /// }
-    /// assert!(slab.pages() + gone == 100 && gone > 80);
-    /// # Ok::<(), teurlaks::Refused>(())
-    /// ```
-    pub fn compact_within(&mut self, budget: usize) -> Result<Compacted, Refused> {
-        self.give_up_vacant();
-        let done = if self.is_packing {
-            Ok(Compacted::default())
-        } else {
-            self.compact_some(budget)
-        };
-        self.first = 0;
-        self.values.cool();
-        let mut done = done?;
-        if !done.more {
-            self.is_packing = self.values.pack(budget.max(1));
-            done.more = self.is_packing;
-        }
-        Ok(done)
-    }
-}
-
-impl<T> Compact for Slab<T> {
-    fn core(&mut self) -> &mut Core {
-        &mut self.core
-    }
-
-    fn make_room(&mut self) -> Result<(), Refused> {
-        self.values.make_room()
-    }
-
-    fn follow(&mut self, abandoned: Group, owned: Group) {
-        self.values.follow(abandoned, owned);
     }
 }

@@ -13,11 +13,14 @@ pub(crate) struct Home {
     pub block: Block,
     /// The number of its page.
     pub page: u32,
-    /// The upper half of the span's marks, which is the number of the span among those that have
-    /// homes: no two have the same at one time.
-    pub mark: u64,
+    /// The number of the span among those that have homes: no two have the same at one time.
+    pub number: u32,
+    /// How many slots the block has.
+    pub slots: u16,
+    /// As many, if no other span has values there; or else 0.
+    pub own: u32,
     /// How many values it has there.
-    pub live: u32,
+    pub live: u16,
 }
 
 impl Home {
@@ -26,7 +29,9 @@ impl Home {
         span: Span::NONE,
         block: Block::NOWHERE,
         page: 0,
-        mark: 0,
+        number: 0,
+        slots: 0,
+        own: 0,
         live: 0,
     };
 
@@ -51,12 +56,6 @@ pub(crate) struct Spans {
     // By the numbers of spans, also of those that are free.
     names: Vec<Span>,
     free: Vec<u32>,
-}
-
-/// The number of the span in a mark.
-#[inline]
-pub(crate) fn number_of(mark: u64) -> u32 {
-    (mark >> 32) as u32
 }
 
 /// How many places there are at least, once there are any: those of one span.
@@ -159,12 +158,13 @@ impl Spans {
         self.places.iter().filter(|home| !home.is_free())
     }
 
-    /// Gives a span that has none a home on the page, with no value yet.
+    /// Gives a span that has none a home on the page, with no value yet. The block has so many
+    /// slots.
     ///
     /// # Panics
     ///
     /// Where there is no room for a further span.
-    pub fn insert(&mut self, span: Span, page: u32, block: Block) -> &mut Home {
+    pub fn insert(&mut self, span: Span, page: u32, block: Block, slots: u16) -> &mut Home {
         self.room = self.room.checked_sub(1).expect("room was reserved");
         let (number, place) = (self.number_for(span), self.free_place(span));
         let home = &mut self.places[place];
@@ -172,19 +172,17 @@ impl Spans {
             span,
             block,
             page,
-            mark: u64::from(number) << 32,
+            number,
+            slots,
+            own: slots.into(),
             live: 0,
         };
         home
     }
 
-    /// Moves the home of the span of this number, if it has one, to the page of that number and
-    /// block.
-    pub fn move_home(&mut self, number: u32, page: u32, block: Block) {
-        if let Some(home) = self.find_mut(self.name(number)) {
-            home.page = page;
-            home.block = block;
-        }
+    /// The home of the span of this number, to be changed, if it has one.
+    pub fn home_of(&mut self, number: u32) -> Option<&mut Home> {
+        self.find_mut(self.name(number))
     }
 
     /// Forgets the home of the span, if it has one. It takes no memory.
@@ -192,7 +190,7 @@ impl Spans {
         let Some(mut gap) = self.place_of(span) else {
             return;
         };
-        self.free.push(number_of(self.places[gap].mark));
+        self.free.push(self.places[gap].number);
         self.room += 1;
         // Of those behind the gap, each that is looked for by way of it closes it.
         let mut place = self.place_after(gap);
@@ -277,7 +275,7 @@ fn make_room<E>(list: &mut Vec<E>, len: usize) -> Result<(), Refused> {
 
 #[cfg(test)]
 mod tests {
-    use super::{number_of, Spans};
+    use super::Spans;
     use crate::names::Span;
     use crate::refused::Refused;
     use crate::values::Block;
@@ -291,11 +289,11 @@ mod tests {
     /// The homes are those of the map, each with a number of its own, which names its span.
     fn are_those(spans: &Spans, map: &HashMap<u64, u32>) {
         assert_eq!(spans.iter().count(), map.len());
-        let numbers: HashSet<u32> = spans.iter().map(|home| number_of(home.mark)).collect();
+        let numbers: HashSet<u32> = spans.iter().map(|home| home.number).collect();
         assert_eq!(numbers.len(), map.len());
         for home in spans.iter() {
             assert_eq!(map.get(&home.span.number()), Some(&home.page));
-            assert!(spans.name(number_of(home.mark)) == home.span);
+            assert!(spans.name(home.number) == home.span);
         }
     }
 
@@ -316,7 +314,7 @@ mod tests {
                     spans.remove(span);
                 } else if random % 3 > 0 {
                     spans.reserve(1)?;
-                    spans.insert(span, page, Block::NOWHERE);
+                    spans.insert(span, page, Block::NOWHERE, 0);
                     map.insert(span.number(), page);
                 }
                 if page % 1000 == 0 {
@@ -336,7 +334,7 @@ mod tests {
         let mut spans = Spans::new();
         for serial in (0..u32::MAX).step_by(9973) {
             spans.reserve(1)?;
-            spans.insert(Span::new(0, serial), 0, Block::NOWHERE);
+            spans.insert(Span::new(0, serial), 0, Block::NOWHERE, 0);
             spans.remove(Span::new(0, serial.wrapping_sub(4 * 9973)));
         }
         assert_eq!(

@@ -74,7 +74,8 @@ impl<T: Copy> Store<T> {
     /// back.
     ///
     /// A shard that has opened 1,024 pages leaves the next ones to the next shard, since a
-    /// compaction goes by how many pages a shard has.
+    /// compaction goes by how many pages a shard has. [`Slab::new`](crate::Slab::new) says why
+    /// there are no more shards.
     ///
     /// # Errors
     ///

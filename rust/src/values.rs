@@ -3,22 +3,26 @@
 // What is cut to fewer bits has a bound: 64 shards, the blocks of their pages, and at most 256
 // slots in each.
 #![allow(clippy::cast_possible_truncation)]
-// A block lies as its generations and values must, which `BLOCK_BYTES` sees to.
+// A block lies as its generations and values must, which `bytes_before` sees to.
 #![allow(clippy::cast_ptr_alignment)]
 
+mod block;
+mod folds;
+mod paged;
 mod walks;
 
+pub(crate) use block::Block;
 pub(crate) use walks::{Walk, WalkMut};
 
-use crate::blocks::{make_room, Blocks};
 use crate::boxed::Late;
 use crate::bytes::{slots_for, MOST_WORDS};
-use crate::core::{was_put, Core, Stepped};
-use crate::names::{Group, Key, Span};
+use crate::core::{was_put, Core};
+use crate::names::{Key, Span};
 use crate::raw::PutReply;
 use crate::refused::Refused;
 use crate::slots::Slots;
-use crate::spans::{number_of, Home, Spans};
+use crate::spans::{Home, Spans};
+use paged::{Page, Paged, FEWEST_SLOTS};
 use std::alloc::{alloc, dealloc, Layout};
 use std::iter;
 use std::marker::PhantomData;
@@ -35,8 +39,12 @@ pub(crate) const LEAN: bool = cfg!(feature = "lean");
 /// What stands for the generation of a slot that has no value: no generation is 0.
 const VACANT: u32 = 0;
 
-/// In the lower half of a home's mark: other spans may have values on the page of the span.
-const SHARES: u64 = 1;
+/// How many bytes a short block takes at most. A longer one is of the system's memory, which comes
+/// page by page as it is filled.
+const MOST_SHORT_BYTES: usize = 4096;
+
+/// The shard whose first page may be in a short block.
+const FIRST_SHARD: u32 = 0;
 
 static NO_WORDS: [u128; MOST_WORDS] = [0; MOST_WORDS];
 
@@ -69,7 +77,7 @@ const fn round_up(bytes: usize, step: usize) -> usize {
 /// ```text
 ///   homes, by span:  0.0 ──► page 3 ◄── 1.7       1.7 is the group's head, 0.0 was folded there
 ///                              │
-///   block:           | generation | .. | value | value | ..
+///   block:           .. | generation | value | value | ..
 ///   rows, by span:   0.0 has values at 2, 17, ..    1.7 at 0, 1, ..
 /// ```
 ///
@@ -86,34 +94,13 @@ pub(crate) struct Values<T> {
     spans: Spans,
     // By the numbers of spans.
     rows: Vec<Row>,
-    paged: Late<Paged>,
+    paged: Late<Paged<T>>,
     // Memory for one value that does not stand in a page.
     room: Option<NonNull<T>>,
-    // Whether there is room for one value, as `reserve` makes it: nothing took of it since.
-    ready: bool,
+    // While fewer keys are live there is room for one value, as `reserve` makes it: wherever a
+    // shard puts it, or, if the first page is in a short block, where the first shard does.
+    room_until: usize,
     owned: PhantomData<T>,
-}
-
-/// The pages, by the numbers of their blocks.
-struct Paged {
-    blocks: Blocks,
-    pages: Vec<Page>,
-}
-
-/// Where a page of values is.
-#[derive(Clone, Copy)]
-pub(crate) struct Block(NonNull<u8>);
-
-/// A page of values.
-#[derive(Clone, Copy)]
-struct Page {
-    block: Block,
-    // How many spans have values here: none if the block is not taken.
-    spans: u32,
-    // The number of the head of its group, into which the next values come.
-    head: u32,
-    // The shard that has its page of the core, or had it when that was last known.
-    shard: u8,
 }
 
 /// What is known of a span with a home, beside that.
@@ -178,20 +165,40 @@ impl<T> Values<T> {
         4
     };
 
-    /// Where the values begin: the generations are before them.
-    const VALUES_AT: usize = if LEAN {
-        0
-    } else {
-        round_up(Self::SLOTS * size_of::<u32>(), Self::ALIGN)
-    };
+    /// How many bytes of a block of so many slots are before its values: the generations.
+    const fn bytes_before(slots: usize) -> usize {
+        if LEAN {
+            0
+        } else {
+            round_up(slots * size_of::<u32>(), Self::ALIGN)
+        }
+    }
 
-    const BLOCK_BYTES: usize = match round_up(
-        Self::VALUES_AT + Self::SLOTS * Self::STORED.size(),
-        Self::ALIGN,
-    ) {
+    /// How many bytes a block of so many slots has.
+    const fn bytes_of_block(slots: usize) -> usize {
+        round_up(
+            Self::bytes_before(slots) + slots * Self::STORED.size(),
+            Self::ALIGN,
+        )
+    }
+
+    const BLOCK_BYTES: usize = match Self::bytes_of_block(Self::SLOTS) {
         // A block has some bytes, also for values of none.
         0 => 64,
         bytes => bytes,
+    };
+
+    /// How many slots a short block has at most: none if the fewest take too many bytes, or none.
+    const MOST_SHORT: usize = {
+        let (mut most, mut slots) = (0, FEWEST_SLOTS);
+        while slots <= Self::SLOTS
+            && Self::bytes_of_block(slots) > 0
+            && Self::bytes_of_block(slots) <= MOST_SHORT_BYTES
+        {
+            most = slots;
+            slots *= 2;
+        }
+        most
     };
 
     /// A key of the core's shard, beside whose object a value is to stand. The object's words tell
@@ -212,9 +219,32 @@ impl<T> Values<T> {
         unsafe { core.put_words_plainly(shard, NO_WORDS.as_ptr(), Self::WORDS) }
     }
 
-    /// What becomes of such an answer, which is of the last call of the core.
+    /// A key of the core's shard, for whose value there is room.
+    #[inline]
+    pub fn insert_key_with_room(&mut self, core: &mut Core, shard: u32) -> Result<Key, Refused> {
+        self.reserve(core, shard)?;
+        match Self::insert_key_plainly(core, shard) {
+            Ok(key) => Ok(key),
+            Err(put) => self.insert_key_after(core, put, shard),
+        }
+    }
+
+    /// What becomes of an answer that is no plain key, which is of the last call of the core. The
+    /// slot may have got its last key.
     #[cold]
-    pub fn insert_key_again(core: &mut Core, put: PutReply, shard: u32) -> Result<Key, Refused> {
+    pub fn insert_key_after(
+        &mut self,
+        core: &mut Core,
+        put: PutReply,
+        shard: u32,
+    ) -> Result<Key, Refused> {
+        self.forget_room();
+        Self::insert_key_again(core, put, shard)
+    }
+
+    /// The same, whatever there is room for.
+    #[cold]
+    fn insert_key_again(core: &mut Core, put: PutReply, shard: u32) -> Result<Key, Refused> {
         // SAFETY: so many words are there.
         was_put(unsafe { core.put_words_again(put, shard, NO_WORDS.as_ptr(), Self::WORDS) })
     }
@@ -226,71 +256,103 @@ impl<T> Values<T> {
             rows: Vec::new(),
             paged: Late::new(),
             room: None,
-            ready: false,
+            room_until: 0,
             owned: PhantomData,
         }
     }
 
-    /// Whether there is room for one value, wherever a shard puts it.
+    /// Whether there is room for one value more than the core has live keys, wherever the first of
+    /// its shards that is asked puts it.
     #[inline]
-    pub fn is_ready(&self) -> bool {
-        self.ready
+    pub fn has_room(&self, core: &Core) -> bool {
+        core.len() < self.room_until
     }
 
-    /// Makes room for one value, wherever a shard puts it, so that `put` needs no memory. A refusal
-    /// changes nothing that is seen.
+    /// Notes that the next value may need room that there is not: after a call by which a put may
+    /// find another slot than the next one of the first page.
+    pub fn forget_room(&mut self) {
+        self.room_until = 0;
+    }
+
+    /// Makes room for one value more than the core has live keys, wherever the shard puts it, so
+    /// that `put` needs no memory. A refusal changes nothing that is seen.
     #[inline]
-    pub fn reserve(&mut self) -> Result<(), Refused> {
-        if self.ready {
+    pub fn reserve(&mut self, core: &Core, shard: u32) -> Result<(), Refused> {
+        let is_for_any = self.room_until == usize::MAX || shard == FIRST_SHARD;
+        if is_for_any && self.has_room(core) {
             return Ok(());
         }
-        self.make_ready()
+        self.make_room_for(core, shard)
     }
 
     #[cold]
-    fn make_ready(&mut self) -> Result<(), Refused> {
-        self.make_blocks()?.reserve()?;
-        let lacks_pages = self.paged.pages.len() < self.paged.blocks.len();
+    fn make_room_for(&mut self, core: &Core, shard: u32) -> Result<(), Refused> {
+        self.forget_room();
+        let is_short = shard == FIRST_SHARD && self.fits_short(core, 1);
+        if is_short {
+            self.lengthen(core.len() + 1)?;
+        } else {
+            self.reserve_blocks(1)?;
+        }
         // Rows may be missing if they were refused memory after the spans had got theirs.
-        if lacks_pages || self.spans.is_full() || self.rows.len() < self.spans.most() {
-            self.grow(1)?;
+        if self.spans.is_full() || self.rows.len() < self.spans.most() {
+            self.grow_spans(1)?;
         }
         if Self::APART && self.room.is_none() {
             // SAFETY: such a value has bytes.
             let room = unsafe { alloc(Layout::new::<T>()) };
             self.room = Some(NonNull::new(room.cast()).ok_or(Refused::OutOfMemory)?);
         }
-        self.ready = true;
+        self.room_until = if is_short {
+            self.paged.short_slots()
+        } else {
+            usize::MAX
+        };
         Ok(())
     }
 
-    /// Makes room for so many full pages of values. A refusal changes nothing that is seen.
-    pub fn reserve_pages(&mut self, values: usize) -> Result<(), Refused> {
-        let pages = values / Self::SLOTS + usize::from(values % Self::SLOTS != 0);
-        if pages == 0 {
+    /// Whether a short block has room for so many values more than there are live keys: then all of
+    /// them are in one group of the first shard, whose puts take the lowest slot that is free. So
+    /// the slot of the next one is no higher than the number of live keys.
+    fn fits_short(&self, core: &Core, more: usize) -> bool {
+        let may_be_short = self.paged.get().map_or(true, Paged::may_be_short);
+        may_be_short && core.fills_in_order() && more <= Self::MOST_SHORT.saturating_sub(core.len())
+    }
+
+    /// Sees to it that the first page is in a short block of at least so many slots.
+    fn lengthen(&mut self, slots: usize) -> Result<(), Refused> {
+        let paged = self.paged.make(Paged::new)?;
+        paged.lengthen(slots)?;
+        let slots = paged.short_slots();
+        self.follow_first(slots);
+        Ok(())
+    }
+
+    /// Sees to it that so many pages of all slots are free, and none is in a short block.
+    fn reserve_blocks(&mut self, count: usize) -> Result<(), Refused> {
+        let paged = self.paged.make(Paged::new)?;
+        let was_short = paged.short_slots() > 0;
+        paged.reserve(count)?;
+        if was_short {
+            self.follow_first(Self::SLOTS);
+        }
+        Ok(())
+    }
+
+    /// Makes room for so many values more than the core has live keys, on full pages. A refusal
+    /// changes nothing that is seen.
+    pub fn reserve_pages(&mut self, core: &Core, values: usize) -> Result<(), Refused> {
+        if values == 0 {
             return Ok(());
         }
-        self.ready = false;
-        self.make_blocks()?.reserve_all(pages)?;
-        self.grow(pages)
-    }
-
-    /// The blocks, which come with the first one.
-    fn make_blocks(&mut self) -> Result<&mut Blocks, Refused> {
-        let none = || Paged {
-            blocks: Blocks::new(Self::BLOCK_BYTES),
-            pages: Vec::new(),
-        };
-        Ok(&mut self.paged.make(none)?.blocks)
-    }
-
-    /// Makes room for each block to be a page, and for so many further spans.
-    #[cold]
-    fn grow(&mut self, spans: usize) -> Result<(), Refused> {
-        let Paged { blocks, pages } = &mut *self.paged;
-        make_room(pages, blocks.len())?;
-        pages.resize(blocks.len(), Page::NONE);
-        self.grow_spans(spans)
+        self.forget_room();
+        if self.fits_short(core, values) {
+            self.lengthen(core.len() + values)?;
+            return self.grow_spans(1);
+        }
+        let pages = values / Self::SLOTS + usize::from(values % Self::SLOTS != 0);
+        self.reserve_blocks(pages)?;
+        self.grow_spans(pages)
     }
 
     /// Makes room for so many further spans.
@@ -317,22 +379,15 @@ impl<T> Values<T> {
         home.live += 1;
         let Home {
             block,
-            page,
-            mark,
-            live,
+            number,
+            slots,
             ..
         } = *home;
-        if live == 1 {
-            self.paged.pages[page as usize].spans += 1;
-        }
         let slot = slot_of(key);
-        assert!(
-            usize::from(slot) < Self::SLOTS,
-            "the slot is one of the page's"
-        );
+        assert!(u16::from(slot) < slots, "the slot is one of the page's");
         if Self::APART {
             let room = self.room.take().expect("room was reserved");
-            self.ready = false;
+            self.forget_room();
             // SAFETY: the slot has no value, so an address may be written there.
             unsafe { block.stored::<T>(slot).cast::<NonNull<T>>().write(room) };
         }
@@ -342,7 +397,7 @@ impl<T> Values<T> {
         if !LEAN {
             block.set_generation(slot, key.generation());
         }
-        let row = &mut self.rows[number_of(mark) as usize];
+        let row = &mut self.rows[number as usize];
         debug_assert!(!row.live.contains(slot), "the slot is free");
         row.live.insert(slot);
     }
@@ -350,16 +405,14 @@ impl<T> Values<T> {
     /// A page for the values of the span, which has none.
     #[cold]
     fn open(&mut self, shard: u32, head: Span) -> &mut Home {
-        self.ready = false;
-        let (number, block) = self.paged.blocks.take();
-        let block = Block(block);
-        let home = self.spans.insert(head, number, block);
-        let row = number_of(home.mark);
-        self.rows[row as usize] = Row::NONE;
-        self.paged.pages[number as usize] = Page {
+        self.forget_room();
+        let (page, block, slots) = self.paged.take();
+        let home = self.spans.insert(head, page, block, slots);
+        self.rows[home.number as usize] = Row::NONE;
+        self.paged.pages[page as usize] = Page {
             block,
-            spans: 0,
-            head: row,
+            head: Some(home.number),
+            guests: 0,
             shard: shard as u8,
         };
         home
@@ -382,19 +435,17 @@ impl<T> Values<T> {
     #[inline]
     pub fn find(&self, key: Key) -> Option<NonNull<T>> {
         let (home, slot) = (self.spans.find(key.span())?, slot_of(key));
-        let is_slot = usize::from(slot) < Self::SLOTS;
-        if is_slot && self.rows_tell(home, slot) && home.block.is_of(slot, key) {
+        if self.may_have(home, slot) && home.block.is_of(slot, key) {
             Some(home.block.value::<T>(slot))
         } else {
             None
         }
     }
 
-    /// Whether the span of the home has the value of the slot, if one stands there with a
-    /// generation.
+    /// Whether the block of the home has the slot, and no other span has a value there.
     #[inline]
-    fn rows_tell(&self, home: &Home, slot: u8) -> bool {
-        !LEAN && home.mark & SHARES == 0 || self.row_of(home).live.contains(slot)
+    fn may_have(&self, home: &Home, slot: u8) -> bool {
+        !LEAN && u32::from(slot) < home.own || self.row_of(home).live.contains(slot)
     }
 
     /// Takes the value of the key out, if it has one, and says which page it was on. It needs no
@@ -402,7 +453,7 @@ impl<T> Values<T> {
     #[inline]
     pub fn take(&mut self, key: Key) -> Option<(T, u32)> {
         let home = self.spans.find_mut(key.span())?;
-        let (block, row, slot) = (home.block, number_of(home.mark), slot_of(key));
+        let (block, row, slot) = (home.block, home.number, slot_of(key));
         let live = &mut self.rows[row as usize].live;
         if !live.contains(slot) || !block.is_of(slot, key) {
             return None;
@@ -427,7 +478,7 @@ impl<T> Values<T> {
 
     #[inline]
     fn row_of(&self, home: &Home) -> &Row {
-        &self.rows[number_of(home.mark) as usize]
+        &self.rows[home.number as usize]
     }
 
     /// The spans from this one on that have homes on one page, by their numbers.
@@ -439,172 +490,30 @@ impl<T> Values<T> {
     /// gives the page back if that has none.
     #[cold]
     fn forget(&mut self, span: u32, page: u32) {
-        let on = &mut self.paged.pages[page as usize];
-        on.spans -= 1;
-        let (is_empty, head) = (on.spans == 0, on.head);
+        let head = self.paged.pages[page as usize].head;
+        let head = head.expect("a page with values has a head");
         if span != head {
-            self.unlink(span, head);
+            self.forget_guest(span, page);
         }
-        if is_empty {
-            self.spans.remove(self.spans.name(head));
-            self.paged.blocks.give(page);
+        let name = self.spans.name(head);
+        let has_none = |home: &Home| home.live == 0;
+        let is_alone = self.paged.pages[page as usize].guests == 0;
+        if is_alone && self.spans.find(name).map_or(true, has_none) {
+            self.spans.remove(name);
+            self.paged.give(page);
         }
     }
 
-    /// Forgets a span that has no value, of a page whose head is another.
-    fn unlink(&mut self, span: u32, head: u32) {
+    /// Forgets a span that has no value, a guest of the page.
+    fn forget_guest(&mut self, span: u32, page: u32) {
+        let on = &mut self.paged.pages[page as usize];
+        on.guests -= 1;
+        let head = on.head.expect("a page with guests has a head");
         let is_before = |number: &u32| self.rows[*number as usize].next == Some(span);
         let before = self.row_from(head).find(is_before);
         self.rows[before.expect("the span is on the page") as usize].next =
             self.rows[span as usize].next;
         self.spans.remove(self.spans.name(span));
-    }
-
-    /// Has the core carry out the next fold, and follows it.
-    pub fn step(&mut self, core: &mut Core) -> Result<Stepped, Refused> {
-        self.make_room()?;
-        let stepped = core.step()?;
-        if let Stepped::Folded(abandoned, owned) = stepped {
-            self.follow(abandoned, owned);
-        }
-        Ok(stepped)
-    }
-
-    /// Makes room to follow a fold, which may bring one more span here.
-    pub fn make_room(&mut self) -> Result<(), Refused> {
-        self.grow_spans(1)
-    }
-
-    /// Follows a fold: the values of the first group move to the page of the second, each to the
-    /// slot where it is.
-    pub fn follow(&mut self, abandoned: Group, owned: Group) {
-        let Some(&from) = self.spans.find(abandoned.head()) else {
-            return;
-        };
-        match self.spans.find(owned.head()).copied() {
-            Some(to) => self.move_values(&from, &to),
-            None => self.take_over(&from, owned),
-        }
-    }
-
-    /// The page of this home becomes that of the group, whose head has no value.
-    fn take_over(&mut self, from: &Home, owned: Group) {
-        self.ready = false;
-        let (head, host) = (
-            number_of(from.mark),
-            self.spans.insert(owned.head(), from.page, from.block),
-        );
-        let host = number_of(host.mark);
-        self.rows[host as usize] = Row {
-            live: Slots::NONE,
-            next: Some(head),
-        };
-        let page = &mut self.paged.pages[from.page as usize];
-        page.head = host;
-        page.shard = owned.shard() as u8;
-        self.note_shared(head);
-        self.note_shared(host);
-        self.forget_head(from, host);
-    }
-
-    /// Notes that the span of this number shares its page with others.
-    fn note_shared(&mut self, number: u32) {
-        if let Some(home) = self.spans.find_mut(self.spans.name(number)) {
-            home.mark |= SHARES;
-        }
-    }
-
-    /// Moves each value of the page of the first home to the same slot of the page of the second,
-    /// with the homes of their spans, and gives the block back.
-    fn move_values(&mut self, from: &Home, to: &Home) {
-        assert!(from.page != to.page, "the library folds two pages");
-        let host = number_of(to.mark);
-        self.note_shared(host);
-        let mut taken = Slots::NONE;
-        for number in self.row_from(host) {
-            taken.unite(&self.rows[number as usize].live);
-        }
-        let mut next = Some(number_of(from.mark));
-        while let Some(number) = next {
-            let row = self.rows[number as usize];
-            assert!(taken.unite(&row.live), "the library folds what fits");
-            for slot in row.live.iter() {
-                // SAFETY: two pages are two blocks. The slot has a value on the one, where nobody
-                // finds it from now on, and none on the other.
-                unsafe { from.block.move_to::<T>(to.block, slot) };
-            }
-            next = row.next;
-            self.spans.move_home(number, to.page, to.block);
-            self.note_shared(number);
-            self.rows[number as usize].next = self.rows[host as usize].next.replace(number);
-        }
-        self.paged.pages[to.page as usize].spans += self.paged.pages[from.page as usize].spans;
-        self.paged.pages[from.page as usize].spans = 0;
-        self.paged.blocks.give(from.page);
-        self.forget_head(from, host);
-    }
-
-    /// Forgets a span that was the head of a page until now, if it has no value.
-    fn forget_head(&mut self, head: &Home, host: u32) {
-        if head.live == 0 {
-            self.unlink(number_of(head.mark), host);
-        }
-    }
-
-    /// Notes that the shard has the group, with its page.
-    pub fn note_adopted(&mut self, group: Group, shard: u32) {
-        if let Some(home) = self.spans.find(group.head()) {
-            self.paged.pages[home.page as usize].shard = shard as u8;
-        }
-    }
-
-    /// Hands the memory of all pages without a value to the system.
-    pub fn cool(&mut self) {
-        if let Some(paged) = self.paged.get_mut() {
-            paged.blocks.cool();
-        }
-    }
-
-    /// Moves at most so many pages of values to blocks of lower numbers, and hands the memory of
-    /// free blocks to the system. Says whether a free block lies before a taken one then. If blocks
-    /// are not whole system pages, such a block would keep what it shares with a taken one; if they
-    /// are, no page moves.
-    pub fn pack(&mut self, most: usize) -> bool {
-        let Some(paged) = self.paged.get_mut() else {
-            return false;
-        };
-        paged.blocks.cool();
-        if !paged.blocks.share_pages() {
-            return false;
-        }
-        let mut within = paged.blocks.numbers();
-        for _ in 0..most {
-            let Some((from, to)) = self.paged.blocks.swap_ends(&mut within) else {
-                break;
-            };
-            self.move_page(from, to);
-        }
-        self.paged.blocks.release_rest();
-        self.paged.blocks.has_gaps()
-    }
-
-    /// Moves the values of a page to the block of the other number, on which no value is.
-    fn move_page(&mut self, from: u32, to: u32) {
-        let Paged { blocks, pages } = &mut *self.paged;
-        let page = std::mem::replace(&mut pages[from as usize], Page::NONE);
-        let block = Block(blocks.address(to));
-        pages[to as usize] = Page { block, ..page };
-        let mut next = Some(page.head);
-        while let Some(number) = next {
-            let row = self.rows[number as usize];
-            for slot in row.live.iter() {
-                // SAFETY: the blocks are two. The slot has a value on the one, where nobody finds
-                // it from now on, and none on the other.
-                unsafe { page.block.move_to::<T>(block, slot) };
-            }
-            self.spans.move_home(number, to, block);
-            next = row.next;
-        }
     }
 
     /// Where the value stands that has this address, if it is one of these. It looks at each
@@ -620,11 +529,11 @@ impl<T> Values<T> {
                 .find(|spot| ptr::eq(spot.value::<T>().as_ptr(), at));
         }
         let paged = self.paged.get()?;
-        let (number, offset) = paged.blocks.find(at.cast())?;
-        let page = paged.pages.get(number).filter(|page| page.spans > 0)?;
-        let slot = u8::try_from(offset.checked_sub(Self::VALUES_AT)? / size_of::<T>()).ok()?;
+        let (number, offset) = paged.find(at.cast())?;
+        let page = paged.pages.get(number)?;
+        let slot = u8::try_from(offset / size_of::<T>()).ok()?;
         let has_slot = |number: &u32| self.rows[*number as usize].live.contains(slot);
-        let span = self.row_from(page.head).find(has_slot)?;
+        let span = self.row_from(page.head?).find(has_slot)?;
         ptr::eq(page.block.value::<T>(slot).as_ptr(), at).then_some(Spot {
             span: self.spans.name(span),
             slot,
@@ -638,7 +547,7 @@ impl<T> Values<T> {
             return;
         }
         for home in self.spans.iter() {
-            let row = &mut self.rows[number_of(home.mark) as usize];
+            let row = &mut self.rows[home.number as usize];
             while let Some(slot) = row.live.pop_first() {
                 // SAFETY: the slot had a value, which nobody finds from now on.
                 drop(unsafe { home.block.take::<T>(slot) });
@@ -664,25 +573,10 @@ impl<T> Drop for Values<T> {
     }
 }
 
-// SAFETY: a block is an address, and who reads or writes there has the values, or a part of them,
-// lent.
-unsafe impl Send for Block {}
-// SAFETY: as above.
-unsafe impl Sync for Block {}
 // SAFETY: the values are owned, and nobody else has the blocks.
 unsafe impl<T: Send> Send for Values<T> {}
 // SAFETY: through `&Values` only `&T` is lent.
 unsafe impl<T: Sync> Sync for Values<T> {}
-
-impl Page {
-    /// The page of a block that is not taken.
-    const NONE: Page = Page {
-        block: Block::NOWHERE,
-        spans: 0,
-        head: 0,
-        shard: 0,
-    };
-}
 
 impl Row {
     /// The row of a span without a value.
@@ -690,107 +584,6 @@ impl Row {
         live: Slots::NONE,
         next: None,
     };
-}
-
-impl Block {
-    /// Of a page that there is not.
-    pub(crate) const NOWHERE: Block = Block(NonNull::dangling());
-
-    /// The block at this address.
-    pub(crate) fn at(address: NonNull<u8>) -> Block {
-        Block(address)
-    }
-
-    /// Where it is.
-    #[inline]
-    pub(crate) fn address(self) -> NonNull<u8> {
-        self.0
-    }
-
-    // SAFETY, of all below: the block of a home, and of a page on which spans have values, has
-    // `BLOCK_BYTES` bytes, and a slot is one below `SLOTS`.
-
-    /// Whether a value stands at the slot with the generation of the key; or a lean slab, which
-    /// keeps none, has a value there.
-    #[inline]
-    fn is_of(self, slot: u8, key: Key) -> bool {
-        LEAN || self.generation(slot) == key.generation()
-    }
-
-    #[inline]
-    fn generation(self, slot: u8) -> u32 {
-        unsafe { self.0.as_ptr().cast::<u32>().add(slot.into()).read() }
-    }
-
-    /// Notes that the slot has no value.
-    #[inline]
-    fn vacate(self, slot: u8) {
-        if !LEAN {
-            self.set_generation(slot, VACANT);
-        }
-    }
-
-    #[inline]
-    fn set_generation(self, slot: u8, generation: u32) {
-        unsafe {
-            self.0
-                .as_ptr()
-                .cast::<u32>()
-                .add(slot.into())
-                .write(generation);
-        }
-    }
-
-    /// Where the value of the slot stands, or its address.
-    #[inline]
-    fn stored<T>(self, slot: u8) -> *mut u8 {
-        let offset = Values::<T>::VALUES_AT + usize::from(slot) * Values::<T>::STORED.size();
-        unsafe { self.0.as_ptr().add(offset) }
-    }
-
-    /// Where the value of the slot is, or, where it stands apart, what was written of that.
-    #[inline]
-    fn value<T>(self, slot: u8) -> NonNull<T> {
-        let stored = self.stored::<T>(slot);
-        if size_of::<T>() == 0 {
-            NonNull::dangling()
-        } else if Values::<T>::APART {
-            unsafe { stored.cast::<NonNull<T>>().read() }
-        } else {
-            unsafe { NonNull::new_unchecked(stored.cast()) }
-        }
-    }
-
-    /// Takes the value of the slot out.
-    ///
-    /// # Safety
-    ///
-    /// There is one, and nobody finds it any more.
-    #[inline]
-    unsafe fn take<T>(self, slot: u8) -> T {
-        let at = self.value::<T>(slot);
-        let value = at.as_ptr().read();
-        if Values::<T>::APART {
-            // It is a block of `reserve`, which nothing names any more.
-            dealloc(at.as_ptr().cast(), Layout::new::<T>());
-        }
-        value
-    }
-
-    /// Moves the value of the slot, or its address, to the same slot of another block.
-    ///
-    /// # Safety
-    ///
-    /// There is one here, which nobody finds any more, and none there. The blocks are two.
-    unsafe fn move_to<T>(self, to: Block, slot: u8) {
-        let bytes = Values::<T>::STORED.size();
-        to.stored::<T>(slot)
-            .copy_from_nonoverlapping(self.stored::<T>(slot), bytes);
-        if !LEAN {
-            to.set_generation(slot, self.generation(slot));
-            self.vacate(slot);
-        }
-    }
 }
 
 #[inline]

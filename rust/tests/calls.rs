@@ -8,7 +8,7 @@ use std::error::Error;
 use std::rc::Rc;
 use std::sync::RwLock;
 use std::thread;
-use teurlaks::{Core, Key, Limits, Refused, Slab, Store};
+use teurlaks::{Core, Key, KeyBits, Limits, Refused, Slab, Store};
 
 const ONE_PAGE: Limits = Limits {
     shards: 1,
@@ -411,6 +411,22 @@ fn a_store_puts_where_there_is_room() -> Result<(), Refused> {
     let again = store.insert([5; 250])?;
     assert!(again.shard() == 1 && !keys.contains(&again));
     assert_eq!((store.capacity(), store.get(again)), (16, Some([5; 250])));
+    Ok(())
+}
+
+/// The shards of a new store take turns, and their keys are numbers of 64 bits.
+#[test]
+fn shards_take_turns() -> Result<(), Refused> {
+    // A turn is over with the first of 16 values on a page.
+    const TURN: usize = 1024 * 16 + 1;
+    let mut store = Store::new()?;
+    for number in 0..16 * TURN {
+        let key = store.insert([number; 32])?;
+        assert_eq!(key.shard() as usize, number / TURN);
+        assert!(key.to_u64(KeyBits::BALANCED).is_some());
+    }
+    let key = store.insert([7; 32])?;
+    assert_eq!((key.shard(), key.serial(), key.slot()), (0, 1024, 1));
     Ok(())
 }
 

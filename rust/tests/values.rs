@@ -331,10 +331,11 @@ impl<T: Made> Pair<T> {
         assert!(left == 0 && iter.next().is_none());
     }
 
-    fn run(mut self, calls: usize) -> Result<usize, Refused> {
+    /// Makes so many calls. It fills and empties by turns of so many, so that pages come, thin out
+    /// and go.
+    fn run(mut self, calls: usize, turn: usize) -> Result<usize, Refused> {
         for call in 0..calls {
-            // Fills and empties by turns, so that pages come, thin out and go.
-            let fills = if call % 8000 < 4000 { 10 } else { 2 };
+            let fills = if call % turn < turn / 2 { 10 } else { 2 };
             match self.random.below(16) {
                 n if n < fills => self.insert(),
                 n if n < 13 => self.remove(),
@@ -365,6 +366,23 @@ impl<T: Made> Pair<T> {
     }
 }
 
+/// Slabs of some values, whose first page grows, of one shard or of all, and whose slots may be
+/// worn soon.
+fn few_as_a_map<T: Made>(seed: u64) -> Result<(), Refused> {
+    for turn in 0..20 {
+        let mut pair = Pair::<T>::new(20 * seed + turn)?;
+        pair.slab = Slab::with_limits(Limits {
+            generations: if turn % 3 == 0 { 3 } else { 10_000 },
+            ..pair.slab.limits()
+        })?;
+        if turn % 4 > 0 {
+            pair.running.truncate(1);
+        }
+        pair.run(500, 16 << (turn % 5))?;
+    }
+    Ok(())
+}
+
 /// Four runs of so many calls, or as many runs as `RUNS` says.
 fn as_a_map<T: Made>(calls: usize) -> Result<(), Refused> {
     let runs = std::env::var("RUNS")
@@ -372,8 +390,9 @@ fn as_a_map<T: Made>(calls: usize) -> Result<(), Refused> {
         .and_then(|runs| runs.parse().ok())
         .unwrap_or(4);
     for seed in 0..runs {
-        let folds = Pair::<T>::new(seed)?.run(calls)?;
+        let folds = Pair::<T>::new(seed)?.run(calls, 8000)?;
         assert!(folds >= 3, "only {folds} folds");
+        few_as_a_map::<T>(seed)?;
     }
     Ok(())
 }

@@ -56,12 +56,7 @@ impl Core {
 
     /// Keeps objects for a block of words until one is refused, and gives how many were kept, and
     /// the status.
-    fn insert_some(
-        &mut self,
-        shard: u32,
-        words: &[u128],
-        keys: &mut Vec<Key>,
-    ) -> (usize, u32) {
+    fn insert_some(&mut self, shard: u32, words: &[u128], keys: &mut Vec<Key>) -> (usize, u32) {
         let mut room = [NO_KEY; BLOCK];
         let (first, len) = (words.as_ptr().cast(), words.len());
         // SAFETY: no other call runs, a word is its two halves, the lower one first, and so many

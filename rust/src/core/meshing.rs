@@ -1,8 +1,7 @@
 //! What a core does with whole groups: ends, begins, retirements, trims and adoptions, marks and
 //! their steps.
 
-use super::{Core, Plan};
-use crate::compact::{Advanced, Compacted};
+use super::{Core, Order, Plan};
 use crate::names::Group;
 use crate::occupancy::is_worth;
 use crate::raw;
@@ -68,6 +67,7 @@ impl Core {
         done(unsafe { raw::teurlaks_end(&mut self.handle, shard) })?;
         self.ended |= 1 << shard;
         self.pool = true;
+        self.note_regrouped();
         Ok(())
     }
 
@@ -136,7 +136,10 @@ impl Core {
         // SAFETY: as in `insert`.
         let raw::RetireReply { status, count } =
             unsafe { raw::teurlaks_retire(&mut self.handle, shard, most) };
-        self.pool |= count > 0;
+        if count > 0 {
+            self.pool = true;
+            self.note_regrouped();
+        }
         done(status).map(|()| count)
     }
 
@@ -231,6 +234,9 @@ impl Core {
         // SAFETY: as in `insert`.
         let adopted = unsafe { raw::teurlaks_adopt(&mut self.handle, shard) };
         self.pool &= adopted.status != raw::NOTHING_TO_ADOPT;
+        if adopted.status == raw::OK && shard > 0 {
+            self.note_regrouped();
+        }
         done(adopted.status).map(|()| Group(adopted.head))
     }
 
@@ -279,6 +285,18 @@ impl Core {
         !self.pool
     }
 
+    /// Whether the first shard fills one page after another, each from its lowest free slot on: no
+    /// group is in a pool or a plan, or has gone to another shard, and no slot has got all its
+    /// generations. It is so again after a compaction.
+    pub(crate) fn fills_in_order(&self) -> bool {
+        self.order == Order::Kept && self.plan == Plan::None && self.pool_is_empty()
+    }
+
+    /// Notes that a group may be elsewhere than in the shard that has opened it.
+    fn note_regrouped(&mut self) {
+        self.order = self.order.max(Order::Regrouped);
+    }
+
     /// Carries out the next pair of the open plan.
     ///
     /// # Errors
@@ -319,197 +337,6 @@ impl Core {
     ///   before stays so, and no plan is open.
     pub fn mesh(&mut self) -> Result<usize, Refused> {
         self.mesh_with(Core::step)
-    }
-
-    /// Gives back the pages on which no key is live, folds sparse pages onto others until that
-    /// hardly gives any back, and says how many pages went. Every key stays valid, and all groups
-    /// are in shards afterwards, also those that an end or a retirement had left to the pool.
-    ///
-    /// It goes by rounds. In each some pages, of each shard those with the fewest live keys, go to
-    /// the pool; as many as can be are folded onto the others, by one plan after another as long as
-    /// one folds a sixteenth of its smaller side; and the shards adopt the rest. If several pages
-    /// can be expected to fit on each that stays, by the numbers of pages and of live keys, the
-    /// first round leaves that few in the shards. Else rounds look at the 8, 16, 32 and 64 sparsest
-    /// pages alone, and two in a row that fold less than a sixteenth are the last ones. The further
-    /// rounds take the sparsest half, quarter, eighth and so on, each once with all of it in the
-    /// pool and once with half of it, until none in a row of all of these folds a sixteenth.
-    ///
-    /// If what is live needs all pages even if these were full, nothing is retired. What can be
-    /// expected takes live keys to stand at slots at random, and all objects to be as small as the
-    /// smallest that the last plan saw.
-    ///
-    /// A page that is folded takes no object of its own any more, so each fold uses up one of the
-    /// 4,294,967,295 pages that a shard may open in its life.
-    ///
-    /// [`Core::compact_within`] does the same in parts, and where it has stopped this goes on.
-    ///
-    /// # Errors
-    ///
-    /// - [`Refused::PlanOpen`]: a mark has opened a plan; then nothing has changed;
-    /// - [`Refused::OutOfMemory`]: memory was refused; it stops where it is, every key has its
-    ///   object, no plan is open, and it may be tried again.
-    ///
-    /// ```
-    /// # use teurlaks::{Core, Limits};
-    /// let mut core = Core::new(Limits { shards: 2, ..Limits::default() })?;
-    /// let keys = (0..1024).map(|i| core.insert(i % 2, i.into()));
-    /// let keys = keys.collect::<Result<Vec<_>, _>>()?;
-    /// for (i, key) in keys.iter().enumerate().filter(|(i, _)| i % 23 != 0) {
-    ///     core.free(*key);
-    /// }
-    /// assert_eq!((core.pages(), core.compact()?, core.pages()), (4, 3, 1));
-    /// assert_eq!(core.get(keys[46]), Some(46));
-    /// # Ok::<(), teurlaks::Refused>(())
-    /// ```
-    pub fn compact(&mut self) -> Result<usize, Refused> {
-        let done = self.compact_within(usize::MAX);
-        if done.is_err() {
-            self.give_up_compaction();
-        }
-        done.map(|done| done.pages)
-    }
-
-    /// Takes at most so many steps of a [compaction](Core::compact), at least one, and says how
-    /// many pages went and whether there is more to do. The next call goes on where this one
-    /// stopped, and once there is no more to do, the next one begins anew. The steps are proved:
-    /// no key changes, and it is done only after a mark of it that is not worth another one.
-    ///
-    /// A step trims one shard, retires one group, plans, folds one pair, adopts one group, or
-    /// forgets. A plan compares at most 4,096 times `budget` pairs of groups, where a budget below
-    /// 64 counts as 64, and one above 4,096 as that: so of more than some thousand pages a round
-    /// takes those with the fewest live keys alone. If more groups were left in the pool before, by
-    /// an end or by retirements, it compares up to 4,096 of these with as many of the shards. To
-    /// choose groups, and for each adoption, it also looks once at each page of a shard.
-    ///
-    /// Between two calls every key stays valid: it is found, set and freed as ever. A plan may be
-    /// open then, so [`Core::mark`], [`Core::mark_some`], [`Core::mesh`], [`Core::adopt`] and
-    /// [`Core::forget`] may be refused with [`Refused::PlanOpen`], and so may [`Core::end`] and
-    /// [`Core::retire`] for a shard that has a group of the plan. The groups of the plan, and up to
-    /// as many in the pool, take no object meanwhile: what is inserted goes to other pages.
-    /// [`Core::step`] takes a step of that plan, and [`Core::close`] ends it: the compaction then
-    /// goes on with what comes after its folds.
-    ///
-    /// # Errors
-    ///
-    /// - [`Refused::PlanOpen`]: a mark of the caller's has opened a plan;
-    /// - [`Refused::OutOfMemory`]: memory was refused. Every key has its object, and the next call
-    ///   goes on from there. It also counts the pages that went in this one.
-    ///
-    /// ```
-    /// # use teurlaks::{Core, Limits};
-    /// let mut core = Core::new(Limits::default())?;
-    /// let keys: Vec<_> = (0..25_600).map(|i| core.insert(0, i)).collect::<Result<_, _>>()?;
-    /// for (i, key) in keys.iter().enumerate().filter(|(i, _)| i % 23 != 0) {
-    ///     core.free(*key);
-    /// }
-    /// let mut gone = 0;
-    /// loop {
-    ///     let done = core.compact_within(16)?; // between other work
-    ///     gone += done.pages;
-    ///     assert_eq!(core.get(keys[46]), Some(46));
-    ///     if !done.more {
-    ///         break;
-    ///     }
-    /// }
-    /// assert_eq!(core.pages(), 100 - gone);
-    /// assert!(gone > 80);
-    /// # Ok::<(), teurlaks::Refused>(())
-    /// ```
-    pub fn compact_within(&mut self, budget: usize) -> Result<Compacted, Refused> {
-        self.begin_part()?;
-        if !self.is_open() {
-            return Ok(Compacted::default());
-        }
-        // SAFETY: as in `insert`.
-        let raw::CompactReply {
-            status,
-            more,
-            pages,
-        } = unsafe { raw::teurlaks_compact_within(&mut self.handle, budget) };
-        self.gone += pages;
-        self.counted(done(status).map(|()| more == 1))
-    }
-
-    /// Begins a part of a compaction, and says how many pages there are.
-    pub(crate) fn begin_part(&mut self) -> Result<usize, Refused> {
-        self.no_plan_of_caller()?;
-        if self.is_open() {
-            (self.plan, self.pool, self.emptied) = (Plan::Compaction, true, u64::MAX);
-        }
-        Ok(self.pages())
-    }
-
-    /// Takes one step of a compaction.
-    pub(crate) fn advance(&mut self, left: usize, budget: usize) -> Result<Advanced, Refused> {
-        if !self.is_open() {
-            return Ok(Advanced {
-                cost: 1,
-                folded: None,
-                more: false,
-            });
-        }
-        // SAFETY: as in `insert`.
-        let raw::AdvanceReply {
-            status,
-            more,
-            cost,
-            folded,
-            abandoned,
-            owned,
-        } = unsafe { raw::teurlaks_compaction_step(&mut self.handle, left, budget) };
-        done(status).map(|()| Advanced {
-            cost,
-            folded: (folded == 1).then_some((Group(abandoned), Group(owned))),
-            more: more == 1,
-        })
-    }
-
-    /// Ends a part that began with so many pages, after which there is more to do or not.
-    pub(crate) fn end_part(
-        &mut self,
-        before: usize,
-        more: Result<bool, Refused>,
-    ) -> Result<Compacted, Refused> {
-        self.gone += before - self.pages();
-        self.counted(more)
-    }
-
-    /// The pages that went, if the part was not refused.
-    fn counted(&mut self, more: Result<bool, Refused>) -> Result<Compacted, Refused> {
-        let more = more?;
-        if !more {
-            self.end_compaction();
-        }
-        let pages = std::mem::take(&mut self.gone);
-        Ok(Compacted { pages, more })
-    }
-
-    /// Ends a compaction that is done.
-    fn end_compaction(&mut self) {
-        self.plan = Plan::None;
-        // What no shard may adopt stays in the pool.
-        self.adopt_pooled();
-        self.give_up_worn();
-    }
-
-    /// Ends a compaction where it is: no plan of it is open, and the shards have the groups of the
-    /// pool as far as they may.
-    pub(crate) fn give_up_compaction(&mut self) {
-        if self.plan != Plan::Compaction {
-            return;
-        }
-        // SAFETY: as in `insert`. It is not refused.
-        unsafe { raw::teurlaks_compaction_give_up(&mut self.handle) };
-        (self.plan, self.gone) = (Plan::None, 0);
-        self.adopt_pooled();
-    }
-
-    /// Has the shards adopt the groups of the pool as far as they may.
-    fn adopt_pooled(&mut self) {
-        for shard in 0..self.shards() {
-            // What is refused stays in the pool, under the keys that it had.
-            while self.pool && self.adopt(shard).is_ok() {}
-        }
     }
 
     /// How many shards there are, with those that have ended.
@@ -630,181 +457,3 @@ pub(crate) fn done(status: u32) -> Result<(), Refused> {
         other => Err(Refused::of(other)),
     }
 }
-
-/// The calls of a type with a core that are the core's and do not move a value: its ends, begins,
-/// retirements and trims, and its marks.
-macro_rules! letting_go {
-    () => {
-        /// The numbers with which it was made.
-        #[must_use]
-        pub fn limits(&self) -> crate::Limits {
-            self.core.limits()
-        }
-
-        /// Whether there is such a shard and it has ended.
-        #[must_use]
-        pub fn is_ended(&self, shard: u32) -> bool {
-            self.core.is_ended(shard)
-        }
-
-        /// Ends a shard, as [`Core::end`](crate::Core::end).
-        ///
-        /// # Errors
-        ///
-        /// As of [`Core::end`](crate::Core::end).
-        pub fn end(&mut self, shard: u32) -> Result<(), crate::Refused> {
-            self.core.end(shard)
-        }
-
-        /// Lets a shard that has ended run again, as [`Core::begin`](crate::Core::begin).
-        ///
-        /// # Errors
-        ///
-        /// As of [`Core::begin`](crate::Core::begin).
-        pub fn begin(&mut self, shard: u32) -> Result<(), crate::Refused> {
-            self.core.begin(shard)
-        }
-
-        /// Moves the sparsest groups of a shard to the pool, as
-        /// [`Core::retire`](crate::Core::retire), whose shard goes on.
-        ///
-        /// # Errors
-        ///
-        /// As of [`Core::retire`](crate::Core::retire).
-        pub fn retire(&mut self, shard: u32, most: usize) -> Result<usize, crate::Refused> {
-            self.core.retire(shard, most)
-        }
-
-        /// Gives back the pages of a shard on which nothing is live, as
-        /// [`Core::trim`](crate::Core::trim).
-        ///
-        /// # Errors
-        ///
-        /// [`Refused::Config`](crate::Refused::Config) alone, where there is no such shard. It
-        /// takes no memory.
-        pub fn trim(&mut self, shard: u32) -> Result<usize, crate::Refused> {
-            self.core.trim(shard)
-        }
-
-        /// Forgets pages whose keys are all gone and that were folded onto others, or left to the
-        /// pool, as [`Core::forget`](crate::Core::forget), and says how many. `compact` does so at
-        /// its end; who retires and meshes by hand asks for it now and then, since else the memory
-        /// for what was folded grows.
-        ///
-        /// # Errors
-        ///
-        /// [`Refused::PlanOpen`](crate::Refused::PlanOpen) alone, while a plan is open. It takes no
-        /// memory.
-        pub fn forget(&mut self) -> Result<usize, crate::Refused> {
-            self.core.forget()
-        }
-
-        /// Plans as many folds as can be, as [`Core::mark`](crate::Core::mark).
-        ///
-        /// # Errors
-        ///
-        /// As of [`Core::mark`](crate::Core::mark).
-        pub fn mark(&mut self) -> Result<crate::Marked, crate::Refused> {
-            self.core.mark()
-        }
-
-        /// Plans folds of the sparsest groups, as [`Core::mark_some`](crate::Core::mark_some).
-        ///
-        /// # Errors
-        ///
-        /// As of [`Core::mark_some`](crate::Core::mark_some).
-        pub fn mark_some(&mut self) -> Result<crate::Marked, crate::Refused> {
-            self.core.mark_some()
-        }
-    };
-}
-pub(crate) use letting_go;
-
-/// The other calls of a type whose values are all in its core, and which asks the shards for room
-/// from its first one on.
-macro_rules! meshing {
-    () => {
-        crate::core::letting_go!();
-
-        /// How many pages of 4,096 bytes there are.
-        #[must_use]
-        pub fn pages(&self) -> usize {
-            self.core.pages()
-        }
-
-        /// The last mark's certificate, as [`Core::certificate`](crate::Core::certificate).
-        ///
-        /// # Errors
-        ///
-        /// [`Refused::OutOfMemory`](crate::Refused::OutOfMemory) where memory was refused for the
-        /// text.
-        pub fn certificate(&self) -> Result<Option<String>, crate::Refused> {
-            self.core.certificate()
-        }
-
-        /// Moves a group of the pool to a shard, as [`Core::adopt`](crate::Core::adopt).
-        ///
-        /// # Errors
-        ///
-        /// As of [`Core::adopt`](crate::Core::adopt).
-        pub fn adopt(&mut self, shard: u32) -> Result<crate::Group, crate::Refused> {
-            self.first = 0;
-            self.core.adopt(shard)
-        }
-
-        /// Carries out the next fold, as [`Core::step`](crate::Core::step).
-        ///
-        /// # Errors
-        ///
-        /// As of [`Core::step`](crate::Core::step).
-        pub fn step(&mut self) -> Result<crate::Stepped, crate::Refused> {
-            self.core.step()
-        }
-
-        /// Closes the plan, as [`Core::close`](crate::Core::close).
-        ///
-        /// # Errors
-        ///
-        /// [`Refused::NoPlan`](crate::Refused::NoPlan) alone, where no plan is open.
-        pub fn close(&mut self) -> Result<(), crate::Refused> {
-            self.first = 0;
-            self.core.close()
-        }
-
-        /// Marks, takes all steps and closes, as [`Core::mesh`](crate::Core::mesh).
-        ///
-        /// # Errors
-        ///
-        /// As of [`Core::mesh`](crate::Core::mesh).
-        pub fn mesh(&mut self) -> Result<usize, crate::Refused> {
-            self.first = 0;
-            self.core.mesh()
-        }
-
-        /// Folds sparse pages onto others until that hardly gives any back, as
-        /// [`Core::compact`](crate::Core::compact).
-        ///
-        /// # Errors
-        ///
-        /// As of [`Core::compact`](crate::Core::compact).
-        pub fn compact(&mut self) -> Result<usize, crate::Refused> {
-            self.first = 0;
-            self.core.compact()
-        }
-
-        /// Takes at most so many steps of a compaction, as
-        /// [`Core::compact_within`](crate::Core::compact_within).
-        ///
-        /// # Errors
-        ///
-        /// As of [`Core::compact_within`](crate::Core::compact_within).
-        pub fn compact_within(
-            &mut self,
-            budget: usize,
-        ) -> Result<crate::Compacted, crate::Refused> {
-            self.first = 0;
-            self.core.compact_within(budget)
-        }
-    };
-}
-pub(crate) use meshing;

@@ -1,6 +1,6 @@
 //! Groups that take no object any more, and make way for others.
 
-use super::{Core, Plan};
+use super::{Core, Order, Plan};
 use crate::raw;
 use crate::refused::Refused;
 
@@ -23,7 +23,7 @@ impl Core {
     /// Gives up the groups of each shard on which nothing is live, if a slot has got all its
     /// generations, and says how many went. If memory is refused, the others stay.
     pub(super) fn give_up_worn(&mut self) -> usize {
-        if !self.has_worn {
+        if self.order != Order::Worn {
             return 0;
         }
         let mut count = 0;

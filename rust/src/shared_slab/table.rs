@@ -132,8 +132,9 @@ impl<T> Table<T> {
         self.grow_hints();
         self.set_hint(key.span(), number);
         let page = self.page(number as usize);
+        let slots = Page::<T>::SLOTS as u16;
         self.spans
-            .insert(key.span(), number, Block::at(page.address()))
+            .insert(key.span(), number, Block::at(page.address()), slots)
     }
 
     /// Makes a larger table of hints, with all that there are, if that has become small.
@@ -270,7 +271,8 @@ impl<T> Table<T> {
     fn make_main(&mut self, head: Span, number: u32) {
         self.ready = false;
         let page = self.page(number as usize);
-        self.spans.insert(head, number, Block::at(page.address()));
+        let (block, slots) = (Block::at(page.address()), Page::<T>::SLOTS as u16);
+        self.spans.insert(head, number, block, slots);
         self.set_hint(head, number);
     }
 

@@ -1,0 +1,200 @@
+//! Compactions of a core, at once and in parts.
+
+use super::{done, Core, Plan};
+use crate::compact::{Advanced, Compacted};
+use crate::names::Group;
+use crate::raw;
+use crate::refused::Refused;
+
+impl Core {
+    /// Gives back the pages on which no key is live, folds sparse pages onto others until that
+    /// hardly gives any back, and says how many pages went. Every key stays valid, and all groups
+    /// are in shards afterwards, also those that an end or a retirement had left to the pool.
+    ///
+    /// It goes by rounds. In each some pages, of each shard those with the fewest live keys, go to
+    /// the pool; as many as can be are folded onto the others, by one plan after another as long as
+    /// one folds a sixteenth of its smaller side; and the shards adopt the rest. If several pages
+    /// can be expected to fit on each that stays, by the numbers of pages and of live keys, the
+    /// first round leaves that few in the shards. Else rounds look at the 8, 16, 32 and 64 sparsest
+    /// pages alone, and two in a row that fold less than a sixteenth are the last ones. The further
+    /// rounds take the sparsest half, quarter, eighth and so on, each once with all of it in the
+    /// pool and once with half of it, until none in a row of all of these folds a sixteenth.
+    ///
+    /// If what is live needs all pages even if these were full, nothing is retired. What can be
+    /// expected takes live keys to stand at slots at random, and all objects to be as small as the
+    /// smallest that the last plan saw.
+    ///
+    /// A page that is folded takes no object of its own any more, so each fold uses up one of the
+    /// 4,294,967,295 pages that a shard may open in its life.
+    ///
+    /// [`Core::compact_within`] does the same in parts, and where it has stopped this goes on.
+    ///
+    /// # Errors
+    ///
+    /// - [`Refused::PlanOpen`]: a mark has opened a plan; then nothing has changed;
+    /// - [`Refused::OutOfMemory`]: memory was refused; it stops where it is, every key has its
+    ///   object, no plan is open, and it may be tried again.
+    ///
+    /// ```
+    /// # use teurlaks::{Core, Limits};
+    /// let mut core = Core::new(Limits { shards: 2, ..Limits::default() })?;
+    /// let keys = (0..1024).map(|i| core.insert(i % 2, i.into()));
+    /// let keys = keys.collect::<Result<Vec<_>, _>>()?;
+    /// for (i, key) in keys.iter().enumerate().filter(|(i, _)| i % 23 != 0) {
+    ///     core.free(*key);
+    /// }
+    /// assert_eq!((core.pages(), core.compact()?, core.pages()), (4, 3, 1));
+    /// assert_eq!(core.get(keys[46]), Some(46));
+    /// # Ok::<(), teurlaks::Refused>(())
+    /// ```
+    pub fn compact(&mut self) -> Result<usize, Refused> {
+        let done = self.compact_within(usize::MAX);
+        if done.is_err() {
+            self.give_up_compaction();
+        }
+        done.map(|done| done.pages)
+    }
+
+    /// Takes at most so many steps of a [compaction](Core::compact), at least one, and says how
+    /// many pages went and whether there is more to do. The next call goes on where this one
+    /// stopped, and once there is no more to do, the next one begins anew. The steps are proved:
+    /// no key changes, and it is done only after a mark of it that is not worth another one.
+    ///
+    /// A step trims one shard, retires one group, plans, folds one pair, adopts one group, or
+    /// forgets. A plan compares at most 4,096 times `budget` pairs of groups, where a budget below
+    /// 64 counts as 64, and one above 4,096 as that: so of more than some thousand pages a round
+    /// takes those with the fewest live keys alone. If more groups were left in the pool before, by
+    /// an end or by retirements, it compares up to 4,096 of these with as many of the shards. To
+    /// choose groups, and for each adoption, it also looks once at each page of a shard.
+    ///
+    /// Between two calls every key stays valid: it is found, set and freed as ever. A plan may be
+    /// open then, so [`Core::mark`], [`Core::mark_some`], [`Core::mesh`], [`Core::adopt`] and
+    /// [`Core::forget`] may be refused with [`Refused::PlanOpen`], and so may [`Core::end`] and
+    /// [`Core::retire`] for a shard that has a group of the plan. The groups of the plan, and up to
+    /// as many in the pool, take no object meanwhile: what is inserted goes to other pages.
+    /// [`Core::step`] takes a step of that plan, and [`Core::close`] ends it: the compaction then
+    /// goes on with what comes after its folds.
+    ///
+    /// # Errors
+    ///
+    /// - [`Refused::PlanOpen`]: a mark of the caller's has opened a plan;
+    /// - [`Refused::OutOfMemory`]: memory was refused. Every key has its object, and the next call
+    ///   goes on from there. It also counts the pages that went in this one.
+    ///
+    /// ```
+    /// # use teurlaks::{Core, Limits};
+    /// let mut core = Core::new(Limits::default())?;
+    /// let keys: Vec<_> = (0..25_600).map(|i| core.insert(0, i)).collect::<Result<_, _>>()?;
+    /// for (i, key) in keys.iter().enumerate().filter(|(i, _)| i % 23 != 0) {
+    ///     core.free(*key);
+    /// }
+    /// let mut gone = 0;
+    /// loop {
+    ///     let done = core.compact_within(16)?; // between other work
+    ///     gone += done.pages;
+    ///     assert_eq!(core.get(keys[46]), Some(46));
+    ///     if !done.more {
+    ///         break;
+    ///     }
+    /// }
+    /// assert_eq!(core.pages(), 100 - gone);
+    /// assert!(gone > 80);
+    /// # Ok::<(), teurlaks::Refused>(())
+    /// ```
+    pub fn compact_within(&mut self, budget: usize) -> Result<Compacted, Refused> {
+        self.begin_part()?;
+        if !self.is_open() {
+            return Ok(Compacted::default());
+        }
+        // SAFETY: as in `insert`.
+        let raw::CompactReply {
+            status,
+            more,
+            pages,
+        } = unsafe { raw::teurlaks_compact_within(&mut self.handle, budget) };
+        self.gone += pages;
+        self.counted(done(status).map(|()| more == 1))
+    }
+
+    /// Begins a part of a compaction, and says how many pages there are.
+    pub(crate) fn begin_part(&mut self) -> Result<usize, Refused> {
+        self.no_plan_of_caller()?;
+        if self.is_open() {
+            (self.plan, self.pool, self.emptied) = (Plan::Compaction, true, u64::MAX);
+        }
+        Ok(self.pages())
+    }
+
+    /// Takes one step of a compaction.
+    pub(crate) fn advance(&mut self, left: usize, budget: usize) -> Result<Advanced, Refused> {
+        if !self.is_open() {
+            return Ok(Advanced {
+                cost: 1,
+                folded: None,
+                more: false,
+            });
+        }
+        // SAFETY: as in `insert`.
+        let raw::AdvanceReply {
+            status,
+            more,
+            cost,
+            folded,
+            abandoned,
+            owned,
+        } = unsafe { raw::teurlaks_compaction_step(&mut self.handle, left, budget) };
+        done(status).map(|()| Advanced {
+            cost,
+            folded: (folded == 1).then_some((Group(abandoned), Group(owned))),
+            more: more == 1,
+        })
+    }
+
+    /// Ends a part that began with so many pages, after which there is more to do or not.
+    pub(crate) fn end_part(
+        &mut self,
+        before: usize,
+        more: Result<bool, Refused>,
+    ) -> Result<Compacted, Refused> {
+        self.gone += before - self.pages();
+        self.counted(more)
+    }
+
+    /// The pages that went, if the part was not refused.
+    fn counted(&mut self, more: Result<bool, Refused>) -> Result<Compacted, Refused> {
+        let more = more?;
+        if !more {
+            self.end_compaction();
+        }
+        let pages = std::mem::take(&mut self.gone);
+        Ok(Compacted { pages, more })
+    }
+
+    /// Ends a compaction that is done.
+    fn end_compaction(&mut self) {
+        self.plan = Plan::None;
+        // What no shard may adopt stays in the pool.
+        self.adopt_pooled();
+        self.give_up_worn();
+    }
+
+    /// Ends a compaction where it is: no plan of it is open, and the shards have the groups of the
+    /// pool as far as they may.
+    pub(crate) fn give_up_compaction(&mut self) {
+        if self.plan != Plan::Compaction {
+            return;
+        }
+        // SAFETY: as in `insert`. It is not refused.
+        unsafe { raw::teurlaks_compaction_give_up(&mut self.handle) };
+        (self.plan, self.gone) = (Plan::None, 0);
+        self.adopt_pooled();
+    }
+
+    /// Has the shards adopt the groups of the pool as far as they may.
+    fn adopt_pooled(&mut self) {
+        for shard in 0..self.shards() {
+            // What is refused stays in the pool, under the keys that it had.
+            while self.pool && self.adopt(shard).is_ok() {}
+        }
+    }
+}

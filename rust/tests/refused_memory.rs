@@ -1,0 +1,137 @@
+//! Each allocation of this crate for a slab is refused in turn: the call says so, and the slab is
+//! what it was. The library asks for its memory elsewhere (`tests/memory.rs`).
+
+use std::alloc::{GlobalAlloc, Layout, System};
+use std::cell::Cell;
+use std::fmt::Debug;
+use teurlaks::{Key, Refused, Slab};
+
+thread_local! {
+    // How many allocations are made before one is refused, and how many there were.
+    static LEFT: Cell<usize> = const { Cell::new(usize::MAX) };
+}
+
+/// The system's allocator, which refuses one allocation of a thread.
+struct Refuses;
+
+impl Refuses {
+    fn allows() -> bool {
+        LEFT.with(|left| {
+            let now = left.get();
+            left.set(if now == 0 { usize::MAX } else { now - 1 });
+            now > 0
+        })
+    }
+}
+
+// SAFETY: all is the system's allocator's, and a null is an answer.
+unsafe impl GlobalAlloc for Refuses {
+    unsafe fn alloc(&self, layout: Layout) -> *mut u8 {
+        if Refuses::allows() {
+            System.alloc(layout)
+        } else {
+            std::ptr::null_mut()
+        }
+    }
+
+    unsafe fn alloc_zeroed(&self, layout: Layout) -> *mut u8 {
+        if Refuses::allows() {
+            System.alloc_zeroed(layout)
+        } else {
+            std::ptr::null_mut()
+        }
+    }
+
+    unsafe fn realloc(&self, at: *mut u8, layout: Layout, bytes: usize) -> *mut u8 {
+        if Refuses::allows() {
+            System.realloc(at, layout, bytes)
+        } else {
+            std::ptr::null_mut()
+        }
+    }
+
+    unsafe fn dealloc(&self, at: *mut u8, layout: Layout) {
+        System.dealloc(at, layout);
+    }
+}
+
+#[global_allocator]
+static ALLOCATOR: Refuses = Refuses;
+
+/// What the call gives if the allocation of this number is refused, and whether that came to be.
+fn with_refusal<R>(number: usize, call: impl FnOnce() -> R) -> (R, bool) {
+    LEFT.with(|left| left.set(number));
+    let done = call();
+    let left = LEFT.with(|left| left.replace(usize::MAX));
+    // A count that was passed by begins anew from the greatest number.
+    (done, left > number)
+}
+
+/// Of slabs of so many values the next call is made with each of its allocations refused.
+fn nothing_changes<T: Clone + Debug + PartialEq>(
+    counts: &[usize],
+    value: impl Fn(usize) -> T,
+    call: impl Fn(&mut Slab<T>, T) -> Result<Option<Key>, Refused>,
+) -> Result<usize, Refused> {
+    let mut refusals = 0;
+    for count in counts {
+        for number in 0.. {
+            let mut slab = Slab::new()?;
+            let keys = (0..*count).map(|number| slab.insert(value(number)));
+            let keys = keys.collect::<Result<Vec<_>, _>>()?;
+            let next = value(*count);
+            let (done, was_refused) = with_refusal(number, || call(&mut slab, next));
+            assert_eq!(
+                done.is_err(),
+                was_refused,
+                "{count} values, allocation {number}"
+            );
+            for (number, key) in keys.iter().enumerate() {
+                assert_eq!(slab.get(*key), Some(&value(number)));
+            }
+            if !was_refused {
+                break;
+            }
+            refusals += 1;
+            assert_eq!(done, Err(Refused::OutOfMemory));
+            assert_eq!((slab.len(), slab.iter().count()), (*count, *count));
+            let key = slab.insert(value(99))?;
+            assert_eq!(slab[key], value(99));
+            // The key is the next one of its slot, as if nothing had been refused.
+            assert_eq!(key.generation(), 1);
+        }
+    }
+    Ok(refusals)
+}
+
+const COUNTS: [usize; 11] = [0, 1, 3, 4, 5, 8, 16, 64, 127, 128, 256];
+
+#[test]
+fn inserts_by_sizes() -> Result<(), Refused> {
+    let insert = |slab: &mut Slab<_>, value| slab.insert(value).map(Some);
+    assert!(nothing_changes(&COUNTS, |number| number as u128, insert)? >= 12);
+    let insert = |slab: &mut Slab<_>, value| slab.insert(value).map(Some);
+    assert!(nothing_changes(&COUNTS, |number| number as u8, insert)? >= 12);
+    let insert = |slab: &mut Slab<_>, value| slab.insert(value).map(Some);
+    assert!(nothing_changes(&COUNTS, |number| [number; 30], insert)? >= 12);
+    // Each in a block of its own.
+    let insert = |slab: &mut Slab<_>, value| slab.insert(value).map(Some);
+    assert!(nothing_changes(&COUNTS, |number| [number; 600], insert)? >= 20);
+    Ok(())
+}
+
+#[test]
+fn inserts_into_another_shard() -> Result<(), Refused> {
+    let insert = |slab: &mut Slab<_>, value| slab.insert_in(1, value).map(Some);
+    assert!(nothing_changes(&COUNTS, |number| number as u128, insert)? >= 12);
+    Ok(())
+}
+
+#[test]
+fn room() -> Result<(), Refused> {
+    for room in [1, 10, 100, 1000] {
+        let reserve = |slab: &mut Slab<_>, _| slab.reserve(room).map(|()| None);
+        nothing_changes(&COUNTS, |number| number as u128, reserve)?;
+    }
+    Ok(())
+}
