@@ -1,13 +1,13 @@
 -- The end of an arena.
-use Rattle.std.proofs.Common.{◌≡◌, ℕ, ◌<◌, None, List, [], ◌∷◌, ◌++◌, length, map, take, get_or, max, fold, ap, sym, subst, ◌∙◌, refl, arith}
+use Rattle.std.proofs.Common.{◌≡◌, ℕ, ◌<◌, List, [], ◌∷◌, ◌++◌, length, map, take, get_or, max, fold, ap, sym, subst, ◌∙◌, refl, arith}
 use Rattle.std.proofs.lemmas.Simd.{map-map}
 use Rattle.std.proofs.lemmas.List.{get_or-map}
 use Rattle.span.specs.declared.receipt.Receipt.{Receipt}
-use Rattle.marks.specs.Numbers.{Limits}
 use Rattle.arena.specs.Receipts.{AddsFrees, joined}
-use Rattle.arena.specs.Seats.{SeatState, SendingSide, Table, known_lists, sending_side}
+use Rattle.arena.specs.Seats.{SeatState, SendingSide, known_lists, sending_side}
 use Rattle.arena.specs.Settled.{AreCounted, AreSameSeats, IsSettled, greatest_section}
 use Rattle.arena.proofs.Linking.{same_length, settled_from}
+use Rattle.arena.proofs.Made.{with_first}
 
 taken_back : {T : Type 0} (xs ys : List T) → take (length xs) (xs ++ ys) ≡ xs
 taken_back [] ys = refl
@@ -34,17 +34,16 @@ same_item items a b s d same below =
     sym (get_or-map items b s d [] long) ∙ ap (λ l. get_or l s []) same ∙ get_or-map items a s d [] below
 
 -- every ring is settled
-pub all_settled : {V C : Type 0} (items : V → List Receipt) (row : C → List ℕ) (a b : List SeatState) (section : ℕ) (counts : List C) (lists0 lists after : List V) (limits : Limits) (table : Table)
+pub all_settled : {V C : Type 0} (items : V → List Receipt) (row : C → List ℕ) (a b : List SeatState) (section : ℕ) (counts : List C) (lists0 lists after : List V)
     → section ≡ greatest_section b → AreSameSeats a b → map items lists ≡ map items lists0 → length lists0 ≡ length a
     → ((s : ℕ) (c : C) → s < length a → AreCounted a b s (row (get_or counts s c)))
     → ((s : ℕ) (x : SeatState) (d e : V) → s < length b → AddsFrees s section (joined (known_lists (get_or b s x).inboxes)) (items (get_or lists s d)) (items (get_or after s e)))
     → (s : ℕ) (c : C) (d e : V) → s < length a → IsSettled a s (greatest_section a) (row (get_or counts s c)) (items (get_or lists0 s d)) (items (get_or after s e))
-all_settled items row a b section counts lists0 lists after limits table greatest same listed wide counted freed s c d e below =
-    let x : SeatState = record { worker = 0; section = 0; limits = limits; table = table; delay = None; outboxes = []; inboxes = [] } in
+all_settled items row a b section counts lists0 lists after greatest same listed wide counted freed s c d e below =
     let long : length b ≡ length a = same_length sending_side a b same.sending in
     let inside : s < length b = omega arith in
     let old = same_item items lists0 lists s d listed (omega arith) in
     let sections : section ≡ greatest_section a = greatest ∙ same_greatest a b same.sending in
-    subst (λ k. IsSettled a s k (row (get_or counts s c)) (items (get_or lists0 s d)) (items (get_or after s e))) sections
+    with_first _ b s inside (λ x. subst (λ k. IsSettled a s k (row (get_or counts s c)) (items (get_or lists0 s d)) (items (get_or after s e))) sections
     (subst (λ l. IsSettled a s section (row (get_or counts s c)) l (items (get_or after s e))) old
-    (settled_from a b s section x (row (get_or counts s c)) (items (get_or lists s d)) (items (get_or after s e)) inside (counted s c below) (freed s x d e inside)))
+    (settled_from a b s section x (row (get_or counts s c)) (items (get_or lists s d)) (items (get_or after s e)) inside (counted s c below) (freed s x d e inside))))

@@ -16,16 +16,16 @@ use Rattle.pool.specs.Calls.{Sets as SetsPooled}
 use Rattle.pool.specs.Shown.{shown as shown_by_pool}
 use Rattle.pool.specs.State.{PoolState}
 use Rattle.arena.specs.KeyCalls.{SetsIn, SetsInPool}
-use Rattle.arena.specs.Told.{set_told}
+use Rattle.arena.specs.KeyAnswers.{set_answer}
 
 -- what a set in a shard answers is that of the shard's own
 pub SetsIn-set : (old new : ShardState) (key : Key) (words : Value) (set : Result (Option (Key × Bool × ℕ)) AllocError)
-    → IfOk set (λ set. (what : Replaced) × Sets old key words what new × (set ≡ set_told key what))
+    → IfOk set (λ set. (what : Replaced) × Sets old key words what new × (set ≡ set_answer key what))
     → OnErr set (plain.may_set (shown old) key words ≡ true) → OnErr set (new ≡ old) → SetsIn key words old (result_transpose set) new
 SetsIn-set old new key words set made refused same = search (rules, none-some)
 
 pub SetsInPool-set : (old new : PoolState) (key : Key) (words : Value) (set : Result (Option (Key × Bool × ℕ)) AllocError)
-    → IfOk set (λ set. (what : Replaced) × SetsPooled old key words what new × (set ≡ set_told key what))
+    → IfOk set (λ set. (what : Replaced) × SetsPooled old key words what new × (set ≡ set_answer key what))
     → OnErr set (plain.may_set (shown_by_pool old) key words ≡ true) → OnErr set (new ≡ old) → SetsInPool key words old (result_transpose set) new
 SetsInPool-set old new key words set made refused same = search (rules, none-some)
 

@@ -210,10 +210,6 @@ frees_more items section seats before lists s x0 d0 v seated listed below one we
           (sym (get_or-set_other lists s k v e other)) (were k x d e (omega arith))
     ]
 
--- the seats are in order, also after they were looked at
-pub still_in_order : (a b : List SeatState) → AreLinked a → AreSameSeats a b → (s : ℕ) (x : SeatState) → s < length b → (slice_index_or b s x).worker ≡ s
-still_in_order a b linked same s x below = (AreLinked-same a b same linked).in_order s x below
-
 -- every ring into a shard is settled
 pub settled_from : (a b : List SeatState) (s section : ℕ) (x : SeatState) (counts : List ℕ) (before after : List Receipt) → s < length b → AreCounted a b s counts
     → AddsFrees s section (joined (known_lists (slice_index_or b s x).inboxes)) before after → IsSettled a s section counts before after

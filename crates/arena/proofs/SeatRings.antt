@@ -1,11 +1,11 @@
 -- Seats of one arena.
-use Rattle.std.proofs.Common.{◌≡◌, ℕ, List, [], ◌∷◌, length, map, get_or, slice_set, All, Vec, vec_len, ap, sym, ◌∙◌, refl, arith}
+use Rattle.std.proofs.Common.{◌≡◌, ◌<◌, ℕ, List, [], ◌∷◌, length, map, get_or, slice_set, All, Vec, ap, sym, ◌∙◌, refl, arith}
 use Rattle.std.specs.declared.alloc.Global.{Global}
 use Rattle.std.proofs.Math.Seq.{map-set_same}
 use Rattle.std.proofs.lemmas.List.{get_or_default, get_or-map, length-map}
 use Rattle.std.proofs.lemmas.List.Elements.{All-get_or, All-map}
 use Rattle.marks.specs.Numbers.{Limits}
-use Rattle.remote_queue.specs.Rings.{AreTransposed, Ring, Sending, Taking, cell, inbox_rings, outbox_rings}
+use Rattle.remote_queue.specs.Rings.{AreFreshInboxes, AreFreshOutboxes, AreNewLinks, Ring, Sending, Taking, cell, inbox_rings, outbox_rings}
 use Rattle.arena.specs.Seats.{AreLinked, AreSeatsOf, HasItsRings, IsTableOf, KeepsEnds, SeatState, Table, in_rings, out_rings, sending_side}
 use Rattle.arena.proofs.Linking.{same_length, same_workers}
 use Rattle.arena.proofs.Made.{same_both, with_first}
@@ -50,6 +50,23 @@ module _ (limits : Limits) (table : Table) (seats : List SeatState) (all : AreSe
     linked = λ w s. ap (λ t. cell t w s) rows_are ∙ rings.4 w s ∙ sym (ap (λ t. cell t s w) columns_are);
   }
 
+-- a worker's new seat: its place and its rings, which have carried no key
+pub record IsNewSeat (limits : Limits) (table : Table) (worker : ℕ) (seat : SeatState) : Type 0 where
+  pub worker_is : seat.worker ≡ worker
+  pub table_is : seat.table ≡ table
+  pub rings : HasItsRings seat
+  pub unsent : AreFreshOutboxes limits.ring_capacity seat.outboxes
+  pub untaken : AreFreshInboxes seat.inboxes
+
+-- all new seats of a table
+pub AreSeatsOf-new : (limits : Limits) (table : Table) (seats : List SeatState) → length seats ≡ limits.shards
+    → ((k : ℕ) (d : SeatState) → k < limits.shards → IsNewSeat limits table k (get_or seats k d)) → AreSeatsOf limits table seats
+AreSeatsOf-new limits table seats long new = record {
+  each = long;
+  in_order = λ k d h. (new k d (omega (arith, long))).worker_is;
+  of_table = λ k d h. (new k d (omega (arith, long))).table_is;
+}
+
 -- seats of the same workers and the same arena
 pub AreSeatsOf-from : (limits : Limits) (table : Table) (a b : List SeatState) → map (λ (s : SeatState). s.worker) b ≡ map (λ (s : SeatState). s.worker) a
     → map (λ (s : SeatState). s.table) b ≡ map (λ (s : SeatState). s.table) a → AreSeatsOf limits table a → AreSeatsOf limits table b
@@ -83,16 +100,15 @@ All-same f g before after x same all = λ k d below.
     with_first (g (get_or after k d) ≡ x) before k (omega arith)
     (λ e. sym (get_or-map g after k d x below) ∙ ap (λ l. get_or l k x) same ∙ get_or-map f before k e x (omega arith) ∙ all k e (omega arith))
 
--- the rings of rows and columns of ends
-pub made_table : (rows : List (Vec Sending Global)) (columns : List (Vec Taking Global)) (n : ℕ) → length rows ≡ n → length columns ≡ n
-    → All (λ v. vec_len v ≡ n) rows → All (λ v. vec_len v ≡ n) columns
-    → AreTransposed (outbox_rings rows) (inbox_rings columns) → IsTableOf n (record { rows = outbox_rings rows; columns = inbox_rings columns })
-made_table rows columns n rows_long columns_long rows_wide columns_wide transposed = (
-  length-map rows (λ v. map (λ (o : Sending). o.ring) v.items) ∙ rows_long,
-  length-map columns (λ v. map (λ (i : Taking). i.ring) v.items) ∙ columns_long,
+-- the rings of new ends
+pub made_table : (rows : List (Vec Sending Global)) (columns : List (Vec Taking Global)) (n capacity : ℕ) → AreNewLinks n n capacity rows columns
+    → IsTableOf n (record { rows = outbox_rings rows; columns = inbox_rings columns })
+made_table rows columns n capacity made = (
+  length-map rows (λ v. map (λ (o : Sending). o.ring) v.items) ∙ made.workers_are,
+  length-map columns (λ v. map (λ (i : Taking). i.ring) v.items) ∙ made.shards_are,
   All-map (λ (l : List Ring). length l ≡ n) (λ v. map (λ (o : Sending). o.ring) v.items) rows
-      (λ k d h. length-map (get_or rows k d).items (λ o. o.ring) ∙ sym (get_or rows k d).ok.0 ∙ rows_wide k d h),
+      (λ k d h. length-map (get_or rows k d).items (λ o. o.ring) ∙ sym (get_or rows k d).ok.0 ∙ made.rows_are_long k d h),
   All-map (λ (l : List Ring). length l ≡ n) (λ v. map (λ (i : Taking). i.ring) v.items) columns
-      (λ k d h. length-map (get_or columns k d).items (λ i. i.ring) ∙ sym (get_or columns k d).ok.0 ∙ columns_wide k d h),
-  transposed,
+      (λ k d h. length-map (get_or columns k d).items (λ i. i.ring) ∙ sym (get_or columns k d).ok.0 ∙ made.columns_are_long k d h),
+  made.rings_are,
 )

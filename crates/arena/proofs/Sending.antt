@@ -1,5 +1,5 @@
 -- Lists of senders' ends, of which one changes.
-use Rattle.std.proofs.Common.{◌≡◌, ℕ, zero, suc, ◌<◌, ◌≤◌, List, [], ◌∷◌, ◌++◌, length, map, get_or, slice_index_or, slice_set, Result, Ok, Err, MatchResult, OnOk, Some, ◌+◌, ap, sym, ◌∙◌, arith, rules}
+use Rattle.std.proofs.Common.{◌≡◌, ℕ, zero, suc, ◌<◌, ◌≤◌, List, [], ◌∷◌, ◌++◌, length, length-set, map, get_or, slice_index_or, slice_set, Result, Ok, Err, MatchResult, OnOk, Some, ◌+◌, ap, sym, ◌∙◌, arith, rules}
 use Rattle.std.specs.List.{slice_get}
 use Rattle.std.proofs.lemmas.Option.{slice_get_within}
 use Rattle.std.proofs.Math.Seq.{map-set_same}
@@ -8,6 +8,7 @@ use Rattle.std.proofs.lemmas.List.{get_or-map, get_or-set_other, map-set, length
 use Rattle.span.specs.declared.key.Key.{Key}
 use Rattle.std.proofs.lemmas.Simd.{map-map}
 use Rattle.remote_queue.specs.Rings.{Sending}
+use Rattle.arena.specs.Delays.{KeepSent}
 use Rattle.arena.specs.Seats.{AreNoFewer, KeepPlaces, SeatState, free_places}
 
 -- what was sent after one end sent a key, or kept it
@@ -26,6 +27,24 @@ pub no_fewer_set : {A : Type 0} (f : A → ℕ) (xs : List A) (i : ℕ) (after d
 no_fewer_set f (x ∷ xs) zero after d more zero = more
 no_fewer_set f (x ∷ xs) (suc i) after d more (suc k) = no_fewer_set f xs i after d more k
 no_fewer_set f xs i after d more k = omega arith
+
+-- one end keeps its ring and the keys that it sent
+pub KeepSent-set : (ends : List Sending) (i : ℕ) (x d : Sending) → x.ring ≡ (get_or ends i d).ring → x.sent ≡ (get_or ends i d).sent → (get_or ends i d).free ≤ x.free
+    → KeepSent ends (slice_set ends i x)
+KeepSent-set ends i x d ring sent free = record {
+  len = length-set ends i x;
+  rings_are = map-set_same (λ (o : Sending). o.ring) ends i x d ring;
+  sent_are = map-set_same (λ (o : Sending). o.sent) ends i x d sent;
+  places = no_fewer_set (λ (o : Sending). o.free) ends i x d free;
+}
+
+pub KeepSent-more : (a b c : List Sending) → KeepSent a b → KeepSent b c → KeepSent a c
+KeepSent-more a b c one two = record {
+  len = two.len ∙ one.len;
+  rings_are = two.rings_are ∙ one.rings_are;
+  sent_are = two.sent_are ∙ one.sent_are;
+  places = λ k. omega (arith, one.places k, two.places k);
+}
 
 -- one seat keeps its places
 pub KeepPlaces-set : (seats : List SeatState) (i : ℕ) (x d : SeatState) → AreNoFewer (free_places (get_or seats i d).outboxes) (free_places x.outboxes) → KeepPlaces seats (slice_set seats i x)

@@ -1,13 +1,27 @@
 -- How long a key waits at a seat for its block to be full, counted in calls of the seat: the 64th
 -- further call hands it over.
-use Rattle.std.specs.Prelude.{◌≡◌, ℕ, ◌+◌, All, List, Option, None, Some, IsSome, nat_lt, if◌then◌else◌}
+use Rattle.std.specs.Prelude.{◌≡◌, ℕ, ◌+◌, ◌<◌, All, List, Option, None, Some, IfSome, IsSome, length, map, nat_lt, if◌then◌else◌}
 use Rattle.remote_queue.specs.Rings.{Sending}
-use Rattle.arena.specs.Seats.{AreNoFewer, KeepsEnds, SeatState, free_places, sent_lists}
+use Rattle.arena.specs.Seats.{AreNoFewer, KeepsEnds, SeatState, free_places, sent_by, sent_lists}
 use Rattle.arena.specs.declared.outboxes.TheConstants.{MOST_DELAY}
 
 -- no key waits at any of the ends for its block to be full
 abbrev pub NoneWaits : List Sending → Type 0
 NoneWaits outboxes = All (λ outbox. outbox.waiting ≡ 0) outboxes
+
+-- what contracts see of a worker's ends of its rings: that to each shard; and, if keys may wait for
+-- their block to be full, how many calls were made since the first of these was left
+pub record OutboxesState : Type 0 where
+  pub ends : List Sending
+  pub delay : Option ℕ
+
+-- ends of the same rings, by which the same keys were sent; no place that was known to be free is
+-- lost
+pub record KeepSent (old new : List Sending) : Type 0 where
+  pub len : length new ≡ length old
+  pub rings_are : map (λ outbox. outbox.ring) new ≡ map (λ outbox. outbox.ring) old
+  pub sent_are : sent_by new ≡ sent_by old
+  pub places : AreNoFewer (free_places old) (free_places new)
 
 -- how many calls were made since the first key was left that may still wait, after one call more;
 -- none where no key waits, as after the last call that it may wait
@@ -19,6 +33,11 @@ delay_after (Some calls) = if nat_lt (calls + 1) MOST_DELAY then Some (calls + 1
 abbrev pub delay_begun : Option ℕ → Option ℕ
 delay_begun None = Some 0
 delay_begun (Some calls) = delay_after (Some calls)
+
+-- fewer calls are counted than a key may wait; if none is counted, no key waits
+pub record IsDelayOf (outboxes : List Sending) (delay : Option ℕ) : Type 0 where
+  pub few : IfSome delay (λ calls. calls < MOST_DELAY)
+  pub none : delay ≡ None → NoneWaits outboxes
 
 -- the same worker, section, numbers and rings, the same takers' ends, and the same keys sent; and
 -- no place that was known to be free is lost

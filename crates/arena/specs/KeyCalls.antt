@@ -16,7 +16,7 @@ use Rattle.shard.specs.declared.shard.replacing.Replaced.{Replaced}
 use Rattle.pool.specs.Calls.{Frees as FreesPooled, Gets as GetsPooled, Sets as SetsPooled}
 use Rattle.pool.specs.Shown.{shown as shown_by_pool}
 use Rattle.pool.specs.State.{PoolState}
-use Rattle.arena.specs.Told.{WritesFound, changes_at, free_told, set_told}
+use Rattle.arena.specs.KeyAnswers.{WritesFound, changes_at, free_answer, set_answer}
 
 -- the answer to a call is that of some shard, which does this, or of some pool, which does that, or
 -- what is answered of a span that is nowhere; of which moment that state is stays open
@@ -59,7 +59,7 @@ abbrev pub SetsIn : Key → Value → ShardState → Option (Result (Key × Bool
     → ShardState → Type 0
 SetsIn key words old None new = IsElsewhere old.groups key.span × (new ≡ old)
 SetsIn key words old (Some (Ok set)) new = (what : Replaced) × Sets old key words what new
-    × (Some set ≡ set_told key what)
+    × (Some set ≡ set_answer key what)
 SetsIn key words old (Some (Err error)) new = (plain.may_set (shown old) key words ≡ true)
     × (new ≡ old)
 
@@ -68,7 +68,7 @@ abbrev pub SetsInPool : Key → Value → PoolState → Option (Result (Key × B
     → PoolState → Type 0
 SetsInPool key words old None new = IsElsewhere old.groups key.span × (new ≡ old)
 SetsInPool key words old (Some (Ok set)) new = (what : Replaced) × SetsPooled old key words what new
-    × (Some set ≡ set_told key what)
+    × (Some set ≡ set_answer key what)
 SetsInPool key words old (Some (Err error)) new =
     (plain.may_set (shown_by_pool old) key words ≡ true) × (new ≡ old)
 
@@ -80,12 +80,12 @@ SetsNothing key answer = answer ≡ Ok (key, false, 0)
 -- answers none and does nothing, exactly if its span is not there
 abbrev pub FreesIn : Key → ShardState → Option (Key × Bool × ℕ) → ShardState → Type 0
 FreesIn key old answer new = (what : Freed) × Frees old key what new
-    × (answer ≡ free_told key what)
+    × (answer ≡ free_answer key what)
 
 -- the same in the pool
 abbrev pub FreesInPool : Key → PoolState → Option (Key × Bool × ℕ) → PoolState → Type 0
 FreesInPool key old answer new = (what : Freed) × FreesPooled old key what new
-    × (answer ≡ free_told key what)
+    × (answer ≡ free_answer key what)
 
 -- nothing is freed of a key whose span is nowhere
 abbrev pub FreesNothing : Key → Key × Bool × ℕ → Type 0

@@ -16,6 +16,10 @@ module _ {L : Type 0} where
   abbrev pub latches_of : List (Option (LockedShard L)) → List (Option TableId)
   latches_of shards = map (option_map (λ (shard : LockedShard L). shard.guard.latch.now)) shards
 
+  -- each shard that is lent, of all
+  abbrev pub all_lent_by : List (LockedShard L) → List ShardState
+  all_lent_by shards = map (λ (shard : LockedShard L). shard.guard.value.value) shards
+
   -- each shard that is lent
   abbrev pub lent_by : List (Option (LockedShard L)) → List (Option ShardState)
   lent_by shards = map (option_map (λ (shard : LockedShard L). shard.guard.value.value)) shards

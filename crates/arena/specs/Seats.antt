@@ -1,5 +1,5 @@
 -- What contracts see of a seat, and of seats whose ends of rings belong together.
-use Rattle.std.specs.Prelude.{◌≡◌, ℕ, ◌<◌, ◌≤◌, All, List, [], Option, length, map, slice_index_or}
+use Rattle.std.specs.Prelude.{◌≡◌, ℕ, ◌<◌, ◌≤◌, All, List, [], ◌∷◌, ◌++◌, MatchResult, Option, Result, length, map, slice_index_or, slice_set}
 use Rattle.span.specs.declared.key.Key.{Key}
 use Rattle.marks.specs.Numbers.{Limits}
 use Rattle.remote_queue.specs.Rings.{AreTransposed, Ring, Sending, Taking, cell}
@@ -52,8 +52,18 @@ abbrev pub in_rings : SeatState → List Ring
 in_rings seat = map (λ inbox. inbox.ring) seat.inboxes
 
 -- the keys sent by each end
+abbrev pub sent_by : List Sending → List (List Key)
+sent_by outboxes = map (λ outbox. outbox.sent) outboxes
+
+-- the keys sent by each end of the seat
 abbrev pub sent_lists : SeatState → List (List Key)
-sent_lists seat = map (λ outbox. outbox.sent) seat.outboxes
+sent_lists seat = sent_by seat.outboxes
+
+-- the key is sent last to the shard that opened its span; or it is handed back, and none is sent
+abbrev pub Sends : {A : Type 0} → Key → List (List Key) → Result A Key → List (List Key) → Type 0
+Sends key old result new = MatchResult result
+    (λ _. new ≡ slice_set old key.span.shard (slice_index_or old key.span.shard [] ++ key ∷ []))
+    (λ back. (back ≡ key) × (new ≡ old))
 
 -- the keys taken by each end
 abbrev pub taken_lists : List Taking → List (List Key)

@@ -3,7 +3,7 @@ use Rattle.std.specs.Prelude.{◌≡◌, ℕ, List, MatchResult, None, Option, R
 use Rattle.span.specs.Log.{Value}
 use Rattle.span.specs.declared.key.Key.{Key}
 use Rattle.latch.specs.declared.latch.Busy.{Busy}
-use Rattle.arena.specs.Told.{LooksUp, WritesFound}
+use Rattle.arena.specs.KeyAnswers.{LooksUp, WritesFound}
 
 -- what the own shard tells is told, where it has the key's span; else another place tells it
 abbrev pub TellsOwn : {Told : Type 0} → Option Told → Told → Type 0

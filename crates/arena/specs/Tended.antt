@@ -43,12 +43,6 @@ pub record AreRingsTended (most worker section rings : ℕ) (before after : List
 
 -- a seat took keys from its rings, ring after ring, at most that many from each, and freed each:
 -- `total` in all
-pub record IsTended (most : ℕ) (before after : SeatState)
-    (receipts_before receipts_after : List Receipt) (total : ℕ) : Type 0 where
-  pub keys : List (List Key)
-  pub each_ring : length keys ≡ length before.inboxes
-  pub taken : (from : ℕ) → slice_index_or (taken_lists after.inboxes) from []
-      ≡ slice_index_or (taken_lists before.inboxes) from [] ++ slice_index_or keys from []
-  pub few : All (λ taken. length taken ≤ most) keys
-  pub freed : AddsFrees before.worker before.section (joined keys) receipts_before receipts_after
-  pub total_is : total ≡ length (joined keys)
+abbrev pub IsTended : ℕ → SeatState → SeatState → List Receipt → List Receipt → ℕ → Type 0
+IsTended most before after = AreRingsTended most before.worker before.section
+    (length before.inboxes) before.inboxes after.inboxes

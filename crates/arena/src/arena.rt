@@ -1,11 +1,8 @@
 // Shards behind locks.
-ghost use Rattle.std.specs.Prelude.{◌≡◌, ◌≢◌, ◌≤◌, Err, IfOk, IsErr, IsOk, IsSome, None, Ok, OnErr, OnOk, Some, is_some, length, map, option_map, vec_len};
-ghost use Rattle.certificate.specs.Plans.{IsBestPlanOf, IsCertificateOf, IsShortOf};
-ghost use Rattle.certificate.specs.Text.{IsWritable};
+ghost use Rattle.std.specs.Prelude.{◌≡◌, ◌≢◌, ◌≤◌, Err, IfOk, IsErr, IsOk, IsSome, None, Ok, OnErr, OnOk, Some, is_some, map, option_map, vec_len};
 ghost use Rattle.marks.specs.Plans.{next_pair};
-ghost use Rattle.mesh_graph.specs.declared.build.TheConstants.{MOST_GROUPS};
 ghost use Rattle.arena.specs.Seats.{IsTableOf};
-ghost use Rattle.arena.specs.Stewards.{Steps, begun};
+ghost use Rattle.arena.specs.Stewards.{KeepsMark, Steps};
 
 use crate::folding::Folding;
 use crate::gate::Gate;
@@ -13,12 +10,12 @@ use crate::hints::{Hints, Place};
 use crate::locks::{LockedShard, LockedShards, lock_all};
 use crate::patience::{Patience, Tries, Waits};
 use crate::ring_table::RingTable;
-use crate::steward::{Marked, Sight, Steward};
+use crate::steward::{Marked, Steward};
 use crate::totals::LockedTotals;
 use certificate::Certificate;
 use fold::Step;
 use latch::{Busy, Latch};
-use marks::{Limits, MarkError, Totals};
+use marks::{Limits, MarkError, Sight, Totals};
 use mesh_graph::{AtHand, Runner};
 use pool::Pool;
 use shard::Shard;
@@ -81,20 +78,8 @@ impl<G: Gate, L: Log> Arena<G, L> {
         // The runner may go on.
         requires runner { N.ready runner.now }
 
-        // The plan, and the certificate that shows it.
-        ensures best { IfOk result (λ found. IsBestPlanOf found.snapshot found.plan) }
-        ensures short { IfOk result (λ found. IsShortOf found.snapshot found.plan found.short) }
-        ensures certificate { IfOk result (λ found. IsCertificateOf found.snapshot found.plan
-            found.short) }
-        ensures writable { IfOk result IsWritable }
-
-        // What the steward keeps of it.
-        ensures begun { IfOk result (λ found. (steward.old.plan ≡ None)
-            × (steward.new ≡ begun steward.old found.plan)) }
-
-        // The refusals.
-        ensures plan_open { IsSome steward.old.plan → result ≡ Err MarkError.PlanOpen }
-        ensures err { OnErr result (steward.new ≡ steward.old) }
+        // What shows the plan, and what the steward keeps.
+        ensures keeps { KeepsMark steward.old result steward.new }
     {
         let Ok(marked) = self.mark_within(&Waits { rt }, runner, steward, Sight::All);
         marked.into_made()
@@ -105,9 +90,8 @@ impl<G: Gate, L: Log> Arena<G, L> {
     ///
     /// # Errors
     ///
-    /// As those of [`mark_some_in`](marks::mark_some_in) on what all locks lend: `PlanOpen`,
-    /// `Doubled`, and `OutOfMemory` where an allocation was refused. The plan of the steward is as
-    /// it was.
+    /// As those of [`mark_in`](marks::mark_in) on what all locks lend: `PlanOpen`, `Doubled`, and
+    /// `OutOfMemory` where an allocation was refused. The plan of the steward is as it was.
     pub fn mark_some<R: Wait, N: Runner>(
         &self,
         rt: &R,
@@ -120,23 +104,9 @@ impl<G: Gate, L: Log> Arena<G, L> {
         // The runner may go on.
         requires runner { N.ready runner.now }
 
-        // The plan, and the certificate that shows it.
-        ensures few { IfOk result (λ found. (length found.snapshot.abandoned ≤ MOST_GROUPS)
-            × (length found.snapshot.owned ≤ MOST_GROUPS)) }
-        ensures best { IfOk result (λ found. IsBestPlanOf found.snapshot found.plan) }
-        ensures short { IfOk result (λ found. IsShortOf found.snapshot found.plan found.short) }
-        ensures certificate { IfOk result (λ found. IsCertificateOf found.snapshot found.plan
-            found.short) }
-        ensures writable { IfOk result IsWritable }
-
-        // What the steward keeps of it.
-        ensures begun { IfOk result (λ found. (steward.old.plan ≡ None)
-            × (steward.new ≡ begun steward.old found.plan)) }
-
-        // The refusals.
-        ensures plan_open { IsSome steward.old.plan → result ≡ Err MarkError.PlanOpen }
+        // What shows the plan, and what the steward keeps.
+        ensures keeps { KeepsMark steward.old result steward.new }
         ensures too_many { result ≢ Err MarkError.TooMany }
-        ensures err { OnErr result (steward.new ≡ steward.old) }
     {
         let Ok(marked) = self.mark_within(&Waits { rt }, runner, steward, Sight::Sparsest);
         marked.into_made()
@@ -152,17 +122,8 @@ impl<G: Gate, L: Log> Arena<G, L> {
     /// error.
     pub fn try_mark(&self, steward: &mut Steward) -> Result<Result<Certificate, MarkError>, Busy>
         requires { steward.old.limits ≡ self.now.limits }
-        ensures best { IfOk result (λ made. IfOk made
-            (λ found. IsBestPlanOf found.snapshot found.plan)) }
-        ensures short { IfOk result (λ made. IfOk made
-            (λ found. IsShortOf found.snapshot found.plan found.short)) }
-        ensures certificate { IfOk result (λ made. IfOk made
-            (λ found. IsCertificateOf found.snapshot found.plan found.short)) }
-        ensures writable { IfOk result (λ made. IfOk made IsWritable) }
-        ensures begun { IfOk result (λ made. IfOk made (λ found. (steward.old.plan ≡ None)
-            × (steward.new ≡ begun steward.old found.plan))) }
+        ensures keeps { IfOk result (λ made. KeepsMark steward.old made steward.new) }
         ensures plan_open { IsSome steward.old.plan → result ≡ Ok (Err MarkError.PlanOpen) }
-        ensures err { IfOk result (λ made. OnErr made (steward.new ≡ steward.old)) }
         ensures busy { OnErr result (steward.new ≡ steward.old) }
     {
         let marked = self.mark_within(&Tries, &AtHand, steward, Sight::All)?;
@@ -182,18 +143,9 @@ impl<G: Gate, L: Log> Arena<G, L> {
         steward: &mut Steward,
     ) -> Result<Result<Certificate, MarkError>, Busy>
         requires { steward.old.limits ≡ self.now.limits }
-        ensures best { IfOk result (λ made. IfOk made
-            (λ found. IsBestPlanOf found.snapshot found.plan)) }
-        ensures short { IfOk result (λ made. IfOk made
-            (λ found. IsShortOf found.snapshot found.plan found.short)) }
-        ensures certificate { IfOk result (λ made. IfOk made
-            (λ found. IsCertificateOf found.snapshot found.plan found.short)) }
-        ensures writable { IfOk result (λ made. IfOk made IsWritable) }
-        ensures begun { IfOk result (λ made. IfOk made (λ found. (steward.old.plan ≡ None)
-            × (steward.new ≡ begun steward.old found.plan))) }
+        ensures keeps { IfOk result (λ made. KeepsMark steward.old made steward.new) }
         ensures plan_open { IsSome steward.old.plan → result ≡ Ok (Err MarkError.PlanOpen) }
         ensures too_many { result ≢ Ok (Err MarkError.TooMany) }
-        ensures err { IfOk result (λ made. OnErr made (steward.new ≡ steward.old)) }
         ensures busy { OnErr result (steward.new ≡ steward.old) }
     {
         let marked = self.mark_within(&Tries, &AtHand, steward, Sight::Sparsest)?;
@@ -210,20 +162,11 @@ impl<G: Gate, L: Log> Arena<G, L> {
     ) -> Result<Marked, P::Busy>
         requires of { steward.old.limits ≡ self.now.limits }
         requires runner { N.ready runner.now }
-        ensures best { IfOk result (λ marked. IfOk marked.made
-            (λ found. IsBestPlanOf found.snapshot found.plan)) }
-        ensures short { IfOk result (λ marked. IfOk marked.made
-            (λ found. IsShortOf found.snapshot found.plan found.short)) }
-        ensures certificate { IfOk result (λ marked. IfOk marked.made
-            (λ found. IsCertificateOf found.snapshot found.plan found.short)) }
-        ensures writable { IfOk result (λ marked. IfOk marked.made IsWritable) }
-        ensures begun { IfOk result (λ marked. IfOk marked.made
-            (λ found. (steward.old.plan ≡ None) × (steward.new ≡ begun steward.old found.plan))) }
+        ensures keeps { IfOk result (λ marked. KeepsMark steward.old marked.made steward.new) }
         ensures plan_open { IsSome steward.old.plan
             → (IsOk result × IfOk result (λ marked. marked.made ≡ Err MarkError.PlanOpen)) }
         ensures too_many { sight ≡ Sight.Sparsest
             → IfOk result (λ marked. marked.made ≢ Err MarkError.TooMany) }
-        ensures err { IfOk result (λ marked. OnErr marked.made (steward.new ≡ steward.old)) }
         ensures busy { OnErr result (steward.new ≡ steward.old) }
     {
         if let Some(refusal) = steward.refusal() {
@@ -244,7 +187,7 @@ impl<G: Gate, L: Log> Arena<G, L> {
     ///
     /// # Errors
     ///
-    /// `AllocError` where an allocation was refused. The pair stays next.
+    /// `AllocError` if an allocation was refused. The pair stays next.
     pub fn step<R: Wait>(&self, rt: &R, steward: &mut Steward) -> Result<Stepped, AllocError>
         requires { steward.old.limits ≡ self.now.limits }
         ensures limits { steward.new.limits ≡ steward.old.limits }
@@ -256,11 +199,11 @@ impl<G: Gate, L: Log> Arena<G, L> {
         step
     }
 
-    /// What [`Arena::step`] does, where no other thread has a lock that it takes.
+    /// What [`Arena::step`] does, if no other thread has a lock that it takes.
     ///
     /// # Errors
     ///
-    /// [`Busy`] where another thread has one: the pair stays next. Else the step, whose error is
+    /// [`Busy`] if another thread has one: the pair stays next. Else the step, whose error is
     /// that of [`Arena::step`].
     pub fn try_step(&self, steward: &mut Steward) -> Result<Result<Stepped, AllocError>, Busy>
         requires { steward.old.limits ≡ self.now.limits }
@@ -313,11 +256,11 @@ impl<G: Gate, L: Log> Arena<G, L> {
         closed
     }
 
-    /// What [`Arena::close`] does, where no other thread has a lock.
+    /// What [`Arena::close`] does, if no other thread has a lock.
     ///
     /// # Errors
     ///
-    /// [`Busy`] where another thread has one. The plan is as it was then.
+    /// [`Busy`] if another thread has one. The plan is as it was then.
     pub fn try_close(&self, steward: &mut Steward) -> Result<bool, Busy>
         requires { steward.old.limits ≡ self.now.limits }
         ensures closed { IfOk result (λ closed. closed ≡ is_some steward.old.plan) }
@@ -354,11 +297,11 @@ impl<G: Gate, L: Log> Arena<G, L> {
         totals.totals()
     }
 
-    /// What [`Arena::totals`] counts, where no other thread has a lock.
+    /// What [`Arena::totals`] counts, if no other thread has a lock.
     ///
     /// # Errors
     ///
-    /// [`Busy`] where another thread has one.
+    /// [`Busy`] if another thread has one.
     pub fn try_totals(&self) -> Result<Totals, Busy> {
         Ok(self.totals_within(&Tries)?.totals())
     }

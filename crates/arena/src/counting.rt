@@ -64,6 +64,7 @@ pub(crate) fn count_all(alloc: Global, seats: &mut [Seat]) -> Result<Vec<Vec<usi
     requires linked { AreLinked seats.old }
     requires few { length seats.old ≤ MOST_SHARDS }
     ensures same { AreSameSeats seats.old seats.new }
+    ensures linked { AreLinked seats.new }
     ensures len { IfOk result (λ counts. vec_len counts ≡ length seats.old) }
     ensures counted { IfOk result (λ counts. (shard : ℕ) (d : _) → shard < length seats.old
         → AreCounted seats.old seats.new shard (slice_index_or counts.items shard d).items) }

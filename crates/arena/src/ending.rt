@@ -8,7 +8,7 @@ use crate::arena::Arena;
 use crate::gate::Gate;
 use crate::receipts::Receipts;
 use crate::seat::Seat;
-use crate::settling::{greatest, know_rings, make_room, settle_seats};
+use crate::settling::{greatest_section, know_rings, make_room, settle_seats};
 use crate::unlocked::{Unlocked, unlock};
 use span::spans::SpanLog;
 use std::alloc::AllocError;
@@ -40,8 +40,8 @@ pub struct Unfinished<G: Gate> {
 ///
 /// # Errors
 ///
-/// Arena and seats, with no key taken, where there is no memory for the counts, the receipts or the
-/// logs; or where a guard of a lock was forgotten, so that its shard is nowhere, which no call here
+/// Arena and seats, with no key taken, if there is no memory for the counts, the receipts or the
+/// logs; or if a guard of a lock was forgotten, so that its shard is nowhere, which no call here
 /// does.
 pub fn finish<G: Gate, K: Receipts>(
     mut arena: Arena<G>,
@@ -81,14 +81,14 @@ pub fn finish<G: Gate, K: Receipts>(
 }
 
 /// Takes the logs of all spans out of an arena whose run is over, each with its greatest
-/// generation, and leaves it with no span: what [`finish`] does where its seats are not in one
+/// generation, and leaves it with no span: what [`finish`] does if its seats are not in one
 /// hand, or are not known to be the arena's own. No ring is settled: a key that was sent and not
 /// taken stays live in its span's log. Who has the arena to itself has all locks, and waits for
 /// nobody. Numbers, rings and locks stay, which is all that a clause sees of an arena.
 ///
 /// # Errors
 ///
-/// `AllocError` where memory for the logs was refused, or where a guard of a lock was forgotten.
+/// `AllocError` if memory for the logs was refused, or if a guard of a lock was forgotten.
 /// Every span is then where it was.
 pub fn take_logs<G: Gate>(arena: &mut Arena<G>) -> Result<Vec<SpanLog>, AllocError>
     ensures legal { IfOk result (λ logs. AreLegal logs.items) }
@@ -123,12 +123,10 @@ fn settled<G: Gate, K: Receipts>(
     ensures err { OnErr result (AreSameSeats seats.old seats.new
         × (map K.told receipts.new ≡ map K.told receipts.old)) }
 {
-    // For the prover: there are 64 shards at most.
-    let _ = arena.limits.shards();
-    know_rings(seats);
+    know_rings(arena, seats);
     let counts = make_room(arena.alloc, seats, receipts)?;
     let mut unlocked = unlock(arena)?;
-    let section = greatest(seats);
+    let section = greatest_section(seats);
     settle_seats(&mut unlocked, seats, counts.as_slice(), section, receipts);
     Ok((unlocked, counts))
 }

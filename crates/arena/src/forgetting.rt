@@ -34,11 +34,11 @@ impl<G: Gate> Arena<G, Counted> {
         Ok(forgotten?.count())
     }
 
-    /// What [`Arena::forget`] does, where no other thread has a lock.
+    /// What [`Arena::forget`] does, if no other thread has a lock.
     ///
     /// # Errors
     ///
-    /// [`Busy`] where another thread has one. Else the forgetting, whose error is that of
+    /// [`Busy`] if another thread has one. Else the forgetting, whose error is that of
     /// [`Arena::forget`].
     pub fn try_forget(&self, steward: &Steward) -> Result<Result<usize, PlanOpen>, Busy>
         requires { steward.now.limits ≡ self.now.limits }

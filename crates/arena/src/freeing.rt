@@ -1,5 +1,5 @@
 // Frees of keys in a row.
-ghost use Rattle.std.specs.Prelude.{◌≡◌, ◌+◌, ◌<◌, ◌≤◌, [], IfOk, IfSome, OnErr, length, take};
+ghost use Rattle.std.specs.Prelude.{◌≡◌, ◌+◌, ◌<◌, ◌≤◌, [], IfOk, OnErr, length, take};
 ghost use Rattle.arena.specs.Receipts.{AddsFrees};
 
 use crate::arena::Arena;
@@ -7,9 +7,9 @@ use crate::calling::CallsKeys;
 use crate::gate::Gate;
 use crate::hints::Place;
 use crate::key_calls::Free;
+use crate::lent_calls::free_in;
 use crate::patience::Patience;
 use crate::receipts::Receipts;
-use crate::sections::free_in;
 use shard::Shard;
 use span::names::Key;
 use span::spans::Log;
@@ -45,7 +45,7 @@ impl<G: Gate, L: Log> Arena<G, L> {
     }
 
     // Frees the first of the keys, as far as the worker's own shard has their spans, under its
-    // lock, and gives how many these are. Where the first key's span is elsewhere it takes no lock.
+    // lock, and gives how many these are. If the first key's span is elsewhere it takes no lock.
     fn free_at_home<P: Patience, K: Receipts>(
         &self,
         patience: &P,

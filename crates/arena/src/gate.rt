@@ -1,7 +1,7 @@
-// What is called inside of critical sections.
+// What a thread calls while it holds the lock of a shard.
 
-/// What a thread passes in each critical section under one shard's lock alone, once, before the
-/// shard is touched. A test can hold a thread there, and so see who else gets on meanwhile. It must
+/// What a thread passes whenever it has taken one shard's lock alone, once, before it touches the
+/// shard. A test can hold a thread there, and so see which other threads get on meanwhile. It must
 /// not use the arena that it is a part of, whose lock the thread holds.
 pub trait Gate: Drop {
     /// A thread holds the lock of the shard of this number.

@@ -1,6 +1,5 @@
 // Where each span may be, in memory that does not grow with the spans that are opened.
-ghost use Rattle.std.proofs.Props.{props};
-ghost use Rattle.std.specs.Prelude.{◌≡◌, ◌*◌, ◌+◌, ◌<◌, ◌≤◌, ◌^◌, ◌↔◌, IfOk, IfSome, None, vec_len};
+ghost use Rattle.std.specs.Prelude.{◌≡◌, ◌*◌, ◌+◌, ◌<◌, ◌≤◌, ◌^◌, ◌↔◌, IfSome, None, vec_len};
 ghost use Rattle.arena.specs.Hints.{IsPlace, IsSomewhere, hint_word, place_code};
 ghost use Rattle.span.specs.declared.limits.TheConstants.{MOST_SHARDS};
 
@@ -52,7 +51,7 @@ impl Rule for OpenedCount {
 }
 
 /// The rule of a hint's word, whoever writes it: in its upper half stands a code of the place, of
-/// which there are 67, or 0 where it says nothing.
+/// which there are 67, or 0 if it says nothing.
 #[derive(Clone, Copy)]
 pub(crate) struct HintWord;
 
@@ -84,7 +83,7 @@ impl Announced {
 /// the first put of a span counts it before its key is handed out: a serial that was not counted is
 /// of no span. The second is a hint, in a table of fixed size for each shard, in which a serial
 /// shares its word with others. Another thread may move the span before the hint is followed, so
-/// who follows it looks whether the span is there; and where no word speaks of a serial, its span
+/// its reader looks whether the span is there; and if no word speaks of a serial, its span
 /// may be in the shard that opened it. A word says 'nowhere' only of a span that was forgotten,
 /// which never comes back ([`Nowhere`]).
 #[derive(Drop)]
@@ -119,7 +118,7 @@ impl Hints {
         })
     }
 
-    /// Where the span may be: two loads. It is nowhere where it was not opened, as one of a shard
+    /// Where the span may be: two loads. It is nowhere if it was not opened, as one of a shard
     /// that is not of this arena.
     #[inline]
     pub(crate) fn place_of(&self, id: SpanId) -> Place
@@ -138,8 +137,8 @@ impl Hints {
         }
     }
 
-    /// How many spans the shard of this number has opened, or 4,294,967,295 where that is more: no
-    /// key has a greater serial. None where there is no such shard.
+    /// How many spans the shard of this number has opened, or 4,294,967,295 if that is more: no
+    /// key has a greater serial. None if there is no such shard.
     pub(crate) fn opened_by(&self, shard: u32) -> u32 {
         match self.opened.get(shard as usize) {
             Some(opened) => opened.load(SeqCst).min(u64::from(MOST_SPANS)) as u32,
@@ -191,7 +190,7 @@ impl Hints {
         word.store(says, SeqCst);
     }
 
-    /// Says so of all spans of the head's group, where the shard has it.
+    /// Says so of all spans of the head's group, if the shard has it.
     pub(crate) fn note_group<L: Log>(&self, shard: &Shard<L>, head: SpanId, place: Place)
         requires { IsSomewhere place }
     {
@@ -236,7 +235,7 @@ fn no_hints(alloc: Global, size: usize) -> Result<Vec<AtomicIn<HintWord>>, Alloc
     Ok(words)
 }
 
-// What the word says, or `None` where it says nothing.
+// What the word says, or `None` if it says nothing.
 #[inline]
 fn hint_from(word: u64) -> Option<Hint>
     requires { word < 67 * 2 ^ 32 }

@@ -1,13 +1,11 @@
 // The calls on a key: a look-up, a set and a free.
 ghost use Rattle.std.specs.Prelude.{◌≡◌, IfOk};
-ghost use Rattle.span.specs.Classes.{IsObject};
-ghost use Rattle.span.specs.Log.{Value};
 ghost use Rattle.arena.specs.KeyCalls.{FindsNothing, FreesIn, FreesInPool, FreesNothing, LooksUpIn, LooksUpPooled, SetsIn, SetsInPool, SetsNothing};
-ghost use Rattle.arena.specs.Told.{LooksUp};
+ghost use Rattle.arena.specs.KeyAnswers.{LooksUp};
 
 use crate::calling::KeyCall;
+use crate::lent_calls::{Looked, Outcome, free_in, free_pool, get_in, get_pool, set_in, set_pool};
 use crate::nowhere::Nowhere;
-use crate::sections::{Looked, Outcome, free_in, free_pool, get_in, get_pool, set_in, set_pool};
 use crate::word::Word;
 use pool::Pool;
 use shard::Shard;

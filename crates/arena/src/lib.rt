@@ -16,7 +16,7 @@
 //!          mark, close, totals            all of them
 //! ```
 //!
-//! Where a span may be is a hint, in a table of fixed size: where it is wrong, or gone since its
+//! Where a span may be is a hint, in a table of fixed size: if it is wrong, or gone since its
 //! word speaks of another span, the span is looked for in the pool and then in one shard after the
 //! other. That a span was never opened is no hint: each shard's count of the spans that it has
 //! opened says so, and then no lock is taken. So an arena opens as many spans as its numbers say,
@@ -39,7 +39,7 @@
 //! or is told that another thread has it.
 //!
 //! What is done under a lock is done by one call of a shard, of the pool, `fold_one` or `mark_in`
-//! on what the lock lends ([`sections`]), so the contracts of those calls hold of it, and each
+//! on what the lock lends ([`lent_calls`]), so the contracts of those calls hold of it, and each
 //! look-up, put, set and free makes its receipt there. An answer stands on what was found under the
 //! lock.
 //!
@@ -86,6 +86,7 @@ mod freeing;
 mod gate;
 mod hints;
 mod key_calls;
+pub mod lent_calls;
 mod locks;
 mod nowhere;
 mod opening;
@@ -95,7 +96,6 @@ mod putting;
 mod receipts;
 mod ring_table;
 mod seat;
-pub mod sections;
 mod session;
 mod settling;
 mod steward;
@@ -110,12 +110,12 @@ pub use ending::{Finished, Unfinished, finish, take_logs};
 pub use error::{OpenError, PlanOpen};
 pub use gate::{Gate, NoGate};
 pub use latch::Busy;
+pub use lent_calls::{Issued, Looked, Outcome};
 pub use marks::{Limits, MarkError, Totals};
 pub use outboxes::MOST_DELAY;
 pub use receipts::{Dropped, Receipts};
 pub use ring_table::RingTable;
 pub use seat::{Seat, Tended};
-pub use sections::{Issued, Looked, Outcome};
 pub use session::Session;
 pub use steward::Steward;
 pub use walk::Walk;

@@ -1,8 +1,8 @@
 // A new arena, with its seats and its steward.
-ghost use Rattle.std.specs.Prelude.{◌≡◌, ◌<◌, ◌≤◌, ◌↔◌, All, IfOk, IfSome, IsErrOf, IsSome, None, map, vec_len};
+ghost use Rattle.std.specs.Prelude.{◌≡◌, ◌<◌, ◌↔◌, All, IfOk, IsErrOf, None, map, vec_len};
 ghost use Rattle.std.specs.List.{range_with_len};
 ghost use Rattle.marks.specs.Numbers.{AreWithin, limits_of};
-ghost use Rattle.remote_queue.specs.Rings.{AreFreshInboxes, AreFreshOutboxes, AreTransposed, inbox_rings, outbox_rings};
+ghost use Rattle.remote_queue.specs.Rings.{AreFreshInboxes, AreFreshOutboxes, AreNewLinks, inbox_rings, outbox_rings};
 ghost use Rattle.arena.specs.Seats.{AreLinked, AreSeatsOf, IsTableOf, first_standing, standing};
 
 use crate::arena::Arena;
@@ -29,8 +29,8 @@ impl<G: Gate> Arena<G, Kept> {
     ///
     /// # Errors
     ///
-    /// `Config` exactly where a number is out of its range, which is 1 to 64 shards, 1 to 1,048,576
-    /// pages, 1 to 1,024 keys, and from 1 generation on; `OutOfMemory` only where each is within
+    /// `Config` exactly if a number is out of its range, which is 1 to 64 shards, 1 to 1,048,576
+    /// pages, 1 to 1,024 keys, and from 1 generation on; `OutOfMemory` only if each is within
     /// it.
     pub fn open(
         alloc: Global,
@@ -104,7 +104,7 @@ impl<G: Gate, L: Log> Arena<G, L> {
     ///
     /// # Errors
     ///
-    /// `AllocError` where memory runs out.
+    /// `AllocError` if memory runs out.
     pub fn with_limits(
         alloc: Global,
         limits: Limits,
@@ -135,16 +135,8 @@ impl<G: Gate, L: Log> Arena<G, L> {
 
 // A ring from each worker to each shard.
 fn links_of(alloc: Global, limits: Limits) -> Result<Links, AllocError>
-    ensures workers { IfOk result (λ links. (vec_len links.outboxes ≡ limits.shards)
-        × All (λ column. vec_len column ≡ limits.shards) links.inboxes.items) }
-    ensures shards { IfOk result (λ links. (vec_len links.inboxes ≡ limits.shards)
-        × All (λ row. vec_len row ≡ limits.shards) links.outboxes.items) }
-    ensures rings { IfOk result (λ links. AreTransposed (outbox_rings links.outboxes.items)
-        (inbox_rings links.inboxes.items)) }
-    ensures unsent { IfOk result (λ links. All (λ row.
-        AreFreshOutboxes limits.ring_capacity row.items) links.outboxes.items) }
-    ensures untaken { IfOk result (λ links. All (λ column. AreFreshInboxes column.items)
-        links.inboxes.items) }
+    ensures { IfOk result (λ links. AreNewLinks limits.shards limits.shards limits.ring_capacity
+        links.outboxes.items links.inboxes.items) }
 {
     let shards = limits.shards() as usize;
     match link(alloc, shards, shards, limits.ring_capacity()) {
@@ -161,16 +153,9 @@ fn seats_of(
     table: &RingTable,
     links: Links,
 ) -> Result<Vec<Seat>, AllocError>
-    // The rings are those of that many workers and shards, and fresh.
-    requires workers { (vec_len links.outboxes ≡ limits.shards)
-        × All (λ column. vec_len column ≡ limits.shards) links.inboxes.items }
-    requires shards { (vec_len links.inboxes ≡ limits.shards)
-        × All (λ row. vec_len row ≡ limits.shards) links.outboxes.items }
-    requires rings { AreTransposed (outbox_rings links.outboxes.items)
-        (inbox_rings links.inboxes.items) }
-    requires unsent { All (λ row. AreFreshOutboxes limits.ring_capacity row.items)
-        links.outboxes.items }
-    requires untaken { All (λ column. AreFreshInboxes column.items) links.inboxes.items }
+    // The rings are new, and those of the table.
+    requires links { AreNewLinks limits.shards limits.shards limits.ring_capacity
+        links.outboxes.items links.inboxes.items }
     requires table { table.now ≡ record {
       rows = outbox_rings links.outboxes.items;
       columns = inbox_rings links.inboxes.items;

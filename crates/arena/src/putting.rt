@@ -10,7 +10,7 @@ ghost use Rattle.span.specs.PlainMap as plain;
 use crate::arena::Arena;
 use crate::gate::Gate;
 use crate::hints::Announced;
-use crate::sections::Issued;
+use crate::lent_calls::Issued;
 use shard::{PutError, Shard};
 use span::names::Class;
 use span::spans::Log;

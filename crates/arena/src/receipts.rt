@@ -24,7 +24,7 @@ pub trait Receipts: Drop {
     ///
     /// # Errors
     ///
-    /// `AllocError` where memory runs out. The receipts are then as they were, and the room has not
+    /// `AllocError` if memory runs out. The receipts are then as they were, and the room has not
     /// shrunk.
     fn make_room(&mut self, more: usize) -> Result<(), AllocError>
         ensures told { told self.new ≡ told self.old }

@@ -1,13 +1,12 @@
 // A worker's place at the arena.
-ghost use Rattle.std.proofs.Props.{props};
-ghost use Rattle.std.specs.Prelude.{All, ◌≡◌, ℕ, ◌+◌, ◌-◌, ◌<◌, ◌≤◌, ◌^◌, ◌↔◌, ◌∷◌, ◌++◌, [], IfOk, IfSome, IsOk, IsTrue, MatchResult, None, OnErr, OnOk, Some, length, map, slice_get, slice_index_or, slice_set, sum, vec_len};
+ghost use Rattle.std.specs.Prelude.{◌≡◌, ℕ, ◌+◌, ◌-◌, ◌<◌, ◌≤◌, ◌^◌, ◌↔◌, ◌++◌, [], IfOk, IfSome, IsOk, IsTrue, None, OnErr, OnOk, Some, length, map, slice_get, slice_index_or, sum, vec_len};
 ghost use Rattle.arena.specs.Delays.{CountsCall, HandsOver, HasNoneWaiting, NoneWaits, delay_begun};
 ghost use Rattle.arena.specs.KeyCalls.{IsFreed, IsLookedUp, IsSet};
 ghost use Rattle.arena.specs.Receipts.{AddsFrees, free_receipt, get_receipt, joined, put_receipt, set_receipt};
-ghost use Rattle.arena.specs.Seats.{AreNoFewer, HasItsRings, KeepsEnds, free_places, in_rings, known_lists, sending_side, sent_lists, taken_lists};
+ghost use Rattle.arena.specs.Seats.{AreNoFewer, HasItsRings, KeepsEnds, Sends, free_places, in_rings, known_lists, sending_side, sent_lists, taken_lists};
 ghost use Rattle.arena.specs.Settled.{taken_with_known};
 ghost use Rattle.arena.specs.Tended.{AreLookedAt, IsTended};
-ghost use Rattle.arena.specs.Told.{LooksUp};
+ghost use Rattle.arena.specs.KeyAnswers.{LooksUp};
 ghost use Rattle.span.specs.Classes.{width_of};
 ghost use Rattle.remote_queue.specs.Rings.{inbox_rings};
 ghost use Rattle.arena.specs.declared.outboxes.TheConstants.{MOST_DELAY};
@@ -18,11 +17,11 @@ use crate::arena::Arena;
 use crate::calling::CallsKeys;
 use crate::gate::Gate;
 use crate::key_calls::{Free, Get, Set};
-use crate::outboxes::{MOST_DELAY, count_call_on, finish_on, hand_over_waiting, leave_on};
+use crate::lent_calls::{Issued, Looked, Outcome};
+use crate::outboxes::{MOST_DELAY, Outboxes};
 use crate::patience::{Patience, Waits};
 use crate::receipts::Receipts;
 use crate::ring_table::RingTable;
-use crate::sections::{Issued, Looked, Outcome};
 use crate::settling::{Frees, settle_rings};
 use crate::tending::{look_at_rings, tend_rings};
 use crate::word::Word;
@@ -61,20 +60,14 @@ pub struct Seat {
     limits: Limits,
     // All rings of the arena, of which it has the ends of a row and of a column.
     table: RingTable,
-    // How many calls were made since the first key was left that may still wait. Where this is
-    // none, no key waits.
-    delay: Option<u32>,
-    // By shard.
-    outboxes: Vec<Outbox>,
+    outboxes: Outboxes,
     // By worker.
     inboxes: Vec<Inbox>,
     ghost worker_has_shard: { worker < limits.shards },
     ghost worker_in_range: { worker < MOST_SHARDS },
-    ghost delay_in_range: { IfSome delay (λ calls. calls < MOST_DELAY) } by { Prim.hlevel props },
-    ghost none_waits: { delay ≡ None → NoneWaits outboxes.items },
-    ghost outbox_each: { vec_len outboxes ≡ limits.shards },
+    ghost outbox_each: { length outboxes.ends ≡ limits.shards },
     ghost inboxes_few: { vec_len inboxes ≤ MOST_SHARDS },
-    ghost sends_by_its_row: { map (λ outbox. outbox.ring) outboxes.items
+    ghost sends_by_its_row: { map (λ outbox. outbox.ring) outboxes.ends
         ≡ slice_index_or table.rows worker [] },
     ghost takes_by_its_column: { map (λ inbox. inbox.ring) inboxes.items
         ≡ slice_index_or table.columns worker [] },
@@ -91,8 +84,8 @@ impl Model for Seat {
       section = seat.section;
       limits = seat.limits;
       table = seat.table;
-      delay = seat.delay;
-      outboxes = seat.outboxes.items;
+      delay = seat.outboxes.delay;
+      outboxes = seat.outboxes.ends;
       inboxes = seat.inboxes.items;
     } };
 }
@@ -115,7 +108,8 @@ impl Seat {
             ≡ slice_index_or table.rows worker [] }
         requires column { map (λ inbox. inbox.ring) inboxes.items
             ≡ slice_index_or table.columns worker [] }
-        ensures { result ≡ record {
+        ensures rings { HasItsRings result }
+        ensures seat { result ≡ record {
           worker = worker;
           section = 0;
           limits = limits;
@@ -130,8 +124,7 @@ impl Seat {
             section: 0,
             limits,
             table,
-            delay: None,
-            outboxes,
+            outboxes: Outboxes::new(outboxes),
             inboxes,
         }
     }
@@ -159,13 +152,13 @@ impl Seat {
     }
 
     /// How many calls it has made since it left the first key that may still wait for its block to
-    /// be full, fewer than [`MOST_DELAY`]. Where this is `None`, no key waits.
+    /// be full, fewer than [`MOST_DELAY`]. If this is `None`, no key waits.
     pub fn delay(&self) -> Option<u32>
         ensures delay { result ≡ self.now.delay }
         ensures few { IfSome result (λ calls. calls < MOST_DELAY) }
         ensures none { result ≡ None → NoneWaits self.now.outboxes }
     {
-        self.delay
+        self.outboxes.delay()
     }
 
     /// From now on its receipts carry the next section, and the keys that wait are handed over.
@@ -197,7 +190,7 @@ impl Seat {
             value put.0 put.1.at) }
         ensures seat { CountsCall self.old self.new }
     {
-        let Ok(put) = self.put_by(&Waits { rt }, arena, value.class(), value.words());
+        let Ok(put) = self.put_within(&Waits { rt }, arena, value.class(), value.words());
         let put = put?;
         Ok((put.key(), put.receipt(self.worker, self.section, value)))
     }
@@ -216,7 +209,7 @@ impl Seat {
         ensures seat { CountsCall self.old self.new }
     {
         let mut room = [0; MOST_WORDS];
-        let Ok(looked) = self.get_by(&Waits { rt }, arena, key, &mut room);
+        let Ok(looked) = self.get_within(&Waits { rt }, arena, key, &mut room);
         let found = looked.object(&room);
         let receipt = looked.receipt(self.worker, self.section, key, &found);
         (found, receipt)
@@ -227,7 +220,7 @@ impl Seat {
     ///
     /// # Errors
     ///
-    /// `AllocError` in place of a set that would be done, where the span's log could not grow.
+    /// `AllocError` in place of a set that would be done, if the span's log could not grow.
     /// Nothing is set then, and there is no receipt.
     pub fn set<G: Gate, L: Log, R: Wait>(
         &mut self,
@@ -241,7 +234,7 @@ impl Seat {
             key.now value set.0 set.1.at) }
         ensures seat { CountsCall self.old self.new }
     {
-        let Ok(set) = self.set_by(&Waits { rt }, arena, key, value.words());
+        let Ok(set) = self.set_within(&Waits { rt }, arena, key, value.words());
         let set = set?;
         Ok((
             set.done(),
@@ -262,7 +255,7 @@ impl Seat {
             result.1.at }
         ensures seat { CountsCall self.old self.new }
     {
-        let Ok(freed) = self.free_by(&Waits { rt }, arena, key);
+        let Ok(freed) = self.free_within(&Waits { rt }, arena, key);
         (
             freed.done(),
             freed.free_receipt(self.worker, self.section, key),
@@ -281,21 +274,17 @@ impl Seat {
     /// Leaves the key to the thread of the shard that opened its span, which frees it when it next
     /// tends its rings, or when the arena ends, wherever the span then is. Keys go in blocks: until
     /// its block is full the key waits at the seat, for fewer than [`MOST_DELAY`] further calls. It
-    /// takes no lock and no memory, waits for nobody, and succeeds where a place of the ring is
+    /// takes no lock and no memory, waits for nobody, and succeeds if a place of the ring is
     /// known to be free.
     ///
     /// # Errors
     ///
-    /// The key, handed back, where the ring took none: each of its places was seen to hold a key,
+    /// The key, handed back, if the ring took none: each of its places was seen to hold a key,
     /// those of the block among them. All keys that wait are then handed over.
     #[inline(always)]
     pub fn free_later(&mut self, key: Key) -> Result<(), Key>
         requires { key.span.shard < self.old.limits.shards }
-        ensures sent { MatchResult result
-            (λ _. sent_lists self.new
-            ≡ slice_set (sent_lists self.old) key.span.shard
-            (slice_index_or (sent_lists self.old) key.span.shard [] ++ key ∷ []))
-            (λ back. (back ≡ key) × (sent_lists self.new ≡ sent_lists self.old)) }
+        ensures sent { Sends key (sent_lists self.old) result (sent_lists self.new) }
         ensures succeeds { 0 < slice_index_or (free_places self.old.outboxes) key.span.shard 0
             → IsOk result }
         ensures place { OnOk result (slice_index_or (free_places self.old.outboxes)
@@ -310,7 +299,7 @@ impl Seat {
         ensures seat { KeepsEnds self.old self.new × (self.new.section ≡ self.old.section)
             × (self.new.inboxes ≡ self.old.inboxes) }
     {
-        leave_on(&mut self.outboxes, &mut self.delay, key)
+        self.outboxes.leave(key)
     }
 
     /// Hands over the keys that were left to shards' threads and wait for their block to be full,
@@ -319,7 +308,7 @@ impl Seat {
     pub fn hand_over(&mut self)
         ensures { HandsOver self.old self.new }
     {
-        hand_over_waiting(&mut self.outboxes, &mut self.delay);
+        self.outboxes.hand_over();
     }
 
     /// Hands over what the seat has left to others, looks how many keys have come in for its shard,
@@ -329,7 +318,7 @@ impl Seat {
     ///
     /// # Errors
     ///
-    /// `AllocError` where room for the receipts of the keys that were seen on the rings was
+    /// `AllocError` if room for the receipts of the keys that were seen on the rings was
     /// refused. No key was taken then; what the seat has left to others is handed over.
     pub fn tend<G: Gate, L: Log, R: Wait, K: Receipts>(
         &mut self,
@@ -372,7 +361,7 @@ impl Seat {
     /// # Errors
     ///
     /// As those of [`Pool::receive`](pool::Pool::receive) on pool and shard as they then are:
-    /// `Ended`, `Doubled`, `PlanOpen` where a group of the shard is closed, and `OutOfMemory`.
+    /// `Ended`, `Doubled`, `PlanOpen` if a group of the shard is closed, and `OutOfMemory`.
     /// Nothing has moved then. When each comes, that call's contract says; no clause here can name
     /// what the locks guarded.
     pub fn end<G: Gate, L: Log, R: Wait>(
@@ -387,7 +376,7 @@ impl Seat {
         ended
     }
 
-    /// Begins the worker's shard again, where it has ended, under the shard's lock, as
+    /// Begins the worker's shard again, if it has ended, under the shard's lock, as
     /// [`Shard::begin`](shard::Shard::begin) does: it takes puts and adopts as before, and issues
     /// no key twice. It answers whether it had ended; a shard that runs stays as it was. Whether it
     /// had no clause here can say, since none names what the lock guarded. So a seat can go to a
@@ -408,7 +397,7 @@ impl Seat {
     /// # Errors
     ///
     /// As those of [`Pool::retire`](pool::Pool::retire) on pool and shard as they then are:
-    /// `Ended`, `Doubled`, `PlanOpen` where a group of the shard is closed, and `OutOfMemory`.
+    /// `Ended`, `Doubled`, `PlanOpen` if a group of the shard is closed, and `OutOfMemory`.
     /// Nothing has moved then. When each comes, and how many groups go, that call's contract says;
     /// no clause here can name what the locks guarded.
     pub fn retire<G: Gate, L: Log, R: Wait>(
@@ -457,17 +446,17 @@ impl Seat {
         adopted
     }
 
-    // Counts a call, where keys wait, and hands them over where it is the last that they may wait.
+    // Counts a call, if keys wait, and hands them over if it is the last that they may wait.
     #[inline(always)]
     pub(crate) fn count_call(&mut self)
         ensures { CountsCall self.old self.new }
     {
-        count_call_on(&mut self.outboxes, &mut self.delay);
+        self.outboxes.count_call();
     }
 
     // A put into the worker's shard.
     #[inline(always)]
-    fn put_by<G: Gate, L: Log, P: Patience>(
+    fn put_within<G: Gate, L: Log, P: Patience>(
         &mut self,
         patience: &P,
         arena: &Arena<G, L>,
@@ -487,7 +476,7 @@ impl Seat {
 
     // A look-up of the key, whose words go into the room.
     #[inline(always)]
-    fn get_by<G: Gate, L: Log, P: CallsKeys, W: Word>(
+    fn get_within<G: Gate, L: Log, P: CallsKeys, W: Word>(
         &mut self,
         patience: &P,
         arena: &Arena<G, L>,
@@ -508,7 +497,7 @@ impl Seat {
 
     // A set of the key to the object of these words.
     #[inline(always)]
-    fn set_by<G: Gate, L: Log, P: CallsKeys>(
+    fn set_within<G: Gate, L: Log, P: CallsKeys>(
         &mut self,
         patience: &P,
         arena: &Arena<G, L>,
@@ -527,7 +516,7 @@ impl Seat {
 
     // A free of the key.
     #[inline(always)]
-    fn free_by<G: Gate, L: Log, P: CallsKeys>(
+    fn free_within<G: Gate, L: Log, P: CallsKeys>(
         &mut self,
         patience: &P,
         arena: &Arena<G, L>,
@@ -559,7 +548,7 @@ impl Seat {
         Ok(pool.receive(&mut *shard))
     }
 
-    // Begins the worker's shard again, where it has ended.
+    // Begins the worker's shard again, if it has ended.
     fn begin_within<G: Gate, L: Log, P: Patience>(
         &mut self,
         patience: &P,
@@ -643,7 +632,7 @@ impl Seat {
             ++ inbox.new.known }
         ensures few { result ≤ MOST_KNOWN_KEYS }
     {
-        finish_on(&mut self.outboxes, shard, inbox)
+        self.outboxes.count_left(shard, inbox)
     }
 
     // Takes the known keys of each of its rings, and frees each. The receipts are of the section.

@@ -1,6 +1,6 @@
 // A worker's shard that its seat keeps out of its lock over many calls.
 ghost use Rattle.std.specs.Arc.{arc_value};
-ghost use Rattle.std.specs.Prelude.{◌≡◌, ◌<◌, ◌↔◌, ◌∷◌, ◌++◌, [], Err, IfOk, IsOk, MatchResult, None, OnErr, OnOk, Some, false, length, slice_get, slice_index_or, slice_set, true};
+ghost use Rattle.std.specs.Prelude.{◌≡◌, ◌<◌, ◌↔◌, Err, IfOk, IsOk, MatchResult, OnErr, OnOk, Some, false, length, slice_get, slice_index_or, true};
 ghost use Rattle.groups.specs.Group.{IsElsewhere};
 ghost use Rattle.shard.specs.Calls.{Frees, Gets, IsSpent, Puts, Sets};
 ghost use Rattle.shard.specs.Shown.{shown};
@@ -11,15 +11,15 @@ ghost use Rattle.shard.specs.declared.shard.replacing.Replaced.{Replaced};
 ghost use Rattle.span.specs.Classes.{width_of};
 ghost use Rattle.span.specs.PlainMap as plain;
 ghost use Rattle.arena.specs.Delays.{CountsCall, HandsOver, HasNoneWaiting, delay_begun};
-ghost use Rattle.arena.specs.Seats.{KeepsEnds, free_places, sent_lists};
+ghost use Rattle.arena.specs.Seats.{KeepsEnds, Sends, free_places, sent_lists};
 ghost use Rattle.arena.specs.Sessions.{LooksUpOwn, TellsOwn};
-ghost use Rattle.arena.specs.Told.{changes_at, free_told, set_told};
+ghost use Rattle.arena.specs.KeyAnswers.{changes_at, free_answer, set_answer};
 
 use crate::arena::Arena;
 use crate::gate::Gate;
 use crate::key_calls::{Free, Get, Set};
+use crate::lent_calls::{Issued, Looked, Outcome, free_in, get_in, set_in};
 use crate::seat::Seat;
-use crate::sections::{Issued, Looked, Outcome, free_in, get_in, set_in};
 use crate::word::Word;
 use latch::{Busy, Hold};
 use shard::{PutError, Shard};
@@ -34,7 +34,7 @@ use std::sync::Arc;
 ///
 /// Meanwhile whoever else wants the shard's lock waits, or is told that another thread has it:
 /// those who look up, set or free an object there, a mark, a close, a totalling, and a step whose
-/// owned group is there. A session waits for nobody: where a call needs a lock beside, it tries it,
+/// owned group is there. A session waits for nobody: if a call needs a lock beside, it tries it,
 /// and answers [`Busy`] with nothing changed; who asked pauses, makes the call at the seat, and
 /// begins again. So two sessions never wait for each other. A call that waits for the lock, made by
 /// the session's own thread, would wait for ever.
@@ -55,7 +55,7 @@ impl<G: Gate, L: Log> Session<G, L> {
     ///
     /// # Errors
     ///
-    /// The arena and the seat, handed back as they were, where another thread has the shard.
+    /// The arena and the seat, handed back as they were, if another thread has the shard.
     pub fn try_begin(
         arena: Arc<Arena<G, L>, Global>,
         seat: Seat,
@@ -91,7 +91,7 @@ impl<G: Gate, L: Log> Session<G, L> {
     ///
     /// # Errors
     ///
-    /// `Ended` exactly where the shard has ended, `PagesSpent` exactly where it has not, no open
+    /// `Ended` exactly if the shard has ended, `PagesSpent` exactly if it has not, no open
     /// group of the class has a usable slot, and it has as many groups as it may have pages, or has
     /// opened as many spans as it may; with `OutOfMemory` an allocation was refused. The shard is
     /// then as it was.
@@ -115,13 +115,13 @@ impl<G: Gate, L: Log> Session<G, L> {
         self.arena.put_in(&mut *self.shard.value, class, words)
     }
 
-    /// Looks the key up in the shard, as [`Shard::get`] does, and where that does not have the
+    /// Looks the key up in the shard, as [`Shard::get`] does, and if that does not have the
     /// key's span, in the place that may, if its lock is to be had. The words of what is found are
-    /// written into `room`, from its first place on, where there is room for all of them.
+    /// written into `room`, from its first place on, if there is room for all of them.
     ///
     /// # Errors
     ///
-    /// [`Busy`] only where the shard does not have the key's span, and another thread has the lock
+    /// [`Busy`] only if the shard does not have the key's span, and another thread has the lock
     /// of the place that may, or the span is not there either. Nothing is written then.
     #[inline(always)]
     pub fn try_get<W: Word>(&mut self, key: &Key, room: &mut [W]) -> Result<Looked, Busy>
@@ -142,13 +142,13 @@ impl<G: Gate, L: Log> Session<G, L> {
     }
 
     /// Sets the key's object to these words in place, in the shard, as [`Shard::set`] does, and
-    /// where that does not have the key's span, in the place that may, if its lock is to be had.
+    /// if that does not have the key's span, in the place that may, if its lock is to be had.
     /// Words that are not as many as the key's object has are not set.
     ///
     /// # Errors
     ///
     /// [`Busy`] as that of [`Session::try_get`]. Else `AllocError` in place of a set that would be
-    /// done, where the span's log could not grow. Nothing is set then.
+    /// done, if the span's log could not grow. Nothing is set then.
     pub fn try_set(
         &mut self,
         key: &Key,
@@ -157,7 +157,7 @@ impl<G: Gate, L: Log> Session<G, L> {
         ensures key { IfOk result (λ made. IfOk made (λ set. set.0 ≡ key.now)) }
         ensures told { IfOk result (λ set. IfOk set (λ told. (what : Replaced)
             × Sets self.old.shard.value.value key.now words.now what self.new.shard.value.value
-            × TellsOwn (set_told key.now what) told)) }
+            × TellsOwn (set_answer key.now what) told)) }
         ensures refused { IfOk result (λ set. OnErr set
             ((IsElsewhere self.old.shard.value.value.groups key.now.span → ⊥)
             → plain.may_set (shown self.old.shard.value.value) key.now words.now ≡ true)) }
@@ -176,7 +176,7 @@ impl<G: Gate, L: Log> Session<G, L> {
         Ok(set)
     }
 
-    /// Frees the key in the shard, as [`Shard::free`] does, and where that does not have the key's
+    /// Frees the key in the shard, as [`Shard::free`] does, and if that does not have the key's
     /// span, in the place that may, if its lock is to be had. It takes no memory.
     ///
     /// # Errors
@@ -187,7 +187,7 @@ impl<G: Gate, L: Log> Session<G, L> {
         ensures key { IfOk result (λ freed. freed.0 ≡ key.now) }
         ensures told { IfOk result (λ told. (what : Freed)
             × Frees self.old.shard.value.value key.now what self.new.shard.value.value
-            × TellsOwn (free_told key.now what) told) }
+            × TellsOwn (free_answer key.now what) told) }
         ensures seat { OnOk result (CountsCall self.old.seat self.new.seat) }
         ensures elsewhere { OnErr result
             (IsElsewhere self.old.shard.value.value.groups key.now.span) }
@@ -209,11 +209,7 @@ impl<G: Gate, L: Log> Session<G, L> {
     #[inline(always)]
     pub fn free_later(&mut self, key: Key) -> Result<(), Key>
         requires { key.span.shard < self.old.seat.limits.shards }
-        ensures sent { MatchResult result
-            (λ _. sent_lists self.new.seat
-            ≡ slice_set (sent_lists self.old.seat) key.span.shard
-            (slice_index_or (sent_lists self.old.seat) key.span.shard [] ++ key ∷ []))
-            (λ back. (back ≡ key) × (sent_lists self.new.seat ≡ sent_lists self.old.seat)) }
+        ensures sent { Sends key (sent_lists self.old.seat) result (sent_lists self.new.seat) }
         ensures succeeds { 0 < slice_index_or (free_places self.old.seat.outboxes) key.span.shard 0
             → IsOk result }
         ensures waits { OnOk result (self.new.seat.delay ≡ delay_begun self.old.seat.delay) }
@@ -278,7 +274,7 @@ fn set<G: Gate, L: Log>(
     ensures key { IfOk result (λ made. IfOk made (λ set. set.0 ≡ key.now)) }
     ensures told { IfOk result (λ set. IfOk set (λ told. (what : Replaced)
         × Sets shard.old key.now words.now what shard.new
-        × TellsOwn (set_told key.now what) told)) }
+        × TellsOwn (set_answer key.now what) told)) }
     ensures refused { IfOk result (λ set. OnErr set ((IsElsewhere shard.old.groups key.now.span → ⊥)
         → plain.may_set (shown shard.old) key.now words.now ≡ true)) }
     ensures err { IfOk result (λ set. OnErr set (shard.new ≡ shard.old)) }
@@ -302,7 +298,7 @@ fn free<G: Gate, L: Log>(
 ) -> Result<Outcome, Busy>
     ensures key { IfOk result (λ freed. freed.0 ≡ key.now) }
     ensures told { IfOk result (λ told. (what : Freed) × Frees shard.old key.now what shard.new
-        × TellsOwn (free_told key.now what) told) }
+        × TellsOwn (free_answer key.now what) told) }
     ensures elsewhere { OnErr result (IsElsewhere shard.old.groups key.now.span) }
     ensures busy { OnErr result (shard.new ≡ shard.old) }
 {

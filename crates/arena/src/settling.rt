@@ -1,7 +1,7 @@
 // Emptying the rings when all seats are in one hand.
-ghost use Rattle.std.specs.Prelude.{◌≡◌, ◌+◌, ◌<◌, ◌≤◌, ◌↔◌, ◌++◌, ℕ, [], All, IfOk, IsTrue, OnErr, OnOk, length, map, sum, slice_index_or, vec_len};
+ghost use Rattle.std.specs.Prelude.{◌≡◌, ◌+◌, ◌<◌, ◌≤◌, ◌↔◌, ◌++◌, ℕ, All, IfOk, IsTrue, OnErr, OnOk, length, map, sum, slice_index_or, vec_len};
 ghost use Rattle.arena.specs.Receipts.{AddsFrees, IsFreeBy, joined};
-ghost use Rattle.arena.specs.Seats.{AreInOrder, AreLinked, AreSeatsOf, HasItsRings, in_rings, known_lists, sending_side, taken_lists};
+ghost use Rattle.arena.specs.Seats.{AreInOrder, AreLinked, AreSeatsOf, in_rings, known_lists, sending_side, taken_lists};
 ghost use Rattle.arena.specs.Settled.{AreCounted, AreEmptied, AreSameSeats, IsSettled, greatest_section, taken_with_known};
 ghost use Rattle.remote_queue.specs.declared.ends.TheConstants.{MOST_KNOWN_KEYS};
 ghost use Rattle.span.specs.declared.limits.TheConstants.{MOST_SHARDS};
@@ -60,7 +60,7 @@ impl<G: Gate, L: Log> Arena<G, L> {
     ///
     /// # Errors
     ///
-    /// `AllocError` where room for the counts or the receipts was refused. No key was taken then.
+    /// `AllocError` if room for the counts or the receipts was refused. No key was taken then.
     pub fn settle<R: Wait, K: Receipts>(
         &self,
         rt: &R,
@@ -86,11 +86,9 @@ impl<G: Gate, L: Log> Arena<G, L> {
         ensures err { OnErr result (AreSameSeats seats.old seats.new
             × (map K.told receipts.new ≡ map K.told receipts.old)) }
     {
-        // For the prover: there are 64 shards at most.
-        let _ = self.limits.shards();
-        know_rings(seats);
+        know_rings(self, seats);
         let counts = make_room(self.alloc, seats, receipts)?;
-        let section = greatest(seats);
+        let section = greatest_section(seats);
         let mut locks = UnderLocks { rt, arena: self };
         settle_seats(&mut locks, seats, counts.as_slice(), section, receipts);
         Ok(counts)
@@ -109,11 +107,15 @@ fn are_in_order(seats: &[Seat]) -> bool
     true
 }
 
-// What the type of a seat keeps, said of each: it has the ends of its row and its column of the
-// rings.
-pub(crate) fn know_rings(seats: &[Seat])
-    ensures { All HasItsRings seats.now }
+// What the types of an arena and of its seats keep, said of all of them: their ends of rings belong
+// together.
+pub(crate) fn know_rings<G: Gate, L: Log>(arena: &Arena<G, L>, seats: &[Seat])
+    requires { AreSeatsOf arena.now.limits arena.now.table seats.now }
+    ensures linked { AreLinked seats.now }
+    ensures few { length seats.now ≤ MOST_SHARDS }
 {
+    // For the prover: there are 64 shards at most.
+    let _ = arena.limits.shards();
     for seat in seats {
         seat.knows_its_rings();
     }
@@ -133,6 +135,7 @@ pub(crate) fn make_room<K: Receipts>(
 
     // Nothing changes but room.
     ensures same { AreSameSeats seats.old seats.new }
+    ensures linked { AreLinked seats.new }
     ensures told { map K.told receipts.new ≡ map K.told receipts.old }
     ensures len { IfOk result (λ counts. vec_len counts ≡ length seats.old) }
     ensures counted { IfOk result (λ counts. (shard : ℕ) (d : _) → shard < length seats.old
@@ -158,8 +161,7 @@ pub(crate) fn settle_seats<F: Frees, K: Receipts>(
     // There is room for the receipts of all counted keys.
     requires wide { (length counts.now ≡ length seats.old)
         × (length receipts.old ≡ length seats.old) }
-    requires in_order { (shard : ℕ) (x : _) → shard < length seats.old
-        → (slice_index_or seats.old shard x).worker ≡ shard }
+    requires in_order { AreInOrder seats.old }
     requires counts { (shard : ℕ) (x d : _) → shard < length seats.old
         → (slice_index_or counts.now shard d).items
         ≡ map length (known_lists (slice_index_or seats.old shard x).inboxes) }
@@ -186,7 +188,7 @@ pub(crate) fn settle_seats<F: Frees, K: Receipts>(
 }
 
 // The greatest section of the seats.
-pub(crate) fn greatest(seats: &[Seat]) -> u64
+pub(crate) fn greatest_section(seats: &[Seat]) -> u64
     ensures { result ≡ greatest_section seats.now }
 {
     let mut most = 0;

@@ -1,14 +1,11 @@
 // Who keeps the open plan.
-ghost use Rattle.std.specs.Prelude.{◌≡◌, ◌≢◌, ◌↔◌, ◌≤◌, Err, IfOk, IsErr, IsSome, IsTrue, MatchOption, None, OnErr, OnOk, Some, false, is_some, length, map, option_map, true};
+ghost use Rattle.std.specs.Prelude.{◌≡◌, ◌≢◌, ◌↔◌, Err, IfOk, IsErr, IsSome, IsTrue, MatchOption, None, OnErr, Some, false, is_some, map, option_map, true};
 ghost use Rattle.arena.specs.Amounts.{AreTooMany as AreTooManyLent};
-ghost use Rattle.arena.specs.Locked.{latches_of, lent_by};
-ghost use Rattle.arena.specs.Sights.{IsSeen, IsTooMany};
-ghost use Rattle.arena.specs.Stewards.{begun};
-ghost use Rattle.certificate.specs.Plans.{IsBestPlanOf, IsCertificateOf, IsShortOf};
-ghost use Rattle.certificate.specs.Text.{IsWritable};
-ghost use Rattle.marks.specs.Closings.{closing, reopened};
+ghost use Rattle.arena.specs.Locked.{all_lent_by, latches_of, lent_by};
+ghost use Rattle.arena.specs.Stewards.{KeepsMark};
+ghost use Rattle.marks.specs.Closings.{reopened};
+ghost use Rattle.marks.specs.Opening.{Marks};
 ghost use Rattle.marks.specs.Plans.{next_pair, with_next_done};
-ghost use Rattle.marks.specs.Seen.{AreDistinct, with_plan_told};
 
 use crate::arena::Arena;
 use crate::gate::Gate;
@@ -16,20 +13,13 @@ use crate::locks::{LockedShard, reopen_all};
 use crate::totals::owned_totals;
 use certificate::Certificate;
 use latch::LatchGuard;
-use marks::{CurrentPlan, Limits, MarkError, mark_in, mark_some_in};
+use marks::{CurrentPlan, Limits, MarkError, Sight, mark_in};
 use mesh_graph::{MOST_GROUPS, Runner};
 use pool::Pool;
 use span::names::SpanId;
 use span::spans::Log;
 use std::alloc::{AllocError, Global};
 use std::marker::Model;
-
-// What a mark sees: every group with a page, or of each side those with the fewest live slots.
-#[derive(Clone, Copy)]
-pub(crate) enum Sight {
-    All,
-    Sparsest,
-}
 
 /// What a mark answers. Only this module makes one: under the locks of the pool and of all shards,
 /// or if the steward has a plan.
@@ -161,37 +151,14 @@ impl Steward {
         requires pool { pool.old.latch.now ≡ arena.now.pool }
         requires lent { map (λ shard. shard.guard.latch.now) shards.old ≡ arena.now.shards.items }
         requires runner { N.ready runner.now }
-        // What it gives is of all that is lent.
-        ensures best { IfOk result.made (λ found. IsBestPlanOf found.snapshot found.plan) }
-        ensures short { IfOk result.made
-            (λ found. IsShortOf found.snapshot found.plan found.short) }
-        ensures certificate { IfOk result.made (λ found. IsCertificateOf found.snapshot found.plan
-            found.short) }
-        ensures writable { IfOk result.made IsWritable }
-        ensures seen { IfOk result.made (IsSeen sight pool.old.value.value
-            (map (λ shard. shard.guard.value.value) shards.old)) }
-        ensures distinct { OnOk result.made (AreDistinct pool.old.value.value
-            (map (λ shard. shard.guard.value.value) shards.old)) }
-        // What it keeps and changes of it.
-        ensures begun { IfOk result.made (λ found. self.new ≡ begun self.old found.plan) }
-        ensures closed { IfOk result.made (λ found. map (λ shard. shard.guard.value.value)
-            shards.new ≡ map (closing found.plan) (map (λ shard. shard.guard.value.value)
-            shards.old)) }
-        ensures opened { OnOk result.made
-            (pool.new.value.value ≡ with_plan_told pool.old.value.value true) }
-        // When it is refused, and that nothing has changed then.
-        ensures plan_open { (result.made ≡ Err MarkError.PlanOpen)
-            ↔ (pool.old.value.value.has_plan ≡ true) }
-        ensures too_many { (result.made ≡ Err MarkError.TooMany)
-            ↔ ((pool.old.value.value.has_plan ≡ false) × IsTooMany sight pool.old.value.value
-            (map (λ shard. shard.guard.value.value) shards.old)) }
-        ensures doubled { result.made ≡ Err MarkError.Doubled → AreDistinct pool.old.value.value
-            (map (λ shard. shard.guard.value.value) shards.old) → ⊥ }
-        ensures err { OnErr result.made (self.new ≡ self.old) }
-        ensures err_pool { OnErr result.made (pool.new.value.value ≡ pool.old.value.value) }
+        // What it does with all that is lent, or why it does not.
+        ensures exact { Marks sight pool.old.value.value (all_lent_by shards.old) result.made
+            pool.new.value.value (all_lent_by shards.new) }
         ensures err_shards { OnErr result.made (shards.new ≡ shards.old) }
+        // What the steward keeps of it.
+        ensures keeps { KeepsMark self.old result.made self.new }
     {
-        let made = see(runner, arena.alloc, sight, &mut *pool.value, shards);
+        let made = mark_in(runner, arena.alloc, sight, &mut *pool.value, shards);
         if let Ok(found) = &made {
             self.plan.begin(found.plan.pairs());
         }
@@ -217,42 +184,6 @@ impl Steward {
         reopen_all(shards);
         pool.value.plan_closed();
         self.plan.end();
-    }
-}
-
-// A mark of what is in sight of the pool and the shards.
-fn see<L: Log, N: Runner>(
-    runner: &N,
-    alloc: Global,
-    sight: Sight,
-    pool: &mut Pool<L>,
-    shards: &mut [LockedShard<'_, L>],
-) -> Result<Certificate, MarkError>
-    requires some { 1 ≤ length shards.old }
-    requires runner { N.ready runner.now }
-    ensures best { IfOk result (λ found. IsBestPlanOf found.snapshot found.plan) }
-    ensures short { IfOk result (λ found. IsShortOf found.snapshot found.plan found.short) }
-    ensures certificate { IfOk result (λ found. IsCertificateOf found.snapshot found.plan
-        found.short) }
-    ensures writable { IfOk result IsWritable }
-    ensures seen { IfOk result
-        (IsSeen sight pool.old (map (λ shard. shard.guard.value.value) shards.old)) }
-    ensures distinct { OnOk result
-        (AreDistinct pool.old (map (λ shard. shard.guard.value.value) shards.old)) }
-    ensures closed { IfOk result (λ found. map (λ shard. shard.guard.value.value) shards.new
-        ≡ map (closing found.plan) (map (λ shard. shard.guard.value.value) shards.old)) }
-    ensures opened { OnOk result (pool.new ≡ with_plan_told pool.old true) }
-    ensures plan_open { (result ≡ Err MarkError.PlanOpen) ↔ (pool.old.has_plan ≡ true) }
-    ensures too_many { (result ≡ Err MarkError.TooMany) ↔ ((pool.old.has_plan ≡ false)
-        × IsTooMany sight pool.old (map (λ shard. shard.guard.value.value) shards.old)) }
-    ensures doubled { result ≡ Err MarkError.Doubled
-        → AreDistinct pool.old (map (λ shard. shard.guard.value.value) shards.old) → ⊥ }
-    ensures err { OnErr result (pool.new ≡ pool.old) }
-    ensures err_shards { OnErr result (shards.new ≡ shards.old) }
-{
-    match sight {
-        Sight::All => mark_in(runner, alloc, pool, shards),
-        Sight::Sparsest => mark_some_in(runner, alloc, pool, shards),
     }
 }
 

@@ -66,7 +66,7 @@ pub(crate) fn tend_rings<G: Gate, L: Log, P: CallsKeys, K: Receipts>(
     }
 }
 
-// How many keys are taken from a ring: those that are known, at most that many, and none where the
+// How many keys are taken from a ring: those that are known, at most that many, and none if the
 // call has left off.
 fn keys_to_take(inbox: &Inbox, most: usize, is_busy: bool) -> usize
     ensures { result ≤ known_count most inbox.now }

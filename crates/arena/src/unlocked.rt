@@ -1,5 +1,5 @@
 // What is behind the locks of an arena, in one hand.
-ghost use Rattle.std.specs.Prelude.{◌≡◌, ◌+◌, ◌*◌, ◌≤◌, ◌++◌, [], IfOk, IfSome, flat_map, length, map, vec_capacity, vec_len};
+ghost use Rattle.std.specs.Prelude.{◌≡◌, ◌+◌, ◌*◌, ◌≤◌, ◌++◌, IfOk, IfSome, flat_map, length, map, vec_capacity, vec_len};
 ghost use Rattle.groups.specs.Group.{spans_in};
 ghost use Rattle.span.specs.SpanLogs.{AreLegal, room_for_logs, span_of_log};
 ghost use Rattle.arena.specs.Receipts.{IsFreeBy};
@@ -8,7 +8,7 @@ ghost use Rattle.span.specs.declared.limits.TheConstants.{ALL_IDS, MOST_SHARDS};
 
 use crate::arena::Arena;
 use crate::gate::Gate;
-use crate::sections::{free_in, free_pool};
+use crate::lent_calls::{free_in, free_pool};
 use crate::settling::Frees;
 use latch::Latch;
 use pool::Pool;

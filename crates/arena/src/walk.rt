@@ -1,8 +1,7 @@
 // A walk over the live keys of an arena, beside the threads that change them.
-ghost use Rattle.std.specs.Prelude.{◌≡◌, ◌≤◌, ◌<◌, ◌^◌, IfOk, IfSome, None, OnErr};
+ghost use Rattle.std.specs.Prelude.{◌≡◌, ◌≤◌, IfOk, IfSome, None};
 ghost use Rattle.arena.specs.KeyCalls.{FindsFirstIn, FindsFirstInPool};
 ghost use Rattle.arena.specs.Walks.{HasGoneOn, IsAhead, walk_after};
-ghost use Rattle.span.specs.declared.limits.TheConstants.{MOST_SHARDS};
 
 use crate::arena::Arena;
 use crate::calling::{CallsKeys, KeyCall};
@@ -33,7 +32,7 @@ pub struct Walk {
 }
 
 impl Walk {
-    /// The next live key, behind which the walk then stands, or `None` where the walk has come to
+    /// The next live key, behind which the walk then stands, or `None` if the walk has come to
     /// its end. It takes one lock at a time, of whoever has the span that it looks at, and no
     /// memory. A call looks at one span after another that was opened, up to the first that has a
     /// live slot.
@@ -46,11 +45,11 @@ impl Walk {
         next
     }
 
-    /// What [`Walk::next`] does, where no other thread has a lock that it asks for.
+    /// What [`Walk::next`] does, if no other thread has a lock that it asks for.
     ///
     /// # Errors
     ///
-    /// [`Busy`] where another thread has one. The walk then stands at the span in question, so that
+    /// [`Busy`] if another thread has one. The walk then stands at the span in question, so that
     /// the next call goes on from there.
     pub fn try_next<G: Gate, L: Log>(&mut self, arena: &Arena<G, L>) -> Result<Option<Key>, Busy>
         ensures ahead { IfOk result (λ next. IfSome next (IsAhead self.old)) }

@@ -13,7 +13,8 @@ use Rattle.std.specs.List.{IsDistinct}
 use Rattle.std.specs.Prelude.{map}
 use Rattle.marks.specs.Closings.{AreOpen}
 use Rattle.marks.specs.Numbers.{Limits}
-use Rattle.marks.specs.Seen.{AreDistinct, AreTooMany, IsLargestInPart, owned_entries}
+use Rattle.marks.specs.Seen.{AreDistinct, AreTooMany, IsLargest, owned_entries}
+use Rattle.marks.specs.declared.sight.Sight.TheVariants.{Sparsest}
 use Rattle.arena_core.specs.Made.{all_shards, new_shard_of}
 use Rattle.arena_core.proofs.Made.{completed-flat_map, made-get}
 
@@ -35,18 +36,15 @@ module _ (limits : Limits) (made : List ShardState) where
     owned = subst (λ (entries : List Entry). IsDistinct same_span (ids entries)) owned_entries-all distinct.owned;
   }
 
-  pub IsLargestInPart-all : (pool : PoolState) (found : Certificate) → IsLargestInPart pool made found → IsLargestInPart pool (all_shards limits made) found
-  IsLargestInPart-all pool found largest = record {
+  pub IsLargest-all : (pool : PoolState) (found : Certificate) → IsLargest Sparsest pool made found → IsLargest Sparsest pool (all_shards limits made) found
+  IsLargest-all pool found largest = record {
     seen = record {
       abandoned = largest.seen.abandoned;
       owned = subst (λ (entries : List Entry). AreSparsest MOST_GROUPS entries found.snapshot.owned) (sym owned_entries-all) largest.seen.owned;
       abandoned_ascending = largest.seen.abandoned_ascending;
       owned_ascending = largest.seen.owned_ascending;
     };
-    best = largest.best;
-    short = largest.short;
-    certificate = largest.certificate;
-    writable = largest.writable;
+    shown = largest.shown;
   }
 
   pub AreOpen-made : AreOpen (all_shards limits made) → AreOpen made

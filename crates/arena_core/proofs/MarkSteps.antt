@@ -21,7 +21,8 @@ use Rattle.certificate.specs.declared.certificate.Certificate.{Certificate}
 use Rattle.marks.specs.Closings.{AreOpen, closed_as_planned, closed_onto, reopened}
 use Rattle.arena_core.specs.Kept.{shards_of, state_of}
 use Rattle.arena_core.specs.Made.{all_shards, new_shard_of}
-use Rattle.marks.specs.Seen.{IsLargestInPart}
+use Rattle.marks.specs.Seen.{IsLargest}
+use Rattle.marks.specs.declared.sight.Sight.TheVariants.{Sparsest}
 use Rattle.marks.specs.Plans.{next_pair, plans_onto, with_next_done, OpenPlan}
 use Rattle.arena_core.specs.Moved.{StandsIn, WhereaboutsState}
 use Rattle.arena_core.specs.Plan.{IsNext, IsOwned, IsUnderWay}
@@ -63,7 +64,7 @@ one_owned core sound head a b is_a is_b =
 
 -- a mark
 
-module _ (old : CoreState) (sound : IsSound old) (found : Certificate) (largest : IsLargestInPart old.pool old.shards found) where
+module _ (old : CoreState) (sound : IsSound old) (found : Certificate) (largest : IsLargest Sparsest old.pool old.shards found) where
   abbrev pub marked : CoreState
   marked = with_plan_opened old found.plan
 
@@ -91,7 +92,7 @@ module _ (old : CoreState) (sound : IsSound old) (found : Certificate) (largest 
 
   under_way : IsUnderWay marked (record { pairs = found.plan; done = 0 })
   under_way =
-      IsUnderWay-marked old marked found.snapshot found.plan largest.seen largest.best.plan
+      IsUnderWay-marked old marked found.snapshot found.plan largest.seen largest.shown.best.plan
       (λ head group is. record { index = is.index; head_of = is.head_of }) owned_still
 
   -- a group with no page is not planned, since the group of that head has one

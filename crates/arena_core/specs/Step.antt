@@ -27,7 +27,9 @@ use Rattle.arena_core.specs.declared.reply.Reply.TheVariants.{Issued, Found, Rep
 use Rattle.arena_core.specs.declared.reply.Refusal.TheVariants.{OutOfMemory, PagesSpent, Ended, Running, PlanOpen, TooMany, NothingToAdopt, RingFull, Config}
 use Rattle.arena_core.specs.Sound.{IsSound}
 use Rattle.marks.specs.Closings.{closed_onto, reopened}
-use Rattle.marks.specs.Seen.{AreTooMany, IsLargest, IsLargestInPart, with_plan_told}
+use Rattle.marks.specs.Seen.{AreTooMany, IsLargest, with_plan_told}
+use Rattle.marks.specs.declared.sight.Sight.{Sight}
+use Rattle.marks.specs.declared.sight.Sight.TheVariants.{All, Sparsest}
 use Rattle.arena_core.specs.Plan.{IsCarriedOut, IsEmptyInPool, IsNext}
 use Rattle.marks.specs.Plans.{with_next_done, OpenPlan}
 use Rattle.arena_core.specs.Rings.{RingState, ring_at, with_keys, with_ring_at}
@@ -256,17 +258,12 @@ with_plan_opened core pairs = record core {
   plan = Some (record { pairs = pairs; done = 0 });
 }
 
--- a mark: of what it sees it makes a largest plan with its short set, opens the plan and closes the
--- groups that are planned onto
-pub record Marks (old : CoreState) (certificate : Certificate) (new : CoreState) : Type 0 where
+-- a mark: of what is in sight it makes a largest plan with its short set, opens the plan and closes
+-- the groups that are planned onto
+pub record Marks (sight : Sight) (old : CoreState) (certificate : Certificate) (new : CoreState) :
+    Type 0 where
   pub no_plan : old.plan ≡ None
-  pub largest : IsLargest old.pool old.shards certificate
-  pub after : new ≡ with_plan_opened old certificate.plan
-
--- a mark of the groups of each side with the fewest live slots does the same with these
-pub record MarksSome (old : CoreState) (certificate : Certificate) (new : CoreState) : Type 0 where
-  pub no_plan : old.plan ≡ None
-  pub largest : IsLargestInPart old.pool old.shards certificate
+  pub largest : IsLargest sight old.pool old.shards certificate
   pub after : new ≡ with_plan_opened old certificate.plan
 
 -- the next pair is folded: the spans of the abandoned group are guests of the owned one, on its
@@ -370,11 +367,11 @@ CoreStep old (Adopt shard) (Refused NothingToAdopt) new = MayTake old shard × (
 CoreStep old (Adopt shard) (Refused Config) new = (old.limits.shards ≤ shard) × (old.plan ≡ None)
     × (HasNothingToAdopt old.pool → ⊥) × (new ≡ old)
 CoreStep old (Adopt shard) (Refused OutOfMemory) new = MayAdopt old shard × (new ≡ old)
-CoreStep old Mark (Marked certificate) new = Marks old certificate new
+CoreStep old Mark (Marked certificate) new = Marks All old certificate new
 CoreStep old Mark (Refused PlanOpen) new = HasPlan old × (new ≡ old)
 CoreStep old Mark (Refused TooMany) new = (old.plan ≡ None) × HasTooMany old × (new ≡ old)
 CoreStep old Mark (Refused OutOfMemory) new = MayMark old × (new ≡ old)
-CoreStep old MarkSome (Marked certificate) new = MarksSome old certificate new
+CoreStep old MarkSome (Marked certificate) new = Marks Sparsest old certificate new
 CoreStep old MarkSome (Refused PlanOpen) new = HasPlan old × (new ≡ old)
 CoreStep old MarkSome (Refused OutOfMemory) new = (old.plan ≡ None) × (new ≡ old)
 CoreStep old Step (Stepped abandoned owned outcome) new =

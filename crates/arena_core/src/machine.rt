@@ -78,9 +78,9 @@ impl Core<Kept> {
     /// `gens`. From each of as many workers as shards there is a ring to each shard, which holds
     /// `ring_capacity` keys of deferred frees; its room is made with its first key.
     ///
-    /// [`CoreError::Config`] comes exactly where a number is out of its range, which is 1 to 64
-    /// shards, 1 to 1,048,576 pages, 1 to 1,024 entries, and from 1 generation on. No other error
-    /// comes, since a new core takes no memory.
+    /// [`CoreError::Config`] comes exactly if a number is out of its range, which is 1 to 64
+    /// shards, 1 to 1,048,576 pages, 1 to 1,024 entries, and from 1 generation on. A new core takes
+    /// no memory.
     pub fn new(
         alloc: Global,
         shards: u32,
@@ -121,7 +121,7 @@ impl<L: Log> Core<L> {
         let Some(limits) = Limits::new(shards, page_limit, ring_capacity, gens) else {
             return Err(CoreError::Config);
         };
-        Core::with_limits(alloc, limits)
+        Ok(Core::with_limits(alloc, limits))
     }
 
     /// A core of new shards by all of its numbers, how many spans a shard may open among them,
@@ -129,14 +129,13 @@ impl<L: Log> Core<L> {
     ///
     /// It takes no memory: a shard takes its own with the first object, group or end of it, and
     /// those of lower numbers with it.
-    pub fn with_limits(alloc: Global, limits: Limits) -> Result<Core<L>, CoreError>
-        ensures ok { IfOk result (λ core. core ≡ new_core limits) }
-        ensures made { IsOk result }
-        ensures empty { IfOk result (λ core. shown core ≡ empty_map) }
-        ensures sound { IfOk result IsSound }
+    pub fn with_limits(alloc: Global, limits: Limits) -> Core<L>
+        ensures core { result ≡ new_core limits }
+        ensures empty { shown result ≡ empty_map }
+        ensures sound { IsSound result }
     {
         let rings = Rings::new(alloc, limits.shards(), limits.ring_capacity());
-        Ok(Core {
+        Core {
             alloc,
             limits,
             shards: Vec::new(alloc),
@@ -145,7 +144,7 @@ impl<L: Log> Core<L> {
             whereabouts: Whereabouts::new(alloc),
             rings,
             forgotten: GhostList::new(),
-        })
+        }
     }
 
     /// Takes the event and answers it. The replies to puts, look-ups, sets, frees, deferred frees

@@ -96,10 +96,10 @@ status_of (fault.Audit c) = 4
 status_of fault.SinkFailed = 5
 status_of (fault.Io file error) = 5
 
--- the status with which the program ends where a fault was not told
-abbrev pub status_where_untold : TellError → ℕ
-status_where_untold tell_error.OutOfMemory = 3
-status_where_untold tell_error.SinkFailed = 5
+-- the status with which the program ends if a fault was not reported
+abbrev pub status_if_unreported : TellError → ℕ
+status_if_unreported tell_error.OutOfMemory = 3
+status_if_unreported tell_error.SinkFailed = 5
 
 -- `line N: SAID`
 abbrev pub line_message : ℕ → List ℕ → List ℕ

@@ -2,7 +2,7 @@
 
 ghost use Rattle.std.specs.Prelude.{◌≡◌, ◌<◌, ◌+◌, ◌++◌, ◌-◌, ◌^◌, true, false, MatchBool, IfOk, OnOk, IsErrOf};
 ghost use Rattle.command_line.specs.declared.telling.TellError.TheVariants as tell_error;
-ghost use Rattle.command_line.specs.Telling.{IsMessage, TakesFront, TakesMessage, asks_for_help, audit_message, file_message, line_message, status_of, status_where_untold, text_message};
+ghost use Rattle.command_line.specs.Telling.{IsMessage, TakesFront, TakesMessage, asks_for_help, audit_message, file_message, line_message, status_of, status_if_unreported, text_message};
 ghost use Rattle.command_line.specs.Job.{bytes_of};
 
 use crate::fault::Fault;
@@ -27,7 +27,7 @@ pub enum TellError {
 impl TellError {
     /// The status with which the program ends: 3 where memory ran out, and 5 where a write failed.
     pub fn status(&self) -> u8
-        ensures { result ≡ status_where_untold self.now }
+        ensures { result ≡ status_if_unreported self.now }
     {
         match self {
             TellError::OutOfMemory => 3,

@@ -1,8 +1,7 @@
 // Sets as a row of bits for each slot.
-ghost use Rattle.std.specs.Prelude.{◌≡◌, ◌==◌, ℕ, ◌+◌, ◌/◌, ◌^◌, ◌<◌, not, IfOk, IfSome, length, slice_get, slice_index};
-ghost use Rattle.std.specs.List.{list_any};
+ghost use Rattle.std.specs.Prelude.{◌≡◌, ℕ, ◌+◌, ◌/◌, IfOk, IfSome, length, slice_get};
 ghost use Rattle.bitmap.specs.Slots.{has_bit};
-ghost use Rattle.lane_kernels.specs.Disjoint.{are_disjoint, fits};
+ghost use Rattle.lane_kernels.specs.Disjoint.{fits};
 ghost use Rattle.lane_kernels.specs.Rows.{AreFewest, AreSlotRows, IsFullRow, width_of};
 
 use crate::by_slots::take_off_all;
@@ -119,17 +118,6 @@ impl SlotRows {
             _ => self.planes.disjoint_row_by_counts(set, &self.fewest, row),
         }
     }
-
-    /// Whether some set is disjoint from the given one. What the row has is written over: it is
-    /// lent so that no call takes memory.
-    pub fn has_disjoint(&self, set: &Bits256, row: &mut [u64]) -> bool
-        requires { length row.old ≡ (length self.now + 63) / 64 }
-        ensures len { length row.new ≡ length row.old }
-        ensures some { result ≡ list_any (λ other. are_disjoint other set.now) self.now }
-    {
-        self.disjoint_row(set, row);
-        has_any_bit(row)
-    }
 }
 
 // The row of a set that is disjoint from all.
@@ -176,12 +164,4 @@ fn write_row(set: &Bits256, planes: &Planes, rows: &[u64], full: &[u64], row: &m
     // For the prover: the set has no slot past those that have a row.
     let _count = set.count();
     take_off_all(set, rows, row);
-}
-
-// Whether a bit is set.
-fn has_any_bit(row: &[u64]) -> bool
-    ensures any { result ≡ list_any (λ word. not (word == 0)) row.now }
-    ensures words { (k : ℕ) → slice_index row.now k < 2 ^ 64 }
-{
-    row.iter().any(|word| *word != 0)
 }

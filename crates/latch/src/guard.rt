@@ -4,7 +4,7 @@ ghost use Rattle.std.specs.Prelude.{◌≡◌};
 use crate::latch::{Latch, Turn};
 use std::ops::{Deref, DerefMut};
 
-/// Lends the value of a [`Latch`] to one thread, and gives it back where it is dropped.
+/// Lends the value of a [`Latch`] to one thread, and gives it back when it is dropped.
 pub struct LatchGuard<'a, T: Drop> {
     /// The latch that lends it.
     pub latch: &'a Latch<T>,

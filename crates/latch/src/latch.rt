@@ -98,7 +98,7 @@ impl<T: Drop> Latch<T> {
     ///
     /// # Errors
     ///
-    /// `AllocError` where memory for the box, or for the 256 bytes of words and the 144 of slots
+    /// `AllocError` if memory for the box, or for the 256 bytes of words and the 144 of slots
     /// beside it, was refused.
     pub fn new(alloc: Global, value: T) -> Result<Latch<T>, AllocError> {
         let Ok(boxed) = Box::new(alloc, value) else {
@@ -117,7 +117,7 @@ impl<T: Drop> Latch<T> {
     ///
     /// # Errors
     ///
-    /// [`Busy`] where another thread has the value at each look.
+    /// [`Busy`] if another thread has the value at each look.
     // Inlined, the guard stays in registers: a call passes it through memory.
     #[inline(always)]
     pub fn try_lock(&self) -> Result<LatchGuard<'_, T>, Busy>
@@ -131,12 +131,12 @@ impl<T: Drop> Latch<T> {
     /// and looks 50 times at most.
     ///
     /// A [`LatchGuard`] takes the value out of its slot and puts it back, which writes to one more
-    /// cache line: where threads take turns at a latch, that line goes from processor to processor,
+    /// cache line: if threads take turns at a latch, that line goes from processor to processor,
     /// too.
     ///
     /// # Errors
     ///
-    /// [`Busy`] where another thread has the value at each look. The call is not made then.
+    /// [`Busy`] if another thread has the value at each look. The call is not made then.
     #[inline(always)]
     pub fn try_ask<W, C: Ask<T, W>>(&self, call: &C, room: &mut [W]) -> Result<C::Answer, Busy>
         ensures does { IfOk result (λ answer. (before : T) × (after : T)
@@ -154,7 +154,7 @@ impl<T: Drop> Latch<T> {
     ///
     /// # Errors
     ///
-    /// [`Busy`] where another thread has the value at each look.
+    /// [`Busy`] if another thread has the value at each look.
     #[inline(always)]
     pub fn try_hold(&self) -> Result<Hold<T>, Busy>
         ensures { IfOk result (λ hold. hold.turn ≡ self.now) }
@@ -167,7 +167,7 @@ impl<T: Drop> Latch<T> {
         Ok(Hold { turn, value })
     }
 
-    // The seat that has the slot, where no thread has it at one of 50 looks.
+    // The seat that has the slot, if no thread has it at one of 50 looks.
     #[inline(always)]
     fn seat(&self) -> Result<Seat<Option<Box<T>>, ()>, Busy>
         ensures { IfOk result (λ seat. (seat.table_id ≡ self.now) × HasSlot seat.me.1) }
@@ -220,7 +220,7 @@ impl<T: Drop> Latch<T> {
         unreachable!()
     }
 
-    // The seat that has the slot, where no thread has it now.
+    // The seat that has the slot, if no thread has it now.
     #[inline(always)]
     fn take(&self) -> Option<Seat<Option<Box<T>>, ()>>
         ensures { IfSome result (λ seat. (seat.table_id ≡ self.now) × HasSlot seat.me.1) }

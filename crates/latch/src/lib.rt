@@ -21,7 +21,7 @@
 //!
 //! ```text
 //! let latch = Latch::new(alloc, shard)?;
-//! let mut guard = latch.try_lock()?;   // Busy, where another thread has it
+//! let mut guard = latch.try_lock()?;   // Busy, if another thread has it
 //! guard.put(object)?;                  // the shard's own call
 //! drop(guard);                         // from now on another thread may have it
 //! ```

@@ -2,5 +2,6 @@ pub mod Apart
 pub mod Closings
 pub mod Numbers
 pub mod OneShard
+pub mod Opening
 pub mod Plans
 pub mod Seen

@@ -1,4 +1,4 @@
--- What a mark sees of the pool and the shards, and what it answers.
+-- What a mark sees of the pool and the shards, and the plan that it answers.
 use Rattle.std.specs.Prelude.{◌≡◌, ◌⊎◌, ℕ, ◌<◌, Bool, List, length, map, Some, slice_get}
 use Rattle.std.specs.List.{IsDistinct, flat_map}
 use Rattle.std.specs.List.Sorted.{IsPermutation}
@@ -11,6 +11,8 @@ use Rattle.span.specs.declared.entry.Entry.{Entry}
 use Rattle.mesh_graph.specs.Groups.{Groups, IsAscending, ids}
 use Rattle.mesh_graph.specs.Sparsest.{AreSparsest}
 use Rattle.certificate.specs.declared.certificate.Certificate.{Certificate}
+use Rattle.marks.specs.declared.sight.Sight.{Sight}
+use Rattle.marks.specs.declared.sight.Sight.TheVariants.{All, Sparsest}
 use Rattle.certificate.specs.Plans.{IsBestPlanOf, IsCertificateOf, IsShortOf}
 use Rattle.certificate.specs.Text.{IsWritable}
 use Rattle.mesh_graph.specs.declared.build.TheConstants.{MOST_GROUPS}
@@ -44,6 +46,11 @@ pub record AreDistinct (pool : PoolState) (shards : List ShardState) : Type 0 wh
   pub abandoned : IsDistinct same_span (ids (abandoned_entries pool))
   pub owned : IsDistinct same_span (ids (owned_entries shards))
 
+-- what is in sight of a mark: all groups that have a page, or those with the fewest live slots
+abbrev pub IsInSight : Sight → PoolState → List ShardState → Groups → Type 0
+IsInSight All = IsSeen
+IsInSight Sparsest = IsSeenInPart
+
 -- each of the shards is sound; so one that has ended has no group
 abbrev pub AreSound : List ShardState → Type 0
 AreSound shards = (number : ℕ) (shard : ShardState) → slice_get shards number ≡ Some shard
@@ -54,24 +61,24 @@ abbrev pub AreTooMany : PoolState → List ShardState → Type 0
 AreTooMany pool shards = (MOST_GROUPS < length (abandoned_entries pool))
     ⊎ (MOST_GROUPS < length (owned_entries shards))
 
--- a snapshot of the pool and the shards, a plan of it with the most pairs, and the short set that
--- shows this; the whole can be written as a text
-pub record IsLargest (pool : PoolState) (shards : List ShardState) (found : Certificate) :
-    Type 0 where
-  pub seen : IsSeen pool shards found.snapshot
+-- more groups with a page are in sight than a plan may have
+abbrev pub IsTooMany : Sight → PoolState → List ShardState → Type 0
+IsTooMany All pool shards = AreTooMany pool shards
+IsTooMany Sparsest pool shards = ⊥
+
+-- the plan has the most pairs that a plan of the snapshot may have, the short set shows this, and
+-- the whole can be written as a text
+pub record IsShown (found : Certificate) : Type 0 where
   pub best : IsBestPlanOf found.snapshot found.plan
   pub short : IsShortOf found.snapshot found.plan found.short
   pub certificate : IsCertificateOf found.snapshot found.plan found.short
   pub writable : IsWritable found
 
--- the same of a snapshot of the groups with the fewest live slots
-pub record IsLargestInPart (pool : PoolState) (shards : List ShardState) (found : Certificate) :
-    Type 0 where
-  pub seen : IsSeenInPart pool shards found.snapshot
-  pub best : IsBestPlanOf found.snapshot found.plan
-  pub short : IsShortOf found.snapshot found.plan found.short
-  pub certificate : IsCertificateOf found.snapshot found.plan found.short
-  pub writable : IsWritable found
+-- a largest plan of what is in sight of the pool and the shards, with what shows it
+pub record IsLargest (sight : Sight) (pool : PoolState) (shards : List ShardState)
+    (found : Certificate) : Type 0 where
+  pub seen : IsInSight sight pool shards found.snapshot
+  pub shown : IsShown found
 
 -- the pool, which knows whether a plan is open
 abbrev pub with_plan_told : PoolState → Bool → PoolState

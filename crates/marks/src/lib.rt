@@ -3,8 +3,8 @@
 //!
 //! A core has its shards and its pool in one value, an arena has each behind a lock of its own.
 //! What both are asked in the same words stands here, once: the numbers that they are opened with
-//! ([`Limits`]), how much they keep ([`Totals`]), the mark ([`mark_in`]), that of more groups than
-//! a plan may have ([`mark_some_in`]), and the plan that they open ([`CurrentPlan`]).
+//! ([`Limits`]), how much they keep ([`Totals`]), the mark ([`mark_in`]) of all groups or of the
+//! sparsest ([`Sight`]), and the plan that they open ([`CurrentPlan`]).
 //!
 //! ```text
 //!   pool    ──► groups that have a page ──┐
@@ -21,8 +21,9 @@
 //! # Examples
 //!
 //! ```text
-//! let mut plan = CurrentPlan::new(alloc)?;                    // in room for 4,096 pairs
-//! let found = mark_in(&AtHand, alloc, &mut pool, &mut shards)?; // a Certificate
+//! let mut plan = CurrentPlan::new(alloc)?; // in room for 4,096 pairs
+//! // A Certificate.
+//! let found = mark_in(&AtHand, alloc, Sight::All, &mut pool, &mut shards)?;
 //! plan.begin(found.plan.pairs());
 //! while let Some((abandoned, owned)) = plan.next() {
 //!     fold_one(&mut pool, shard_that_has(owned), abandoned, owned)?;
@@ -41,6 +42,7 @@ mod lends_shard;
 mod limits;
 mod marking;
 mod own_heads;
+mod sight;
 mod sparse;
 mod totals;
 
@@ -49,5 +51,6 @@ pub use current_plan::CurrentPlan;
 pub use error::MarkError;
 pub use lends_shard::LendsShard;
 pub use limits::Limits;
-pub use marking::{has_too_many, mark_in, mark_some_in};
+pub use marking::{has_too_many, mark_in};
+pub use sight::Sight;
 pub use totals::Totals;

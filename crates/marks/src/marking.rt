@@ -1,19 +1,20 @@
 // What a mark sees, and the largest plan of it.
-ghost use Rattle.std.specs.Prelude.{◌≡◌, ◌≢◌, ◌↔◌, ◌+◌, ◌-◌, ◌^◌, ◌≤◌, ◌++◌, Err, IfOk, IsTrue, MatchResult, OnErr, OnOk, false, length, map, min, sum_by, true};
+ghost use Rattle.std.specs.Prelude.{◌≡◌, ◌↔◌, ◌-◌, ◌^◌, ◌≤◌, ◌++◌, IfOk, IsTrue, OnErr, OnOk, length, map, min, sum_by};
 ghost use Rattle.std.specs.List.{All};
 ghost use Rattle.shard.specs.Sound.{IsSound as IsSoundShard};
 ghost use Rattle.groups.specs.Group.{paged_in, summary};
 ghost use Rattle.pool.specs.Sound.{IsSound as IsSoundPool};
 ghost use Rattle.certificate.specs.Plans.{IsBestPlanOf, IsCertificateOf, IsShortOf};
-ghost use Rattle.certificate.specs.Text.{FitsClass, IsWritable};
-ghost use Rattle.marks.specs.Closings.{closing};
-ghost use Rattle.marks.specs.Seen.{AreDistinct, AreSound, AreTooMany, IsLargest, IsLargestInPart, IsSeen, with_plan_told, owned_entries};
+ghost use Rattle.certificate.specs.Text.{FitsClass};
+ghost use Rattle.marks.specs.Opening.{Marks};
+ghost use Rattle.marks.specs.Seen.{AreDistinct, AreSound, AreTooMany, IsSeen, IsShown, IsTooMany, owned_entries};
 ghost use Rattle.mesh_graph.specs.Groups.{IsAscending};
 ghost use Rattle.mesh_graph.specs.declared.build.TheConstants.{MOST_GROUPS};
 
 use crate::closing::close_planned;
 use crate::error::MarkError;
 use crate::lends_shard::LendsShard;
+use crate::sight::Sight;
 use crate::sparse::sparse_snapshot_of;
 use augment::plan;
 use certificate::{Certificate, Plan, Short};
@@ -21,88 +22,42 @@ use mesh_graph::{BuildError, Doubled, Entry, Graph, MOST_GROUPS, Runner, Snapsho
 use pool::Pool;
 use std::alloc::{AllocError, Global};
 
-/// A mark of the pool and the shards that are lent: it takes a snapshot of every group of the pool
-/// and of the shards that has a page, makes a plan of as many folds as can be, tells the pool that
-/// a plan is open, and closes the groups onto which the plan folds, so that they take no put. It
-/// gives the snapshot, the plan and the short set that shows the plan best. A runner that goes by
-/// pieces fills the rows of its graph in as many as there are shards, and in one if there is none;
-/// what the mark gives does not depend on it.
+/// A mark of the pool and the shards that are lent: it takes a snapshot of what is in sight
+/// ([`Sight`]), makes a plan of as many folds as can be, tells the pool that a plan is open, and
+/// closes the groups onto which the plan folds, so that they take no put. It gives the snapshot,
+/// the plan and the short set that shows the plan best. After a mark of the sparsest groups, more
+/// can be folded by a further one. A runner that goes by pieces fills the rows of its graph in as
+/// many as there are shards, and in one if there is none; what the mark gives does not depend on
+/// it.
 ///
 /// # Errors
 ///
-/// The first of these that holds: `PlanOpen` where a plan is open; `TooMany` where a side has more
-/// than 4,096 groups with a page, of which [`mark_some_in`] sees a part; `Doubled` where two of
-/// those of a side have the same head, which takes memory to tell. `OutOfMemory` where an
-/// allocation was refused and neither of the first two holds. All allocations stand before the
-/// first change.
+/// The first of these that holds: `PlanOpen` if a plan is open; `TooMany` if all is in sight and a
+/// side has more than 4,096 groups with a page; `Doubled` if two groups of a side that have a page
+/// have the same head, which takes memory to tell. `OutOfMemory` if an allocation was refused and
+/// neither of the first two holds. All allocations stand before the first change.
 pub fn mark_in<R: Runner, H: LendsShard>(
     runner: &R,
     alloc: Global,
+    sight: Sight,
     pool: &mut Pool<H::Log>,
     shards: &mut [H],
 ) -> Result<Certificate, MarkError>
     requires ready { R.ready runner.now }
-    // What it gives, and what has changed then.
-    ensures largest { IfOk result (IsLargest pool.old (map H.lent shards.old)) }
-    ensures distinct { OnOk result (AreDistinct pool.old (map H.lent shards.old)) }
-    ensures closed { IfOk result
-        (λ found. map H.lent shards.new ≡ map (closing found.plan) (map H.lent shards.old)) }
-    ensures opened { OnOk result (pool.new ≡ with_plan_told pool.old true) }
+    // A largest plan is open, with what shows it; or why there is none, and nothing has changed.
+    ensures exact { Marks sight pool.old (map H.lent shards.old) result pool.new
+        (map H.lent shards.new) }
+    ensures err_shards { OnErr result (shards.new ≡ shards.old) }
     // All is sound, before and after.
     ensures sound { OnOk result (AreSound (map H.lent shards.old)) }
     ensures sound_new { OnOk result (AreSound (map H.lent shards.new)) }
     ensures sound_pool { OnOk result (IsSoundPool pool.new) }
-    // When it is refused, and that nothing has changed then.
-    ensures plan_open { (result ≡ Err MarkError.PlanOpen) ↔ (pool.old.has_plan ≡ true) }
-    ensures too_many { (result ≡ Err MarkError.TooMany)
-        ↔ ((pool.old.has_plan ≡ false) × AreTooMany pool.old (map H.lent shards.old)) }
-    ensures doubled { result ≡ Err MarkError.Doubled → AreDistinct pool.old (map H.lent shards.old)
-        → ⊥ }
-    ensures err { OnErr result (pool.new ≡ pool.old) }
-    ensures err_shards { OnErr result (shards.new ≡ shards.old) }
-{
-    if !pool.has_plan() && has_too_many(pool, shards) {
-        return Err(MarkError::TooMany);
-    }
-    mark_some_in(runner, alloc, pool, shards)
-}
-
-/// A mark that sees of each side the 4,096 groups with a page that have the fewest live slots, or
-/// all where there are no more, and does with these what [`mark_in`] does. So a plan of it folds as
-/// many of them as can be, and after it more can be folded by a further mark.
-///
-/// # Errors
-///
-/// The first of these that holds: `PlanOpen` where a plan is open; `Doubled` where two groups of a
-/// side that have a page have the same head, which takes memory to tell. `OutOfMemory` where an
-/// allocation was refused and no plan is open. All allocations stand before the first change.
-pub fn mark_some_in<R: Runner, H: LendsShard>(
-    runner: &R,
-    alloc: Global,
-    pool: &mut Pool<H::Log>,
-    shards: &mut [H],
-) -> Result<Certificate, MarkError>
-    requires ready { R.ready runner.now }
-    // What it gives, and what has changed then.
-    ensures largest { IfOk result (IsLargestInPart pool.old (map H.lent shards.old)) }
-    ensures distinct { OnOk result (AreDistinct pool.old (map H.lent shards.old)) }
-    ensures closed { IfOk result
-        (λ found. map H.lent shards.new ≡ map (closing found.plan) (map H.lent shards.old)) }
-    ensures opened { OnOk result (pool.new ≡ with_plan_told pool.old true) }
-    // All is sound, before and after.
-    ensures sound { OnOk result (AreSound (map H.lent shards.old)) }
-    ensures sound_new { OnOk result (AreSound (map H.lent shards.new)) }
-    ensures sound_pool { OnOk result (IsSoundPool pool.new) }
-    // When it is refused, and that nothing has changed then.
-    ensures plan_open { (result ≡ Err MarkError.PlanOpen) ↔ (pool.old.has_plan ≡ true) }
-    ensures too_many { result ≢ Err MarkError.TooMany }
-    ensures doubled { result ≡ Err MarkError.Doubled → AreDistinct pool.old (map H.lent shards.old)
-        → ⊥ }
-    ensures err { OnErr result (pool.new ≡ pool.old) }
-    ensures err_shards { OnErr result (shards.new ≡ shards.old) }
 {
     if pool.has_plan() {
         return Err(MarkError::PlanOpen);
+    }
+    if is_too_many(sight, pool, shards) {
+        return Err(MarkError::TooMany);
     }
     let Ok(snapshot) = sparse_snapshot_of(alloc, pool, shards)? else {
         return Err(MarkError::Doubled);
@@ -112,6 +67,16 @@ pub fn mark_some_in<R: Runner, H: LendsShard>(
     close_planned(shards, found.plan.pairs());
     pool.plan_opened();
     Ok(found)
+}
+
+// Whether more groups are in sight than a plan may have. It takes no memory.
+fn is_too_many<H: LendsShard>(sight: Sight, pool: &Pool<H::Log>, shards: &[H]) -> bool
+    ensures { IsTrue result ↔ IsTooMany sight pool.now (map H.lent shards.now) }
+{
+    match sight {
+        Sight::All => has_too_many(pool, shards),
+        Sight::Sparsest => false,
+    }
 }
 
 /// Whether a side has more than 4,096 groups that have a page: the pool, or all shards together. It
@@ -139,10 +104,7 @@ fn largest_plan<R: Runner>(
 
     // Its largest plan, with what shows it.
     ensures snapshot { IfOk result (λ found. found.snapshot ≡ snapshot) }
-    ensures best { IfOk result (λ found. IsBestPlanOf snapshot found.plan) }
-    ensures short { IfOk result (λ found. IsShortOf snapshot found.plan found.short) }
-    ensures certificate { IfOk result (λ found. IsCertificateOf snapshot found.plan found.short) }
-    ensures writable { IfOk result IsWritable }
+    ensures shown { IfOk result IsShown }
 {
     let (plan, short) = plan_of(runner, alloc, &snapshot, pieces)?;
     Ok(Certificate {

@@ -82,17 +82,6 @@ impl<'a> Graph<'a> {
         row_of(&self.rows, (self.owned() + 63) / 64, i)
     }
 
-    /// Whether the abandoned group at the first place is compatible with the owned one at the
-    /// second.
-    pub fn has(&self, i: usize, j: usize) -> bool
-        requires abandoned { i < length self.now.abandoned }
-        requires owned { j < length self.now.owned }
-        ensures { result ≡ compatible_at self.now i j }
-    {
-        let row = self.row(i);
-        (row[j / 64] >> (j % 64)) & 1 == 1
-    }
-
     /// The least owned place from `from` on that is compatible with the abandoned one at `i` and
     /// whose bit is set in `among`, which has as many words as a row.
     pub fn next_partner_among(&self, i: usize, from: usize, among: &[u64]) -> Option<usize>

@@ -31,7 +31,6 @@ pub(crate) struct Maker {
 fn new_core(alloc: Global) -> Told {
     match Core::new(alloc, 6, 8, 4, 9) {
         Ok(core) => Told::Made(core.totals().pages),
-        Err(CoreError::OutOfMemory) => Told::OutOfMemory,
         Err(CoreError::Config) => Told::Config,
     }
 }

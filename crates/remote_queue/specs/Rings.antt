@@ -1,5 +1,5 @@
 -- What contracts see of the two ends of a ring, and of the rings from all workers to all shards.
-use Rattle.std.specs.Prelude.{◌≡◌, ◌<◌, ◌≤◌, ℕ, All, List, [], ◌∷◌, ◌++◌, Option, Vec, length, map, slice_get, slice_index_or}
+use Rattle.std.specs.Prelude.{◌≡◌, ◌<◌, ◌≤◌, ℕ, All, List, [], ◌∷◌, ◌++◌, Option, Vec, length, map, slice_get, slice_index_or, vec_len}
 use denote.RawPtr.{Ptr}
 use Rattle.rtrb.specs.Shared.{Names}
 use Rattle.std.specs.declared.alloc.Global.{Global}
@@ -77,3 +77,16 @@ AreFreshOutboxes capacity = All (λ outbox. (outbox.sent ≡ []) × (outbox.free
 -- takers' ends by which nothing was taken
 abbrev pub AreFreshInboxes : List Taking → Type 0
 AreFreshInboxes = All (λ inbox. inbox.taken ≡ [])
+
+-- the ends of new rings from that many workers to that many shards: by worker its ends to each
+-- shard, and by shard its ends from each worker; the worker's end to the shard and the shard's end
+-- from the worker are of one ring, and no ring has carried a key
+pub record AreNewLinks (workers shards capacity : ℕ) (outboxes : List (Vec Sending Global))
+    (inboxes : List (Vec Taking Global)) : Type 0 where
+  pub workers_are : length outboxes ≡ workers
+  pub shards_are : length inboxes ≡ shards
+  pub rows_are_long : All (λ row. vec_len row ≡ shards) outboxes
+  pub columns_are_long : All (λ column. vec_len column ≡ workers) inboxes
+  pub rings_are : AreTransposed (outbox_rings outboxes) (inbox_rings inboxes)
+  pub unsent : All (λ row. AreFreshOutboxes capacity row.items) outboxes
+  pub untaken : All (λ column. AreFreshInboxes column.items) inboxes

@@ -20,7 +20,7 @@ impl Protocol<Key> for KeysInRange {
     ghost allows = { λ before key. IsInRange key };
 }
 
-/// How many keys are handed over or drawn at once, where the ring holds as many.
+/// How many keys are handed over or drawn at once, if the ring holds as many.
 const BLOCK: usize = 64;
 
 /// How many keys a taker's end may know: those of a full ring, and the block that it drew from it
@@ -144,7 +144,7 @@ fn hand_over_by(producer: &mut Producer<Key, Global, KeysInRange>, waiting: &mut
 }
 
 // Looks how many places of the ring are free beside those of the keys that wait, and hands these
-// over where there is none.
+// over if there is none.
 #[inline]
 fn look_for_places(
     producer: &mut Producer<Key, Global, KeysInRange>,
@@ -195,7 +195,7 @@ fn push_by(
     }
 }
 
-// Sends the key, where no place is known to be free: it looks for one first. It stands apart, since
+// Sends the key, if no place is known to be free: it looks for one first. It stands apart, since
 // mostly one is known.
 #[inline(never)]
 fn send_after_look(
@@ -227,7 +227,7 @@ fn send_after_look(
     Ok(())
 }
 
-// Sends the key: it waits with others until they fill a block. Where it is refused, none waits any
+// Sends the key: it waits with others until they fill a block. If it is refused, none waits any
 // more. Inlined, as what calls it, the key stays in registers: what is handed back would go through
 // memory.
 #[inline(always)]
@@ -261,12 +261,12 @@ fn send_by(
 
 impl Outbox {
     /// Sends the key, in a block with others: the taker's end sees it once the block is full, or is
-    /// handed over by [`Outbox::hand_over`] or [`finish`], or a key is refused. It waits for nobody
-    /// and takes no memory, and succeeds where a place of the ring is known to be free.
+    /// handed over by [`Outbox::hand_over`] or [`count_left`], or a key is refused. It waits for
+    /// nobody and takes no memory, and succeeds if a place of the ring is known to be free.
     ///
     /// # Errors
     ///
-    /// The key, handed back, where the ring took none: each of its places was seen to hold a key,
+    /// The key, handed back, if the ring took none: each of its places was seen to hold a key,
     /// those sent in this block among them. All keys that were sent are then handed over.
     #[inline(always)]
     pub fn send(&mut self, key: Key) -> Result<(), Key>
@@ -325,9 +325,9 @@ fn draw_into(
 }
 
 impl Inbox {
-    /// Draws a block of the oldest keys that are seen from the ring, at most that many, where none
+    /// Draws a block of the oldest keys that are seen from the ring, at most that many, if none
     /// is drawn: their places are free for further keys, and they are the next to be taken. It
-    /// waits for nobody and takes no memory, and draws one at least where one is known.
+    /// waits for nobody and takes no memory, and draws one at least if one is known.
     pub fn draw(&mut self, most: usize)
         ensures ring { self.new.ring ≡ self.old.ring }
         ensures taken { self.new.taken ≡ self.old.taken }
@@ -404,7 +404,7 @@ impl Inbox {
 /// [`MOST_KNOWN_KEYS`]. That many takes then answer these keys, in the order in which they were
 /// sent, and the keys taken are then the keys sent. Those that waited for their block to be full
 /// are handed over. It waits for nobody and takes no memory.
-pub fn finish(outbox: &mut Outbox, inbox: &mut Inbox) -> usize
+pub fn count_left(outbox: &mut Outbox, inbox: &mut Inbox) -> usize
     requires { outbox.old.ring ≡ inbox.old.ring }
     ensures left { result ≡ length inbox.new.known }
     ensures settled { inbox.new.taken ++ inbox.new.known ≡ outbox.new.sent }

@@ -15,9 +15,9 @@
 //! ```
 //!
 //! While the ends are in different hands, each knows its own side: what was sent, or what was
-//! taken. Once both are in one hand, [`finish`] says how many keys are left: that many takes then
-//! answer, and the keys taken are the keys sent, in order. (That frees by other threads are kept
-//! apart from the owner's and collected later is an idea of mimalloc.)
+//! taken. Once both are in one hand, [`count_left`] says how many keys are left: that many takes
+//! then answer, and the keys taken are the keys sent, in order. (That frees by other threads are
+//! kept apart from the owner's and collected later is an idea of mimalloc.)
 //!
 //! # Examples
 //!
@@ -31,7 +31,7 @@
 //! if inbox.look() > 0 {
 //!     let taken = inbox.take_known(); // in the order in which they were sent
 //! }
-//! let left = finish(&mut outbox, &mut inbox); // so many more may be taken
+//! let left = count_left(&mut outbox, &mut inbox); // so many more may be taken
 //! ```
 #![tactic(auto)]
 
@@ -39,6 +39,6 @@ mod ends;
 mod error;
 mod rings;
 
-pub use ends::{Inbox, KeysInRange, MOST_KNOWN_KEYS, Outbox, finish};
+pub use ends::{Inbox, KeysInRange, MOST_KNOWN_KEYS, Outbox, count_left};
 pub use error::LinkError;
 pub use rings::{Links, link};

@@ -1,6 +1,6 @@
 // A ring for each worker and shard.
 ghost use Rattle.std.specs.Prelude.{◌≡◌, ◌+◌, ◌<◌, ◌≤◌, ◌↔◌, [], ◌∷◌, ◌++◌, All, IfOk, IsErrOf, IsTrue, OnOk, map, slice_index_or, slice_set, vec_len};
-ghost use Rattle.remote_queue.specs.Rings.{AreFreshInboxes, AreFreshOutboxes, AreLong, AreTransposed, AreWithinLimits, inbox_rings, outbox_rings, with_row};
+ghost use Rattle.remote_queue.specs.Rings.{AreFreshInboxes, AreFreshOutboxes, AreLong, AreNewLinks, AreWithinLimits, inbox_rings, with_row};
 ghost use Rattle.span.specs.declared.limits.TheConstants.{MOST_RING_KEYS};
 
 use crate::ends::{Inbox, Outbox, ring};
@@ -23,8 +23,8 @@ pub struct Links {
 ///
 /// # Errors
 ///
-/// `Config` exactly where a number is out of its range, which is 1 to 64 workers, 1 to 64 shards,
-/// and 1 to 1,024 keys; `OutOfMemory` only where each is within it.
+/// `Config` exactly if a number is out of its range, which is 1 to 64 workers, 1 to 64 shards,
+/// and 1 to 1,024 keys; `OutOfMemory` only if each is within it.
 pub fn link(
     alloc: Global,
     workers: usize,
@@ -38,19 +38,9 @@ pub fn link(
         → AreWithinLimits workers shards capacity }
     ensures within { OnOk result (AreWithinLimits workers shards capacity) }
 
-    // How many ends there are, and which belong together.
-    ensures workers { IfOk result (λ links. (vec_len links.outboxes ≡ workers)
-        × All (λ column. vec_len column ≡ workers) links.inboxes.items) }
-    ensures shards { IfOk result (λ links. (vec_len links.inboxes ≡ shards)
-        × All (λ row. vec_len row ≡ shards) links.outboxes.items) }
-    ensures rings { IfOk result (λ links. AreTransposed (outbox_rings links.outboxes.items)
-        (inbox_rings links.inboxes.items)) }
-
-    // No ring has carried a key yet.
-    ensures unsent { IfOk result (λ links. All (λ row. AreFreshOutboxes capacity row.items)
-        links.outboxes.items) }
-    ensures untaken { IfOk result (λ links. All (λ column. AreFreshInboxes column.items)
-        links.inboxes.items) }
+    // How many ends there are, which belong together, and that no ring has carried a key yet.
+    ensures linked { IfOk result (λ links. AreNewLinks workers shards capacity
+        links.outboxes.items links.inboxes.items) }
 {
     if !are_within_limits(workers, shards, capacity) {
         return Err(LinkError::Config);
@@ -75,15 +65,7 @@ fn link_within(
     capacity: usize,
 ) -> Result<Links, AllocError>
     requires { AreWithinLimits workers shards capacity }
-    ensures workers { IfOk result (λ links. (vec_len links.outboxes ≡ workers)
-        × All (λ column. vec_len column ≡ workers) links.inboxes.items) }
-    ensures shards { IfOk result (λ links. (vec_len links.inboxes ≡ shards)
-        × All (λ row. vec_len row ≡ shards) links.outboxes.items) }
-    ensures rings { IfOk result (λ links. AreTransposed (outbox_rings links.outboxes.items)
-        (inbox_rings links.inboxes.items)) }
-    ensures unsent { IfOk result (λ links. All (λ row. AreFreshOutboxes capacity row.items)
-        links.outboxes.items) }
-    ensures untaken { IfOk result (λ links. All (λ column. AreFreshInboxes column.items)
+    ensures { IfOk result (λ links. AreNewLinks workers shards capacity links.outboxes.items
         links.inboxes.items) }
 {
     let mut inboxes = columns(alloc, shards)?;

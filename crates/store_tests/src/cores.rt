@@ -1,6 +1,6 @@
 //! Cores that answer tables of events. Where an allocation is refused, what was refused is asked
 //! again.
-use arena_core::{Core, CoreError, Event, Refusal, Reply};
+use arena_core::{Core, Event, Refusal, Reply};
 use fold::Step;
 use marks::Totals;
 use span::names::{Key, Object, SpanId};
@@ -30,12 +30,9 @@ fn put(shard: u32, word: u128) -> Event {
     }
 }
 
-// A core of that many shards and pages, asked for again where an allocation was refused.
+// A core of that many shards and pages.
 fn new_core(alloc: Global, shards: u32, pages: usize) -> Option<Core> {
-    match Core::new(alloc, shards, pages, 8, 9) {
-        Err(CoreError::OutOfMemory) => Core::new(alloc, shards, pages, 8, 9).ok(),
-        made => made.ok(),
-    }
+    Core::new(alloc, shards, pages, 8, 9).ok()
 }
 
 // What a reply says; of a plan, how many pairs it has.
@@ -235,12 +232,9 @@ fn settle(worker: u32, shard: u32) -> Event {
     Event::Settle { worker, shard }
 }
 
-// A core of two shards whose rings hold one key, asked for again where an allocation was refused.
+// A core of two shards whose rings hold one key.
 fn new_core_of_short_rings(alloc: Global) -> Option<Core> {
-    match Core::new(alloc, 2, 4, 1, 9) {
-        Err(CoreError::OutOfMemory) => Core::new(alloc, 2, 4, 1, 9).ok(),
-        made => made.ok(),
-    }
+    Core::new(alloc, 2, 4, 1, 9).ok()
 }
 
 // A key that is sent is live until it is settled, and is freed in the pool where its shard has
@@ -326,13 +320,9 @@ fn each_cause_is_told(rt: HostRuntime) {
     );
 }
 
-// A core of three shards whose logs are only counted, asked for again where an allocation was
-// refused.
+// A core of three shards whose logs are only counted.
 fn new_counted_core(alloc: Global) -> Option<Core<Counted>> {
-    match Core::with_log(alloc, 3, 4, 8, 9) {
-        Err(CoreError::OutOfMemory) => Core::with_log(alloc, 3, 4, 8, 9).ok(),
-        made => made.ok(),
-    }
+    Core::with_log(alloc, 3, 4, 8, 9).ok()
 }
 
 // Whether a core with logs and one that only counts answer alike: calls on live and stale keys, an

@@ -36,6 +36,8 @@ mod kept;
 #[cfg(test)]
 mod large;
 #[cfg(test)]
+mod lent_calls;
+#[cfg(test)]
 mod places;
 #[cfg(test)]
 mod retirements;
@@ -45,8 +47,6 @@ mod rings;
 mod rooms;
 #[cfg(test)]
 mod runs;
-#[cfg(test)]
-mod sections;
 #[cfg(test)]
 mod sessions;
 #[cfg(test)]

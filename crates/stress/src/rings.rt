@@ -1,8 +1,8 @@
 //! One ring, both of whose ends are in one hand: what it holds, and in which order.
-ghost use Rattle.std.specs.Prelude.{◌≡◌, All, IfOk, IfSome, vec_len};
-ghost use Rattle.remote_queue.specs.Rings.{AreTransposed, inbox_rings, outbox_rings};
+ghost use Rattle.std.specs.Prelude.{◌≡◌, IfOk, IfSome};
+ghost use Rattle.remote_queue.specs.Rings.{AreNewLinks};
 
-use remote_queue::{Inbox, LinkError, Links, Outbox, finish, link};
+use remote_queue::{Inbox, LinkError, Links, Outbox, count_left, link};
 use span::names::{Key, SpanId};
 use std::alloc::Global;
 use std::test::Fail;
@@ -16,12 +16,8 @@ fn key(slot: u8) -> Option<Key> {
 // A ring from one worker to one shard, with room for that many keys; made again where memory was
 // refused.
 fn links(alloc: Global, capacity: usize) -> Result<Links, LinkError>
-    ensures one_row { IfOk result (λ links. (vec_len links.outboxes ≡ 1)
-        × All (λ row. vec_len row ≡ 1) links.outboxes.items) }
-    ensures one_column { IfOk result (λ links. (vec_len links.inboxes ≡ 1)
-        × All (λ column. vec_len column ≡ 1) links.inboxes.items) }
-    ensures rings { IfOk result (λ links. AreTransposed (outbox_rings links.outboxes.items)
-        (inbox_rings links.inboxes.items)) }
+    ensures { IfOk result (λ links. AreNewLinks 1 1 capacity links.outboxes.items
+        links.inboxes.items) }
 {
     match link(alloc, 1, 1, capacity) {
         Err(LinkError::OutOfMemory) => link(alloc, 1, 1, capacity),
@@ -60,9 +56,9 @@ fn holds_one(outbox: &mut Outbox, inbox: &mut Inbox) -> Option<bool>
     let handed_back = outbox.send(second);
     let taken = take(inbox);
     let sent_again = outbox.send(second);
-    let left = finish(outbox, inbox);
+    let left = count_left(outbox, inbox);
     let last = take(inbox);
-    let none_left = finish(outbox, inbox);
+    let none_left = count_left(outbox, inbox);
     let none = take(inbox);
     Some(
         sent == Ok(())

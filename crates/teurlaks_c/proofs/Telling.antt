@@ -12,7 +12,7 @@ use Rattle.arena.specs.Delays.{CountsCall}
 use Rattle.arena.specs.Receipts.{get_receipt}
 use Rattle.arena.specs.Seats.{SeatState}
 use Rattle.arena.specs.Sessions.{LooksUpOwn}
-use Rattle.arena.specs.Told.{LooksUp, WritesFound}
+use Rattle.arena.specs.KeyAnswers.{LooksUp, WritesFound}
 use Rattle.teurlaks_c.specs.declared.replies.PutReply.{PutReply}
 use Rattle.teurlaks_c.specs.declared.replies.RawWord.{RawWord}
 use Rattle.teurlaks_c.specs.declared.replies.WordsReply.{WordsReply}

@@ -19,7 +19,7 @@ use Rattle.latch.specs.declared.latch.Busy.{Busy}
 use Rattle.arena.specs.Delays.{CountsCall}
 use Rattle.arena.specs.Seats.{SeatState}
 use Rattle.arena.specs.Sessions.{TellsOwn}
-use Rattle.arena.specs.Told.{changes_at, free_told, set_told}
+use Rattle.arena.specs.KeyAnswers.{changes_at, free_answer, set_answer}
 use Rattle.teurlaks_c.specs.declared.share.Share.{Share}
 use Rattle.teurlaks_c.specs.declared.share.Share.TheVariants.{Seat, Session}
 use Rattle.teurlaks_c.specs.declared.share.SharedSeat.{SharedSeat}
@@ -124,7 +124,7 @@ abbrev pub SetsHeld : Key → Value → Held → Result (Result (Key × Bool × 
     → Type 0
 SetsHeld key words before (Ok (Ok told)) after = (told.0 ≡ key)
     × ((what : Replaced) × Sets before.shard key words what after.shard
-    × TellsOwn (set_told key what) told) × CountsCall before.seat after.seat
+    × TellsOwn (set_answer key what) told) × CountsCall before.seat after.seat
 SetsHeld key words before (Ok (Err error)) after =
     ((IsElsewhere before.shard.groups key.span → ⊥) → plain.may_set (shown before.shard) key words
     ≡ true)
@@ -136,7 +136,7 @@ SetsHeld key words before (Err busy) after = IsElsewhere before.shard.groups key
 abbrev pub FreesHeld : Key → Held → Result (Key × Bool × ℕ) Busy → Held → Type 0
 FreesHeld key before (Ok told) after = (told.0 ≡ key)
     × ((what : Freed) × Frees before.shard key what after.shard
-    × TellsOwn (free_told key what) told) × CountsCall before.seat after.seat
+    × TellsOwn (free_answer key what) told) × CountsCall before.seat after.seat
 FreesHeld key before (Err busy) after = IsElsewhere before.shard.groups key.span
     × (after.seat ≡ before.seat) × (after.shard ≡ before.shard)
 

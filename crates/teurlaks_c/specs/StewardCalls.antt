@@ -2,12 +2,12 @@
 use Rattle.std.specs.Prelude.{◌≡◌, ℕ, All, List, Bool, true, false, Option, Some, None, Result, Ok, Err, IfOk, IsErr, IsSome, ◌↔◌, OnErr, OnOk, MatchOption, is_some, ◌++◌, ◌∷◌, [], ◌⊎◌, vec_len}
 use Rattle.std.specs.declared.alloc.AllocError.{AllocError}
 use Rattle.certificate.specs.declared.certificate.Certificate.{Certificate}
-use Rattle.certificate.specs.Plans.{IsBestPlanOf, IsShortOf}
 use Rattle.latch.specs.declared.latch.Busy.{Busy}
 use Rattle.arena_core.specs.declared.reply.Refusal.TheVariants.{PlanOpen as PlanIsOpen}
 use Rattle.marks.specs.declared.error.MarkError.{MarkError}
 use Rattle.marks.specs.declared.totals.Totals.{Totals}
 use Rattle.marks.specs.Numbers.{Limits}
+use Rattle.marks.specs.Seen.{IsShown}
 use Rattle.arena.specs.Stewards.{Steps, begun}
 use Rattle.arena.specs.declared.arena.Stepped.{Stepped}
 use Rattle.arena.specs.declared.error.PlanOpen.{PlanOpen}
@@ -142,8 +142,7 @@ Asks does old answer new = MatchOption answer (HasNoSteward old
 -- a largest plan of what was seen is opened and its certificate kept
 pub record MarksPlan (before : Keeper) (says : MarkReply) (after : Keeper) : Type 0 where
   pub found : Certificate
-  pub best : IsBestPlanOf found.snapshot found.plan
-  pub short : IsShortOf found.snapshot found.plan found.short
+  pub shown : IsShown found
   pub counts : CountsOf says found
   pub keeps : kept after.last ≡ Some found
   pub none : before.steward.plan ≡ None

@@ -88,10 +88,7 @@ fn leave_core(alloc: Global, out: &mut Handle, limits: Limits) -> u32
     ensures refused { (result ≡ 0 → ⊥) → out.new.held ≡ None }
     ensures only { (result ≡ 0) ⊎ (result ≡ out_of_memory) }
 {
-    let Ok(core) = Core::with_limits(alloc, limits) else {
-        return OUT_OF_MEMORY;
-    };
-    let held = Held::new(core);
+    let held = Held::new(Core::with_limits(alloc, limits));
     match Box::new(alloc, held) {
         Ok(held) => {
             *out = Handle::of(held);

@@ -3,12 +3,13 @@ ghost use Rattle.std.specs.Prelude.{◌≡◌, IsSome, MatchBool, MatchOption, N
 ghost use Rattle.teurlaks_c.specs.declared.held.Held.{Held};
 ghost use Rattle.teurlaks_c.specs.Owned.{held_code, owns_held};
 
-pub(crate) mod unboxed;
+pub(crate) mod nullable;
+mod unboxed;
 
 use crate::held::Held;
+use nullable::Nullable;
 use std::alloc::Global;
 use std::marker::Model;
-use unboxed::Unboxed;
 
 /// Where a core is, or null where there is none. Only the library reads it; a caller moves it, and
 /// never copies it.
@@ -31,26 +32,21 @@ impl Handle {
     pub fn none() -> Handle
         ensures { result.held ≡ None }
     {
-        Handle {
-            at: std::ptr::null_mut(),
-        }
+        Handle::of_nullable(Nullable::none())
     }
 
     /// A handle of what the box has.
     pub fn of(held: Box<Held>) -> Handle
         ensures { result.held ≡ Some held.value }
     {
-        Handle::of_unboxed(Unboxed::from_box(held))
+        Handle::of_nullable(Nullable::of(held))
     }
 
     /// The box again, where there is one.
     pub fn into_box(self, alloc: Global) -> Option<Box<Held>>
         ensures { MatchOption result (self.held ≡ None) (λ held. self.held ≡ Some held.value) }
     {
-        match self.into_unboxed(alloc) {
-            Some(unboxed) => Some(unboxed.into_box()),
-            None => None,
-        }
+        self.into_nullable().into_box(alloc)
     }
 
     /// What the handle holds, lent where it lies, or `None` if it holds nothing.
@@ -86,24 +82,19 @@ impl Handle {
         unsafe { &mut *(self.at as *mut Held) }
     }
 
-    fn of_unboxed(unboxed: Unboxed<Held, Global>) -> Handle
-        ensures { result.held ≡ Some unboxed.value }
+    fn of_nullable(nullable: Nullable<Held>) -> Handle
+        ensures { result.held ≡ nullable.value }
     {
-        let Unboxed { at, alloc: _ } = unboxed;
+        let Nullable { at } = nullable;
         Handle { at: at as *mut u8 }
     }
 
-    fn into_unboxed(self, alloc: Global) -> Option<Unboxed<Held, Global>>
-        ensures { MatchOption result (self.held ≡ None) (λ held. self.held ≡ Some held.value) }
+    fn into_nullable(self) -> Nullable<Held>
+        ensures { result.value ≡ self.held }
     {
         let Handle { at } = self;
-        if at.is_null() {
-            None
-        } else {
-            Some(Unboxed {
-                at: at as *mut Held,
-                alloc,
-            })
+        Nullable {
+            at: at as *mut Held,
         }
     }
 }

@@ -1,9 +1,9 @@
 // What a thread keeps of an arena: where its seat is, or its steward.
 ghost use Rattle.std.specs.Prelude.{◌≡◌, MatchOption, None, Option, Some};
 ghost use Rattle.teurlaks_c.specs.declared.share.Share.{Share};
-ghost use Rattle.teurlaks_c.specs.OwnedShare.{owns_share, share_code};
+ghost use Rattle.teurlaks_c.specs.Owned.{owns_share, share_code};
 
-use crate::handle::unboxed::Unboxed;
+use crate::handle::nullable::Nullable;
 use crate::share::Share;
 use std::alloc::Global;
 use std::marker::Model;
@@ -26,46 +26,36 @@ impl ShareHandle {
     pub fn none() -> ShareHandle
         ensures { result.share ≡ None }
     {
-        ShareHandle {
-            at: std::ptr::null_mut(),
-        }
+        ShareHandle::of_nullable(Nullable::none())
     }
 
     /// A handle of what the box has.
     pub fn of(share: Box<Share>) -> ShareHandle
         ensures { result.share ≡ Some share.value }
     {
-        ShareHandle::of_unboxed(Unboxed::from_box(share))
+        ShareHandle::of_nullable(Nullable::of(share))
     }
 
     /// The box again, where there is one.
     pub fn into_box(self, alloc: Global) -> Option<Box<Share>>
         ensures { MatchOption result (self.share ≡ None) (λ share. self.share ≡ Some share.value) }
     {
-        match self.into_unboxed(alloc) {
-            Some(unboxed) => Some(unboxed.into_box()),
-            None => None,
-        }
+        self.into_nullable().into_box(alloc)
     }
 
-    fn of_unboxed(unboxed: Unboxed<Share, Global>) -> ShareHandle
-        ensures { result.share ≡ Some unboxed.value }
+    fn of_nullable(nullable: Nullable<Share>) -> ShareHandle
+        ensures { result.share ≡ nullable.value }
     {
-        let Unboxed { at, alloc: _ } = unboxed;
+        let Nullable { at } = nullable;
         ShareHandle { at: at as *mut u8 }
     }
 
-    fn into_unboxed(self, alloc: Global) -> Option<Unboxed<Share, Global>>
-        ensures { MatchOption result (self.share ≡ None) (λ share. self.share ≡ Some share.value) }
+    fn into_nullable(self) -> Nullable<Share>
+        ensures { result.value ≡ self.share }
     {
         let ShareHandle { at } = self;
-        if at.is_null() {
-            None
-        } else {
-            Some(Unboxed {
-                at: at as *mut Share,
-                alloc,
-            })
+        Nullable {
+            at: at as *mut Share,
         }
     }
 }

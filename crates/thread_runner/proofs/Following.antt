@@ -28,7 +28,7 @@ use Rattle.thread_runner.specs.Grown.{Carries, Grows, HaveNothing, IsDiaryOf, Is
 use Rattle.thread_runner.specs.Told.{voice_of}
 use Rattle.thread_runner.specs.declared.diary.Diary.{Diary}
 use Rattle.thread_runner.specs.declared.diary.Entry.TheVariants as entry
-use Rattle.thread_runner.specs.declared.diary.Other.{Other}
+use Rattle.trace_runner.specs.declared.report.Other.{Other}
 use Rattle.audit.proofs.Replies.{take_more}
 use Rattle.thread_runner.proofs.Carrying.{Carries-none}
 

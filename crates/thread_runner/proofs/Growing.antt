@@ -1,7 +1,8 @@
 -- How a diary goes on, call after call.
 use Rattle.span.specs.ReceiptLists.{kept_receipts}
-use Rattle.std.proofs.Common.{◌∙◌, ◌+◌, ◌++◌, ℕ, List, [], ◌∷◌, ap, append-nil, append_assoc, arith, length, length-append, refl, subst, sym}
-use Rattle.std.specs.List.{flat_map}
+use Rattle.std.proofs.Common.{◌≡◌, ◌∙◌, ◌+◌, ◌++◌, ℕ, List, [], ◌∷◌, ap, append-nil, append_assoc, arith, length, length-append, map, refl, subst, sym}
+use Rattle.std.specs.List.{flat_map, range_with_len}
+use Rattle.std.proofs.lemmas.List.FromFn.{map-range_with_len_more}
 use Rattle.std.proofs.lemmas.Grind.{flat_map-append}
 use Rattle.span.specs.declared.key.Key.{Key}
 use Rattle.span.specs.declared.receipt.Receipt.{Receipt}
@@ -11,7 +12,7 @@ use Rattle.thread_runner.specs.Grown.{Carries, Grows, TellsTending, Tells}
 use Rattle.thread_runner.specs.declared.diary.Diary.{Diary}
 use Rattle.thread_runner.specs.declared.diary.Entry.{Entry}
 use Rattle.thread_runner.specs.declared.diary.Entry.TheVariants as entry
-use Rattle.thread_runner.specs.declared.diary.Other.TheVariants as other
+use Rattle.trace_runner.specs.declared.report.Other.TheVariants as other
 use Rattle.thread_runner.proofs.Carrying.{Carries-append, Carries-none}
 
 pub Grows-none : (diary : Diary) → Grows [] [] 0 diary diary
@@ -82,6 +83,18 @@ module _ (section thread number : ℕ) (first second : List Asked) (knew meanwhi
         grows = rw (entries, receipts, length-append) both;
         carries = rw (sent, taken) carried;
       }
+
+-- first what some numbers ask for, in order, and then what the next one does
+module _ (section thread number : ℕ) (ask : ℕ → Asked) (from count at here by : ℕ) (knew meanwhile knows : GivenKeys
+    → Type 0) (old mid new : Diary) (was then_is now_is : Carried) (next : from + count ≡ at) (in_section : here ≡ section) (by_thread : by ≡ thread)
+    (before : Tells section thread number (map ask (range_with_len from count)) knew meanwhile old mid was then_is)
+    (after : Tells here by number (ask at ∷ []) meanwhile knows mid new then_is now_is) where
+  pub Tells-next : Tells section thread number (map ask (range_with_len from (count + 1))) knew knows old new was now_is
+  Tells-next =
+      let own = subst (λ n. Tells section n number (ask at ∷ []) meanwhile knows mid new then_is now_is) by_thread
+      (subst (λ n. Tells n by number (ask at ∷ []) meanwhile knows mid new then_is now_is) in_section after) in
+      subst (λ (asked : List Asked). Tells section thread number asked knew knows old new was now_is) (sym (map-range_with_len_more ask from count at next))
+      (Tells-append section thread number (map ask (range_with_len from count)) (ask at ∷ []) knew meanwhile knows old mid new was then_is now_is before own)
 
 -- the rings were tended
 pub Tells-tended : (section thread number count : ℕ) (knows : GivenKeys → Type 0) (old mid new : Diary) (before after : Carried) → TellsTending section thread count old mid before after

@@ -12,7 +12,7 @@ use Rattle.thread_runner.specs.Grown.{Carries, Grows, Tells}
 use Rattle.thread_runner.specs.Known.{AreFresh, AreKnown}
 use Rattle.thread_runner.specs.Told.{is_free}
 use Rattle.thread_runner.specs.declared.diary.Diary.{Diary}
-use Rattle.thread_runner.specs.declared.diary.Other.TheVariants as other
+use Rattle.trace_runner.specs.declared.report.Other.TheVariants as other
 use Rattle.thread_runner.specs.declared.keys.Given.{Given}
 use Rattle.thread_runner.proofs.Growing.{Tells-one}
 use Rattle.thread_runner.proofs.Taking.{is_free-free}

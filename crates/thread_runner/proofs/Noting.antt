@@ -21,8 +21,10 @@ use Rattle.trace_text.specs.declared.line.Line.{Line}
 use Rattle.trace_text.specs.declared.line.Line.TheVariants as line
 use Rattle.trace_text.specs.Barrier.{is_barrier}
 use Rattle.trace_runner.specs.declared.report.PlanNews.TheVariants.{Marked, TooMany, Closed}
+use Rattle.trace_runner.specs.News.{mark_news}
 use Rattle.trace_runner.specs.declared.report.TakenStep.{TakenStep}
-use Rattle.thread_runner.specs.Marked.{AreNotesTo, IsCarriedOut, IsMarkMade, IsShown, MarkMade, PlanMade, barrier_from, certificate_after, is_mark, is_mark_at, mark_notes, mark_number, marks_above, news_marked, note_at, note_closed, note_planned, place_marked, plan_notes, taken_pair, text_after}
+use Rattle.marks.specs.Seen.{IsShown}
+use Rattle.thread_runner.specs.Marked.{AreNotesTo, IsCarriedOut, IsMarkMade, MarkMade, PlanMade, barrier_from, certificate_after, is_mark, is_mark_at, mark_notes, mark_number, marks_above, note_at, note_closed, note_planned, place_marked, plan_notes, taken_pair, text_after}
 use Rattle.thread_runner.specs.Noted.{HaveCome, pairs_done, pairs_left, plan_pairs}
 use Rattle.thread_runner.specs.declared.body.Note.{Note}
 use Rattle.thread_runner.specs.declared.minutes.Minutes.{Minutes}
@@ -108,7 +110,7 @@ HaveCome-other lines above other minutes same come = record {
 
 -- a mark that planned
 pub HaveCome-planned : (lines : List Line) (place pages : ℕ) (c : Certificate) (old new : Minutes) → HaveCome lines place None old → is_mark_at lines place ≡ true → IsShown c
-    → new.marks ≡ old.marks + 1 → new.notes.items ≡ old.notes.items ++ note_at place (Marked (news_marked (old.marks + 1) c pages)) ∷ []
+    → new.marks ≡ old.marks + 1 → new.notes.items ≡ old.notes.items ++ note_at place (Marked (mark_news (old.marks + 1) c pages)) ∷ []
     → new.certificate.items ≡ certificate_text c → HaveCome lines (place + 1) (Some c.plan) new
 HaveCome-planned lines place pages c old new come is shown marks notes certificate = record {
   counted = count-mark lines place old.marks new.marks is come.counted marks;
@@ -123,7 +125,7 @@ HaveCome-planned lines place pages c old new come is shown marks notes certifica
     is_mark = is;
     is_shown = shown;
     pairs_are = refl;
-    notes_are = notes ∙ ap (λ n. old.notes.items ++ note_at place (Marked (news_marked (n + 1) c pages)) ∷ []) come.counted;
+    notes_are = notes ∙ ap (λ n. old.notes.items ++ note_at place (Marked (mark_news (n + 1) c pages)) ∷ []) come.counted;
     text_is = certificate;
   };
 }
@@ -166,12 +168,12 @@ HaveCome-closed lines above barrier pages pairs steps old new come taken begins 
     }
 
 -- a plan that is open is closed, after all its steps
-pub HaveCome-finished : (lines : List Line) (above barrier pages : ℕ) (before plan : Option OpenPlan) (steps : List TakenStep) (old new : Minutes) → HaveCome lines above (plan_pairs before) old
+pub HaveCome-ended : (lines : List Line) (above barrier pages : ℕ) (before plan : Option OpenPlan) (steps : List TakenStep) (old new : Minutes) → HaveCome lines above (plan_pairs before) old
     → plan_pairs plan ≡ plan_pairs before → is_some plan ≡ true → map taken_pair steps ≡ pairs_done plan → next_pair plan ≡ None → barrier ≡ barrier_from lines above
     → new.marks ≡ old.marks → new.notes.items ≡ old.notes.items ++ note_at barrier (Closed (record { mark = old.marks; steps = steps; pages = pages })) ∷ []
     → new.certificate ≡ old.certificate → HaveCome lines above None new
-HaveCome-finished lines above barrier pages before None steps old new come same some underway none = absurd cc
-HaveCome-finished lines above barrier pages before (Some plan) steps old new come same some underway none =
+HaveCome-ended lines above barrier pages before None steps old new come same some underway none = absurd cc
+HaveCome-ended lines above barrier pages before (Some plan) steps old new come same some underway none =
     HaveCome-closed lines above barrier pages plan.pairs steps old new (subst (λ p. HaveCome lines above p old) (sym same) come) (underway ∙ pairs_done-all plan none)
 
 -- where none is, all is told

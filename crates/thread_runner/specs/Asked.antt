@@ -16,8 +16,8 @@ use Rattle.trace_text.specs.declared.line.Line.{Line}
 use Rattle.trace_text.specs.declared.line.Line.TheVariants as line
 use Rattle.trace_text.specs.declared.name.Reference.{Reference}
 use Rattle.thread_runner.specs.Told.{is_free}
-use Rattle.thread_runner.specs.declared.diary.Other.{Other}
-use Rattle.thread_runner.specs.declared.diary.Other.TheVariants as other
+use Rattle.trace_runner.specs.declared.report.Other.{Other}
+use Rattle.trace_runner.specs.declared.report.Other.TheVariants as other
 
 -- ---- what lines ask for
 

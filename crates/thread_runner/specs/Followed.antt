@@ -14,7 +14,7 @@ use Rattle.thread_runner.specs.Asked.{AreAnswers, GivenKeys, IsFreeBy, Outcome, 
 use Rattle.thread_runner.specs.Told.{Voice}
 use Rattle.thread_runner.specs.declared.diary.Entry.{Entry}
 use Rattle.thread_runner.specs.declared.diary.Entry.TheVariants as entry
-use Rattle.thread_runner.specs.declared.diary.Other.TheVariants as other
+use Rattle.trace_runner.specs.declared.report.Other.TheVariants as other
 
 -- the entries of what came of one thing that the line of that number asked for
 abbrev pub entries_on : ℕ → Outcome → List Entry

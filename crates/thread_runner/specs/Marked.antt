@@ -3,13 +3,13 @@ use Rattle.std.specs.Prelude.{◌≡◌, ℕ, ◌+◌, Bool, true, false, not, L
 use Rattle.std.specs.List.{AllByRecursion, flat_map, fold, range_with_len, take_while}
 use Rattle.std.specs.Option.{option_map_or}
 use Rattle.span.specs.declared.id.SpanId.{SpanId}
-use Rattle.certificate.specs.Plans.{IsBestPlanOf, IsCertificateOf, IsShortOf, partners_of}
 use Rattle.certificate.specs.Text.{certificate_text}
 use Rattle.certificate.specs.declared.certificate.Certificate.{Certificate}
+use Rattle.marks.specs.Seen.{IsShown}
 use Rattle.trace_text.specs.declared.line.Line.{Line}
 use Rattle.trace_text.specs.declared.line.Line.TheVariants as line
 use Rattle.trace_text.specs.Barrier.{is_barrier}
-use Rattle.trace_runner.specs.declared.report.MarkNews.{MarkNews}
+use Rattle.trace_runner.specs.News.{mark_news}
 use Rattle.trace_runner.specs.declared.report.PlanNews.{PlanNews}
 use Rattle.trace_runner.specs.declared.report.PlanNews.TheVariants.{Marked, TooMany, Closed}
 use Rattle.trace_runner.specs.declared.report.TakenStep.{TakenStep}
@@ -58,12 +58,6 @@ pub record MarkMade : Type 0 where
 abbrev pub place_marked : MarkMade → ℕ
 place_marked made = made.place
 
--- the plan of a certificate is a largest one of its snapshot, and its short set shows that
-pub record IsShown (c : Certificate) : Type 0 where
-  pub best : IsBestPlanOf c.snapshot c.plan
-  pub short : IsShortOf c.snapshot c.plan c.short
-  pub certificate : IsCertificateOf c.snapshot c.plan c.short
-
 -- the pair of a step
 abbrev pub taken_pair : TakenStep → SpanId × SpanId
 taken_pair step = (step.abandoned, step.owned)
@@ -83,22 +77,10 @@ IsMarkMade made = IsCarriedOut made.plan
 abbrev pub note_at : ℕ → PlanNews → Note
 note_at place news = record { line = place + 6; news = news }
 
--- a mark of that number that planned, with the pages in use then
-abbrev pub news_marked : (mark : ℕ) → Certificate → (pages : ℕ) → MarkNews
-news_marked mark c pages = record {
-  mark = mark;
-  abandoned = length c.snapshot.abandoned;
-  owned = length c.snapshot.owned;
-  plan = c.plan;
-  short = c.short;
-  partners = partners_of c.snapshot c.short;
-  pages = pages;
-}
-
 -- the mark at that place planned
 abbrev pub note_planned : List Line → ℕ → Certificate → (pages : ℕ) → Note
 note_planned lines place c pages = note_at place (Marked
-    (news_marked (mark_number lines place) c pages))
+    (mark_news (mark_number lines place) c pages))
 
 -- its plan was closed after these steps, which is told where the next barrier begins
 abbrev pub note_closed : List Line → ℕ → List TakenStep → (pages : ℕ) → Note

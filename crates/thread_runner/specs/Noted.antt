@@ -5,7 +5,8 @@ use Rattle.certificate.specs.Text.{certificate_text}
 use Rattle.certificate.specs.declared.certificate.Certificate.{Certificate}
 use Rattle.marks.specs.Plans.{OpenPlan}
 use Rattle.trace_text.specs.declared.line.Line.{Line}
-use Rattle.thread_runner.specs.Marked.{AreNotesTo, IsShown, is_mark_at, marks_above, note_planned}
+use Rattle.marks.specs.Seen.{IsShown}
+use Rattle.thread_runner.specs.Marked.{AreNotesTo, is_mark_at, marks_above, note_planned}
 use Rattle.thread_runner.specs.declared.body.Note.{Note}
 use Rattle.thread_runner.specs.declared.minutes.Minutes.{Minutes}
 

@@ -12,8 +12,6 @@ use Rattle.trace_runner.specs.declared.report.LineAnswer.{LineAnswer}
 use Rattle.thread_runner.specs.declared.diary.Diary.{Diary}
 use Rattle.thread_runner.specs.declared.diary.Entry.{Entry}
 use Rattle.thread_runner.specs.declared.diary.Entry.TheVariants as entry
-use Rattle.thread_runner.specs.declared.diary.Other.{Other}
-use Rattle.thread_runner.specs.declared.diary.Other.TheVariants as other
 use Rattle.thread_runner.specs.declared.diary.OtherLine.{OtherLine}
 
 -- what a call on the key was answered
@@ -45,24 +43,9 @@ is_free call = false
 abbrev pub lineless : Receipt → List LineAnswer
 lineless receipt = if is_free receipt.call then [] else call_line 0 receipt ∷ []
 
--- what is said of a line that came to something else than a call on a key
-abbrev pub answer_without : Other → Answer
-answer_without other.PagesSpent = answer.PagesSpent
-answer_without other.Unbound = answer.Unbound
-answer_without other.Ended = answer.Ended
-answer_without (other.Adopted head) = answer.Adopted head
-answer_without other.NothingToAdopt = answer.NothingToAdopt
-answer_without other.Sent = answer.Sent
-answer_without other.RingFull = answer.RingFull
-answer_without (other.Settled count) = answer.Settled count
-answer_without (other.Trimmed count) = answer.Trimmed count
-answer_without (other.Retired count) = answer.Retired count
-answer_without other.PlanOpen = answer.PlanOpen
-answer_without other.Begun = answer.Begun
-
--- its reply
+-- the reply of what a line came to other than by a call on a key
 abbrev pub other_line : OtherLine → LineAnswer
-other_line told = record { line = told.line; answer = answer_without told.other }
+other_line told = record { line = told.line; answer = answer.Other told.other }
 
 -- the replies that an entry tells, whose receipts are the first of these
 abbrev pub entry_lines : Entry → List Receipt → List LineAnswer

@@ -10,11 +10,11 @@ ghost use Rattle.trace_text.specs.Objects.{counted_from, last_word};
 ghost use Rattle.trace_text.specs.Places.{place_by};
 ghost use Rattle.thread_runner.specs.Asked.{Begins, Called, Frees, Gets, GivenKeys, IsRetirement, Leaves, Puts, Retires, Said, Sets, Tends, Trims, asked_at, asked_by, is_adoption};
 ghost use Rattle.thread_runner.specs.Followed.{carried_by, entries_on};
-ghost use Rattle.thread_runner.specs.Grown.{Grows, IsEmptyDiary, TellsTending, Tells, TellsAdoption};
+ghost use Rattle.thread_runner.specs.Grown.{Grows, IsEmptyDiary, TellsAdoption, TellsFrom, TellsTending, seated};
 ghost use Rattle.thread_runner.specs.Known.{AreFresh, AreKnown};
 ghost use Rattle.thread_runner.specs.declared.keys.Given.{Given};
 
-use crate::diary::{Diary, Other};
+use crate::diary::Diary;
 use crate::error::Halt;
 use crate::keys::{Given, Keys, enter, find};
 use crate::layout::Text;
@@ -26,7 +26,7 @@ use span::receipts::Receipt;
 use std::alloc::{AllocError, Global};
 use std::ops::Range;
 use std::sync::Wait;
-use trace_runner::{Call, Line, Reference, counting_from};
+use trace_runner::{Call, Line, Other, counting_from};
 
 /// A thread of the trace in its seat at the arena.
 #[derive(Drop)]
@@ -122,9 +122,7 @@ impl<'a, G: Gate> Caller<'a, G> {
     /// Makes room for what that many calls are told.
     pub(crate) fn reserve(&mut self, calls: usize) -> Result<(), AllocError>
         ensures told { OnOk result (Grows [] [] 0 self.old.diary self.new.diary) }
-        ensures thread { self.new.seat.worker ≡ self.old.seat.worker }
-        ensures table { self.new.seat.table ≡ self.old.seat.table }
-        ensures section { self.new.seat.section ≡ self.old.seat.section }
+        ensures seat { seated self.new.seat ≡ seated self.old.seat }
         ensures carried { carried_by self.new.seat ≡ carried_by self.old.seat }
         ensures fresh { self.new.fresh ≡ self.old.fresh }
     {
@@ -143,15 +141,11 @@ impl<'a, G: Gate> Caller<'a, G> {
         ensures call { (line : Line) → slice_get text.now.trace.now.lines.items place ≡ Some line
             → OnOk result (is_adopt line ≡ false) }
         ensures told { (line : Line) → slice_get text.now.trace.now.lines.items place ≡ Some line
-            → OnOk result (Tells self.old.seat.section self.old.seat.worker (place + 6)
-            (asked_at (take place text.now.trace.now.lines.items) line)
-            (AreKnown keys.now.kept.items self.old.fresh.items)
-            (AreKnown keys.now.kept.items self.new.fresh.items)
-            self.old.diary self.new.diary
-            (carried_by self.old.seat) (carried_by self.new.seat)) }
-        ensures thread { self.new.seat.worker ≡ self.old.seat.worker }
-        ensures table { self.new.seat.table ≡ self.old.seat.table }
-        ensures section { self.new.seat.section ≡ self.old.seat.section }
+            → OnOk result (TellsFrom (place + 6)
+            (asked_at (take place text.now.trace.now.lines.items) line) keys.now.kept.items
+            self.old.seat self.old.fresh.items self.old.diary
+            self.new.seat self.new.fresh.items self.new.diary) }
+        ensures seat { seated self.new.seat ≡ seated self.old.seat }
     {
         let trace = text.trace;
         if trace.lines.len() <= place {
@@ -183,15 +177,10 @@ impl<'a, G: Gate> Caller<'a, G> {
         requires { (above : List Line) × (is_call_over above call.now ≡ false) }
         ensures told { (above : List Line) → spot.binds ≡ keys_in above
             → spot.reads ≡ place_by above call.now
-            → OnOk result (Tells self.old.seat.section self.old.seat.worker spot.number
-            (asked_by above call.now)
-            (AreKnown keys.now.kept.items self.old.fresh.items)
-            (AreKnown keys.now.kept.items self.new.fresh.items)
-            self.old.diary self.new.diary
-            (carried_by self.old.seat) (carried_by self.new.seat)) }
-        ensures thread { self.new.seat.worker ≡ self.old.seat.worker }
-        ensures table { self.new.seat.table ≡ self.old.seat.table }
-        ensures section { self.new.seat.section ≡ self.old.seat.section }
+            → OnOk result (TellsFrom spot.number (asked_by above call.now) keys.now.kept.items
+            self.old.seat self.old.fresh.items self.old.diary
+            self.new.seat self.new.fresh.items self.new.diary) }
+        ensures seat { seated self.new.seat ≡ seated self.old.seat }
     {
         let Spot {
             number,
@@ -275,15 +264,10 @@ impl<'a, G: Gate> Caller<'a, G> {
     ) -> Result<(), Halt>
         requires { last_word class base < 2 ^ 128 }
         ensures told { (kept : List Given)
-            → OnOk result (Tells self.old.seat.section self.old.seat.worker number
-            (Puts place (counted_from class base) ∷ [])
-            (AreKnown kept self.old.fresh.items)
-            (AreKnown kept self.new.fresh.items)
-            self.old.diary self.new.diary
-            (carried_by self.old.seat) (carried_by self.new.seat)) }
-        ensures thread { self.new.seat.worker ≡ self.old.seat.worker }
-        ensures table { self.new.seat.table ≡ self.old.seat.table }
-        ensures section { self.new.seat.section ≡ self.old.seat.section }
+            → OnOk result (TellsFrom number (Puts place (counted_from class base) ∷ []) kept
+            self.old.seat self.old.fresh.items self.old.diary
+            self.new.seat self.new.fresh.items self.new.diary) }
+        ensures seat { seated self.new.seat ≡ seated self.old.seat }
     {
         match self.seat.put(rt, self.arena, counting_from(class, base)) {
             Ok((key, receipt)) => {
@@ -314,16 +298,12 @@ impl<'a, G: Gate> Caller<'a, G> {
     ) -> Result<(), Halt>
         requires { last_word class (value + count - 1) < 2 ^ 128 }
         ensures told { (kept : List Given)
-            → OnOk result (Tells self.old.seat.section self.old.seat.worker number
+            → OnOk result (TellsFrom number
             (map (λ i. Puts (first + i) (counted_from class (value + i)))
-            (range_with_len 0 count))
-            (AreKnown kept self.old.fresh.items)
-            (AreKnown kept self.new.fresh.items)
-            self.old.diary self.new.diary
-            (carried_by self.old.seat) (carried_by self.new.seat)) }
-        ensures thread { self.new.seat.worker ≡ self.old.seat.worker }
-        ensures table { self.new.seat.table ≡ self.old.seat.table }
-        ensures section { self.new.seat.section ≡ self.old.seat.section }
+            (range_with_len 0 count)) kept
+            self.old.seat self.old.fresh.items self.old.diary
+            self.new.seat self.new.fresh.items self.new.diary) }
+        ensures seat { seated self.new.seat ≡ seated self.old.seat }
     {
         for i in 0..count {
             let place = place_of(first, Some(i))?;
@@ -334,15 +314,10 @@ impl<'a, G: Gate> Caller<'a, G> {
 
     // Looks the key of that place up, where it was given out.
     fn get<R: Wait>(&mut self, rt: &R, keys: &Keys, number: usize, place: usize) -> Result<(), Halt>
-        ensures told { OnOk result (Tells self.old.seat.section self.old.seat.worker number
-            (Gets place ∷ [])
-            (AreKnown keys.now.kept.items self.old.fresh.items)
-            (AreKnown keys.now.kept.items self.new.fresh.items)
-            self.old.diary self.new.diary
-            (carried_by self.old.seat) (carried_by self.new.seat)) }
-        ensures thread { self.new.seat.worker ≡ self.old.seat.worker }
-        ensures table { self.new.seat.table ≡ self.old.seat.table }
-        ensures section { self.new.seat.section ≡ self.old.seat.section }
+        ensures told { OnOk result (TellsFrom number (Gets place ∷ []) keys.now.kept.items
+            self.old.seat self.old.fresh.items self.old.diary
+            self.new.seat self.new.fresh.items self.new.diary) }
+        ensures seat { seated self.new.seat ≡ seated self.old.seat }
     {
         let Some(key) = self.key_at(keys, place)? else {
             return self.other(number, Other::Unbound);
@@ -360,15 +335,10 @@ impl<'a, G: Gate> Caller<'a, G> {
         place: usize,
         value: Object,
     ) -> Result<(), Halt>
-        ensures told { OnOk result (Tells self.old.seat.section self.old.seat.worker number
-            (Sets place value ∷ [])
-            (AreKnown keys.now.kept.items self.old.fresh.items)
-            (AreKnown keys.now.kept.items self.new.fresh.items)
-            self.old.diary self.new.diary
-            (carried_by self.old.seat) (carried_by self.new.seat)) }
-        ensures thread { self.new.seat.worker ≡ self.old.seat.worker }
-        ensures table { self.new.seat.table ≡ self.old.seat.table }
-        ensures section { self.new.seat.section ≡ self.old.seat.section }
+        ensures told { OnOk result (TellsFrom number (Sets place value ∷ []) keys.now.kept.items
+            self.old.seat self.old.fresh.items self.old.diary
+            self.new.seat self.new.fresh.items self.new.diary) }
+        ensures seat { seated self.new.seat ≡ seated self.old.seat }
     {
         let Some(key) = self.key_at(keys, place)? else {
             return self.other(number, Other::Unbound);
@@ -385,15 +355,10 @@ impl<'a, G: Gate> Caller<'a, G> {
         number: usize,
         place: usize,
     ) -> Result<(), Halt>
-        ensures told { OnOk result (Tells self.old.seat.section self.old.seat.worker number
-            (Frees place ∷ [])
-            (AreKnown keys.now.kept.items self.old.fresh.items)
-            (AreKnown keys.now.kept.items self.new.fresh.items)
-            self.old.diary self.new.diary
-            (carried_by self.old.seat) (carried_by self.new.seat)) }
-        ensures thread { self.new.seat.worker ≡ self.old.seat.worker }
-        ensures table { self.new.seat.table ≡ self.old.seat.table }
-        ensures section { self.new.seat.section ≡ self.old.seat.section }
+        ensures told { OnOk result (TellsFrom number (Frees place ∷ []) keys.now.kept.items
+            self.old.seat self.old.fresh.items self.old.diary
+            self.new.seat self.new.fresh.items self.new.diary) }
+        ensures seat { seated self.new.seat ≡ seated self.old.seat }
     {
         let Some(key) = self.key_at(keys, place)? else {
             return self.other(number, Other::Unbound);
@@ -411,16 +376,11 @@ impl<'a, G: Gate> Caller<'a, G> {
         first: usize,
         indices: Range<u32>,
     ) -> Result<(), Halt>
-        ensures told { OnOk result (Tells self.old.seat.section self.old.seat.worker number
-            (map (λ i. Frees (first + i))
-            (range_with_len indices.start (indices.end - indices.start)))
-            (AreKnown keys.now.kept.items self.old.fresh.items)
-            (AreKnown keys.now.kept.items self.new.fresh.items)
-            self.old.diary self.new.diary
-            (carried_by self.old.seat) (carried_by self.new.seat)) }
-        ensures thread { self.new.seat.worker ≡ self.old.seat.worker }
-        ensures table { self.new.seat.table ≡ self.old.seat.table }
-        ensures section { self.new.seat.section ≡ self.old.seat.section }
+        ensures told { OnOk result (TellsFrom number (map (λ i. Frees (first + i))
+            (range_with_len indices.start (indices.end - indices.start))) keys.now.kept.items
+            self.old.seat self.old.fresh.items self.old.diary
+            self.new.seat self.new.fresh.items self.new.diary) }
+        ensures seat { seated self.new.seat ≡ seated self.old.seat }
     {
         for index in indices.start..indices.end {
             let place = place_of(first, Some(index))?;
@@ -431,15 +391,10 @@ impl<'a, G: Gate> Caller<'a, G> {
 
     // Leaves the key of that place to be freed later, where it was given out.
     fn later(&mut self, keys: &Keys, number: usize, place: usize) -> Result<(), Halt>
-        ensures told { OnOk result (Tells self.old.seat.section self.old.seat.worker number
-            (Leaves place ∷ [])
-            (AreKnown keys.now.kept.items self.old.fresh.items)
-            (AreKnown keys.now.kept.items self.new.fresh.items)
-            self.old.diary self.new.diary
-            (carried_by self.old.seat) (carried_by self.new.seat)) }
-        ensures thread { self.new.seat.worker ≡ self.old.seat.worker }
-        ensures table { self.new.seat.table ≡ self.old.seat.table }
-        ensures section { self.new.seat.section ≡ self.old.seat.section }
+        ensures told { OnOk result (TellsFrom number (Leaves place ∷ []) keys.now.kept.items
+            self.old.seat self.old.fresh.items self.old.diary
+            self.new.seat self.new.fresh.items self.new.diary) }
+        ensures seat { seated self.new.seat ≡ seated self.old.seat }
     {
         let Some(key) = self.key_at(keys, place)? else {
             return self.other(number, Other::Unbound);
@@ -456,14 +411,10 @@ impl<'a, G: Gate> Caller<'a, G> {
     // Frees the keys that have come in on the rings to its shard.
     fn tend<R: Wait>(&mut self, rt: &R, number: usize) -> Result<(), Halt>
         ensures told { (kept : List Given)
-            → OnOk result (Tells self.old.seat.section self.old.seat.worker number (Tends ∷ [])
-            (AreKnown kept self.old.fresh.items)
-            (AreKnown kept self.new.fresh.items)
-            self.old.diary self.new.diary
-            (carried_by self.old.seat) (carried_by self.new.seat)) }
-        ensures thread { self.new.seat.worker ≡ self.old.seat.worker }
-        ensures table { self.new.seat.table ≡ self.old.seat.table }
-        ensures section { self.new.seat.section ≡ self.old.seat.section }
+            → OnOk result (TellsFrom number (Tends ∷ []) kept
+            self.old.seat self.old.fresh.items self.old.diary
+            self.new.seat self.new.fresh.items self.new.diary) }
+        ensures seat { seated self.new.seat ≡ seated self.old.seat }
     {
         let count = self.diary.tend(rt, &mut self.seat, self.arena)?;
         self.diary.keep_other(number, Other::Settled(count))?;
@@ -473,14 +424,10 @@ impl<'a, G: Gate> Caller<'a, G> {
     // Gives back the pages of its shard on which nothing is live.
     fn trim<R: Wait>(&mut self, rt: &R, number: usize) -> Result<(), Halt>
         ensures told { (kept : List Given)
-            → OnOk result (Tells self.old.seat.section self.old.seat.worker number (Trims ∷ [])
-            (AreKnown kept self.old.fresh.items)
-            (AreKnown kept self.new.fresh.items)
-            self.old.diary self.new.diary
-            (carried_by self.old.seat) (carried_by self.new.seat)) }
-        ensures thread { self.new.seat.worker ≡ self.old.seat.worker }
-        ensures table { self.new.seat.table ≡ self.old.seat.table }
-        ensures section { self.new.seat.section ≡ self.old.seat.section }
+            → OnOk result (TellsFrom number (Trims ∷ []) kept
+            self.old.seat self.old.fresh.items self.old.diary
+            self.new.seat self.new.fresh.items self.new.diary) }
+        ensures seat { seated self.new.seat ≡ seated self.old.seat }
     {
         let count = self.seat.trim(rt, self.arena);
         self.other(number, Other::Trimmed(count))
@@ -489,15 +436,10 @@ impl<'a, G: Gate> Caller<'a, G> {
     // Lets up to that many groups of its shard go to the pool.
     fn retire<R: Wait>(&mut self, rt: &R, number: usize, most: u32) -> Result<(), Halt>
         ensures told { (kept : List Given)
-            → OnOk result (Tells self.old.seat.section self.old.seat.worker number
-            (Retires most ∷ [])
-            (AreKnown kept self.old.fresh.items)
-            (AreKnown kept self.new.fresh.items)
-            self.old.diary self.new.diary
-            (carried_by self.old.seat) (carried_by self.new.seat)) }
-        ensures thread { self.new.seat.worker ≡ self.old.seat.worker }
-        ensures table { self.new.seat.table ≡ self.old.seat.table }
-        ensures section { self.new.seat.section ≡ self.old.seat.section }
+            → OnOk result (TellsFrom number (Retires most ∷ []) kept
+            self.old.seat self.old.fresh.items self.old.diary
+            self.new.seat self.new.fresh.items self.new.diary) }
+        ensures seat { seated self.new.seat ≡ seated self.old.seat }
     {
         let most = most as usize;
         let said = retirement(self.seat.retire(rt, self.arena, most))?;
@@ -507,14 +449,10 @@ impl<'a, G: Gate> Caller<'a, G> {
     // Lets its shard, which has ended, run again.
     fn begin<R: Wait>(&mut self, rt: &R, number: usize) -> Result<(), Halt>
         ensures told { (kept : List Given)
-            → OnOk result (Tells self.old.seat.section self.old.seat.worker number (Begins ∷ [])
-            (AreKnown kept self.old.fresh.items)
-            (AreKnown kept self.new.fresh.items)
-            self.old.diary self.new.diary
-            (carried_by self.old.seat) (carried_by self.new.seat)) }
-        ensures thread { self.new.seat.worker ≡ self.old.seat.worker }
-        ensures table { self.new.seat.table ≡ self.old.seat.table }
-        ensures section { self.new.seat.section ≡ self.old.seat.section }
+            → OnOk result (TellsFrom number (Begins ∷ []) kept
+            self.old.seat self.old.fresh.items self.old.diary
+            self.new.seat self.new.fresh.items self.new.diary) }
+        ensures seat { seated self.new.seat ≡ seated self.old.seat }
     {
         if !self.seat.begin(rt, self.arena) {
             return Err(Halt::Doubled);
@@ -526,9 +464,7 @@ impl<'a, G: Gate> Caller<'a, G> {
     pub(crate) fn send_off(&mut self)
         ensures diary { self.new.diary ≡ self.old.diary }
         ensures fresh { self.new.fresh ≡ self.old.fresh }
-        ensures thread { self.new.seat.worker ≡ self.old.seat.worker }
-        ensures table { self.new.seat.table ≡ self.old.seat.table }
-        ensures section { self.new.seat.section ≡ self.old.seat.section }
+        ensures seat { seated self.new.seat ≡ seated self.old.seat }
         ensures carried { carried_by self.new.seat ≡ carried_by self.old.seat }
         ensures none { HasNoneWaiting self.new.seat }
     {
@@ -542,9 +478,7 @@ impl<'a, G: Gate> Caller<'a, G> {
             self.old.seat.worker count self.old.diary self.new.diary
             (carried_by self.old.seat) (carried_by self.new.seat)) }
         ensures fresh { self.new.fresh ≡ self.old.fresh }
-        ensures thread { self.new.seat.worker ≡ self.old.seat.worker }
-        ensures table { self.new.seat.table ≡ self.old.seat.table }
-        ensures section { self.new.seat.section ≡ self.old.seat.section }
+        ensures seat { seated self.new.seat ≡ seated self.old.seat }
         ensures none { HasNoneWaiting self.new.seat }
     {
         self.diary.tend(rt, &mut self.seat, self.arena)
@@ -554,9 +488,7 @@ impl<'a, G: Gate> Caller<'a, G> {
     pub(crate) fn leave<R: Wait>(&mut self, rt: &R) -> Result<(), Halt>
         ensures diary { self.new.diary ≡ self.old.diary }
         ensures fresh { self.new.fresh ≡ self.old.fresh }
-        ensures thread { self.new.seat.worker ≡ self.old.seat.worker }
-        ensures table { self.new.seat.table ≡ self.old.seat.table }
-        ensures section { self.new.seat.section ≡ self.old.seat.section }
+        ensures seat { seated self.new.seat ≡ seated self.old.seat }
         ensures carried { carried_by self.new.seat ≡ carried_by self.old.seat }
     {
         if !self.leaves {
@@ -576,9 +508,7 @@ impl<'a, G: Gate> Caller<'a, G> {
     pub(crate) fn adopt<R: Wait>(&mut self, rt: &R, number: usize) -> Result<(), Halt>
         ensures told { OnOk result (TellsAdoption number self.old.diary self.new.diary) }
         ensures fresh { self.new.fresh ≡ self.old.fresh }
-        ensures thread { self.new.seat.worker ≡ self.old.seat.worker }
-        ensures table { self.new.seat.table ≡ self.old.seat.table }
-        ensures section { self.new.seat.section ≡ self.old.seat.section }
+        ensures seat { seated self.new.seat ≡ seated self.old.seat }
         ensures carried { carried_by self.new.seat ≡ carried_by self.old.seat }
     {
         let other = adoption(self.seat.adopt(rt, self.arena))?;

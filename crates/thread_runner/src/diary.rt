@@ -6,44 +6,13 @@ ghost use Rattle.arena.specs.Delays.{HasNoneWaiting};
 ghost use Rattle.thread_runner.specs.Followed.{carried_by};
 ghost use Rattle.thread_runner.specs.Grown.{Grows, IsEmptyDiary, TellsTending};
 ghost use Rattle.thread_runner.specs.declared.diary.Entry.TheVariants as entry;
-ghost use Rattle.thread_runner.specs.Told.{answer_of, answer_without, call_line, diary_lines, entry_lines, is_free, lineless, other_line, receipts_after, told_lines};
+ghost use Rattle.thread_runner.specs.Told.{answer_of, call_line, diary_lines, entry_lines, is_free, lineless, other_line, receipts_after, told_lines};
 
 use arena::{Arena, Gate, Seat};
-use span::names::SpanId;
 use span::receipts::{Call, Receipt, ReceiptList};
 use std::alloc::{AllocError, Global};
 use std::sync::Wait;
-use trace_runner::{Answer, LineAnswer};
-
-/// What a line came to other than by a call on a key.
-#[derive(Clone, Copy)]
-pub enum Other {
-    /// A put found no usable slot, and the shard may have no further page; or an adoption found the
-    /// shard to have as many groups as it may have pages.
-    PagesSpent,
-    /// The put that should have bound the name was refused.
-    Unbound,
-    /// The thread ended.
-    Ended,
-    /// A shard adopted the group with this head.
-    Adopted(SpanId),
-    /// A shard found no group to adopt.
-    NothingToAdopt,
-    /// A key was sent off to be freed later.
-    Sent,
-    /// The ring for a key that was to be freed later had no room.
-    RingFull,
-    /// That many keys that had come in were taken, and freed where they were live.
-    Settled(usize),
-    /// Its shard gave that many pages back, on which nothing was live.
-    Trimmed(usize),
-    /// That many groups of its shard went to the pool.
-    Retired(usize),
-    /// None did, since the open plan folds onto a group of its shard.
-    PlanOpen,
-    /// Its shard, which had ended, runs again.
-    Begun,
-}
+use trace_runner::{Answer, LineAnswer, Other};
 
 /// What a line came to other than by a call on a key, with its place in the trace.
 #[derive(Clone, Copy)]
@@ -332,32 +301,12 @@ fn push_told(
     Ok(())
 }
 
-/// What is said of a line that came to something else than a call on a key.
-fn answer_without(other: &Other) -> Answer
-    ensures { result ≡ answer_without other.now }
-{
-    match other {
-        Other::PagesSpent => Answer::PagesSpent,
-        Other::Unbound => Answer::Unbound,
-        Other::Ended => Answer::Ended,
-        Other::Adopted(head) => Answer::Adopted(*head),
-        Other::NothingToAdopt => Answer::NothingToAdopt,
-        Other::Sent => Answer::Sent,
-        Other::RingFull => Answer::RingFull,
-        Other::Settled(count) => Answer::Settled(*count),
-        Other::Trimmed(count) => Answer::Trimmed(*count),
-        Other::Retired(count) => Answer::Retired(*count),
-        Other::PlanOpen => Answer::PlanOpen,
-        Other::Begun => Answer::Begun,
-    }
-}
-
 /// Adds the reply of what a line came to other than by a call on a key.
 fn push_other(replies: &mut Vec<LineAnswer>, told: &OtherLine) -> Result<(), AllocError>
     ensures { OnOk result (replies.new.items ≡ replies.old.items ++ other_line told.now ∷ []) }
 {
     let line = told.line;
-    let answer = answer_without(&told.other);
+    let answer = Answer::Other(told.other);
     replies.push(LineAnswer { line, answer })?;
     Ok(())
 }

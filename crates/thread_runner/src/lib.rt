@@ -35,13 +35,13 @@ mod body;
 mod caller;
 mod diary;
 mod error;
-mod keeper;
 mod keys;
 mod layout;
 mod live;
 mod minutes;
+mod plans;
 mod replay;
-mod section;
+mod run;
 mod worker;
 
 pub use error::ThreadsError;

@@ -1,14 +1,15 @@
 // The minutes of the marks of a run.
 ghost use Rattle.std.specs.Prelude.{◌≡◌, ◌≤◌, ◌+◌, ◌<◌, ◌^◌, ◌++◌, ◌∷◌, [], IfOk, OnOk, vec_len};
 ghost use Rattle.certificate.specs.Text.{IsWritable, certificate_text};
-ghost use Rattle.thread_runner.specs.Marked.{news_marked, note_at};
+ghost use Rattle.thread_runner.specs.Marked.{note_at};
+ghost use Rattle.trace_runner.specs.News.{mark_news};
 ghost use Rattle.trace_runner.specs.declared.report.PlanNews.TheVariants as plan_news;
 
 use crate::body::Note;
-use certificate::{Certificate, partners, write};
+use certificate::{Certificate, write};
 use mesh_graph::Runner;
 use std::alloc::{AllocError, Global};
-use trace_runner::{CloseNews, Heads, MarkNews, PlanNews, Steps};
+use trace_runner::{CloseNews, PlanNews, Steps, mark_news};
 
 /// What came of the marks so far.
 #[derive(Drop)]
@@ -20,43 +21,6 @@ pub(crate) struct Minutes {
     /// The text of the certificate of the last mark that planned; empty where none did.
     certificate: Vec<u8>,
     ghost few: { marks ≤ vec_len notes },
-}
-
-// What the report tells of a mark of that number that planned, with the pages in use then. The
-// runner fills the rows of its partners, by `pieces` if it goes by pieces.
-fn mark_news<R: Runner>(
-    runner: &R,
-    alloc: Global,
-    pieces: usize,
-    mark: usize,
-    certificate: Certificate,
-    pages: usize,
-) -> Result<MarkNews, AllocError>
-    requires ready { R.ready runner.now }
-    requires pieces { 1 ≤ pieces }
-    ensures { IfOk result (λ news. news ≡ news_marked mark certificate pages) }
-{
-    let partners = partners(
-        runner,
-        alloc,
-        &certificate.snapshot,
-        &certificate.short,
-        pieces,
-    )?;
-    let Certificate {
-        snapshot,
-        plan,
-        short,
-    } = certificate;
-    Ok(MarkNews {
-        mark,
-        abandoned: snapshot.abandoned().len(),
-        owned: snapshot.owned().len(),
-        plan,
-        short,
-        partners: Heads::new(partners),
-        pages,
-    })
 }
 
 impl Minutes {
@@ -118,7 +82,7 @@ impl Minutes {
         ensures marks { OnOk result (self.new.marks ≡ self.old.marks + 1) }
         ensures notes { OnOk result (self.new.notes.items ≡ self.old.notes.items
             ++ note_at place (plan_news.Marked
-            (news_marked (self.old.marks + 1) certificate pages)) ∷ []) }
+            (mark_news (self.old.marks + 1) certificate pages)) ∷ []) }
         ensures certificate { OnOk result (self.new.certificate.items
             ≡ certificate_text certificate) }
     {

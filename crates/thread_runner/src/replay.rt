@@ -6,8 +6,6 @@ ghost use Rattle.span.specs.SpanLogs.{span_of_log};
 ghost use Rattle.groups.specs.Spans.{live_count};
 ghost use Rattle.audit.specs.Agreement.{Agreement};
 ghost use Rattle.audit.specs.History.{HaveHistories};
-ghost use Rattle.trace_runner.specs.Replay.{limits_of_trace};
-ghost use Rattle.trace_text.specs.Header.{IsWithinLimits};
 ghost use Rattle.trace_text.specs.Trace.{Spells};
 ghost use Rattle.trace_text.specs.declared.header.Header.{Header};
 ghost use Rattle.trace_text.specs.declared.line.Line.{Line};
@@ -23,9 +21,9 @@ use crate::diary::Diary;
 use crate::error::{Halt, ThreadsError};
 use crate::layout::{Layout, Text};
 use crate::live::live_in;
-use crate::section::{Ran, Told, run_sections};
+use crate::run::{Ran, Told, run_lines};
 use crate::worker::Reading;
-use arena::{Arena, Gate, Limits, NoGate, Seat, Steward, finish};
+use arena::{Arena, Gate, NoGate, Seat, Steward, finish};
 use audit::{AuditError, audit_by_threads};
 use span::receipts::ReceiptList;
 use span::spans::SpanLog;
@@ -33,7 +31,7 @@ use std::alloc::{AllocError, Global};
 use std::marker::Brand;
 use std::sync::Wait;
 use std::thread::Threads;
-use trace_runner::{Ending, Header, Sink, TRACE_SPANS, Trace, give, parse, push_ending};
+use trace_runner::{Ending, Sink, Trace, give, limits_of, parse, push_ending};
 
 /// What a replay leaves.
 #[derive(Drop)]
@@ -216,7 +214,7 @@ fn replay_at<R: Threads + Wait + Sync, G: Gate + Sync, J: Reading>(
         layout: Layout::of(alloc, trace)?,
         replies: shown,
     };
-    let Ran { seats, told } = run_sections::<R, G, J>(rt, alloc, &text, &arena, seats, steward)?;
+    let Ran { seats, told } = run_lines::<R, G, J>(rt, alloc, &text, &arena, seats, steward)?;
     let pages = arena.totals(rt).pages;
     let logs = logs_of(alloc, arena, seats)?;
     let ending = Ending {
@@ -244,22 +242,6 @@ fn replay<R: Threads + Wait + Sync, G: Gate + Sync>(
         return Err(ThreadsError::OutOfMemory);
     };
     replay_at::<R, G, Brand>(rt, alloc, arena, seats, steward, trace, shown)
-}
-
-// The numbers of an arena that the header asks for, whose shards open as many spans at most as
-// those of a serial run.
-fn limits_of(header: &Header) -> Limits
-    requires { IsWithinLimits header.now }
-    ensures { result ≡ limits_of_trace header.now }
-{
-    let (pages, ring) = (header.pages as usize, header.ring as usize);
-    let Some(limits) = Limits::new(header.shards, pages, ring, header.gens) else {
-        unreachable!();
-    };
-    match limits.with_span_limit(TRACE_SPANS) {
-        Some(limits) => limits,
-        None => unreachable!(),
-    }
 }
 
 /// Replays a trace by threads: reads the text whole, runs each section's lines on a thread for each

@@ -94,16 +94,16 @@ module _ (workers shard : ℕ) (old new : CoreState) (count : ℕ) (drains : Dra
   Makes-tended number before after kept = (tended ∷ [], refl, IsAnswered-tended, kept)
 
 -- settlings tell nothing of plans
-untold : (shard : ℕ) (workers : List ℕ) (called : List CalledEvent) (news : News)
+with_called-drained : (shard : ℕ) (workers : List ℕ) (called : List CalledEvent) (news : News)
     → AreAsRequested (map (λ worker. UntilNone (Settle worker shard)) workers) called → fold with_called news called ≡ news
-untold shard [] [] news asked = refl
-untold shard (worker ∷ workers) (Called done (Settled None) core ∷ called) news asked =
-    subst (λ event. fold with_called (with_called news (Called event (Settled None) core)) called ≡ news) (sym asked.0) (untold shard workers called news asked.1)
-untold shard (worker ∷ workers) (Called done (Settled (Some key)) core ∷ called) news asked =
-    subst (λ event. fold with_called (with_called news (Called event (Settled (Some key)) core)) called ≡ news) (sym asked.0) (untold shard (worker ∷ workers) called news asked.1)
-untold shard workers called news asked = absurd asked
+with_called-drained shard [] [] news asked = refl
+with_called-drained shard (worker ∷ workers) (Called done (Settled None) core ∷ called) news asked =
+    subst (λ event. fold with_called (with_called news (Called event (Settled None) core)) called ≡ news) (sym asked.0) (with_called-drained shard workers called news asked.1)
+with_called-drained shard (worker ∷ workers) (Called done (Settled (Some key)) core ∷ called) news asked =
+    subst (λ event. fold with_called (with_called news (Called event (Settled (Some key)) core)) called ≡ news) (sym asked.0) (with_called-drained shard (worker ∷ workers) called news asked.1)
+with_called-drained shard workers called news asked = absurd asked
 
 pub Carries-tended : (workers shard : ℕ) (old new : CoreState) (count : ℕ) (news : News) → Drains (requests_of (Tends workers shard)) old new count
     → Carries (Tends workers shard ∷ []) old news new news
 Carries-tended workers shard old new count news drains =
-    (tended workers shard old new count drains ∷ [], refl, IsAnswered-tended workers shard old new count drains, sym (untold shard (range_with_len 0 workers) drains.called news drains.asked))
+    (tended workers shard old new count drains ∷ [], refl, IsAnswered-tended workers shard old new count drains, sym (with_called-drained shard (range_with_len 0 workers) drains.called news drains.asked))

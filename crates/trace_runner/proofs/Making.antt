@@ -15,7 +15,7 @@ use Rattle.trace_runner.specs.News.{News, with_all_made, with_called, with_made}
 use Rattle.trace_runner.specs.Kept.{Kept, keeping}
 use Rattle.trace_runner.specs.Recalls.{Carries, Makes, MakesLine, news_at, settling_with}
 use Rattle.trace_runner.proofs.Recalling.{keeping-append, keeping-none}
-use Rattle.trace_runner.specs.Runs.{AreSteps, Happens, IsAnswered, IsCallTold, IsTold, ends_asked, finishing, rings_asked, stepping}
+use Rattle.trace_runner.specs.Runs.{AreSteps, Happens, IsAnswered, IsCallTold, IsTold, ends_asked, plan_end_asked, rings_asked, stepping}
 use Rattle.trace_runner.specs.declared.plans.Plans.{Plans}
 use Rattle.trace_text.specs.declared.line.Call.{Call}
 use Rattle.trace_text.specs.declared.line.Line.TheVariants as line
@@ -197,7 +197,7 @@ module _ (number shards : ℕ) (threads : List ℕ) (old : CoreState) (before : 
   }
 
   module _ (mid : CoreState) (middle : Kept) (settled : Plans)
-      (settles : Carries (finishing old.plan ++ (ends_asked threads ++ rings_asked shards)) old (news_at before plans) mid (news_at middle settled))
+      (settles : Carries (plan_end_asked old.plan ++ (ends_asked threads ++ rings_asked shards)) old (news_at before plans) mid (news_at middle settled))
       (told : middle ≡ record before { text = middle.text }) where
     pub MakesLine-adopt : (shard : ℕ) (asked : List Asked) (new : CoreState) (after : Kept) → Makes number asked mid middle new after
         → MakesLine number (settling_with shards threads old (line.Adopt shard)) asked (line.Adopt shard) old before (news_at before plans) new after (news_at after settled)

@@ -19,7 +19,7 @@ use Rattle.arena_core.specs.declared.reply.Reply.TheVariants as reply
 use Rattle.trace_runner.specs.Made.{Asked, Calls}
 use Rattle.trace_runner.specs.News.{News}
 use Rattle.trace_runner.specs.Recalls.{Carries, KeepsShards}
-use Rattle.trace_runner.specs.Runs.{finishing, pairs_left_of, stepping}
+use Rattle.trace_runner.specs.Runs.{plan_end_asked, pairs_left_of, stepping}
 use Rattle.trace_runner.proofs.Making.{Carries-append}
 use Rattle.trace_runner.proofs.Serving.{KeepsShards-with_shard, ended_in}
 
@@ -59,9 +59,9 @@ Carries-next taken a b c x y z before more =
 pub stepping-some : (plan : Option OpenPlan) (left : ℕ) → Some left ≡ option_map pairs_left_of plan → 0 < left → stepping plan ≡ Calls event.Step ∷ []
 stepping-some plan left knows some = search (rules, nat_lt, nat_tests)
 
-pub finishing-some : (plan : Option OpenPlan) (left : ℕ) → Some left ≡ option_map pairs_left_of plan → finishing plan ≡ replicate left (Calls event.Step) ++ Calls event.Close ∷ []
-finishing-some None left knows = cc
-finishing-some (Some plan) left knows =
+pub plan_end_asked-some : (plan : Option OpenPlan) (left : ℕ) → Some left ≡ option_map pairs_left_of plan → plan_end_asked plan ≡ replicate left (Calls event.Step) ++ Calls event.Close ∷ []
+plan_end_asked-some None left knows = cc
+plan_end_asked-some (Some plan) left knows =
     let is : pairs_left_of plan ≡ left = cc in
     ap (λ count. replicate count (Calls event.Step) ++ Calls event.Close ∷ []) is
 

@@ -22,7 +22,7 @@ use Rattle.trace_text.specs.Places.{place_at}
 use Rattle.trace_runner.specs.Answers.{told_of}
 use Rattle.trace_runner.specs.Made.{Did, all_made, asked_of, made_by}
 use Rattle.trace_runner.specs.News.{News, news_of, no_news, with_all_made, with_answers, with_line}
-use Rattle.trace_runner.specs.Runs.{DoLines, Does, IsRun, asked_by, calls_at, calls_in, ends_asked, finishing, pairs_left_of, planning_at, rings_asked, settling_at}
+use Rattle.trace_runner.specs.Runs.{DoLines, Does, IsRun, asked_by, calls_at, calls_in, ends_asked, plan_end_asked, pairs_left_of, planning_at, rings_asked, settling_at}
 use Rattle.trace_runner.specs.declared.plans.Plans.{Plans}
 use Rattle.trace_text.specs.declared.header.Header.{Header}
 use Rattle.trace_text.specs.declared.line.Call.TheVariants.{End}
@@ -261,7 +261,7 @@ module _ (h : Header) (replies : Bool) (lines : List Line) (count : ℕ) (old co
 
   -- once the last section is settled, the run is whole
   pub HasCome-IsRun : (new : CoreState) (calls : ℕ) (news : News) → count ≡ length lines
-      → Carries (finishing core.plan ++ (ends_asked (filter leaving (range_with_len 0 h.shards)) ++ rings_asked h.shards)) core (news_at kept plans) new news
+      → Carries (plan_end_asked core.plan ++ (ends_asked (filter leaving (range_with_len 0 h.shards)) ++ rings_asked h.shards)) core (news_at kept plans) new news
       → calls ≡ calls_in lines come.done
       → IsRun h.shards replies lines old new calls news
   HasCome-IsRun new calls news all (made, asks, answered, told) calls_are =
@@ -269,9 +269,9 @@ module _ (h : Header) (replies : Bool) (lines : List Line) (count : ℕ) (old co
         done = come.done;
         last = made;
         lines_do = subst (λ (some : List Line). DoLines h.shards lines old some [] come.done) whole come.lines_do;
-        settled = asks ∙ ap (λ (f : ℕ → Bool). finishing core.plan ++ (ends_asked (filter f (range_with_len 0 h.shards)) ++ rings_asked h.shards)) leaving_is
-            ∙ ap (λ ls. finishing core.plan ++ (ends_asked (leavers h.shards ls) ++ rings_asked h.shards)) whole
-            ∙ ap (λ (c : CoreState). finishing c.plan ++ (ends_asked (leavers h.shards lines) ++ rings_asked h.shards)) come.answered.steps.last;
+        settled = asks ∙ ap (λ (f : ℕ → Bool). plan_end_asked core.plan ++ (ends_asked (filter f (range_with_len 0 h.shards)) ++ rings_asked h.shards)) leaving_is
+            ∙ ap (λ ls. plan_end_asked core.plan ++ (ends_asked (leavers h.shards ls) ++ rings_asked h.shards)) whole
+            ∙ ap (λ (c : CoreState). plan_end_asked c.plan ++ (ends_asked (leavers h.shards lines) ++ rings_asked h.shards)) come.answered.steps.last;
         answered = IsAnswered-append old core new (all_made come.done) made come.answered answered;
         calls_are = calls_are;
         news_are = told ∙ ap (λ n. with_all_made n made) come.news_are;

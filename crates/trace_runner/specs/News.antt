@@ -34,16 +34,16 @@ no_news replies = record { replies = replies; marks = 0; taken = []; text = []; 
 abbrev pub with_news : News → PlanNews → List ℕ
 with_news n news = n.text ++ news_text n.replies news
 
--- a mark that planned, with the pages in use then
-abbrev pub mark_news : (mark : ℕ) → Certificate → CoreState → MarkNews
-mark_news mark c core = record {
+-- a mark of that number that planned, with the pages in use then
+abbrev pub mark_news : (mark : ℕ) → Certificate → (pages : ℕ) → MarkNews
+mark_news mark c pages = record {
   mark = mark;
   abandoned = length c.snapshot.abandoned;
   owned = length c.snapshot.owned;
   plan = c.plan;
   short = c.short;
   partners = partners_of c.snapshot c.short;
-  pages = pages core;
+  pages = pages;
 }
 
 -- one event more; it is news where it is a step, a close or a mark
@@ -63,7 +63,7 @@ with_called n (Called event.Close reply core) = record n {
 with_called n (Called event.Mark (reply.Marked c) core) =
     record n {
       marks = n.marks + 1;
-      text = with_news n (Marked (mark_news (n.marks + 1) c core));
+      text = with_news n (Marked (mark_news (n.marks + 1) c (pages core)));
       certificate = certificate_text c;
     }
 with_called n (Called event.Mark reply core) = record n {

@@ -10,7 +10,7 @@ use Rattle.arena_core.specs.State.{CoreState}
 use Rattle.trace_runner.specs.Made.{Asked, AreAsRequested, CalledEvent, Called, Did, Made, Request, all_made, asked_of, keys_taken}
 use Rattle.trace_runner.specs.Kept.{AreHome, Kept, Recalls, keeping, kept_of}
 use Rattle.trace_runner.specs.News.{News, news_of, with_all_made}
-use Rattle.trace_runner.specs.Runs.{AreSteps, DoLines, IsAnswered, MayMeetPlan, ends_asked, finishing, pairs_left_of, planning_at, rings_asked}
+use Rattle.trace_runner.specs.Runs.{AreSteps, DoLines, IsAnswered, MayMeetPlan, ends_asked, plan_end_asked, pairs_left_of, planning_at, rings_asked}
 use Rattle.trace_runner.specs.declared.plans.Plans.{Plans}
 use Rattle.arena_core.specs.declared.event.Event.{Event}
 use Rattle.arena_core.specs.declared.event.Event.TheVariants.{Put, Later, Settle, End, Begin, Retire, Trim, Adopt, Mark, MarkSome, Step, Close}
@@ -67,7 +67,7 @@ pub record Drains (requests : List Request) (old new : CoreState) (count : ℕ) 
 
 -- what settles the section, where a barrier begins at the line and the threads leave
 abbrev pub settling_with : (shards : ℕ) → List ℕ → CoreState → Line → List Asked
-settling_with shards threads core line = if is_barrier line then finishing core.plan
+settling_with shards threads core line = if is_barrier line then plan_end_asked core.plan
     ++ (ends_asked threads ++ rings_asked shards) else []
 
 -- ---- the shards that have ended, and the open plan

@@ -8,6 +8,8 @@ use Rattle.fold.specs.declared.step.Step.{Step}
 use Rattle.fold.specs.declared.step.Step.TheVariants.{Absent, Emptied, Clash, Folded}
 use Rattle.trace_runner.specs.declared.report.Answer.{Answer}
 use Rattle.trace_runner.specs.declared.report.Answer.TheVariants as answer
+use Rattle.trace_runner.specs.declared.report.Other.{Other}
+use Rattle.trace_runner.specs.declared.report.Other.TheVariants as other
 use Rattle.trace_runner.specs.declared.report.LineAnswer.{LineAnswer}
 use Rattle.trace_runner.specs.declared.report.Ending.{Ending}
 use Rattle.trace_runner.specs.declared.report.TakenStep.{TakenStep}
@@ -20,27 +22,31 @@ use Rattle.trace_runner.specs.declared.report.PlanNews.TheVariants.{Marked, TooM
 abbrev pub number_word : ℕ → List ℕ
 number_word n = codes " " ++ decimal n
 
+-- what a line came to other than by a call on a key, without its line's number
+abbrev pub other_text : Other → List ℕ
+other_text other.PagesSpent = codes "refused pages"
+other_text other.Unbound = codes "unbound"
+other_text other.Ended = codes "ended"
+other_text (other.Adopted head) = codes "adopted " ++ id_text head
+other_text other.NothingToAdopt = codes "refused nothing"
+other_text other.Sent = codes "sent"
+other_text other.RingFull = codes "full"
+other_text (other.Settled count) = codes "settled " ++ decimal count
+other_text (other.Trimmed count) = codes "trimmed " ++ decimal count
+other_text (other.Retired count) = codes "retired " ++ decimal count
+other_text other.PlanOpen = codes "refused plan"
+other_text other.Begun = codes "begun"
+
 -- an answer, without its line's number; an object that was found is told by all its words
 abbrev pub answer_text : Answer → List ℕ
 answer_text (answer.Key key) = codes "key " ++ key_text key
-answer_text answer.PagesSpent = codes "refused pages"
 answer_text (answer.Value words) = codes "value" ++ flat_map number_word words
 answer_text answer.Absent = codes "none"
 answer_text answer.Replaced = codes "yes"
 answer_text answer.NotReplaced = codes "no"
 answer_text answer.Freed = codes "yes"
 answer_text answer.NotFreed = codes "no"
-answer_text answer.Unbound = codes "unbound"
-answer_text answer.Ended = codes "ended"
-answer_text (answer.Adopted head) = codes "adopted " ++ id_text head
-answer_text answer.NothingToAdopt = codes "refused nothing"
-answer_text answer.Sent = codes "sent"
-answer_text answer.RingFull = codes "full"
-answer_text (answer.Settled count) = codes "settled " ++ decimal count
-answer_text (answer.Trimmed count) = codes "trimmed " ++ decimal count
-answer_text (answer.Retired count) = codes "retired " ++ decimal count
-answer_text answer.PlanOpen = codes "refused plan"
-answer_text answer.Begun = codes "begun"
+answer_text (answer.Other what) = other_text what
 
 -- the line's number, a space, the answer
 abbrev pub answer_line : LineAnswer → List ℕ

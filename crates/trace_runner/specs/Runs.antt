@@ -91,9 +91,10 @@ pairs_left None = 0
 pairs_left (Some plan) = pairs_left_of plan
 
 -- a step for each pair that is left of the open plan, and its close
-abbrev pub finishing : Option OpenPlan → List Asked
-finishing None = []
-finishing (Some plan) = replicate (pairs_left_of plan) (Calls event.Step) ++ Calls event.Close ∷ []
+abbrev pub plan_end_asked : Option OpenPlan → List Asked
+plan_end_asked None = []
+plan_end_asked (Some plan) =
+    replicate (pairs_left_of plan) (Calls event.Step) ++ Calls event.Close ∷ []
 
 -- the ends of these shards
 abbrev pub ends_asked : List ℕ → List Asked
@@ -106,7 +107,7 @@ rings_asked shards = map (λ shard. Tends shards shard) (range_with_len 0 shards
 -- what a barrier or the end of the text begins with: the end of the open plan, then those of the
 -- shards of the threads that ended in the section, ascending, and then the keys of all rings
 abbrev pub settling : (shards : ℕ) → List Line → CoreState → List Asked
-settling shards above core = finishing core.plan ++ (ends_asked (leavers shards above)
+settling shards above core = plan_end_asked core.plan ++ (ends_asked (leavers shards above)
     ++ rings_asked shards)
 
 -- the same where a barrier begins at a line; after its first line nothing is left of it

@@ -39,9 +39,10 @@ mod writing;
 
 pub use checking::check_text;
 pub use fault::{CheckError, ReplayError};
-pub use replay::{TRACE_SPANS, replay_serial};
+pub use plans::mark_news;
+pub use replay::{TRACE_SPANS, limits_of, replay_serial};
 pub use report::{
-    Answer, CloseNews, Ending, Heads, LineAnswer, MarkNews, PlanNews, Steps, TakenStep,
+    Answer, CloseNews, Ending, Heads, LineAnswer, MarkNews, Other, PlanNews, Steps, TakenStep,
 };
 pub use sink::{Memory, Out, Sink, SinkFailed, give};
 pub use trace_text::{

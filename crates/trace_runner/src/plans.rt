@@ -1,14 +1,14 @@
 //! What a run knows of plans: the open one, and how many marks there were.
 
-ghost use Rattle.std.specs.Prelude.{◌≡◌, ◌+◌, ◌-◌, ◌<◌, ◌≤◌, ◌^◌, ◌∷◌, [], Bool, length, replicate, None, Some, OnOk};
+ghost use Rattle.std.specs.Prelude.{◌≡◌, ◌+◌, ◌-◌, ◌<◌, ◌≤◌, ◌^◌, ◌∷◌, [], Bool, IfOk, length, replicate, None, Some, OnOk};
 ghost use Rattle.arena_core.specs.declared.event.Event.TheVariants as event;
 ghost use Rattle.arena_core.specs.declared.reply.Reply.TheVariants as reply;
 ghost use Rattle.certificate.specs.Text.{IsWritable};
 ghost use Rattle.trace_runner.specs.Made.{Calls, Called};
 ghost use Rattle.trace_runner.specs.Kept.{Kept, kept_in, kept_none};
-ghost use Rattle.trace_runner.specs.News.{no_news, with_called};
+ghost use Rattle.trace_runner.specs.News.{mark_news, no_news, with_called};
 ghost use Rattle.trace_runner.specs.Recalls.{Carries, KeepsShards, KnowsPlan, news_at};
-ghost use Rattle.trace_runner.specs.Runs.{finishing, stepping};
+ghost use Rattle.trace_runner.specs.Runs.{plan_end_asked, stepping};
 
 use crate::replies::Replies;
 use crate::report::{CloseNews, Heads, MarkNews, PlanNews, Steps, TakenStep};
@@ -18,6 +18,44 @@ use mesh_graph::Runner;
 use span::spans::Counted;
 use std::alloc::{AllocError, Global};
 use std::mem;
+
+/// What the report tells of the mark of that number, which planned this, with so many pages in use.
+/// The runner fills the rows of the partners, by `pieces` if it goes by pieces. `AllocError` comes
+/// if memory runs out.
+pub fn mark_news<R: Runner>(
+    runner: &R,
+    alloc: Global,
+    pieces: usize,
+    mark: usize,
+    certificate: Certificate,
+    pages: usize,
+) -> Result<MarkNews, AllocError>
+    requires runner { R.ready runner.now }
+    requires pieces { 1 ≤ pieces }
+    ensures { IfOk result (λ news. news ≡ mark_news mark certificate pages) }
+{
+    let partners = partners(
+        runner,
+        alloc,
+        &certificate.snapshot,
+        &certificate.short,
+        pieces,
+    )?;
+    let Certificate {
+        snapshot,
+        plan,
+        short,
+    } = certificate;
+    Ok(MarkNews {
+        mark,
+        abandoned: snapshot.abandoned().len(),
+        owned: snapshot.owned().len(),
+        plan,
+        short,
+        partners: Heads::new(partners),
+        pages,
+    })
+}
 
 /// What a run knows of plans.
 #[derive(Drop)]
@@ -72,13 +110,13 @@ impl Plans {
     }
 
     /// Ends the open plan, if there is one: takes the steps that are left, closes it, and tells so.
-    pub(crate) fn finish(
+    pub(crate) fn end_open(
         &mut self,
         core: &mut Core<Counted>,
         replies: &mut Replies,
     ) -> Result<(), AllocError>
         requires knows { KnowsPlan self.old core.old }
-        ensures made { OnOk result (Carries (finishing core.old.plan) core.old
+        ensures made { OnOk result (Carries (plan_end_asked core.old.plan) core.old
             (news_at (kept_in replies.old) self.old) core.new
             (news_at (kept_in replies.new) self.new)) }
         ensures rest { kept_in replies.new ≡ record
@@ -91,12 +129,12 @@ impl Plans {
         let Some(left) = self.left else {
             return Ok(());
         };
-        self.finish_steps(core, left)?;
+        self.take_steps_left(core, left)?;
         self.close(core, replies)
     }
 
     /// Takes all the steps that are left.
-    fn finish_steps(&mut self, core: &mut Core<Counted>, left: usize) -> Result<(), AllocError>
+    fn take_steps_left(&mut self, core: &mut Core<Counted>, left: usize) -> Result<(), AllocError>
         requires knows { KnowsPlan self.old core.old }
         requires left { self.old.left ≡ Some left }
         ensures made { (kept : Kept) → OnOk result
@@ -244,27 +282,8 @@ impl Plans {
         self.marks += 1;
         self.left = Some(certificate.plan.pairs().len());
         self.certificate = write(self.alloc, &certificate)?;
-        let partners = partners(
-            runner,
-            self.alloc,
-            &certificate.snapshot,
-            &certificate.short,
-            pieces,
-        )?;
-        let Certificate {
-            snapshot,
-            plan,
-            short,
-        } = certificate;
-        let marked = MarkNews {
-            mark: self.marks,
-            abandoned: snapshot.abandoned().len(),
-            owned: snapshot.owned().len(),
-            plan,
-            short,
-            partners: Heads::new(partners),
-            pages: core.totals().pages,
-        };
+        let pages = core.totals().pages;
+        let marked = mark_news(runner, self.alloc, pieces, self.marks, certificate, pages)?;
         replies.tell_news(&PlanNews::Marked(marked))
     }
 }

@@ -14,7 +14,7 @@ use crate::report::Ending;
 use crate::run::{Ran, run_lines};
 use crate::sink::{Sink, give};
 use crate::writing::push_ending;
-use arena_core::{Core, CoreError};
+use arena_core::Core;
 use marks::Limits;
 use mesh_graph::Runner;
 use span::spans::Counted;
@@ -84,7 +84,7 @@ fn replay<R: Runner>(
     ensures { IfOk result (λ replayed. IsReportOf trace.now replies replayed.report.items
         replayed.certificate.items) }
 {
-    let core = core_of(alloc, &trace.header)?;
+    let core = core_of(alloc, &trace.header);
     let Ran {
         core,
         mut report,
@@ -104,22 +104,18 @@ fn replay<R: Runner>(
     })
 }
 
-/// The core that the header asks for, whose shards open [`TRACE_SPANS`] spans at most. Its logs are
-/// only counted, since no report shows one.
-fn core_of(alloc: Global, header: &Header) -> Result<Core<Counted>, AllocError>
+/// The core that the header asks for. Its logs are only counted, since no report shows one.
+fn core_of(alloc: Global, header: &Header) -> Core<Counted>
     requires { IsWithinLimits header.now }
-    ensures core { IfOk result (λ core. core ≡ start_of header.now) }
-    ensures empty { OnOk result (shown (start_of header.now) ≡ empty_map) }
+    ensures core { result ≡ start_of header.now }
+    ensures empty { shown (start_of header.now) ≡ empty_map }
 {
-    match Core::with_limits(alloc, limits_of(header)) {
-        Ok(core) => Ok(core),
-        Err(CoreError::OutOfMemory) => Err(AllocError),
-        Err(CoreError::Config) => unreachable!(),
-    }
+    Core::with_limits(alloc, limits_of(header))
 }
 
-/// The numbers of a core that the header asks for.
-fn limits_of(header: &Header) -> Limits
+/// The numbers of the core or the arena that the header asks for, whose shards open [`TRACE_SPANS`]
+/// spans at most.
+pub fn limits_of(header: &Header) -> Limits
     requires { IsWithinLimits header.now }
     ensures { result ≡ limits_of_trace header.now }
 {

@@ -9,7 +9,7 @@ ghost use Rattle.trace_runner.specs.Answers.{answer_told, put_told};
 ghost use Rattle.trace_runner.specs.Report.{answer_line, news_text};
 
 use crate::key_list::KeyList;
-use crate::report::{Answer, PlanNews};
+use crate::report::{Answer, Other, PlanNews};
 use crate::writing::{push_answer_line, push_news};
 use span::names::{Key, Object};
 use std::alloc::{AllocError, Global};
@@ -209,7 +209,7 @@ fn answer_to_put(key: Option<Key>) -> Answer
 {
     match key {
         Some(key) => Answer::Key(key),
-        None => Answer::PagesSpent,
+        None => Answer::Other(Other::PagesSpent),
     }
 }
 

@@ -8,27 +8,12 @@ use span::names::{Key, Object, SpanId};
 use std::alloc::{AllocError, Global};
 use std::marker::Model;
 
-/// What a call of the trace answered, or an adoption. It takes as much room as an object does, 272
-/// bytes, and a few words.
+/// What a line came to other than by a call on a key.
 #[derive(Clone, Copy)]
-pub enum Answer {
-    /// A put stored its object under this key.
-    Key(Key),
+pub enum Other {
     /// A put found no usable slot, and the shard may have no further page; or an adoption found the
     /// shard to have as many groups as it may have pages.
     PagesSpent,
-    /// A look-up found this object.
-    Value(Object),
-    /// A look-up found no object under its key.
-    Absent,
-    /// A set replaced the object under its key.
-    Replaced,
-    /// A set found no object of its class under its key.
-    NotReplaced,
-    /// A free took the object out.
-    Freed,
-    /// A free found no object under its key.
-    NotFreed,
     /// The put that should have bound the name was refused.
     Unbound,
     /// A thread has ended.
@@ -51,6 +36,28 @@ pub enum Answer {
     PlanOpen,
     /// The shard of a thread that had ended runs again.
     Begun,
+}
+
+/// What a call of the trace answered, or an adoption. It takes as much room as an object does, 272
+/// bytes, and a few words.
+#[derive(Clone, Copy)]
+pub enum Answer {
+    /// A put stored its object under this key.
+    Key(Key),
+    /// A look-up found this object.
+    Value(Object),
+    /// A look-up found no object under its key.
+    Absent,
+    /// A set replaced the object under its key.
+    Replaced,
+    /// A set found no object of its class under its key.
+    NotReplaced,
+    /// A free took the object out.
+    Freed,
+    /// A free found no object under its key.
+    NotFreed,
+    /// It was no call on a key, or made none.
+    Other(Other),
 }
 
 /// An answer with its place in the trace.

@@ -11,7 +11,7 @@ ghost use Rattle.trace_text.specs.declared.line.Line.{Line};
 ghost use Rattle.trace_text.specs.Causes.{begins, begins_again, call_ends, ends, first_cause, is_adopt, is_call_over};
 ghost use Rattle.trace_runner.specs.Made.{Did};
 ghost use Rattle.trace_runner.specs.News.{News};
-ghost use Rattle.trace_runner.specs.Runs.{IsRun, asked_by, asked_by_call, ends_asked, finishing, rings_asked};
+ghost use Rattle.trace_runner.specs.Runs.{IsRun, asked_by, asked_by_call, ends_asked, plan_end_asked, rings_asked};
 ghost use Rattle.arena_core.specs.declared.event.Event.{Event};
 
 use crate::plans::Plans;
@@ -160,7 +160,7 @@ impl<'t> Run<'t> {
         requires enough { self.old.trace.now.header.shards ≤ self.old.core.limits.shards }
 
         // What settles it is made.
-        ensures made { OnOk result (Carries (finishing self.old.core.plan
+        ensures made { OnOk result (Carries (plan_end_asked self.old.core.plan
             ++ (ends_asked (filter (has self.old.leaving)
             (range_with_len 0 self.old.trace.now.header.shards))
             ++ rings_asked self.old.trace.now.header.shards)) self.old.core
@@ -178,7 +178,7 @@ impl<'t> Run<'t> {
         ensures leaving { OnOk result ((other : ℕ) → has self.new.leaving other ≡ false) }
         ensures trace { self.new.trace.now ≡ self.old.trace.now }
     {
-        self.plans.finish(&mut self.core, &mut self.replies)?;
+        self.plans.end_open(&mut self.core, &mut self.replies)?;
         self.abandon()?;
         settle_rings(&mut self.core, self.trace.header.shards)
     }

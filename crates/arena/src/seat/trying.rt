@@ -1,19 +1,19 @@
-// The calls of a seat that do not wait: where another thread has a lock that they need, they answer
+// The calls of a seat that do not wait: if another thread has a lock that they need, they answer
 // so, and change nothing.
 ghost use Rattle.std.specs.Prelude.{◌≡◌, ◌≤◌, IfOk, OnErr, OnOk, length};
 ghost use Rattle.arena.specs.Delays.{CountsCall, HandsOver, HasNoneWaiting};
 ghost use Rattle.arena.specs.KeyCalls.{IsFreed, IsLookedUp, IsSet};
 ghost use Rattle.arena.specs.Seats.{AreNoFewer, KeepsEnds, free_places, sending_side};
 ghost use Rattle.arena.specs.Tended.{AreLookedAt, IsTended};
-ghost use Rattle.arena.specs.Told.{LooksUp};
+ghost use Rattle.arena.specs.KeyAnswers.{LooksUp};
 ghost use Rattle.span.specs.Classes.{width_of};
 
 use super::Seat;
 use crate::arena::Arena;
 use crate::gate::Gate;
+use crate::lent_calls::{Issued, Looked, Outcome};
 use crate::patience::Tries;
 use crate::receipts::Receipts;
-use crate::sections::{Issued, Looked, Outcome};
 use crate::tending::{look_at_rings, tend_rings};
 use crate::word::Word;
 use latch::Busy;
@@ -54,7 +54,7 @@ impl Seat {
         ensures seat { OnOk result (CountsCall self.old self.new) }
         ensures busy { OnErr result (self.new ≡ self.old) }
     {
-        self.put_by(&Tries, arena, class, words)
+        self.put_within(&Tries, arena, class, words)
     }
 
     /// Looks the key up, under the lock of whoever has its span, and writes the words of what is
@@ -83,7 +83,7 @@ impl Seat {
         ensures seat { OnOk result (CountsCall self.old self.new) }
         ensures busy { OnErr result ((self.new ≡ self.old) × (room.new ≡ room.old)) }
     {
-        self.get_by(&Tries, arena, key, room)
+        self.get_within(&Tries, arena, key, room)
     }
 
     /// Sets the key's object to these words in place, under the lock of whoever has its span, if
@@ -106,7 +106,7 @@ impl Seat {
         ensures seat { OnOk result (CountsCall self.old self.new) }
         ensures busy { OnErr result (self.new ≡ self.old) }
     {
-        self.set_by(&Tries, arena, key, words)
+        self.set_within(&Tries, arena, key, words)
     }
 
     /// Frees the key, if it is live, under the lock of whoever has its span. A span that is nowhere
@@ -127,11 +127,11 @@ impl Seat {
         ensures seat { OnOk result (CountsCall self.old self.new) }
         ensures busy { OnErr result (self.new ≡ self.old) }
     {
-        self.free_by(&Tries, arena, key)
+        self.free_within(&Tries, arena, key)
     }
 
     /// What [`Seat::tend`] does, as long as no other thread has a lock that the next key needs: it
-    /// takes a key only where it can free it at once.
+    /// takes a key only if it can free it at once.
     ///
     /// # Errors
     ///
@@ -169,11 +169,11 @@ impl Seat {
         ))
     }
 
-    /// What [`Seat::end`] does, where no other thread has the pool's lock or the shard's.
+    /// What [`Seat::end`] does, if no other thread has the pool's lock or the shard's.
     ///
     /// # Errors
     ///
-    /// [`Busy`] where another thread has one. Else the end, whose errors are those of
+    /// [`Busy`] if another thread has one. Else the end, whose errors are those of
     /// [`Seat::end`].
     pub fn try_end<G: Gate, L: Log>(
         &mut self,
@@ -186,11 +186,11 @@ impl Seat {
         self.end_within(&Tries, arena)
     }
 
-    /// What [`Seat::begin`] does, where no other thread has the shard's lock.
+    /// What [`Seat::begin`] does, if no other thread has the shard's lock.
     ///
     /// # Errors
     ///
-    /// [`Busy`] where another thread has it.
+    /// [`Busy`] if another thread has it.
     pub fn try_begin<G: Gate, L: Log>(&mut self, arena: &Arena<G, L>) -> Result<bool, Busy>
         requires { self.old.limits ≡ arena.now.limits }
         ensures seat { OnOk result (CountsCall self.old self.new) }
@@ -199,11 +199,11 @@ impl Seat {
         self.begin_within(&Tries, arena)
     }
 
-    /// What [`Seat::retire`] does, where no other thread has the pool's lock or the shard's.
+    /// What [`Seat::retire`] does, if no other thread has the pool's lock or the shard's.
     ///
     /// # Errors
     ///
-    /// [`Busy`] where another thread has one. Else the retirement, whose errors are those of
+    /// [`Busy`] if another thread has one. Else the retirement, whose errors are those of
     /// [`Seat::retire`].
     pub fn try_retire<G: Gate, L: Log>(
         &mut self,
@@ -218,11 +218,11 @@ impl Seat {
         self.retire_within(&Tries, arena, most)
     }
 
-    /// What [`Seat::trim`] does, where no other thread has the shard's lock.
+    /// What [`Seat::trim`] does, if no other thread has the shard's lock.
     ///
     /// # Errors
     ///
-    /// [`Busy`] where another thread has it.
+    /// [`Busy`] if another thread has it.
     pub fn try_trim<G: Gate, L: Log>(&mut self, arena: &Arena<G, L>) -> Result<usize, Busy>
         requires { self.old.limits ≡ arena.now.limits }
         ensures seat { OnOk result (CountsCall self.old self.new) }
@@ -231,11 +231,11 @@ impl Seat {
         self.trim_within(&Tries, arena)
     }
 
-    /// What [`Seat::adopt`] does, where no other thread has the pool's lock or the shard's.
+    /// What [`Seat::adopt`] does, if no other thread has the pool's lock or the shard's.
     ///
     /// # Errors
     ///
-    /// [`Busy`] where another thread has one. Else the adoption, whose errors are those of
+    /// [`Busy`] if another thread has one. Else the adoption, whose errors are those of
     /// [`Seat::adopt`].
     pub fn try_adopt<G: Gate, L: Log>(
         &mut self,

@@ -18,7 +18,7 @@ use super::Core;
 use crate::reply::{Refusal, Reply, mark_refusal};
 use certificate::Certificate;
 use fold::{Step, fold_one};
-use marks::{CurrentPlan, has_too_many, mark_some_in, reopen_all};
+use marks::{CurrentPlan, Sight, has_too_many, mark_in, reopen_all};
 use mesh_graph::Runner;
 use pool::Pool;
 use shard::Shard;
@@ -60,7 +60,13 @@ impl<L: Log> Core<L> {
             return Err(Refusal::PlanOpen);
         }
         let mut plan = CurrentPlan::new(self.alloc)?;
-        let certificate = match mark_some_in(runner, self.alloc, &mut self.pool, &mut self.shards) {
+        let certificate = match mark_in(
+            runner,
+            self.alloc,
+            Sight::Sparsest,
+            &mut self.pool,
+            &mut self.shards,
+        ) {
             Ok(certificate) => certificate,
             Err(error) => return Err(mark_refusal(error)),
         };

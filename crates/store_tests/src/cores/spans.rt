@@ -1,7 +1,7 @@
 // Cores whose shards may open few spans.
 use super::{Told, are_answered, found, key, put};
 use crate::objects::{wide, widest};
-use arena_core::{Core, CoreError, Event, Refusal};
+use arena_core::{Core, Event, Refusal};
 use marks::{Limits, Totals};
 use span::names::MOST_SPANS;
 use std::alloc::Global;
@@ -11,13 +11,9 @@ fn limits_of(span_limit: u32) -> Option<Limits> {
     Limits::new(2, 4, 8, 9)?.with_span_limit(span_limit)
 }
 
-// A core whose shards may open that many spans, asked for again where an allocation was refused.
+// A core whose shards may open that many spans.
 fn core_of_spans(alloc: Global, span_limit: u32) -> Option<Core> {
-    let limits = limits_of(span_limit)?;
-    match Core::with_limits(alloc, limits) {
-        Err(CoreError::OutOfMemory) => Core::with_limits(alloc, limits).ok(),
-        made => made.ok(),
-    }
+    Some(Core::with_limits(alloc, limits_of(span_limit)?))
 }
 
 #[test]

@@ -7,7 +7,7 @@ ghost use Rattle.arena_core.specs.declared.event.Event.{Event};
 ghost use Rattle.arena_core.specs.declared.reply.Reply.TheVariants as reply;
 
 use crate::replies::{answer_to_free, answer_to_set};
-use crate::report::Answer;
+use crate::report::{Answer, Other};
 use arena_core::{Refusal, Reply};
 use span::names::{Key, Object};
 use std::alloc::AllocError;
@@ -23,12 +23,12 @@ pub(super) fn answer_to(reply: Reply) -> Result<Answer, AllocError>
         Reply::Found(found) => Ok(answer_to_look_up(found)),
         Reply::Replaced(replaced) => Ok(answer_to_set(replaced)),
         Reply::Freed(freed) => Ok(answer_to_free(freed)),
-        Reply::Sent => Ok(Answer::Sent),
-        Reply::ShardEnded => Ok(Answer::Ended),
-        Reply::ShardBegun => Ok(Answer::Begun),
-        Reply::Retired(count) => Ok(Answer::Retired(count)),
-        Reply::Trimmed(count) => Ok(Answer::Trimmed(count)),
-        Reply::Adopted(head) => Ok(Answer::Adopted(head)),
+        Reply::Sent => Ok(Answer::Other(Other::Sent)),
+        Reply::ShardEnded => Ok(Answer::Other(Other::Ended)),
+        Reply::ShardBegun => Ok(Answer::Other(Other::Begun)),
+        Reply::Retired(count) => Ok(Answer::Other(Other::Retired(count))),
+        Reply::Trimmed(count) => Ok(Answer::Other(Other::Trimmed(count))),
+        Reply::Adopted(head) => Ok(Answer::Other(Other::Adopted(head))),
         Reply::Refused(refusal) => answer_to_refusal(refusal),
         // The others come of events that rings and plans are asked by.
         Reply::Settled(_) | Reply::Marked(_) | Reply::Stepped(..) => unreachable!(),
@@ -46,10 +46,10 @@ fn answer_to_refusal(refusal: Refusal) -> Result<Answer, AllocError>
     ensures answer { IfOk result (λ answer. answer ≡ answer_told (reply.Refused refusal)) }
 {
     match refusal {
-        Refusal::PagesSpent => Ok(Answer::PagesSpent),
-        Refusal::NothingToAdopt => Ok(Answer::NothingToAdopt),
-        Refusal::RingFull => Ok(Answer::RingFull),
-        Refusal::PlanOpen => Ok(Answer::PlanOpen),
+        Refusal::PagesSpent => Ok(Answer::Other(Other::PagesSpent)),
+        Refusal::NothingToAdopt => Ok(Answer::Other(Other::NothingToAdopt)),
+        Refusal::RingFull => Ok(Answer::Other(Other::RingFull)),
+        Refusal::PlanOpen => Ok(Answer::Other(Other::PlanOpen)),
         Refusal::OutOfMemory => Err(AllocError),
         // A trace asks for its own shards alone, for none that has ended but to begin it, and for a
         // mark by another way.

@@ -14,7 +14,7 @@ ghost use Rattle.arena_core.specs.declared.event.Event.TheVariants as event;
 
 use super::Run;
 use super::answers::{answer_to, key_of_put, was_replaced};
-use crate::report::Answer;
+use crate::report::{Answer, Other};
 use crate::rings::settle_shard;
 use arena_core::Event;
 use span::names::{Class, Key};
@@ -122,7 +122,7 @@ impl<'t> Run<'t> {
         ensures leaving { self.new.leaving ≡ self.old.leaving }
         ensures trace { self.new.trace.now ≡ self.old.trace.now }
     {
-        self.replies.tell(number, &Answer::Unbound)?;
+        self.replies.tell(number, &Answer::Other(Other::Unbound))?;
         Ok(())
     }
 
@@ -334,7 +334,8 @@ impl<'t> Run<'t> {
     {
         let workers = self.trace.header.shards;
         let count = settle_shard(&mut self.core, workers, thread)?;
-        self.replies.tell(number, &Answer::Settled(count))?;
+        self.replies
+            .tell(number, &Answer::Other(Other::Settled(count)))?;
         Ok(())
     }
 
@@ -388,7 +389,7 @@ impl<'t> Run<'t> {
     {
         match self.core.begin(thread) {
             Ok(()) => {
-                self.replies.tell(number, &Answer::Begun)?;
+                self.replies.tell(number, &Answer::Other(Other::Begun))?;
                 Ok(())
             }
             // The shard is there, and has ended.
@@ -407,7 +408,7 @@ impl<'t> Run<'t> {
         ensures trace { self.new.trace.now ≡ self.old.trace.now }
     {
         self.leaving.insert(thread)?;
-        self.replies.tell(number, &Answer::Ended)?;
+        self.replies.tell(number, &Answer::Other(Other::Ended))?;
         Ok(())
     }
 

@@ -2,9 +2,9 @@
 
 ghost use Rattle.std.specs.Prelude.{◌≡◌, ◌++◌, OnOk};
 ghost use Rattle.std.specs.List.{flat_map};
-ghost use Rattle.trace_runner.specs.Report.{answer_line, answer_text, answers_text, number_word};
+ghost use Rattle.trace_runner.specs.Report.{answer_line, answer_text, answers_text, number_word, other_text};
 
-use crate::report::{Answer, LineAnswer};
+use crate::report::{Answer, LineAnswer, Other};
 use crate::writing::{push_id, push_key, push_number};
 use std::alloc::AllocError;
 
@@ -24,6 +24,37 @@ fn push_number_words(out: &mut Vec<u8>, numbers: &[u128]) -> Result<(), AllocErr
     Ok(())
 }
 
+fn push_other(out: &mut Vec<u8>, other: &Other) -> Result<(), AllocError>
+    ensures { OnOk result (out.new.items ≡ out.old.items ++ other_text other.now) }
+{
+    match other {
+        Other::PagesSpent => out.extend_from_slice(b"refused pages"),
+        Other::Unbound => out.extend_from_slice(b"unbound"),
+        Other::Ended => out.extend_from_slice(b"ended"),
+        Other::Adopted(head) => {
+            out.extend_from_slice(b"adopted ")?;
+            push_id(out, *head)
+        }
+        Other::NothingToAdopt => out.extend_from_slice(b"refused nothing"),
+        Other::Sent => out.extend_from_slice(b"sent"),
+        Other::RingFull => out.extend_from_slice(b"full"),
+        Other::Settled(count) => {
+            out.extend_from_slice(b"settled ")?;
+            push_number(out, *count)
+        }
+        Other::Trimmed(count) => {
+            out.extend_from_slice(b"trimmed ")?;
+            push_number(out, *count)
+        }
+        Other::Retired(count) => {
+            out.extend_from_slice(b"retired ")?;
+            push_number(out, *count)
+        }
+        Other::PlanOpen => out.extend_from_slice(b"refused plan"),
+        Other::Begun => out.extend_from_slice(b"begun"),
+    }
+}
+
 fn push_answer(out: &mut Vec<u8>, answer: &Answer) -> Result<(), AllocError>
     ensures { OnOk result (out.new.items ≡ out.old.items ++ answer_text answer.now) }
 {
@@ -32,7 +63,6 @@ fn push_answer(out: &mut Vec<u8>, answer: &Answer) -> Result<(), AllocError>
             out.extend_from_slice(b"key ")?;
             push_key(out, *key)
         }
-        Answer::PagesSpent => out.extend_from_slice(b"refused pages"),
         Answer::Value(object) => {
             out.extend_from_slice(b"value")?;
             push_number_words(out, object.words())
@@ -42,29 +72,7 @@ fn push_answer(out: &mut Vec<u8>, answer: &Answer) -> Result<(), AllocError>
         Answer::NotReplaced => out.extend_from_slice(b"no"),
         Answer::Freed => out.extend_from_slice(b"yes"),
         Answer::NotFreed => out.extend_from_slice(b"no"),
-        Answer::Unbound => out.extend_from_slice(b"unbound"),
-        Answer::Ended => out.extend_from_slice(b"ended"),
-        Answer::Adopted(head) => {
-            out.extend_from_slice(b"adopted ")?;
-            push_id(out, *head)
-        }
-        Answer::NothingToAdopt => out.extend_from_slice(b"refused nothing"),
-        Answer::Sent => out.extend_from_slice(b"sent"),
-        Answer::RingFull => out.extend_from_slice(b"full"),
-        Answer::Settled(count) => {
-            out.extend_from_slice(b"settled ")?;
-            push_number(out, *count)
-        }
-        Answer::Trimmed(count) => {
-            out.extend_from_slice(b"trimmed ")?;
-            push_number(out, *count)
-        }
-        Answer::Retired(count) => {
-            out.extend_from_slice(b"retired ")?;
-            push_number(out, *count)
-        }
-        Answer::PlanOpen => out.extend_from_slice(b"refused plan"),
-        Answer::Begun => out.extend_from_slice(b"begun"),
+        Answer::Other(other) => push_other(out, other),
     }
 }
 

@@ -11,6 +11,12 @@ count_shard-requires-clause-linked c = AreLinked-same c.args.seats.now c.loop-sh
 pub returns-in_err-row-clause-same : goal.returns-in_err-row-clause-same
 returns-in_err-row-clause-same c = AreSameSeats-more _ _ _ c.loop-shard.invariant.same c.count_shard.ensures.same
 
+pub returns-in_err-row-clause-linked : goal.returns-in_err-row-clause-linked
+returns-in_err-row-clause-linked c = AreLinked-same _ _ (AreSameSeats-more _ _ _ c.loop-shard.invariant.same c.count_shard.ensures.same) c.requires.linked
+
+pub returns-clause-linked : goal.returns-clause-linked
+returns-clause-linked c = AreLinked-same _ _ c.loop-shard.invariant.same c.requires.linked
+
 pub loop-shard-preserved : goal.loop-shard-preserved
 loop-shard-preserved c =
     let inv = c.loop-shard.invariant in

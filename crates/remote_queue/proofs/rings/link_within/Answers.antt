@@ -35,5 +35,16 @@ loop-preserved c =
       untaken = c.in_ok-row.ensures.untaken;
     }
 
-pub returns-clause-workers : goal.returns-clause-workers
-returns-clause-workers c = (search rules, all_long (λ v. map (λ i. i.ring) v.items) vec_len c.loop.inboxes.items c.args.workers (λ v. length-map v.items (λ i. i.ring) ∙ sym v.ok.0) (search rules))
+pub returns : goal.returns
+returns c =
+    let inv = c.loop.invariant in
+    let workers : vec_len c.loop.outboxes ≡ c.args.workers = search rules in
+    record {
+      workers_are = omega (arith, workers, c.loop.outboxes.ok.0);
+      shards_are = omega (arith, inv.wide, c.loop.inboxes.ok.0);
+      rows_are_long = inv.even;
+      columns_are_long = all_long (λ v. map (λ i. i.ring) v.items) vec_len c.loop.inboxes.items c.args.workers (λ v. length-map v.items (λ i. i.ring) ∙ sym v.ok.0) (search rules);
+      rings_are = inv.rings;
+      unsent = inv.unsent;
+      untaken = inv.untaken;
+    }

@@ -1,6 +1,6 @@
 use Rattle.std.proofs.Common.{◌≡◌, ap}
 use Rattle.arena.specs.Delays.{CountsCall}
-use Rattle.arena.specs.Told.{changes_at}
+use Rattle.arena.specs.KeyAnswers.{changes_at}
 use Rattle.shard.specs.Shown.{shown}
 use Rattle.teurlaks_c.proofs.Telling.{SaysGot-held}
 use Rattle.teurlaks_c.proofs.session_calls.look_up_in_session.Goals as goal

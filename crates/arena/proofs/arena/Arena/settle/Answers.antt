@@ -1,12 +1,8 @@
 use Rattle.std.proofs.Common.{◌∙◌, arith, vec_items}
 use Rattle.arena.proofs.Ended.{all_settled}
-use Rattle.arena.proofs.Linking.{AreLinked-same, still_in_order}
-use Rattle.arena.proofs.SeatRings.{AreLinked-seats, AreSeatsOf-same}
+use Rattle.arena.proofs.SeatRings.{AreSeatsOf-same}
 use Rattle.arena.proofs.SettledRings.{AreLinked-emptied, emptied_from}
 use Rattle.arena.proofs.arena.Arena.settle.Goals as goal
-
-pub make_room-requires-clause-linked : goal.make_room-requires-clause-linked
-make_room-requires-clause-linked g c = AreLinked-seats c.args.self.now.limits c.args.self.now.table c.args.seats.now c.requires.seats c.args.self.now.rings_are c.know_rings.ensures
 
 pub returns-in_err-counts-clause-seats : goal.returns-in_err-counts-clause-seats
 returns-in_err-counts-clause-seats g c =
@@ -17,20 +13,11 @@ returns-clause-seats g c =
     AreSeatsOf-same c.args.self.now.limits c.args.self.now.table c.args.seats.now c.settle_seats.new.seats
     (c.settle_seats.ensures.sending ∙ c.make_room.ensures.same.sending) (c.settle_seats.ensures.tables ∙ c.make_room.ensures.same.tables) c.requires.seats
 
-pub returns-in_err-counts-clause-linked : goal.returns-in_err-counts-clause-linked
-returns-in_err-counts-clause-linked g c = AreLinked-same c.args.seats.now c.make_room.new.seats c.make_room.ensures.same
-    (AreLinked-seats c.args.self.now.limits c.args.self.now.table c.args.seats.now c.requires.seats c.args.self.now.rings_are c.know_rings.ensures)
-
-pub settle_seats-requires-clause-in_order : goal.settle_seats-requires-clause-in_order
-settle_seats-requires-clause-in_order g c = still_in_order c.args.seats.now c.make_room.new.seats
-    (AreLinked-seats c.args.self.now.limits c.args.self.now.table c.args.seats.now c.requires.seats c.args.self.now.rings_are c.know_rings.ensures)
-    c.make_room.ensures.same
-
 pub returns-clause-settled : goal.returns-clause-settled
 returns-clause-settled g c =
-    all_settled g.K.Receipts.told vec_items c.args.seats.now c.make_room.new.seats c.greatest-section.result c.in_ok-counts.counts.items c.args.receipts.now
+    all_settled g.K.Receipts.told vec_items c.args.seats.now c.make_room.new.seats c.greatest_section-section.result c.in_ok-counts.counts.items c.args.receipts.now
     c.make_room.new.receipts c.settle_seats.new.receipts
-    c.args.self.now.limits c.args.self.now.table c.greatest-section.ensures c.make_room.ensures.same c.make_room.ensures.told c.requires.lists c.in_ok-counts.ensures.counted
+    c.greatest_section-section.ensures c.make_room.ensures.same c.make_room.ensures.told c.requires.lists c.in_ok-counts.ensures.counted
     c.settle_seats.ensures.freed
 
 pub returns-clause-emptied : goal.returns-clause-emptied
@@ -40,9 +27,4 @@ returns-clause-emptied g c =
     c.settle_seats.ensures.sending c.settle_seats.ensures.tables c.settle_seats.ensures.outboxes c.settle_seats.ensures.rings c.settle_seats.ensures.taken
 
 pub returns-clause-linked : goal.returns-clause-linked
-returns-clause-linked g c =
-    AreLinked-emptied c.args.seats.now c.settle_seats.new.seats
-    (emptied_from vec_items c.args.seats.now c.make_room.new.seats c.settle_seats.new.seats c.in_ok-counts.counts.items
-    (omega (arith, c.in_ok-counts.ensures.len, c.in_ok-counts.counts.ok.0)) c.make_room.ensures.same c.in_ok-counts.ensures.counted
-    c.settle_seats.ensures.sending c.settle_seats.ensures.tables c.settle_seats.ensures.outboxes c.settle_seats.ensures.rings c.settle_seats.ensures.taken)
-    (AreLinked-seats c.args.self.now.limits c.args.self.now.table c.args.seats.now c.requires.seats c.args.self.now.rings_are c.know_rings.ensures)
+returns-clause-linked g c = AreLinked-emptied c.args.seats.now c.settle_seats.new.seats (returns-clause-emptied g c) c.know_rings.ensures.linked

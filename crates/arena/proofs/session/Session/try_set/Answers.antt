@@ -5,7 +5,7 @@ use Rattle.shard.specs.Shown.{shown}
 use Rattle.shard.specs.declared.shard.replacing.Replaced.{Replaced}
 use Rattle.span.specs.PlainMap as plain
 use Rattle.arena.specs.Sessions.{TellsOwn}
-use Rattle.arena.specs.Told.{set_told}
+use Rattle.arena.specs.KeyAnswers.{set_answer}
 use Rattle.arena.proofs.session.Session.try_set.Goals as goal
 
 pub returns-in_err-set-clause-elsewhere : goal.returns-in_err-set-clause-elsewhere
@@ -16,7 +16,7 @@ returns-in_err-set-clause-elsewhere g c =
 
 pub returns-clause-told : goal.returns-clause-told
 returns-clause-told g c = subst
-    (λ shard. IfOk c.in_ok-set.set (λ told. (what : Replaced) × Sets shard c.args.key.now c.args.words.now what c.set.new.shard × TellsOwn (set_told c.args.key.now what) told))
+    (λ shard. IfOk c.in_ok-set.set (λ told. (what : Replaced) × Sets shard c.args.key.now c.args.words.now what c.set.new.shard × TellsOwn (set_answer c.args.key.now what) told))
     c.deref_mut.ensures.value c.in_ok-set.ensures.told
 
 pub returns-clause-refused : goal.returns-clause-refused

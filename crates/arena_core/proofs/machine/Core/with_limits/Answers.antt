@@ -34,8 +34,8 @@ invariant_of-result g c = record {
   moved = subst (λ (s : CoreState). KnowsMoved s.shards c.new-3.result.entries) (sym (made g c)) (KnowsMoved-new c.args.limits c.new-3.result.entries);
 }
 
-pub returns-clause-ok : goal.returns-clause-ok
-returns-clause-ok g c = made g c
+pub returns-clause-core : goal.returns-clause-core
+returns-clause-core g c = made g c
 
 pub returns-clause-empty : goal.returns-clause-empty
 returns-clause-empty g c = ap shown (made g c) ∙ shown-new_core c.args.limits

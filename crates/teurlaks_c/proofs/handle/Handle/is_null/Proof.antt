@@ -1,26 +1,10 @@
 -- `is_null` reads the pointer, which is null where the handle holds nothing, and leaves the handle as it was.
-use Rattle.std.proofs.Common.{T, List, [], ◌∷◌, refl, sym, lit<}
-use Rattle.std.proofs.raw_atomic.Walks.{proved}
-use mir.Syntax.{named, ty_ptr}
-use mir.Val.{Val, vbool, vnull, has_ty, WT, ptr_same}
-use base.Fraction.{full_share}
-use base.Fml.{ftrue, flft}
-use base.Logic.{emp}
-use contract.Running.{tables}
-use denote.Laws.{shows}
-use denote.Memory.{cell_at}
-use denote.RawPtr.{Ptr, block_ptr, null_ptr, ptr_val}
-use denote.Ref.{MutRef, mut_vals, mut_Tells}
-use denote.Signature.{plain}
-use denote.Steps.{closes, nothing, opens, peeks}
-use denote.Triple.Walked.{says, Stays, stay_ref, walk_of, ends_at, Goes-ref}
-use types.Kit.{‵, raw, given, ◌⊛◌, ◌$◌, ◌∵◌, !, qed, move, keep, learn, use1, join, split, fsplit, fsplit3, fjoin, feq_i, rewrite, suffices, frame, group, done}
-use types.Part.{whole, sub, look_in}
-use types.Run.{stop, fld, load, bin, lit, of_opd, returns, enter}
-use types.ByLocal.{alloc_all, pass_all, free_all, look_at, get, through, sets}
+use Rattle.teurlaks_c.proofs.Steps.{List, [], ◌∷◌, refl, sym, named, Val, ptr_same, vnull, full_share, ftrue, flft, emp, tables, ‵, raw, given, ◌⊛◌, ◌$◌, ◌∵◌, !, qed, move, keep, learn, use1, join, split, fsplit, fsplit3, fjoin, feq_i, rewrite, suffices, frame, group, done, look_in, sub, whole, bin, enter, fld, lit, load, of_opd, returns, stop, alloc_all, free_all, get, look_at, pass_all, sets, through, shows, cell_at, ptr_val, MutRef, mut_Tells, mut_vals, plain, closes, nothing, opens, peeks, proved, Goes-ref, Stays, ends_at, says, stay_ref, walk_of}
+use mir.Val.{vbool}
+use Rattle.teurlaks_c.specs.contracts.held.Held as Content
 use Rattle.teurlaks_c.specs.contracts.handle.Handle as Row
 use Rattle.teurlaks_c.specs.Owned.{owns_held}
-use Rattle.teurlaks_c.proofs.AsBox.{Tells, tells}
+use Rattle.teurlaks_c.proofs.AsBox.{Tells, ptr_fits, tells}
 use Rattle.teurlaks_c.proofs.handle.Handle.TheLaws.{lowers}
 use Rattle.teurlaks_c.specs.contracts.handle.Handle.is_null as F
 use Rattle.teurlaks_c.specs.contracts.handle.Handle.is_null.Key.{name as #self}
@@ -29,11 +13,6 @@ use Rattle.teurlaks_c.proofs.handle.Handle.is_null.Code as code
 
 abbrev stayed : Stays F.ended.signature.params F.ended.kept
 stayed = (stay_ref (0 ∷ []) tt (plain (λ _. Row.the_row)), tt)
-
--- a pointer is a machine value of its type
-fits : (p : Ptr) → T (has_ty ty_ptr (ptr_val p)) × WT (ptr_val p)
-fits (block_ptr b o) = (tt, tt)
-fits null_ptr = (tt, record { fits = lit< tt })
 
 pub is_null_spec : {M : Type 1} → statement M
 is_null_spec 𝓤 𝓛 𝓜 𝓡 wired =
@@ -49,12 +28,12 @@ is_null_spec 𝓤 𝓛 𝓜 𝓡 wired =
     enter ! _ _ _ _ _ $ alloc_all ! (λ l. pass_all ! refl ((tt, tt), tt) $
     fsplit3 ! $ move ! (1 ∷ 2 ∷ 3 ∷ []) $ opens ! tt Row.the_row b o (λ us.
     move ! (1 ∷ []) $ peeks ! Row.the_row _ (shows 𝓛 Row.the_row) h us (λ is. fsplit ! $ move ! (1 ∷ []) $
-    use1 𝓛 (given (Tells h.at h.held) (‵ (owns_held h.at h.held))) (tells 𝓛 h.at h.held) $ learn ! (λ told.
+    use1 𝓛 (given (Tells Content.the_row h.at h.held) (‵ (owns_held h.at h.held))) (tells 𝓛 Content.the_row h.at h.held) $ learn ! (λ told.
     let one = lowers.val_is h us is in
     let Cell = λ (ws : List Val). ‵ (cell_at full_share Row.the_row.mir ws b o) in
     rewrite ! 2 Cell one refl $
     -- [what is held; what the field owns; the struct's cell; the open borrow, in three entries]
-    sets ! (of_opd ! (load ! (through ! refl (fld ! refl (stop !))) (look_in ! 2 (sub ! 0 refl (whole !))))) refl (fits h.at) $
+    sets ! (of_opd ! (load ! (through ! refl (fld ! refl (stop !))) (look_in ! 2 (sub ! 0 refl (whole !))))) refl (ptr_fits h.at) $
     sets ! (bin ! (get ! refl) (lit ! tt) told.0) refl (tt, tt) $
     rewrite ! 2 Cell (sym one) refl $
     move ! (1 ∷ []) $ fjoin ! $ move ! (1 ∷ []) $ closes ! tt Row.the_row h us b o $

@@ -1,41 +1,16 @@
 -- `lent` lends what is held, and the handle follows it.
-use Rattle.std.proofs.Common.{◌≡◌, ℕ, List, [], ◌∷◌, refl, sym, subst, ap, ◌∙◌}
-use Rattle.std.specs.Prelude.{IsSome, Some}
-use Rattle.std.proofs.lemmas.Bool.{false≢true}
-use Rattle.std.proofs.raw_atomic.Walks.{proved}
-use Rattle.std.proofs.VecSteps.Shapes.{after}
-use seplogic.Ra.Ura.{Ura}
-use mir.Raw.{raw as bare}
-use mir.Syntax.{named}
-use mir.Val.{Val, vptr}
-use base.Fraction.{full_share}
-use base.Logic.{SProp, ent, sep, id⊢, fst∗, never}
-use base.Fml.{Fml, GName, ftrue, fsep, flft}
-use contract.Monad.{fact}
-use contract.Running.{tables}
-use types.Logic.{Logic, sem}
-use denote.Exit.{no}
+use Rattle.teurlaks_c.proofs.Steps.{◌≡◌, ℕ, List, [], ◌∷◌, refl, sym, subst, ap, ◌∙◌, IsSome, Some, box_owns, after, Ura, bare, named, Val, vptr, full_share, Fml, flft, fsep, ftrue, SProp, ent, fst∗, id⊢, never, sep, fact, tables, Logic, sem, ‵, raw, at_ret, ◌⊛◌, some, later, ◌$◌, ◌∵◌, !, qed, move, keep, drop, use1, join, split, split3, pick, fsplit, fsplit3, fjoin, fpack, rewrite, suffices, frame, group, await, done, look_in, sub, whole, addr, blocks, enter, exec, first, fld, load, of_opd, returns, stop, alloc_all, env, free_all, get, look_at, pass_all, sets, sets_last, through, no, shows, cell_at, lone, mem, owns, Ptr, block_ptr, in_a_block, null_ptr, MutRef, mut_Tells, mut_vals, mut_ref_to, plain, types_at, heard, nothing, opens, peeks, proved, Goes-spent_ref, Stays, ends_at, says, stay_dropped, walk_of}
+use base.Fml.{GName}
 use denote.Follow.{follows, Part, lends_Part}
-use denote.Laws.{shows}
-use denote.Memory.{cell_at, lone, mem, part_at, part_of}
-use denote.RattleType.{owns}
-use denote.RawPtr.{Ptr, block_ptr, in_a_block, null_ptr}
-use denote.Ref.{MutRef, mut_vals, mut_Tells}
-use denote.Signature.{mut_ref_to, plain, types_at}
-use denote.Steps.{heard, nothing, opens, peeks}
-use denote.Triple.Walked.{says, Stays, stay_dropped, walk_of, ends_at, Goes-spent_ref}
-use types.Kit.{‵, raw, ◌⊛◌, some, later, at_ret, ◌$◌, ◌∵◌, !, qed, move, keep, drop, use1, join, split, split3, fsplit, fsplit3, fjoin, fpack, rewrite, suffices, frame, group, await, pick, done}
-use types.Part.{whole, sub, look_in}
-use types.Run.{stop, fld, load, addr, of_opd, first, blocks, exec, returns, enter}
-use types.ByLocal.{alloc_all, pass_all, free_all, look_at, get, through, sets, sets_last, env}
-use Rattle.std.specs.Box.Ownership.{box_owns}
+use denote.Memory.{part_at, part_of}
+use Rattle.std.proofs.lemmas.Bool.{false≢true}
 use Rattle.teurlaks_c.specs.declared.handle.Handle.{Handle}
 use Rattle.teurlaks_c.specs.declared.held.Held.{Held}
 use Rattle.teurlaks_c.specs.contracts.held.Held as Content
 use Rattle.teurlaks_c.specs.contracts.handle.Handle as Row
 use Rattle.teurlaks_c.specs.Lending.{with_held}
 use Rattle.teurlaks_c.specs.Owned.{owns_held, right}
-use Rattle.teurlaks_c.proofs.AsBox.{handle_in, held_or_null, word}
+use Rattle.teurlaks_c.proofs.AsBox.{held_or_null, word, word_in}
 use Rattle.teurlaks_c.proofs.handle.Handle.TheLaws.{lowers}
 use Rattle.teurlaks_c.specs.contracts.handle.Handle.lent as F
 use Rattle.teurlaks_c.specs.contracts.handle.Handle.lent.Key.{name as #self}
@@ -55,7 +30,7 @@ module _ {M : Type 1} {𝓤 : Ura M} (𝓛 : Logic 𝓤) where
   unfolding part_of
   back rb ro b o h e w =
       qed 𝓛 (‵ (part_at Content.the_row full_share w b o) ∷ ‵ (Rest rb ro b o) ∷ []) ∵ move ! (1 ∷ []) $ fsplit ! $ move ! (2 ∷ 0 ∷ []) $ fjoin ! $
-      use1 𝓛 (‵ (owns_held (block_ptr b o) (Some w))) (id⊢ 𝓤 _) $ handle_in ! (block_ptr b o) (Some w) $
+      use1 𝓛 (‵ (owns_held (block_ptr b o) (Some w))) (id⊢ 𝓤 _) $ word_in ! Content.the_row (block_ptr b o) (Some w) $
       rewrite ! 0 (λ (p : Ptr). ‵ (Row.the_row.own_val (record { at = p; held = Some w }) (word (block_ptr b o) ∷ []))) (sym e) refl $
       move ! (1 ∷ 0 ∷ []) $ fjoin ! $
       fpack ! (List Val) (λ us. fsep (cell_at full_share Row.the_row.mir us rb ro) (Row.the_row.own_val (with_held h w) us)) (word (block_ptr b o) ∷ []) $ done !
@@ -73,7 +48,7 @@ lent_spec 𝓤 𝓛 𝓜 𝓡 wired =
     split ! $ split ! $ move ! (2 ∷ 3 ∷ []) $ fsplit ! $ fsplit3 ! $ keep ! (4 ∷ 1 ∷ 2 ∷ 5 ∷ []) $ heard ! (IsSome h.held) (λ live.
     enter ! 𝓣.C 𝓣.Λ code.function (vptr rb ro ∷ []) Post $ alloc_all ! (λ l. pass_all ! refl ((tt, tt), tt) $ let En = env code.function.locals l in
     opens ! tt Row.the_row rb ro (λ us. move ! (1 ∷ []) $ peeks ! Row.the_row _ (shows 𝓛 Row.the_row) h us (λ is. fsplit ! $ drop ! $
-    held_or_null ! h.at h.held (λ none null. absurd (false≢true (subst IsSome none live))) (λ held same.
+    held_or_null ! Content.the_row h.at h.held (λ none null. absurd (false≢true (subst IsSome none live))) (λ held same.
     in_a_block ! h.at (λ p. box_owns right Content.the_row p held) (fst∗ 𝓤 (never 𝓤) (sem 𝓛 (right (bare (lone Content.the_row.mir)) null_ptr))) (λ b o e.
     fsplit ! $
     let ws : us ≡ word (block_ptr b o) ∷ [] = lowers.val_is h us is ∙ ap (λ (p : Ptr). word p ∷ []) e in

@@ -1,16 +1,11 @@
 -- A handle may go to another thread with what it holds.
-use mir.Raw.{raw}
-use base.Shift.{Keyless}
-use denote.Memory.{lone}
-use denote.RawPtr.{Ptr}
 use denote.Struct.Struct.{exits_of}
 use denote.Struct.Owning.{shape, fields, to}
 use denote.Struct.Declared.{shape as struct_shape, fields as struct_fields}
 use denote.Enum.Declared.{shape as enum_shape}
 use denote.Param.Send.{IsSend, AllSend, EachSend, enum_send, owning_send, recorded_send, struct_send, sendable}
-use Rattle.std.specs.Prelude.{Option, Some, None}
-use Rattle.std_alloc.proofs.SendSync.{quiet, lies}
-use Rattle.std.proofs.Crossing.{Arc-send, crosses, frees}
+use Rattle.std_alloc.proofs.SendSync.{quiet}
+use Rattle.std.proofs.Crossing.{Arc-send, crosses}
 use Rattle.std_alloc.specs.contracts.arc.Arc
 use Rattle.std_heap.specs.contracts.Global as Heap
 use Rattle.std_heap.specs.contracts.GlobalAllocator.TheImpl.{ghosts}
@@ -30,8 +25,8 @@ use Rattle.arena.proofs.steward.Steward.TheSendSync.{the_send as steward_send}
 use Rattle.span.proofs.receipt_list.ReceiptList.TheSendSync.{the_send as list_send}
 use Rattle.span.proofs.span_log.SpanLog.TheSendSync.{the_send as log_send}
 use Rattle.teurlaks_c.proofs.recorded.KeptSeat.TheSendSync.{the_send as kept_seat_send}
+use Rattle.teurlaks_c.proofs.AsBox.{keyless}
 use Rattle.teurlaks_c.proofs.held.Witness.TheSendSync.{the_send as witness_send}
-use Rattle.teurlaks_c.specs.declared.share.Share.{Share}
 use Rattle.teurlaks_c.specs.contracts.share.Share as Content
 use Rattle.teurlaks_c.specs.contracts.share.SharedSeat as SeatContent
 use Rattle.teurlaks_c.specs.contracts.share.SharedSession as SessionContent
@@ -41,7 +36,6 @@ use Rattle.teurlaks_c.specs.contracts.recorded.KeptSeat as KeptSeatContent
 use Rattle.teurlaks_c.specs.contracts.recorded.RecordedRun as RunContent
 use Rattle.teurlaks_c.specs.contracts.recorded.RecordedSeat as RecordedSeatContent
 use Rattle.teurlaks_c.specs.contracts.recorded.RecordedSteward as RecordedStewardContent
-use Rattle.teurlaks_c.specs.OwnedShare.{owns_share, system}
 use Rattle.teurlaks_c.specs.contracts.share_handle.ShareHandle.{the_row, the_type}
 
 -- a share of the arena
@@ -110,12 +104,8 @@ content =
     ) in
     recorded_send (Content.the_field).row _ _ (Content.the_type).to_one (enum_send (enum_shape Content.the_type) variants)
 
-owned : (at : Ptr) (found : Option Share) → Keyless (owns_share at found)
-owned at (Some found) = (lies Content.the_row content at found, frees.frees system (raw (lone Content.the_row.mir)) at)
-owned at None = tt
-
 pub send : IsSend the_row
 send =
     let all : AllSend (fields the_type) = (search sendable, tt) in
-    owning_send the_type all (λ d. owned d.at d.share)
+    owning_send the_type all (λ d. keyless Content.the_row content d.at d.share)
     (λ k. quiet (to the_type) (exits_of k (fields the_type)) ((struct_send (shape the_type) all).leaving k))

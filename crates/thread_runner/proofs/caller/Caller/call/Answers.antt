@@ -6,7 +6,7 @@ use Rattle.thread_runner.specs.Asked.{Ends, GivenKeys, Puts, Said, asked_by}
 use Rattle.thread_runner.specs.Followed.{carried_by}
 use Rattle.thread_runner.specs.Grown.{Tells}
 use Rattle.thread_runner.specs.Known.{AreKnown}
-use Rattle.thread_runner.specs.declared.diary.Other.TheVariants as other
+use Rattle.trace_runner.specs.declared.report.Other.TheVariants as other
 use Rattle.thread_runner.proofs.Carrying.{Carries-none}
 use Rattle.thread_runner.proofs.Knowing.{Tells-still}
 use Rattle.thread_runner.proofs.caller.Caller.call.Goals as goal

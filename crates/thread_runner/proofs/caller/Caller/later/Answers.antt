@@ -4,7 +4,7 @@ use Rattle.std.proofs.lemmas.Result.{on_ok_weaker}
 use Rattle.thread_runner.specs.Asked.{Leaves, Left, Said}
 use Rattle.thread_runner.specs.Followed.{carried_by}
 use Rattle.thread_runner.specs.Grown.{Carries}
-use Rattle.thread_runner.specs.declared.diary.Other.TheVariants as other
+use Rattle.trace_runner.specs.declared.report.Other.TheVariants as other
 use Rattle.thread_runner.proofs.Carrying.{Carries-none, Carries-sent, carried-unsent}
 use Rattle.thread_runner.proofs.Knowing.{IsKeptBack-none, IsKeptBack-some, None-not_some, Tells-still}
 use Rattle.thread_runner.proofs.caller.Caller.later.Goals as goal

@@ -4,7 +4,7 @@ use Rattle.arena.specs.Receipts.{put_receipt}
 use Rattle.trace_text.specs.Objects.{counted_from}
 use Rattle.thread_runner.specs.Asked.{Called, Said}
 use Rattle.thread_runner.specs.Known.{AreFresh}
-use Rattle.thread_runner.specs.declared.diary.Other.TheVariants as other
+use Rattle.trace_runner.specs.declared.report.Other.TheVariants as other
 use Rattle.thread_runner.specs.Followed.{carried_by}
 use Rattle.thread_runner.proofs.Carrying.{Carries-none, carried-kept}
 use Rattle.thread_runner.proofs.Knowing.{Answers-put, Tells-put}

@@ -1,7 +1,7 @@
 use Rattle.std.proofs.Common.{◌≡◌, ◌∙◌, ap, refl, subst, sym}
 use Rattle.std.proofs.lemmas.Result.{on_ok_weaker}
 use Rattle.thread_runner.specs.Asked.{Said, Trims}
-use Rattle.thread_runner.specs.declared.diary.Other.TheVariants as other
+use Rattle.trace_runner.specs.declared.report.Other.TheVariants as other
 use Rattle.thread_runner.specs.Followed.{carried_by}
 use Rattle.thread_runner.proofs.Carrying.{Carries-none, carried-kept}
 use Rattle.thread_runner.proofs.Knowing.{Tells-still}

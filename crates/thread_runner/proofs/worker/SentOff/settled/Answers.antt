@@ -1,7 +1,6 @@
 use Rattle.std.proofs.Common.{◌∙◌, ap, subst, sym}
-use Rattle.arena.specs.Seats.{Table}
 use Rattle.thread_runner.specs.Followed.{carried_by}
-use Rattle.thread_runner.specs.Grown.{TellsTending, Tracks}
+use Rattle.thread_runner.specs.Grown.{Seated, TellsTending, Tracks}
 use Rattle.thread_runner.specs.Known.{AreKnown}
 use Rattle.thread_runner.proofs.Following.{Tracks-barrier}
 use Rattle.thread_runner.proofs.worker.SentOff.settled.Goals as goal
@@ -17,12 +16,12 @@ invariant_of-result g c =
     let later = c.settle.new.self in
     let count = c.in_ok-settle.field-0 in
     record {
-      rows = ap (λ (t : Table). t.rows) c.settle.ensures.table ∙ worker.rows;
-      columns = ap (λ (t : Table). t.columns) c.settle.ensures.table ∙ worker.columns;
+      rows = ap (λ (s : Seated). s.table.rows) c.settle.ensures.seat ∙ worker.rows;
+      columns = ap (λ (s : Seated). s.table.columns) c.settle.ensures.seat ∙ worker.columns;
       reads = worker.reads;
-      section = c.settle.ensures.section ∙ worker.section;
+      section = ap (λ (s : Seated). s.section) c.settle.ensures.seat ∙ worker.section;
       tracks = Tracks-barrier lines shown (AreKnown kept later.fresh.items) section old.seat.worker later.seat.worker worker.done count old.diary later.diary
-          (carried_by old.seat) (carried_by later.seat) c.settle.ensures.thread
+          (carried_by old.seat) (carried_by later.seat) (ap (λ (s : Seated). s.worker) c.settle.ensures.seat)
           (subst (λ n. TellsTending n old.seat.worker count old.diary later.diary (carried_by old.seat) (carried_by later.seat)) worker.section c.in_ok-settle.ensures.told)
           (subst (λ f. Tracks lines shown (AreKnown kept f.items) old.seat.worker worker.done section old.diary (carried_by old.seat)) (sym c.settle.ensures.fresh) worker.tracks);
     }

@@ -1,8 +1,7 @@
 use Rattle.std.proofs.Common.{◌≡◌, ◌∙◌, ◌+◌, Some, ap, slice_get, subst, sym}
-use Rattle.arena.specs.Seats.{Table}
 use Rattle.thread_runner.specs.Asked.{places_of}
 use Rattle.thread_runner.specs.Followed.{carried_by}
-use Rattle.thread_runner.specs.Grown.{Tracks}
+use Rattle.thread_runner.specs.Grown.{Seated, Tracks}
 use Rattle.thread_runner.specs.Known.{AreKnown}
 use Rattle.thread_runner.proofs.Following.{Tracks-adoption}
 use Rattle.thread_runner.proofs.Places.{line_at-place}
@@ -24,11 +23,11 @@ invariant_of-result g c =
     let next : slice_get (places_of worker lines) done ≡ Some place = there ∙ ap Some c.if-next-place.false in
     let (l, here, own) = line_at-place worker lines done place next in
     record {
-      rows = ap (λ (t : Table). t.rows) c.adopt.ensures.table ∙ c.args.self.rows;
-      columns = ap (λ (t : Table). t.columns) c.adopt.ensures.table ∙ c.args.self.columns;
+      rows = ap (λ (s : Seated). s.table.rows) c.adopt.ensures.seat ∙ c.args.self.rows;
+      columns = ap (λ (s : Seated). s.table.columns) c.adopt.ensures.seat ∙ c.args.self.columns;
       reads = c.args.self.reads;
-      section = c.adopt.ensures.section ∙ c.args.self.section;
+      section = ap (λ (s : Seated). s.section) c.adopt.ensures.seat ∙ c.args.self.section;
       tracks = Tracks-adoption lines shown (AreKnown kept new.fresh.items) section worker new.seat.worker done place l old.diary new.diary (carried_by old.seat)
-          (carried_by new.seat) c.adopt.ensures.thread c.adopt.ensures.carried (sym c.requires.section) next here own (c.requires.adopts l here)
+          (carried_by new.seat) (ap (λ (s : Seated). s.worker) c.adopt.ensures.seat) c.adopt.ensures.carried (sym c.requires.section) next here own (c.requires.adopts l here)
           c.in_ok-adopt.ensures.told (subst (λ f. Tracks lines shown (AreKnown kept f.items) worker done (section + 1) old.diary (carried_by old.seat)) (sym c.adopt.ensures.fresh) c.args.self.tracks);
     }

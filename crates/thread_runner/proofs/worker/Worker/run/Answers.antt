@@ -1,8 +1,7 @@
 use Rattle.std.proofs.Common.{◌≡◌, ◌∙◌, ◌+◌, Some, ap, arith, slice_get, subst, sym, take}
-use Rattle.arena.specs.Seats.{Table}
 use Rattle.thread_runner.specs.Asked.{asked_at, places_of}
 use Rattle.thread_runner.specs.Followed.{carried_by}
-use Rattle.thread_runner.specs.Grown.{Tells, Tracks}
+use Rattle.thread_runner.specs.Grown.{Seated, Tells, Tracks}
 use Rattle.thread_runner.specs.Known.{AreKnown}
 use Rattle.thread_runner.proofs.Following.{Tracks-kept, Tracks-line}
 use Rattle.thread_runner.proofs.Places.{line_at-place}
@@ -18,11 +17,11 @@ loop-init g c =
     let later = c.reserve.new.self in
     record {
       tracks = Tracks-kept lines shown (AreKnown kept later.fresh.items) caller.seat.worker later.seat.worker c.args.self.done section caller.diary later.diary
-          (carried_by caller.seat) (carried_by later.seat) c.reserve.ensures.thread c.in_ok-reserve.ensures.told c.reserve.ensures.carried
+          (carried_by caller.seat) (carried_by later.seat) (ap (λ (s : Seated). s.worker) c.reserve.ensures.seat) c.in_ok-reserve.ensures.told c.reserve.ensures.carried
           (subst (λ f. Tracks lines shown (AreKnown kept f.items) caller.seat.worker c.args.self.done section caller.diary (carried_by caller.seat)) (sym c.reserve.ensures.fresh) c.args.self.tracks);
-      section = c.reserve.ensures.section ∙ c.args.self.section;
-      rows = ap (λ (t : Table). t.rows) c.reserve.ensures.table ∙ c.args.self.rows;
-      columns = ap (λ (t : Table). t.columns) c.reserve.ensures.table ∙ c.args.self.columns;
+      section = ap (λ (s : Seated). s.section) c.reserve.ensures.seat ∙ c.args.self.section;
+      rows = ap (λ (s : Seated). s.table.rows) c.reserve.ensures.seat ∙ c.args.self.rows;
+      columns = ap (λ (s : Seated). s.table.columns) c.reserve.ensures.seat ∙ c.args.self.columns;
     }
 
 pub loop-preserved : goal.loop-preserved
@@ -49,10 +48,10 @@ loop-preserved g c =
     record {
       tracks = Tracks-line lines shown (AreKnown kept old.fresh.items)
           (AreKnown kept new.fresh.items) section worker new.seat.worker c.loop.done place l old.diary new.diary (carried_by old.seat)
-          (carried_by new.seat) c.line.ensures.thread
+          (carried_by new.seat) (ap (λ (s : Seated). s.worker) c.line.ensures.seat)
           (sym (told.one place (omega (arith, c.if-place-told.false)) c.in-Some.ensures.above)) (subst (λ ls. slice_get (places_of worker ls) c.loop.done ≡ Some place) c.args.self.reads next)
           (subst (λ ls. slice_get ls place ≡ Some l) c.args.self.reads here) own (c.in_ok-line.ensures.call l here) of_section c.loop.invariant.tracks;
-      section = c.line.ensures.section ∙ c.loop.invariant.section;
-      rows = ap (λ (t : Table). t.rows) c.line.ensures.table ∙ c.loop.invariant.rows;
-      columns = ap (λ (t : Table). t.columns) c.line.ensures.table ∙ c.loop.invariant.columns;
+      section = ap (λ (s : Seated). s.section) c.line.ensures.seat ∙ c.loop.invariant.section;
+      rows = ap (λ (s : Seated). s.table.rows) c.line.ensures.seat ∙ c.loop.invariant.rows;
+      columns = ap (λ (s : Seated). s.table.columns) c.line.ensures.seat ∙ c.loop.invariant.columns;
     }

@@ -14,7 +14,7 @@ use Rattle.trace_runner.proofs.PlanSteps.{KeepsShards-marked, News-same}
 use Rattle.trace_runner.proofs.plans.Plans.mark.Goals as goal
 
 pub planned-requires-clause-writable : goal.planned-requires-clause-writable
-planned-requires-clause-writable g c = c.in-Marked.ensures.exact.largest.writable
+planned-requires-clause-writable g c = c.in-Marked.ensures.exact.largest.shown.writable
 
 pub returns-in-Marked-clause-made : goal.returns-in-Marked-clause-made
 returns-in-Marked-clause-made g c = on_ok_weaker c.planned.result

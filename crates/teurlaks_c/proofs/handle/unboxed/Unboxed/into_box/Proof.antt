@@ -1,40 +1,19 @@
 -- `into_box` gives `from_raw` the pointer and the allocator, with all that they own.
-use mathlib.Core.Path.{◌≡◌, refl, sym, subst, ap}
-use mathlib.Core.List.{List, [], ◌∷◌, ◌++◌}
-use lib.Dec.{T}
-use seplogic.Ra.Ura.{Ura}
-use mir.Syntax.{Fn, Body, place, copy, assign, rv_opd, seq, return}
-use mir.MapTy.{inst_fn}
-use mir.Val.{Val, vptr, has_ty, WT}
-use base.Logic.{SProp, ent, id⊢}
-use base.Fml.{ftrue, fsep, flft}
+use Rattle.teurlaks_c.proofs.Steps.{◌≡◌, refl, sym, subst, ap, List, [], ◌∷◌, ◌++◌, T, Ura, Fn, inst_fn, Val, vptr, has_ty, WT, SProp, ent, id⊢, ftrue, fsep, flft, fact, tables, WpFn, Logic, Item, at_ret, ‵, raw, ◌⊛◌, some, later, prop, ◌$◌, ◌∵◌, !, qed, move, drop, use1, join, split, split3, pick, rewrite, regoal, fsplit, fjoin, feq_i, suffices, await, done, whole, sub, stop, fld, no_more, and_then, of_opd, returns, enter, first, blocks, exec, alloc_all, pass_all, free_all, look_at, get, get_in, sets, lands_last, env, no, RattleType, block_ptr, plain, heard, nothing, only, triple_of, says, Stays, stay_dropped, walk_of, ends_at, token, Goes-blank, box_owns, Bx, D, R, P, B, box_typed, box_out, box_in}
+use mir.Syntax.{Body, place, copy, assign, rv_opd, seq, return}
 use contract.BorrowLft.{◌⊑◌}
-use contract.Monad.{Fun, fact}
-use contract.Running.{tables, tables_of}
+use contract.Monad.{Fun}
+use contract.Running.{tables_of}
 use prog.Memory.{Memory}
 use prog.Routine.{Routine}
-use prog.Wp.{WpFn, Tables}
+use prog.Wp.{Tables}
 use sound.WpLaws.{fm_of, WpFn-mono}
-use types.Logic.{Logic}
-use types.Kit.{Item, at_ret, ‵, raw, ◌⊛◌, some, later, prop, ◌$◌, ◌∵◌, !, qed, move, drop, use1, join, split, split3, pick, rewrite, regoal, fsplit, fjoin, feq_i, suffices, await, done}
-use types.Part.{whole, sub}
-use types.Run.{stop, fld, no_more, and_then, of_opd, returns, enter, first, blocks, exec}
-use types.ByLocal.{alloc_all, pass_all, free_all, look_at, get, get_in, sets, lands_last, env}
-use denote.Exit.{no}
-use denote.RattleType.{RattleType}
-use denote.RawPtr.{block_ptr}
-use denote.Signature.{plain}
-use denote.Steps.{heard, nothing, only}
 use denote.Triple.Call.{calls_at_last}
 use denote.Triple.Clauses.{Ended, Clauses}
-use denote.Triple.Spec.{triple_of}
 use denote.Triple.Statement.{Triple, Contract}
 use denote.Triple.Table.{entered}
-use denote.Triple.Walked.{says, Stays, stay_dropped, walk_of, ends_at, walk_Meets}
-use Rattle.core.proofs.alloc.Calls.{token, Goes-blank}
-use Rattle.std_alloc.specs.Box.Ownership.{box_owns}
-use Rattle.std_alloc.proofs.BoxSteps.Form.{Bx, D, R, P, B, args, box_ty, word, box_typed}
-use Rattle.std_alloc.proofs.BoxSteps.Steps.{box_out, box_in}
+use denote.Triple.Walked.{walk_Meets}
+use Rattle.std_alloc.proofs.BoxSteps.Form.{args, box_ty, word}
 use Rattle.std_alloc.specs.contracts.boxed.Box.from_raw as Callee
 use Rattle.std_alloc.proofs.boxed.Box.from_raw.Symbol as callee
 use Rattle.std_alloc.proofs.boxed.Box.from_raw.Met.{met}

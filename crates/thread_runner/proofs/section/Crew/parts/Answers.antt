@@ -1,4 +1,0 @@
-use Rattle.thread_runner.proofs.section.Crew.parts.Goals as goal
-
-pub begun-requires-clause-rest : goal.begun-requires-clause-rest
-begun-requires-clause-rest g c κs within = rw (← c.requires.kept, ← c.requires.section) c.args.self.rest

@@ -1,5 +1,0 @@
-use Rattle.thread_runner.proofs.section.Crew.taken_apart.Given as goal
-
--- all that is kept
-abbrev pub ghosts-parts : goal.ghosts-parts
-ghosts-parts g a = record { kept = a.self.keys.kept.items; section = a.self.sections }

@@ -1,7 +1,0 @@
-use Rattle.std.proofs.Common.{◌≡◌}
-use Rattle.thread_runner.specs.Marked.{barrier_from}
-use Rattle.thread_runner.proofs.section.barrier_of.Given as goal
-
--- no barrier begins so far
-abbrev pub invariant-loop-place : goal.invariant-loop-place
-invariant-loop-place l = barrier_from l.lines.items l.from ≡ barrier_from l.lines.items l.place
