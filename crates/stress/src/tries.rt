@@ -84,9 +84,9 @@ fn answers(
 }
 
 // How many pages and keys there are once the first shard's group was folded onto the second's, and
-// what the calls on the way answered: how many groups went, whether there was a plan of one fold, a
-// fold, and a close.
-type Folded = (Totals, usize, [bool; 3]);
+// what the calls on the way answered: how many groups went, and whether there was a plan of one
+// fold, a fold, and a close, and then a look-up followed the key to where it is.
+type Folded = (Totals, usize, [bool; 4]);
 
 fn folds(
     arena: &Arena<Holding<'_>, Counted>,
@@ -101,7 +101,7 @@ fn folds(
 {
     // At another slot than the key that the second shard has.
     let low = try_put(arena, first)?;
-    try_put(arena, first)?;
+    let moved = try_put(arena, first)?;
     if !matches!(first.try_free(arena, &low), Ok(freed) if freed.done()) {
         return None;
     }
@@ -118,8 +118,9 @@ fn folds(
         Ok(Ok(Stepped::Taken(_, _, Step::Folded)))
     );
     let is_closed = arena.try_close(steward) == Ok(true);
+    let is_found = try_get(arena, first, &moved) == Ok(Some(Object::c16(7)));
     let totals = arena.try_totals().ok()?;
-    Some((totals, retired, [is_one, is_folded, is_closed]))
+    Some((totals, retired, [is_one, is_folded, is_closed, is_found]))
 }
 
 // Both, and how many pages the first shard then gave back, and whether it ended, and adopts no
@@ -155,7 +156,7 @@ fn answer_as_calls_that_wait(rt: HostRuntime) -> Result<(), Fail> {
         is_busy: false,
     };
     let answers = ([seven, eight, None], tended, [true; 2]);
-    let folded = (Totals { pages: 1, live: 2 }, 1, [true; 3]);
+    let folded = (Totals { pages: 1, live: 2 }, 1, [true; 4]);
     let all = all_answers(rt.alloc());
     assert_eq!(rt; all, Some((answers, folded, 0, true, false)));
     Ok(())
