@@ -18,8 +18,9 @@
  *   pages.
  * - The lowest free block is taken first, so that the upper end of the range empties.
  * - A system page all of whose blocks are free is kept at first. When KEEP of them are kept they
- *   are all handed to the system, in runs where neighbours are free. So at most KEEP - 1 system
- *   pages of a range are neither used nor given back.
+ *   are all handed to the system, in runs where neighbours are free, and all runs by one call of
+ *   process_madvise if the system takes it. So at most KEEP - 1 system pages of a range are neither
+ *   used nor given back.
  * - If a range is spent, or the system reserves or opens no more of it, malloc is asked, and if
  *   that refuses the request is refused.
  * - When the last block of all comes back, as with the last core that is dropped, what is kept goes
@@ -41,6 +42,8 @@
 #include <string.h>
 #include <sys/mman.h>
 #include <sys/resource.h>
+#include <sys/syscall.h>
+#include <sys/uio.h>
 #include <unistd.h>
 #ifdef __GLIBC__
 #include <malloc.h>
@@ -61,6 +64,11 @@
 #ifndef KEEP
 #define KEEP 64
 #endif
+/* Linux's number of `process_madvise`, and what stands there for the calling process. */
+#ifndef SYS_process_madvise
+#define SYS_process_madvise 440
+#endif
+#define THIS_PROCESS (-10000)
 /* From how many bytes on that were asked of malloc it is to let go of what is free, once no block
  * is in use. */
 #ifndef LET_GO
@@ -117,8 +125,9 @@ static struct range pages = {
 static struct range quarters = {
     .lock = PTHREAD_MUTEX_INITIALIZER, .blocks = &of_quarters, .size = 1024, .per = 4};
 static uint8_t nothing[1];
-static atomic_size_t in_use; /* blocks that the library has */
-static atomic_size_t asked;  /* bytes asked of malloc since there was none in use */
+static atomic_size_t in_use;     /* blocks that the library has */
+static atomic_size_t asked;      /* bytes asked of malloc since there was none in use */
+static atomic_int is_one_by_one; /* whether the system has refused to take runs by one call */
 
 static void insert(struct blocks *b, size_t n) {
     b->low[n / 64] |= 1ull << n % 64;
@@ -247,6 +256,28 @@ static size_t cool_down(struct range *r, struct run runs[KEEP]) {
     return many;
 }
 
+/* Hands memory to the system by one call, and tells whether that took all of it. A system that
+ * refuses is not asked again. */
+static int release_at_once(const struct iovec *all, size_t many, size_t bytes) {
+    if (atomic_load_explicit(&is_one_by_one, memory_order_relaxed)) return 0;
+    long taken = syscall(SYS_process_madvise, THIS_PROCESS, all, many, MADV_DONTNEED, 0);
+    if (taken < 0) atomic_store_explicit(&is_one_by_one, 1, memory_order_relaxed);
+    return taken == (long)bytes;
+}
+
+/* Hands the memory of the runs to the system, of each by a call of its own where it must. */
+static void release(struct range *r, const struct run *runs, size_t many) {
+    struct iovec all[KEEP];
+    size_t bytes = 0;
+    for (size_t i = 0; i < many; i++) {
+        size_t pages = runs[i].to - runs[i].from;
+        all[i] = (struct iovec){page_at(r, runs[i].from), pages * SYSTEM_PAGE};
+        bytes += all[i].iov_len;
+    }
+    if (many > 1 && release_at_once(all, many, bytes)) return;
+    for (size_t i = 0; i < many; i++) madvise(all[i].iov_base, all[i].iov_len, MADV_DONTNEED);
+}
+
 /* Hands the warm pages to the system. Meanwhile they are in nobody's hand, and not free. Called
  * with the lock. */
 static void give_back(struct range *r) {
@@ -254,9 +285,7 @@ static void give_back(struct range *r) {
     size_t many = cool_down(r, runs);
     r->returning++;
     pthread_mutex_unlock(&r->lock);
-    for (size_t i = 0; i < many; i++)
-        madvise(page_at(r, runs[i].from), (size_t)(runs[i].to - runs[i].from) * SYSTEM_PAGE,
-                MADV_DONTNEED);
+    release(r, runs, many);
     pthread_mutex_lock(&r->lock);
     r->returning--;
     for (size_t i = 0; i < many; i++)

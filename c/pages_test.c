@@ -1,11 +1,13 @@
 /* Tests of pages.c: that pages leave the process, that no byte has two holders, whatever threads
- * ask, and what comes of refusals. Link it with -Wl,--wrap=malloc,--wrap=mmap,--wrap=mprotect. With
- * -DFEW it is built for a range of 4,096 pages, which is spent. The word `mmap` or `mprotect` has
- * that refused. With `large` only address space of more than 16 MB is refused, and with `limit` the
+ * ask, and what comes of refusals. Link it with -Wl,--wrap= of malloc, mmap, mprotect and syscall.
+ * With -DFEW it is built for a range of 4,096 pages, which is spent. The word `mmap` or `mprotect`
+ * has that refused, and `syscall` that many runs are taken by one call; with `part` only the first
+ * of them is. With `large` only address space of more than 16 MB is refused, and with `limit` the
  * process has 1 GB of it: blocks stand in several stretches then. With -DWATCHED=1, under a
  * sanitizer or valgrind, resident size is not looked at. */
 #include "wanted.h"
 #include <pthread.h>
+#include <stdarg.h>
 #include <stdint.h>
 #include <stdio.h>
 #include <stdlib.h>
@@ -29,10 +31,13 @@ struct got rattle_alloc(size_t size, size_t least),
     rattle_realloc(void *at, size_t old, size_t size, size_t least);
 void rattle_dealloc(void *at);
 
-static int refuse_mprotect, refuse_malloc, are_apart;
-static size_t most = SIZE_MAX; /* bytes that a call of mmap may ask for */
+static int refuse_mprotect, refuse_malloc, refuse_syscall, are_apart;
+static size_t most = SIZE_MAX;      /* bytes that a call of mmap may ask for */
+static size_t most_runs = SIZE_MAX; /* how many runs one call takes */
+static int at_once;                 /* how often several were to be taken so, if that is refused */
 void *__real_mmap(void *, size_t, int, int, int, long), *__real_malloc(size_t);
 int __real_mprotect(void *, size_t, int);
+long __real_syscall(long, ...);
 
 void *__wrap_mmap(void *at, size_t size, int protection, int flags, int file, long from) {
     return size > most ? (void *)-1 : __real_mmap(at, size, protection, flags, file, from);
@@ -40,6 +45,19 @@ void *__wrap_mmap(void *at, size_t size, int protection, int flags, int file, lo
 
 int __wrap_mprotect(void *at, size_t size, int protection) {
     return refuse_mprotect ? -1 : __real_mprotect(at, size, protection);
+}
+
+/* pages.c makes one call so, process_madvise, whose words these are. */
+long __wrap_syscall(long number, ...) {
+    va_list words;
+    va_start(words, number);
+    int process = va_arg(words, int);
+    const void *runs = va_arg(words, const void *);
+    size_t many = va_arg(words, size_t);
+    int advice = va_arg(words, int), flags = va_arg(words, int);
+    va_end(words);
+    if (refuse_syscall) return at_once++, -1;
+    return __real_syscall(number, process, runs, many < most_runs ? many : most_runs, advice, flags);
 }
 
 void *__wrap_malloc(size_t size) { return refuse_malloc ? NULL : __real_malloc(size); }
@@ -226,6 +244,8 @@ int main(int argc, char **argv) {
     int is_limited = !strcmp(what, "limit"), is_refused = !strcmp(what, "mmap");
     refuse_mprotect = !strcmp(what, "mprotect");
     if (is_refused) most = 0;
+    refuse_syscall = !strcmp(what, "syscall");
+    if (!strcmp(what, "part")) most_runs = 1;
     if (!strcmp(what, "large")) most = 16 << 20;
     if (is_limited) limit_to_a_gigabyte();
     are_apart = is_limited || most < SIZE_MAX;
@@ -246,6 +266,7 @@ int main(int argc, char **argv) {
         }
 #ifndef FEW
         all_goes();
+        WANT(at_once == refuse_syscall);
 #endif
     }
     threads();
