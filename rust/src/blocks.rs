@@ -1,8 +1,11 @@
 //! Blocks of one size, whose memory goes back to the system.
 
+mod system;
+
 use crate::refused::Refused;
 use std::ops::Range;
 use std::ptr::NonNull;
+use system::Runs;
 
 /// What the system has memory in.
 const SYSTEM_PAGE: usize = 4096;
@@ -135,12 +138,24 @@ impl Blocks {
         self.warm.push(number);
     }
 
-    /// Hands the memory of all free blocks to the system.
+    /// Hands the memory of all free blocks to the system, of neighbours as one run.
     pub fn cool(&mut self) {
-        while let Some(number) = self.warm.pop() {
-            self.release(number);
-            self.cold.push(number);
+        self.warm.sort_unstable();
+        let mut runs = Runs::new();
+        for number in &self.warm {
+            let (segment, pages) = self.own_pages(*number);
+            if !pages.is_empty() {
+                // SAFETY: the pages lie within the segment, and no block that is taken is on any of
+                // them.
+                unsafe {
+                    let at = segment.as_ptr().add(pages.start * SYSTEM_PAGE);
+                    runs.add(at, pages.len() * SYSTEM_PAGE);
+                }
+            }
         }
+        runs.release();
+        // The lowest is taken first.
+        self.cold.extend(self.warm.drain(..).rev());
     }
 
     /// The numbers of all blocks that were ever taken, as `swap_ends` wants them at first.
@@ -196,8 +211,8 @@ impl Blocks {
         unsafe { NonNull::new_unchecked(segment.as_ptr().add(offset)) }
     }
 
-    /// Hands those system pages of a free block to the system on which no taken block lies.
-    fn release(&mut self, number: u32) {
+    /// The system pages of a free block on which no taken block lies, as those of its segment.
+    fn own_pages(&self, number: u32) -> (NonNull<u8>, Range<usize>) {
         let (segment, offset) = self.place(number);
         let first_block = number as usize - number as usize % self.per;
         let is_free = |page: usize| {
@@ -215,16 +230,7 @@ impl Blocks {
         if !pages.is_empty() && !is_free(pages.end - 1) {
             pages.end -= 1;
         }
-        if !pages.is_empty() {
-            // SAFETY: the pages lie within the segment, and no block that is taken is on any of
-            // them.
-            unsafe {
-                system::release(
-                    segment.as_ptr().add(pages.start * SYSTEM_PAGE),
-                    pages.len() * SYSTEM_PAGE,
-                );
-            }
-        }
+        (segment, pages)
     }
 
     fn is_taken(&self, number: usize) -> bool {
@@ -287,71 +293,13 @@ unsafe impl Send for Blocks {}
 // SAFETY: nothing is done through `&Blocks` but to read its own fields.
 unsafe impl Sync for Blocks {}
 
-/// What is asked of the system, by the numbers that Linux has for it on the only processor for
-/// which there is an archive.
-mod system {
-    use std::ptr::{self, NonNull};
-
-    #[cfg(not(all(target_os = "linux", target_arch = "x86_64")))]
-    compile_error!("the archive is for Linux on x86-64");
-
-    const PROT_READ: i32 = 1;
-    const PROT_WRITE: i32 = 2;
-    const MAP_PRIVATE: i32 = 2;
-    const MAP_ANONYMOUS: i32 = 0x20;
-    const MAP_NORESERVE: i32 = 0x4000;
-    const MADV_DONTNEED: i32 = 4;
-    const MADV_NOHUGEPAGE: i32 = 15;
-
-    extern "C" {
-        fn mmap(
-            at: *mut u8,
-            len: usize,
-            protection: i32,
-            flags: i32,
-            file: i32,
-            offset: i64,
-        ) -> *mut u8;
-        fn munmap(at: *mut u8, len: usize) -> i32;
-        fn madvise(at: *mut u8, len: usize, advice: i32) -> i32;
-    }
-
-    /// So many bytes of zeros, which take memory as they are touched, or none.
-    pub fn map(len: usize) -> Option<NonNull<u8>> {
-        let flags = MAP_PRIVATE | MAP_ANONYMOUS | MAP_NORESERVE;
-        // SAFETY: a new mapping touches no memory that there is.
-        let at = unsafe { mmap(ptr::null_mut(), len, PROT_READ | PROT_WRITE, flags, -1, 0) };
-        if at as isize == -1 {
-            return None;
-        }
-        // A huge page would be memory for many blocks, used or not. That the system has none is no
-        // matter. SAFETY: the mapping was just made, and the advice changes no byte of it.
-        unsafe { madvise(at, len, MADV_NOHUGEPAGE) };
-        NonNull::new(at)
-    }
-
-    /// # Safety
-    ///
-    /// The bytes are of one mapping of `map`, whole system pages of it, and nobody reads them
-    /// before they are written again, or minds that they are zeros.
-    pub unsafe fn release(at: *mut u8, len: usize) {
-        madvise(at, len, MADV_DONTNEED);
-    }
-
-    /// # Safety
-    ///
-    /// It is a mapping of `map`, of so many bytes, that nobody uses any more.
-    pub unsafe fn unmap(at: *mut u8, len: usize) {
-        munmap(at, len);
-    }
-}
-
 #[cfg(test)]
 mod tests {
-    use super::Blocks;
+    use super::{system, Blocks, SYSTEM_PAGE};
     use crate::refused::Refused;
     use std::collections::BTreeMap;
     use std::ptr::NonNull;
+    use std::sync::atomic::Ordering;
 
     /// Blocks come and go at random. Each that is taken is its own, is found by its address, and
     /// has what was written there; one that was never taken is not found.
@@ -410,6 +358,56 @@ mod tests {
         (0..100).for_each(|number| blocks.give(number));
         blocks.cool();
         assert_eq!((blocks.cold.len(), blocks.cold.capacity()), (100, room));
+        Ok(())
+    }
+
+    /// The bytes of the first 64 blocks, which all are of one segment.
+    fn bytes(blocks: &Blocks) -> Vec<u8> {
+        let at = blocks.address(0).as_ptr();
+        // SAFETY: the test has the blocks, and nothing writes to them meanwhile.
+        (0..64 * blocks.size)
+            .map(|byte| unsafe { at.add(byte).read() })
+            .collect()
+    }
+
+    /// Of the system pages those are zeros from then on of which each block is free.
+    fn free_ones_leave(size: usize) -> Result<(), Refused> {
+        let mut blocks = Blocks::new(size);
+        blocks.reserve_all(64)?;
+        for _ in 0..64 {
+            let (number, at) = blocks.take();
+            // SAFETY: the block is this test's.
+            unsafe { at.as_ptr().write_bytes(number as u8 + 1, size) };
+        }
+        let is_free = |number: usize| (10..20).contains(&number) || number % 7 == 2;
+        (0..64)
+            .rev()
+            .filter(|number| is_free(*number))
+            .for_each(|number| blocks.give(number as u32));
+        blocks.cool();
+        for (page, bytes) in bytes(&blocks).chunks(SYSTEM_PAGE).enumerate() {
+            let number = |byte: usize| (page * SYSTEM_PAGE + byte) / size;
+            let is_gone = (number(0)..=number(bytes.len() - 1)).all(is_free);
+            for (byte, now) in bytes.iter().enumerate() {
+                let was = number(byte) as u8 + 1;
+                assert_eq!(
+                    *now,
+                    if is_gone { 0 } else { was },
+                    "of {size}, page {page}"
+                );
+            }
+        }
+        Ok(())
+    }
+
+    #[test]
+    fn free_blocks_leave_the_process() -> Result<(), Refused> {
+        for is_one_by_one in [false, true] {
+            system::IS_ONE_BY_ONE.store(is_one_by_one, Ordering::Relaxed);
+            [512, 1000, 4096, 6144]
+                .into_iter()
+                .try_for_each(free_ones_leave)?;
+        }
         Ok(())
     }
 
