@@ -89,6 +89,7 @@ struct blocks {
     uint64_t mid[4 * (size_t)RANGE_PAGES / 4096];
     uint64_t top[(4 * (size_t)RANGE_PAGES / 4096 + 63) / 64];
     uint64_t warm[RANGE_PAGES / 64];
+    uint64_t may_be_warm[RANGE_PAGES / 4096]; /* a bit for each word of them that may have one */
 };
 
 /* Address space of a range that lies side by side. */
@@ -209,14 +210,24 @@ static void *fresh(struct range *r) {
     return block_at(r, r->next++);
 }
 
+/* Counts a system page among the warm ones. */
+static void note_warm(struct range *r, size_t page) {
+    r->blocks->warm[page / 64] |= 1ull << page % 64;
+    r->blocks->may_be_warm[page / 4096] |= 1ull << page / 64 % 64;
+    r->kept++;
+}
+
+/* Counts it among them no longer. */
+static void forget_warm(struct range *r, size_t page) {
+    r->blocks->warm[page / 64] &= ~(1ull << page % 64);
+    r->kept--;
+}
+
 /* The block, which is no longer free; nor is its system page counted among the warm ones. */
 static void *taken(struct range *r, size_t n) {
     size_t page = n / r->per;
     erase(r->blocks, n);
-    if (r->blocks->warm[page / 64] >> page % 64 & 1) {
-        r->blocks->warm[page / 64] &= ~(1ull << page % 64);
-        r->kept--;
-    }
+    if (r->blocks->warm[page / 64] >> page % 64 & 1) forget_warm(r, page);
     return block_at(r, n);
 }
 
@@ -238,20 +249,27 @@ static int goes_on(struct range *r, const struct run *run, uint32_t page) {
     return run->to == page && page_at(r, page - 1) + SYSTEM_PAGE == page_at(r, page);
 }
 
-/* The warm pages, as runs, which are neither warm nor free from then on. Answers how many runs
- * there are. */
-static size_t cool_down(struct range *r, struct run runs[KEEP]) {
+/* Adds a warm page to so many runs, which is neither warm nor free from then on. Answers how many
+ * runs there are. */
+static size_t cool(struct range *r, uint32_t page, struct run runs[KEEP], size_t many) {
+    forget_warm(r, page);
+    for (size_t i = 0; i < r->per; i++) erase(r->blocks, page * r->per + i);
+    if (many && goes_on(r, &runs[many - 1], page)) {
+        runs[many - 1].to++;
+        return many;
+    }
+    runs[many] = (struct run){page, page + 1};
+    return many + 1;
+}
+
+/* The warm pages, as runs, from the lowest on. Answers how many runs there are. */
+static size_t cool_all(struct range *r, struct run runs[KEEP]) {
     size_t many = 0;
-    for (size_t w = 0; r->kept; w++)
-        while (r->blocks->warm[w]) {
-            uint32_t page = w * 64 + __builtin_ctzll(r->blocks->warm[w]);
-            r->blocks->warm[w] &= r->blocks->warm[w] - 1;
-            r->kept--;
-            for (size_t i = 0; i < r->per; i++) erase(r->blocks, page * r->per + i);
-            if (many && goes_on(r, &runs[many - 1], page))
-                runs[many - 1].to++;
-            else
-                runs[many++] = (struct run){page, page + 1};
+    for (size_t m = 0; r->kept; m++)
+        for (uint64_t *words = &r->blocks->may_be_warm[m]; *words; *words &= *words - 1) {
+            size_t w = m * 64 + __builtin_ctzll(*words);
+            while (r->blocks->warm[w])
+                many = cool(r, w * 64 + __builtin_ctzll(r->blocks->warm[w]), runs, many);
         }
     return many;
 }
@@ -282,7 +300,7 @@ static void release(struct range *r, const struct run *runs, size_t many) {
  * with the lock. */
 static void give_back(struct range *r) {
     struct run runs[KEEP];
-    size_t many = cool_down(r, runs);
+    size_t many = cool_all(r, runs);
     r->returning++;
     pthread_mutex_unlock(&r->lock);
     release(r, runs, many);
@@ -301,8 +319,8 @@ static void put_back(struct range *r, size_t n) {
     /* Where the page has blocks that were never used, these are not in the set, so it is not given
      * back. */
     if ((r->blocks->low[page * r->per / 64] >> page * r->per % 64 & all) == all) {
-        r->blocks->warm[page / 64] |= 1ull << page % 64;
-        if (++r->kept >= KEEP) give_back(r);
+        note_warm(r, page);
+        if (r->kept >= KEEP) give_back(r);
     }
     pthread_mutex_unlock(&r->lock);
 }
