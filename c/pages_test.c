@@ -57,7 +57,8 @@ long __wrap_syscall(long number, ...) {
     int advice = va_arg(words, int), flags = va_arg(words, int);
     va_end(words);
     if (refuse_syscall) return at_once++, -1;
-    return __real_syscall(number, process, runs, many < most_runs ? many : most_runs, advice, flags);
+    if (many > most_runs) many = most_runs;
+    return __real_syscall(number, process, runs, many, advice, flags);
 }
 
 void *__wrap_malloc(size_t size) { return refuse_malloc ? NULL : __real_malloc(size); }

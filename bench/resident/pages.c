@@ -1,6 +1,7 @@
 /* What a page costs that is given back to `c/pages.c` and taken again, in nanoseconds of processor
- * time: one that is kept, and one that left the process. Beside it what the system's own fault
- * takes for a page that is touched first. The least of so many rounds. */
+ * time: one that is kept, one that left the process beside others, and one that left between two
+ * that stayed. Beside it what the system's own fault takes for a page that is touched first. The
+ * least of so many rounds. */
 #include <stdint.h>
 #include <stdio.h>
 #include <stdlib.h>
@@ -27,8 +28,8 @@ static double now(void) {
 }
 
 /* Each page is touched, as a put does. */
-static void take(int count) {
-    for (int i = 0; i < count; i++) {
+static void take(int count, int step) {
+    for (int i = 0; i < count; i += step) {
         struct got got = rattle_alloc(PAGE, 16);
         if (!got.ok) exit(1);
         pages[i] = got.at;
@@ -40,15 +41,15 @@ static void give(int count, int step) {
     for (int i = 0; i < count; i += step) rattle_dealloc(pages[i]);
 }
 
-/* Nanoseconds a page that goes and comes, of so many at a time. */
-static double to_and_fro(int count) {
+/* Nanoseconds a page that goes and comes, of so many pages each one of so many. */
+static double to_and_fro(int count, int step) {
     double least = 1e18;
-    take(count);
+    take(count, 1);
     for (int round = 0; round < ROUNDS; round++) {
         double before = now();
-        give(count, 1);
-        take(count);
-        double each = (now() - before) / count;
+        give(count, step);
+        take(count, step);
+        double each = (now() - before) / (count / step);
         if (each < least) least = each;
     }
     give(count, 1);
@@ -75,6 +76,7 @@ static double fault(void) {
 int main(void) {
     /* While nothing is in use at all, nothing is kept. */
     if (!rattle_alloc(PAGE, 16).ok) return 1;
-    printf("kept %.0f left %.0f fault %.0f\n", to_and_fro(FEW), to_and_fro(MANY), fault());
+    printf("kept %.0f left %.0f alone %.0f fault %.0f\n", to_and_fro(FEW, 1), to_and_fro(MANY, 1),
+           to_and_fro(MANY, 2), fault());
     return 0;
 }

@@ -50,8 +50,8 @@ pub fn map(len: usize) -> Option<NonNull<u8>> {
 
 /// # Safety
 ///
-/// The bytes are of mappings of `map`, whole system pages of them, and nobody reads them before they
-/// are written again, or minds that they are zeros.
+/// The bytes are of mappings of `map`, whole system pages of them, and nobody reads them before
+/// they are written again, or minds that they are zeros.
 pub unsafe fn release(at: *mut u8, len: usize) {
     madvise(at, len, MADV_DONTNEED);
 }
