@@ -185,10 +185,11 @@ impl Blocks {
         Some((high as u32, low as u32))
     }
 
-    /// Hands all memory behind the last taken block to the system, after blocks were swapped.
+    /// Hands all memory behind the last taken block to the system, after the free blocks were
+    /// handed over and some were swapped. Before that all blocks from this number on were free.
     // A number has 32 bits.
     #[allow(clippy::cast_possible_truncation)]
-    pub fn release_rest(&mut self) {
+    pub fn release_rest(&mut self, end: usize) {
         let last = self.taken.iter().rposition(|taken| *taken);
         let count = last.map_or(0, |last| last + 1);
         self.warm.clear();
@@ -196,7 +197,8 @@ impl Blocks {
         let free = (0..self.taken.len()).filter(|number| !self.taken[*number]);
         // The lowest is taken first.
         self.cold.extend(free.rev().map(|number| number as u32));
-        for (number, segment) in self.segments.iter().enumerate() {
+        for number in count / self.per..(end + self.per - 1) / self.per {
+            let segment = self.segments[number];
             let used = count.saturating_sub(number * self.per).min(self.per) * self.size;
             let first = (used + SYSTEM_PAGE - 1) / SYSTEM_PAGE * SYSTEM_PAGE;
             // SAFETY: no block that is taken lies behind the first `used` bytes of the segment.
@@ -298,6 +300,7 @@ mod tests {
     use super::{system, Blocks, SYSTEM_PAGE};
     use crate::refused::Refused;
     use std::collections::BTreeMap;
+    use std::ops::Range;
     use std::ptr::NonNull;
     use std::sync::atomic::Ordering;
 
@@ -411,25 +414,50 @@ mod tests {
         Ok(())
     }
 
+    /// Takes the lowest free block for the highest taken one so many times, and hands over what is
+    /// behind: both numbers of each time.
+    fn swapped(blocks: &mut Blocks, most: usize) -> Vec<(u32, u32)> {
+        blocks.cool();
+        let mut within = blocks.numbers();
+        let swaps = std::iter::from_fn(|| blocks.swap_ends(&mut within));
+        let swaps: Vec<_> = swaps.take(most).collect();
+        let end = swaps.iter().map(|(from, _)| *from as usize + 1).max();
+        blocks.release_rest(end.unwrap_or(0));
+        swaps
+    }
+
+    /// Whether the blocks of these numbers are zeros.
+    fn are_gone(blocks: &Blocks, mut numbers: Range<u32>) -> bool {
+        numbers.all(|number| {
+            let at = blocks.address(number).as_ptr();
+            // SAFETY: the test has the blocks, and nothing writes to them meanwhile.
+            (0..blocks.size).all(|byte| unsafe { at.add(byte).read() } == 0)
+        })
+    }
+
     /// What is taken at the highest numbers goes to the lowest, and the next blocks are those
     /// behind.
     #[test]
     fn ends_are_swapped() -> Result<(), Refused> {
         let mut blocks = Blocks::new(2560);
         blocks.reserve_all(100)?;
-        assert!(blocks.share_pages() && (0..100).map(|_| blocks.take().0).eq(0..100));
+        for wanted in 0..100 {
+            let (number, at) = blocks.take();
+            // SAFETY: the block is this test's.
+            unsafe { at.as_ptr().write_bytes(1, 2560) };
+            assert_eq!(number, wanted);
+        }
         (0..100)
             .filter(|number| number % 10 != 3)
             .for_each(|number| blocks.give(number));
-        assert!(blocks.has_gaps());
-        let mut within = blocks.numbers();
-        let from: Vec<_> = std::iter::from_fn(|| blocks.swap_ends(&mut within)).collect();
-        let low = [0, 1, 2, 4, 5, 6, 7, 8, 9];
-        assert!(from
-            .into_iter()
-            .eq((1..10).rev().map(|n| 10 * n + 3).zip(low)));
-        blocks.release_rest();
-        assert!(!blocks.has_gaps());
+        assert!(blocks.share_pages() && blocks.has_gaps());
+        // Of the first two behind the last, each may share a system page with that.
+        assert_eq!(swapped(&mut blocks, 3), [(93, 0), (83, 1), (73, 2)]);
+        assert!(blocks.has_gaps() && are_gone(&blocks, 66..100));
+        let swaps = [(63, 4), (53, 5), (43, 6), (33, 7), (23, 8), (13, 9)];
+        assert_eq!(swapped(&mut blocks, 100), swaps);
+        assert!(!blocks.has_gaps() && are_gone(&blocks, 12..100));
+        assert_eq!(swapped(&mut blocks, 100), []);
         assert_eq!((blocks.take().0, blocks.take().0), (10, 11));
         Ok(())
     }

@@ -47,7 +47,8 @@ pub(crate) trait Compact {
 
     /// Takes at most so many steps of a compaction, at least one.
     fn compact_some(&mut self, budget: usize) -> Result<Compacted, Refused> {
-        let before = self.core().begin_part()?;
+        self.core().begin_part()?;
+        let before = self.core().pages();
         let done = self.take_steps(budget);
         self.core().end_part(before, done)
     }

@@ -116,13 +116,13 @@ impl Core {
         self.counted(done(status).map(|()| more == 1))
     }
 
-    /// Begins a part of a compaction, and says how many pages there are.
-    pub(crate) fn begin_part(&mut self) -> Result<usize, Refused> {
+    /// Begins a part of a compaction.
+    pub(crate) fn begin_part(&mut self) -> Result<(), Refused> {
         self.no_plan_of_caller()?;
         if self.is_open() {
             (self.plan, self.pool, self.emptied) = (Plan::Compaction, true, u64::MAX);
         }
-        Ok(self.pages())
+        Ok(())
     }
 
     /// Takes one step of a compaction.

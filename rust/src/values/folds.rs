@@ -150,14 +150,15 @@ impl<T> Values<T> {
         if !paged.blocks.share_pages() {
             return false;
         }
-        let mut within = paged.blocks.numbers();
+        let (mut within, mut end) = (paged.blocks.numbers(), 0);
         for _ in 0..most {
             let Some((from, to)) = self.paged.blocks.swap_ends(&mut within) else {
                 break;
             };
+            end = end.max(from as usize + 1);
             self.move_page(from, to);
         }
-        self.paged.blocks.release_rest();
+        self.paged.blocks.release_rest(end);
         self.paged.blocks.has_gaps()
     }
 
