@@ -102,42 +102,6 @@ impl KeyBits {
         }
     }
 
-    /// 64 shards, which are all there can be, of 67,108,864 spans each, and 16,777,215 generations:
-    /// 64 bits.
-    pub fn many_shards() -> KeyBits
-        ensures { HasBits result 6 26 24 }
-    {
-        KeyBits {
-            shard: 6,
-            serial: 26,
-            generation: 24,
-        }
-    }
-
-    /// 16 shards, of 1,048,576 spans each, and 4,294,967,295 generations, which are all there can
-    /// be: 64 bits.
-    pub fn many_generations() -> KeyBits
-        ensures { HasBits result 4 20 32 }
-    {
-        KeyBits {
-            shard: 4,
-            serial: 20,
-            generation: 32,
-        }
-    }
-
-    /// 8 shards, of 262,144 spans each, and 16,777,215 generations: 53 bits, which a `double` of C
-    /// and a number of JSON keep exactly.
-    pub fn exact_in_double() -> KeyBits
-        ensures { HasBits result 3 18 24 }
-    {
-        KeyBits {
-            shard: 3,
-            serial: 18,
-            generation: 24,
-        }
-    }
-
     /// How many bits the number of a key takes, at most 64.
     pub fn width(self) -> u32
         ensures { result ≡ self.generation + self.shard + self.serial + 8 }

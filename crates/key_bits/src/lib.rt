@@ -14,12 +14,12 @@
 //! | Layout | Shards | Spans a shard opens | Generations | Bits |
 //! |---|---|---|---|---|
 //! | [`balanced`](KeyBits::balanced) | 16 | 268,435,456 | 16,777,215 | 64 |
-//! | [`many_shards`](KeyBits::many_shards) | 64 | 67,108,864 | 16,777,215 | 64 |
-//! | [`many_generations`](KeyBits::many_generations) | 16 | 1,048,576 | 4,294,967,295 | 64 |
-//! | [`exact_in_double`](KeyBits::exact_in_double) | 8 | 262,144 | 16,777,215 | 53 |
+//! | `new(6, 26, 24)` | 64, which are all there can be | 67,108,864 | 16,777,215 | 64 |
+//! | `new(4, 20, 32)` | 16 | 1,048,576 | 4,294,967,295, which are all there can be | 64 |
+//! | `new(3, 18, 24)` | 8 | 262,144 | 16,777,215 | 53, exact in a `double` of C |
 //!
-//! [`new`](KeyBits::new) makes any other layout, and [`for_limits`](KeyBits::for_limits) the one
-//! with the fewest bits for some limits.
+//! [`new`](KeyBits::new) makes any layout, and [`for_limits`](KeyBits::for_limits) the one with the
+//! fewest bits for some limits.
 //!
 //! The public facts of the crate: a number is that of one key, a number is read exactly if it is
 //! that of a key, and no key has the number 0, since generations count from 1. A key that is beyond
