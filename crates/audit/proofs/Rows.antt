@@ -9,18 +9,18 @@ length-told_sections [] [] same = refl
 length-told_sections (s ∷ sections) (b ∷ told) same = ap suc (length-told_sections sections told (omega (arith, same)))
 length-told_sections sections told same = absurd cc
 
-pub untold_at : (sections : List ℕ) (told : List Bool) (at : ℕ) → get_or told at false ≡ false → get_or (told_sections sections told) at None ≡ None
-untold_at (s ∷ sections) (b ∷ told) zero is = ap (λ b. if b then Some s else None) is
-untold_at (s ∷ sections) (b ∷ told) (suc at) is = untold_at sections told at is
-untold_at sections told at is = refl
+pub no_section_at : (sections : List ℕ) (told : List Bool) (at : ℕ) → get_or told at false ≡ false → get_or (told_sections sections told) at None ≡ None
+no_section_at (s ∷ sections) (b ∷ told) zero is = ap (λ b. if b then Some s else None) is
+no_section_at (s ∷ sections) (b ∷ told) (suc at) is = no_section_at sections told at is
+no_section_at sections told at is = refl
 
-pub told_at : (sections : List ℕ) (told : List Bool) (at : ℕ) → length told ≡ length sections → get_or told at false ≡ true
+pub has_section_at : (sections : List ℕ) (told : List Bool) (at : ℕ) → length told ≡ length sections → get_or told at false ≡ true
     → (s : ℕ) × (get_or (told_sections sections told) at None ≡ Some s)
-told_at [] [] at same is = absurd cc
-told_at [] (b ∷ told) at same is = absurd cc
-told_at (s ∷ sections) [] at same is = absurd cc
-told_at (s ∷ sections) (b ∷ told) zero same is = (s, ap (λ b. if b then Some s else None) is)
-told_at (s ∷ sections) (b ∷ told) (suc at) same is = told_at sections told at (omega (arith, same)) is
+has_section_at [] [] at same is = absurd cc
+has_section_at [] (b ∷ told) at same is = absurd cc
+has_section_at (s ∷ sections) [] at same is = absurd cc
+has_section_at (s ∷ sections) (b ∷ told) zero same is = (s, ap (λ b. if b then Some s else None) is)
+has_section_at (s ∷ sections) (b ∷ told) (suc at) same is = has_section_at sections told at (omega (arith, same)) is
 
 pub told_sections-set : (sections : List ℕ) (told : List Bool) (at section : ℕ) → length told ≡ length sections
     → told_sections (set sections at section) (set told at true) ≡ set (told_sections sections told) at (Some section)

@@ -1,6 +1,6 @@
 use Rattle.std.proofs.Common.{◌≡◌, ◌∙◌, ◌<◌, ◌≤◌, List, Bool, Some, None, false, get_or, length, sym, ap, subst, refl, arith, rules}
 use Rattle.std.proofs.lemmas.Bool.{cases_lt}
-use Rattle.audit.proofs.Rows.{length-told_sections, told_at, untold_at}
+use Rattle.audit.proofs.Rows.{length-told_sections, has_section_at, no_section_at}
 use Rattle.audit.proofs.section.is_full.Goals as goal
 
 pub returns-then-not-told : goal.returns-then-not-told
@@ -12,7 +12,7 @@ returns-then-not-told c =
     let long = length-told_sections row.sections.items row.told.items row.same_len in (
       λ so. absurd cc,
       λ full. absurd (full at (omega (arith, long, row.same_len, inside))
-          (untold_at row.sections.items row.told.items at (ap (λ l. get_or l at false) (sym value) ∙ c.if-not-told.true))),
+          (no_section_at row.sections.items row.told.items at (ap (λ l. get_or l at false) (sym value) ∙ c.if-not-told.true))),
     )
 
 pub loop-told-preserved : goal.loop-told-preserved
@@ -24,7 +24,7 @@ returns c =
     let past = subst (λ (l : List Bool). length l ≤ c.loop-told.told-index) c.deref-told-items.ensures.value c.loop-told-test.false in
     let long = length-told_sections row.sections.items row.told.items row.same_len in (
       λ so at inside none.
-          let there = told_at row.sections.items row.told.items at row.same_len (c.loop-told.invariant at (omega (arith, long, row.same_len, inside, past))) in
+          let there = has_section_at row.sections.items row.told.items at row.same_len (c.loop-told.invariant at (omega (arith, long, row.same_len, inside, past))) in
           let e : Some there.0 ≡ None = sym there.1 ∙ none in
           cc,
       λ full. refl,
