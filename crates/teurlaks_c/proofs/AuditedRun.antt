@@ -5,7 +5,7 @@ use Rattle.std.specs.Prelude.{Result, Ok, Err, Some}
 use Rattle.teurlaks_c.specs.declared.recorded.RecordedRun.{RecordedRun}
 use Rattle.teurlaks_c.specs.declared.recorded.RecordedSteward.{RecordedSteward as Recorder}
 use Rattle.teurlaks_c.specs.declared.share.Share.{Share}
-use Rattle.teurlaks_c.specs.declared.share.Share.TheVariants.{Steward, RecordedSteward, Run}
+use Rattle.teurlaks_c.specs.declared.share.Share.TheVariants.{RecordedSteward, Run}
 use Rattle.teurlaks_c.specs.Audits.{AuditsRun, Ends, EndsRun, Holds, SaysAuditedShare}
 
 -- the handle holds what the arena leaves, or its steward where that goes on

@@ -43,21 +43,21 @@ kept-limits limits n seats kept is seats_are k d below =
 
 -- what a steward hands out, its handle's steward does
 pub HandsOutSeat-of : {B : Type 0} (of : B → Share) (old : Option Share) (before after : SharedSteward) → old ≡ Some (Steward before)
-    → after.arena ≡ before.arena → after.keeper ≡ before.keeper
+    → after.arena ≡ before.arena → after.inner ≡ before.inner
     → (r : Result B ℕ) → MatchResult r (λ b. HandsOutOf before 0 after (Some (of b))) (λ status. HandsOutOf before status after None)
     → MatchResult r (λ b. HandsOut old 0 (Some (Steward after)) (Some (of b))) (λ status. LeavesSeat old None status (Some (Steward after)) None)
-HandsOutSeat-of of old before after is arena keeper (Ok b) handed =
-    inl (record { before = before; after = after; before_is = is; after_is = refl; arena_is = arena; keeper_is = keeper; handed = handed })
-HandsOutSeat-of of old before after is arena keeper (Err status) handed =
-    inr (inl (record { before = before; after = after; before_is = is; after_is = refl; arena_is = arena; keeper_is = keeper; handed = handed }))
+HandsOutSeat-of of old before after is arena inner (Ok b) handed =
+    inl (record { before = before; after = after; before_is = is; after_is = refl; arena_is = arena; inner_is = inner; handed = handed })
+HandsOutSeat-of of old before after is arena inner (Err status) handed =
+    inr (inl (record { before = before; after = after; before_is = is; after_is = refl; arena_is = arena; inner_is = inner; handed = handed }))
 
 -- the same of the steward of a recorded arena
 pub HandsOutRecorded-of : {B : Type 0} (of : B → Share) (old : Option Share) (before after : Recorder) → old ≡ Some (RecordedSteward before)
-    → after.arena ≡ before.arena → after.keeper ≡ before.keeper
+    → after.arena ≡ before.arena → after.inner ≡ before.inner
     → (r : Result B ℕ) → MatchResult r (λ b. HandsOutKept before 0 after (Some (of b))) (λ status. HandsOutKept before status after None)
     → MatchResult r (λ b. HandsOut old 0 (Some (RecordedSteward after)) (Some (of b)))
     (λ status. LeavesSeat old None status (Some (RecordedSteward after)) None)
-HandsOutRecorded-of of old before after is arena keeper (Ok b) handed =
-    inr (record { before = before; after = after; before_is = is; after_is = refl; arena_is = arena; keeper_is = keeper; handed = handed })
-HandsOutRecorded-of of old before after is arena keeper (Err status) handed =
-    inr (inr (record { before = before; after = after; before_is = is; after_is = refl; arena_is = arena; keeper_is = keeper; handed = handed }))
+HandsOutRecorded-of of old before after is arena inner (Ok b) handed =
+    inr (record { before = before; after = after; before_is = is; after_is = refl; arena_is = arena; inner_is = inner; handed = handed })
+HandsOutRecorded-of of old before after is arena inner (Err status) handed =
+    inr (inr (record { before = before; after = after; before_is = is; after_is = refl; arena_is = arena; inner_is = inner; handed = handed }))

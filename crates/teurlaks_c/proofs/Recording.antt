@@ -10,7 +10,7 @@ use Rattle.teurlaks_c.specs.declared.recorded.RecordedSeat.{RecordedSeat as Reco
 use Rattle.teurlaks_c.specs.declared.share.Share.{Share}
 use Rattle.teurlaks_c.specs.declared.share.Share.TheVariants.{RecordedSeat}
 use Rattle.teurlaks_c.specs.Recorded.{AtRecorded, DoesKept, asked_of, receipts_of}
-use Rattle.teurlaks_c.specs.SeatCalls.{AsksTold, untold}
+use Rattle.teurlaks_c.specs.SeatCalls.{AsksTold, no_receipts}
 use Rattle.teurlaks_c.specs.SessionCalls.{Held}
 
 -- what a recorded seat does, the seat of the handle does that has it
@@ -30,10 +30,10 @@ asked_told does does_held told old before after is arena (Err error) did = recor
 }
 
 -- the same of a call that no receipt is made of
-pub asked_untold : {Answer : Type 0} (does : SeatState → Answer → SeatState → Type 0) (old : Option Share) (before after : Recorded)
+pub asked_without_receipt : {Answer : Type 0} (does : SeatState → Answer → SeatState → Type 0) (old : Option Share) (before after : Recorded)
     → old ≡ Some (RecordedSeat before) → after.arena ≡ before.arena → after.kept.receipts ≡ before.kept.receipts
-    → (answer : Answer) → does before.kept.seat answer after.kept.seat → AtRecorded does untold old (Ok answer) (Some (RecordedSeat after))
-asked_untold does old before after is arena receipts answer did = record {
+    → (answer : Answer) → does before.kept.seat answer after.kept.seat → AtRecorded does no_receipts old (Ok answer) (Some (RecordedSeat after))
+asked_without_receipt does old before after is arena receipts answer did = record {
   before = before;
   after = after;
   before_is = is;

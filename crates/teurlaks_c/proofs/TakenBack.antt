@@ -12,7 +12,7 @@ taken_after (Steward old) (Steward mid) (Seat left) (Steward after) same taken =
   fits = rw (← same.0) taken.fits;
   back = taken.back;
   arena_is = taken.arena_is ∙ same.0;
-  keeper_is = taken.keeper_is ∙ same.1;
+  inner_is = taken.inner_is ∙ same.1;
   seats_are = taken.seats_are ∙ ap (λ l. l ++ taken.back ∷ []) same.2;
   handed = taken.handed;
 }
@@ -20,7 +20,7 @@ taken_after (Steward old) (Steward mid) (Session left) (Steward after) same take
   fits = rw (← same.0) taken.fits;
   back = taken.back;
   arena_is = taken.arena_is ∙ same.0;
-  keeper_is = taken.keeper_is ∙ same.1;
+  inner_is = taken.inner_is ∙ same.1;
   seats_are = taken.seats_are ∙ ap (λ l. l ++ taken.back ∷ []) same.2;
   handed = taken.handed;
 }
@@ -28,7 +28,7 @@ taken_after (RecordedSteward old) (RecordedSteward mid) (RecordedSeat left) (Rec
   fits = rw (← same.0) taken.fits;
   back = taken.back;
   arena_is = taken.arena_is ∙ same.0;
-  keeper_is = taken.keeper_is ∙ same.1;
+  inner_is = taken.inner_is ∙ same.1;
   seats_are = taken.seats_are ∙ ap (λ l. l ++ taken.back ∷ []) same.2;
   handed = taken.handed;
   receipts = taken.receipts;

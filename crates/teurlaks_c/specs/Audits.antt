@@ -34,7 +34,7 @@ pub record IsRunOf (steward : Recorder) (run : RecordedRun) : Type 0 where
 -- memory is refused
 pub record GoesOn (before : Recorder) (says : ℕ) (after : Recorder) : Type 0 where
   pub arena_is : after.arena ≡ before.arena
-  pub keeper_is : after.keeper ≡ before.keeper
+  pub inner_is : after.inner ≡ before.inner
   pub seats_are : after.seats.items ≡ before.seats.items
   pub cause : ((says ≡ unfinished) × (HasAllSeats before → ⊥))
       ⊎ (HasAllSeats before × ((says ≡ busy) ⊎ (says ≡ out_of_memory)))

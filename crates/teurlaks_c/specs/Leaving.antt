@@ -21,7 +21,7 @@ pub record TakesSeat (before : SharedSteward) (seat : SeatState) (after : Shared
   pub fits : seat.limits ≡ (arc_value before.arena).limits
   pub back : SeatState
   pub arena_is : after.arena ≡ before.arena
-  pub keeper_is : after.keeper ≡ before.keeper
+  pub inner_is : after.inner ≡ before.inner
   pub seats_are : after.seats.items ≡ before.seats.items ++ back ∷ []
   pub handed : HandsOver seat back
 
@@ -30,7 +30,7 @@ pub record TakesKept (before : Recorder) (seat : Recorded) (after : Recorder) : 
   pub fits : seat.kept.seat.limits ≡ (arc_value before.arena).limits
   pub back : KeptSeat
   pub arena_is : after.arena ≡ before.arena
-  pub keeper_is : after.keeper ≡ before.keeper
+  pub inner_is : after.inner ≡ before.inner
   pub seats_are : after.seats.items ≡ before.seats.items ++ back ∷ []
   pub handed : HandsOver seat.kept.seat back.seat
   pub receipts : receipts_of back ≡ receipts_of seat.kept
@@ -47,9 +47,9 @@ Takes steward seat after = ⊥
 -- the same steward, plan and certificate, with the same seats to give out
 abbrev pub IsSameSteward : Share → Share → Type 0
 IsSameSteward (Steward before) (Steward after) = (after.arena ≡ before.arena)
-    × (after.keeper ≡ before.keeper) × (after.seats.items ≡ before.seats.items)
+    × (after.inner ≡ before.inner) × (after.seats.items ≡ before.seats.items)
 IsSameSteward (RecordedSteward before) (RecordedSteward after) = (after.arena ≡ before.arena)
-    × (after.keeper ≡ before.keeper)
+    × (after.inner ≡ before.inner)
     × (after.seats.items ≡ before.seats.items)
 IsSameSteward before after = after ≡ before
 

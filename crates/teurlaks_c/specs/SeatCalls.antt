@@ -56,8 +56,8 @@ pub record AtSeat {Answer : Type 0} (does : SeatState → Answer → SeatState
   pub did : does before.seat answer after.seat
 
 -- no receipt is made
-abbrev pub untold : {Answer : Type 0} → SeatState → Answer → List Receipt
-untold seat answer = []
+abbrev pub no_receipts : {Answer : Type 0} → SeatState → Answer → List Receipt
+no_receipts seat answer = []
 
 -- the handle's seat is asked, where it has one
 abbrev pub Asks : {Answer : Type 0} → (SeatState → Answer → SeatState → Type 0) → Option Share
@@ -71,7 +71,7 @@ abbrev pub AsksPaused : {Answer : Type 0} → (SeatState → Answer → SeatStat
     → Option Answer → Option Share → Type 0
 AsksPaused does old answer new = MatchOption answer (HasNoSeat old × (new ≡ old))
     (λ answer. AtSeat does old answer new ⊎ (AtPaused does old answer new
-    ⊎ AtRecorded does untold old (Ok answer) new))
+    ⊎ AtRecorded does no_receipts old (Ok answer) new))
 
 -- the handle's seat is asked, where it has one: where it keeps no shard it does this, and in a
 -- session that; a recorded seat makes no receipt
@@ -80,7 +80,7 @@ abbrev pub AsksEither : {Answer : Type 0} → (SeatState → Answer → SeatStat
     → Option Share → Option Answer → Option Share → Type 0
 AsksEither does does_held old answer new = MatchOption answer (HasNoSeat old × (new ≡ old))
     (λ answer. AtSeat does old answer new ⊎ (InSession does_held old answer new
-    ⊎ AtRecorded does untold old (Ok answer) new))
+    ⊎ AtRecorded does no_receipts old (Ok answer) new))
 
 -- the handle's seat is asked, where it has one: where it keeps no shard it does this, and in a
 -- session that; a recorded seat keeps these receipts, or asks nothing where there is no room for
@@ -144,9 +144,10 @@ put_told value seat (Ok (Ok put)) = Ok (Ok (
 ))
 
 -- a put that answers so
-abbrev pub PutsUntold : Value → SeatState → Result (Result (Key × ℕ) PutError) Busy → SeatState
-    → Type 0
-PutsUntold value before answer after = Puts value before (put_told value before answer) after
+abbrev pub PutsWithoutReceipt : Value → SeatState → Result (Result (Key × ℕ) PutError) Busy
+    → SeatState → Type 0
+PutsWithoutReceipt value before answer after =
+    Puts value before (put_told value before answer) after
 
 -- the same of a set
 abbrev pub set_told : Value → SeatState → Result (Result (Key × Bool × ℕ) AllocError) Busy

@@ -19,7 +19,7 @@ use Rattle.teurlaks_c.specs.declared.replies.StepReply.{StepReply}
 use Rattle.teurlaks_c.specs.declared.replies.ArenaTotalsReply.{ArenaTotalsReply}
 use Rattle.teurlaks_c.specs.declared.share.Share.{Share}
 use Rattle.teurlaks_c.specs.declared.share.Share.TheVariants.{Seat, Steward, RecordedSeat, RecordedSteward}
-use Rattle.teurlaks_c.specs.declared.share.Keeper.{Keeper}
+use Rattle.teurlaks_c.specs.declared.share.StewardAndMark.{StewardAndMark}
 use Rattle.teurlaks_c.specs.declared.share.SharedSteward.{SharedSteward}
 use Rattle.teurlaks_c.specs.declared.recorded.KeptSeat.{KeptSeat}
 use Rattle.teurlaks_c.specs.declared.recorded.RecordedSteward.{RecordedSteward as Recorder}
@@ -39,8 +39,8 @@ HasNoSteward held = Unit {0}
 pub record HasNewArena (limits : Limits) (new : Option Share) : Type 0 where
   pub steward : SharedSteward
   pub is : new ≡ Some (Steward steward)
-  pub state : steward.keeper.steward ≡ record { limits = limits; plan = None }
-  pub last : steward.keeper.last ≡ None
+  pub state : steward.inner.steward ≡ record { limits = limits; plan = None }
+  pub last : steward.inner.last ≡ None
   pub seats : vec_len steward.seats ≡ limits.shards
 
 -- none of the seats has kept a receipt
@@ -51,8 +51,8 @@ HaveNoReceipt seats = All (λ kept. receipts_of kept ≡ []) seats
 pub record HasNewRecord (limits : Limits) (new : Option Share) : Type 0 where
   pub steward : Recorder
   pub is : new ≡ Some (RecordedSteward steward)
-  pub state : steward.keeper.steward ≡ record { limits = limits; plan = None }
-  pub last : steward.keeper.last ≡ None
+  pub state : steward.inner.steward ≡ record { limits = limits; plan = None }
+  pub last : steward.inner.last ≡ None
   pub seats : vec_len steward.seats ≡ limits.shards
   pub none : HaveNoReceipt steward.seats.items
 
@@ -85,7 +85,7 @@ pub record HandsOutSeat (old : Option Share) (says : ℕ) (new out : Option Shar
   pub before_is : old ≡ Some (Steward before)
   pub after_is : new ≡ Some (Steward after)
   pub arena_is : after.arena ≡ before.arena
-  pub keeper_is : after.keeper ≡ before.keeper
+  pub inner_is : after.inner ≡ before.inner
   pub handed : HandsOutOf before says after out
 
 -- the same of the steward of a recorded arena
@@ -95,7 +95,7 @@ pub record HandsOutRecorded (old : Option Share) (says : ℕ) (new out : Option 
   pub before_is : old ≡ Some (RecordedSteward before)
   pub after_is : new ≡ Some (RecordedSteward after)
   pub arena_is : after.arena ≡ before.arena
-  pub keeper_is : after.keeper ≡ before.keeper
+  pub inner_is : after.inner ≡ before.inner
   pub handed : HandsOutKept before says after out
 
 -- the handle's steward does so
@@ -112,7 +112,7 @@ LeavesSeat old None says new out_new = (HasNoSteward old × (says ≡ no_core) �
 
 -- the steward of the handle does this and answers that, at the same arena and with the same seats
 -- to give out
-pub record AtSteward {Answer : Type 0} (does : Keeper → Answer → Keeper
+pub record AtSteward {Answer : Type 0} (does : StewardAndMark → Answer → StewardAndMark
     → Type 0) (old : Option Share) (answer : Answer) (new : Option Share) : Type 0 where
   pub before : SharedSteward
   pub after : SharedSteward
@@ -120,27 +120,28 @@ pub record AtSteward {Answer : Type 0} (does : Keeper → Answer → Keeper
   pub after_is : new ≡ Some (Steward after)
   pub arena_is : after.arena ≡ before.arena
   pub seats_are : after.seats ≡ before.seats
-  pub did : does before.keeper answer after.keeper
+  pub did : does before.inner answer after.inner
 
 -- the same of the steward of a recorded arena
-pub record AtRecordedSteward {Answer : Type 0} (does : Keeper → Answer → Keeper → Type 0)
-    (old : Option Share) (answer : Answer) (new : Option Share) : Type 0 where
+pub record AtRecordedSteward {Answer : Type 0} (does : StewardAndMark → Answer → StewardAndMark
+    → Type 0) (old : Option Share) (answer : Answer) (new : Option Share) : Type 0 where
   pub before : Recorder
   pub after : Recorder
   pub before_is : old ≡ Some (RecordedSteward before)
   pub after_is : new ≡ Some (RecordedSteward after)
   pub arena_is : after.arena ≡ before.arena
   pub seats_are : after.seats ≡ before.seats
-  pub did : does before.keeper answer after.keeper
+  pub did : does before.inner answer after.inner
 
 -- the handle's steward is asked, where it has one
-abbrev pub Asks : {Answer : Type 0} → (Keeper → Answer → Keeper → Type 0) → Option Share
-    → Option Answer → Option Share → Type 0
+abbrev pub Asks : {Answer : Type 0} → (StewardAndMark → Answer → StewardAndMark → Type 0)
+    → Option Share → Option Answer → Option Share → Type 0
 Asks does old answer new = MatchOption answer (HasNoSteward old
     × (new ≡ old)) (λ answer. AtSteward does old answer new ⊎ AtRecordedSteward does old answer new)
 
 -- a largest plan of what was seen is opened and its certificate kept
-pub record MarksPlan (before : Keeper) (says : MarkReply) (after : Keeper) : Type 0 where
+pub record MarksPlan (before : StewardAndMark) (says : MarkReply)
+    (after : StewardAndMark) : Type 0 where
   pub found : Certificate
   pub shown : IsShown found
   pub counts : CountsOf says found
@@ -150,7 +151,8 @@ pub record MarksPlan (before : Keeper) (says : MarkReply) (after : Keeper) : Typ
 
 -- a plan is opened, or the mark is refused or meets another thread's lock, and then plan and
 -- certificate are as they were
-abbrev pub Marks : Keeper → Result (Result MarkReply MarkError) Busy → Keeper → Type 0
+abbrev pub Marks : StewardAndMark → Result (Result MarkReply MarkError) Busy → StewardAndMark
+    → Type 0
 Marks before answer after =
     IfOk answer (λ made. IfOk made (λ says. MarksPlan before says after)
     × OnErr made ((after.steward ≡ before.steward) × (after.last ≡ before.last)))
@@ -158,29 +160,30 @@ Marks before answer after =
 
 -- the next pair is carried out, or there is none, or memory is refused, or another thread has a
 -- lock
-abbrev pub TakesStep : Keeper → Result (Result Stepped AllocError) Busy → Keeper → Type 0
+abbrev pub TakesStep : StewardAndMark → Result (Result Stepped AllocError) Busy → StewardAndMark
+    → Type 0
 TakesStep before answer after =
     IfOk answer (λ step. IfOk step (λ stepped. Steps before.steward.plan stepped after.steward.plan)
     × OnErr step (after.steward ≡ before.steward))
     × OnErr answer (after.steward ≡ before.steward) × (after.last ≡ before.last)
 
 -- the plan is closed, or there is none, or another thread has a lock
-abbrev pub Closes : Keeper → Result Bool Busy → Keeper → Type 0
+abbrev pub Closes : StewardAndMark → Result Bool Busy → StewardAndMark → Type 0
 Closes before answer after =
     IfOk answer (λ closed. closed ≡ is_some before.steward.plan)
     × OnOk answer (after.steward ≡ record before.steward { plan = None })
     × OnErr answer (after.steward ≡ before.steward) × (after.last ≡ before.last)
 
 -- nothing of the steward changes
-abbrev pub Keeps : {Answer : Type 0} → Keeper → Answer → Keeper → Type 0
+abbrev pub Keeps : {Answer : Type 0} → StewardAndMark → Answer → StewardAndMark → Type 0
 Keeps before answer after = (after.steward ≡ before.steward) × (after.last ≡ before.last)
 
 -- the text of the certificate that is kept is written into the room, where the handle has a steward
 abbrev pub WritesLast : Option Share → List ℕ → CertificateReply → List ℕ → Type 0
 WritesLast (Some (Steward steward)) room says room_new =
-    Tells steward.keeper.last room says room_new
+    Tells steward.inner.last room says room_new
 WritesLast (Some (RecordedSteward steward)) room says room_new =
-    Tells steward.keeper.last room says room_new
+    Tells steward.inner.last room says room_new
 WritesLast held room says room_new = (says.status ≡ no_core) × (says.len ≡ 0) × (room_new ≡ room)
 
 -- what C reads of a mark
@@ -219,7 +222,7 @@ SaysForgotten says (Ok (Err refused)) = (says.status ≡ refusal_status PlanIsOp
 abbrev pub ForgetsAll : Option Share → ForgetReply → Type 0
 ForgetsAll (Some (Steward steward)) says =
     (answer : Result (Result ℕ PlanOpen) Busy) × IfOk answer (λ forgotten. IsErr forgotten
-    ↔ IsSome steward.keeper.steward.plan) × SaysForgotten says answer
+    ↔ IsSome steward.inner.steward.plan) × SaysForgotten says answer
 ForgetsAll (Some (RecordedSteward steward)) says = (says.status ≡ recorded) × (says.count ≡ 0)
 ForgetsAll held says = (says.status ≡ no_core) × (says.count ≡ 0)
 

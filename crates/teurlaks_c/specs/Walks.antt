@@ -7,7 +7,7 @@ use Rattle.arena.specs.Walks.{HasGoneOn, IsAhead, walk_after}
 use Rattle.arena.specs.declared.walk.Walk.{Walk}
 use Rattle.teurlaks_c.specs.declared.replies.NextReply.{NextReply}
 use Rattle.teurlaks_c.specs.declared.replies.RawWalk.{RawWalk}
-use Rattle.teurlaks_c.specs.declared.share.Keeper.{Keeper}
+use Rattle.teurlaks_c.specs.declared.share.StewardAndMark.{StewardAndMark}
 use Rattle.teurlaks_c.specs.Keys.{IsKeyOf}
 use Rattle.teurlaks_c.specs.Status.{busy, done, no_core, none}
 
@@ -25,7 +25,8 @@ abbrev pub WalksAtSeat : Walk → SeatState → Result (Option Key) Busy × Walk
 WalksAtSeat from before answer after = (after ≡ before) × GoesOn from answer
 
 -- it goes on at a steward, whose plan and certificate stay as they are
-abbrev pub WalksAtSteward : Walk → Keeper → Result (Option Key) Busy × Walk → Keeper → Type 0
+abbrev pub WalksAtSteward : Walk → StewardAndMark → Result (Option Key) Busy × Walk → StewardAndMark
+    → Type 0
 WalksAtSteward from before answer after = (after ≡ before) × GoesOn from answer
 
 -- what C reads of it

@@ -43,13 +43,15 @@ pub extern "C" fn teurlaks_new(
         → ⊥) }
     ensures taken { (result ≡ has_core) ↔ IsSome out.old.held }
 {
-    if !out.is_null() {
-        return HAS_CORE;
-    }
-    let Some(limits) = limits_for(shards, page_limit, MOST_SPANS, ring_capacity, gens) else {
-        return CONFIG;
-    };
-    leave_core(alloc, out, limits)
+    teurlaks_new_with_spans(
+        alloc,
+        out,
+        shards,
+        page_limit,
+        MOST_SPANS,
+        ring_capacity,
+        gens,
+    )
 }
 
 /// As `teurlaks_new`, of a core each shard of which opens up to `span_limit` spans in its life, 1

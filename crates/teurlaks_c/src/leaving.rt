@@ -66,11 +66,7 @@ fn weigh(steward: &mut Share, left: &Share) -> Result<(), u32>
     match steward {
         Share::Steward(steward) => weigh_seat(steward, left),
         Share::RecordedSteward(steward) => weigh_kept(steward, left),
-        Share::Seat(_) => Err(NO_CORE),
-        Share::Session(_) => Err(NO_CORE),
-        Share::RecordedSeat(_) => Err(NO_CORE),
-        Share::Run(_) => Err(NO_CORE),
-        Share::Nothing => Err(NO_CORE),
+        _ => Err(NO_CORE),
     }
 }
 
@@ -82,10 +78,7 @@ fn weigh_seat(steward: &mut SharedSteward, left: &Share) -> Result<(), u32>
         Share::Seat(seat) => make_room(steward, &seat.arena, &seat.seat),
         Share::Session(held) => make_room(steward, &held.session.arena, &held.session.seat),
         Share::RecordedSeat(_) => Err(CONFIG),
-        Share::Steward(_) => Err(NO_CORE),
-        Share::RecordedSteward(_) => Err(NO_CORE),
-        Share::Run(_) => Err(NO_CORE),
-        Share::Nothing => Err(NO_CORE),
+        _ => Err(NO_CORE),
     }
 }
 
@@ -115,10 +108,7 @@ fn weigh_kept(steward: &mut RecordedSteward, left: &Share) -> Result<(), u32>
         Share::RecordedSeat(seat) => make_room_for_kept(steward, seat),
         Share::Seat(_) => Err(CONFIG),
         Share::Session(_) => Err(CONFIG),
-        Share::Steward(_) => Err(NO_CORE),
-        Share::RecordedSteward(_) => Err(NO_CORE),
-        Share::Run(_) => Err(NO_CORE),
-        Share::Nothing => Err(NO_CORE),
+        _ => Err(NO_CORE),
     }
 }
 

@@ -61,10 +61,7 @@ fn seat_arena_of(share: &Share, out: &mut RawPlace) -> u32
         Share::Seat(seat) => tell(&seat.arena, out),
         Share::Session(held) => tell(&held.session.arena, out),
         Share::RecordedSeat(seat) => tell(&seat.arena, out),
-        Share::Steward(_) => NO_CORE,
-        Share::RecordedSteward(_) => NO_CORE,
-        Share::Run(_) => NO_CORE,
-        Share::Nothing => NO_CORE,
+        _ => NO_CORE,
     }
 }
 
@@ -76,11 +73,7 @@ fn steward_arena_of(share: &Share, out: &mut RawPlace) -> u32
     match share {
         Share::Steward(steward) => tell(&steward.arena, out),
         Share::RecordedSteward(steward) => tell(&steward.arena, out),
-        Share::Seat(_) => NO_CORE,
-        Share::Session(_) => NO_CORE,
-        Share::RecordedSeat(_) => NO_CORE,
-        Share::Run(_) => NO_CORE,
-        Share::Nothing => NO_CORE,
+        _ => NO_CORE,
     }
 }
 

@@ -2,7 +2,7 @@
 ghost use Rattle.std.specs.Arc.{arc_value};
 ghost use Rattle.std.specs.Prelude.{◌≡◌, All};
 
-use crate::share::Keeper;
+use crate::share::StewardAndMark;
 use arena::{Arena, NoGate, Seat};
 use span::receipts::ReceiptList;
 use span::spans::SpanLog;
@@ -36,11 +36,11 @@ pub struct RecordedSeat {
 pub struct RecordedSteward {
     /// The arena.
     pub arena: Arc<RecordedShards, Global>,
-    /// Its plan, and the last mark.
-    pub keeper: Keeper,
+    /// Its steward, and the last mark.
+    pub inner: StewardAndMark,
     /// The seats that no thread has.
     pub seats: Vec<KeptSeat>,
-    pub ghost fits: { keeper.steward.limits ≡ (arc_value arena).limits },
+    pub ghost fits: { inner.steward.limits ≡ (arc_value arena).limits },
     pub ghost seats_fit: { All (λ kept. kept.seat.limits ≡ (arc_value arena).limits) seats.items },
 }
 

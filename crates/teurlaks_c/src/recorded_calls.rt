@@ -4,20 +4,19 @@ ghost use Rattle.arena.specs.Seats.{SeatState};
 ghost use Rattle.span.specs.ReceiptLists.{kept_receipts, receipt_room, receipt_word_room};
 ghost use Rattle.span.specs.declared.receipt.Receipt.{Receipt};
 ghost use Rattle.teurlaks_c.specs.Calls.{SaysWords};
-ghost use Rattle.teurlaks_c.specs.SeatCalls.{AsksTend, AsksTold, Gets, OrNoRoom, SaysGotOrNoRoom, Tends, TendsInto, frees_kept, got_kept, puts_kept, sets_kept};
+ghost use Rattle.teurlaks_c.specs.SeatCalls.{AsksTend, AsksTold, Gets, OrNoRoom, SaysGotOrNoRoom, TendsInto, frees_kept, got_kept, puts_kept, sets_kept};
 ghost use Rattle.teurlaks_c.specs.Recorded.{DoesKept, asked_of};
-ghost use Rattle.teurlaks_c.specs.SessionCalls.{AtPaused, HasSession};
 ghost use Rattle.teurlaks_c.specs.Status.{out_of_memory};
 
 use crate::calls::tell;
 use crate::recorded::RecordedSeat;
 use crate::replies::{PutReply, RawWord, WordsReply};
-use crate::seat_calls::{Free, Put, Set, ask_seat, not_looked};
+use crate::seat_calls::{Free, Put, Set, Tend, ask_paused, ask_seat, not_looked};
 use crate::session_calls::{SessionCall, not_put};
-use crate::share::{Share, SharedSeat};
+use crate::share::Share;
 use crate::share_handle::ShareHandle;
 use crate::status::{BUSY, OUT_OF_MEMORY};
-use arena::{Busy, Dropped, Tended};
+use arena::{Busy, Tended};
 use span::names::{Key, Object};
 use span::receipts::{Receipt, ReceiptList};
 use std::alloc::{AllocError, Global};
@@ -83,10 +82,7 @@ fn tell_at_share<C: ToldCall>(share: &mut Share, call: &C) -> C::Reply
         Share::Seat(seat) => call.reply(ask_seat(seat, call)),
         Share::Session(session) => call.reply(call.ask_in_session(session)),
         Share::RecordedSeat(seat) => tell_at_recorded(seat, call),
-        Share::Steward(_) => call.no_seat(),
-        Share::RecordedSteward(_) => call.no_seat(),
-        Share::Run(_) => call.no_seat(),
-        Share::Nothing => call.no_seat(),
+        _ => call.no_seat(),
     }
 }
 
@@ -270,37 +266,11 @@ fn tend_at_share(share: &mut Share) -> Option<Result<Tended, AllocError>>
     ensures { AsksTend (Some share.old) result (Some share.new) }
 {
     match share {
-        Share::Seat(seat) => Some(tend(seat)),
-        Share::Session(_) => Some(tend_paused(share)),
+        Share::Seat(seat) => Some(ask_seat(seat, &Tend)),
+        Share::Session(_) => Some(ask_paused(share, &Tend)),
         Share::RecordedSeat(seat) => Some(tend_recorded(seat)),
-        Share::Steward(_) => None,
-        Share::RecordedSteward(_) => None,
-        Share::Run(_) => None,
-        Share::Nothing => None,
+        _ => None,
     }
-}
-
-// Tends the rings of the seat of a session, which is over then.
-fn tend_paused(share: &mut Share) -> Result<Tended, AllocError>
-    requires { HasSession (Some share.old) }
-    ensures { AtPaused Tends (Some share.old) result (Some share.new) }
-{
-    let Share::Session(session) = replace(share, Share::Nothing) else {
-        unreachable!()
-    };
-    let mut seat = session.pause();
-    let answer = tend(&mut seat);
-    *share = Share::Seat(seat);
-    answer
-}
-
-// Tends the rings of a seat, and drops the receipts.
-fn tend(shared: &mut SharedSeat) -> Result<Tended, AllocError>
-    ensures arena { shared.new.arena ≡ shared.old.arena }
-    ensures does { Tends shared.old.seat result shared.new.seat }
-{
-    let mut receipts = Dropped::new();
-    shared.seat.try_tend(&*shared.arena, &mut receipts)
 }
 
 // Tends the rings of a recorded seat, and keeps the receipts.

@@ -12,7 +12,7 @@ ghost use Rattle.teurlaks_c.specs.Status.{busy, cause_status, config, has_core, 
 
 use crate::limits::limits_for;
 use crate::recorded::{KeptSeat, RecordedRun, RecordedSeat, RecordedShards, RecordedSteward};
-use crate::share::{Keeper, Share};
+use crate::share::{Share, StewardAndMark};
 use crate::share_handle::ShareHandle;
 use crate::status::{
     BARRIER_FAULT, BUSY, CHANGE_FAULT, CONFIG, HAS_CORE, LOG_FAULT, NO_CORE, NONE, OK, ORDER_FAULT,
@@ -50,13 +50,15 @@ pub extern "C" fn teurlaks_arena_open_recorded(
         ↔ (AreWithin (limits_of shards page_limit ring_capacity gens) → ⊥) }
     ensures taken { (result ≡ has_core) ↔ IsSome out.old.share }
 {
-    if has_share(alloc, out) {
-        return HAS_CORE;
-    }
-    let Some(limits) = limits_for(shards, page_limit, MOST_SPANS, ring_capacity, gens) else {
-        return CONFIG;
-    };
-    leave_recorder(alloc, out, limits)
+    teurlaks_arena_open_recorded_with_spans(
+        alloc,
+        out,
+        shards,
+        page_limit,
+        MOST_SPANS,
+        ring_capacity,
+        gens,
+    )
 }
 
 /// As `teurlaks_arena_open_recorded`, of an arena each shard of which opens up to `span_limit`
@@ -109,10 +111,10 @@ fn leave_recorder(alloc: Global, out: &mut ShareHandle, limits: Limits) -> u32
 
 // The steward of a new arena, with all its seats, of which none has a receipt.
 fn opened(alloc: Global, limits: Limits) -> Result<RecordedSteward, AllocError>
-    ensures { IfOk result (λ shared. (shared.keeper.steward ≡ record {
+    ensures { IfOk result (λ shared. (shared.inner.steward ≡ record {
       limits = limits;
       plan = None;
-    }) × (shared.keeper.last ≡ None) × (vec_len shared.seats ≡ limits.shards)
+    }) × (shared.inner.last ≡ None) × (vec_len shared.seats ≡ limits.shards)
         × HaveNoReceipt shared.seats.items) }
 {
     let (arena, seats, steward) = Arena::with_limits(alloc, limits, NoGate)?;
@@ -120,13 +122,13 @@ fn opened(alloc: Global, limits: Limits) -> Result<RecordedSteward, AllocError>
     let Ok(arena) = Arc::new(alloc, arena) else {
         return Err(AllocError);
     };
-    let keeper = Keeper {
+    let inner = StewardAndMark {
         steward,
         last: None,
     };
     Ok(RecordedSteward {
         arena,
-        keeper,
+        inner,
         seats,
     })
 }
@@ -150,7 +152,7 @@ pub(crate) fn kept_seat_of(alloc: Global, steward: &mut RecordedSteward) -> Resu
         (λ seat. HandsOutKept steward.old 0 steward.new (Some seat.value))
         (λ status. HandsOutKept steward.old status steward.new None) }
     ensures same { (steward.new.arena ≡ steward.old.arena)
-        × (steward.new.keeper ≡ steward.old.keeper) }
+        × (steward.new.inner ≡ steward.old.inner) }
 {
     let Some(kept) = steward.seats.pop() else {
         return Err(NONE);
@@ -270,11 +272,7 @@ fn end_share(alloc: Global, share: &mut Share) -> Result<(), u32>
             hold(share, ended)
         }
         Share::Run(_) => Ok(()),
-        Share::Seat(_) => Err(NO_CORE),
-        Share::Session(_) => Err(NO_CORE),
-        Share::Steward(_) => Err(NO_CORE),
-        Share::RecordedSeat(_) => Err(NO_CORE),
-        Share::Nothing => Err(NO_CORE),
+        _ => Err(NO_CORE),
     }
 }
 

@@ -4,14 +4,14 @@ ghost use Rattle.arena.specs.Delays.{HandsOver};
 ghost use Rattle.arena.specs.Seats.{SeatState};
 ghost use Rattle.span.specs.Classes.{IsObject, width_of};
 ghost use Rattle.teurlaks_c.specs.SessionCalls.{AtPaused, HasSession};
-ghost use Rattle.teurlaks_c.specs.SeatCalls.{AsksPaused, AtSeat, Ends, Frees, FreesLater, Gets, HasNoSeat, IsOneCall, PutsUntold, Retires, SaysGot, SaysLooked, Sets, Stays, free_told, set_told};
+ghost use Rattle.teurlaks_c.specs.SeatCalls.{AsksPaused, AtSeat, Ends, Frees, FreesLater, Gets, HasNoSeat, IsOneCall, PutsWithoutReceipt, Retires, SaysGot, SaysLooked, Sets, Stays, Tends, free_told, set_told};
 
 use crate::recorded::RecordedSeat;
 use crate::replies::{RawWord, WordsReply};
 use crate::share::{Share, SharedSeat};
 use crate::share_handle::ShareHandle;
 use crate::status::{BUSY, NONE, OK, TOO_SMALL};
-use arena::{Arena, Busy, Issued, Looked, NoGate, Outcome, Seat};
+use arena::{Arena, Busy, Dropped, Issued, Looked, NoGate, Outcome, Seat, Tended};
 use pool::{AdoptError, ReceiveError};
 use shard::PutError;
 use span::names::{Class, Key, SpanId};
@@ -61,15 +61,12 @@ fn ask_share<C: SeatCall>(share: &mut Share, call: &C) -> Option<C::Answer>
         Share::Seat(seat) => Some(ask_seat(seat, call)),
         Share::Session(_) => Some(ask_paused(share, call)),
         Share::RecordedSeat(seat) => Some(ask_recorded_seat(seat, call)),
-        Share::Steward(_) => None,
-        Share::RecordedSteward(_) => None,
-        Share::Run(_) => None,
-        Share::Nothing => None,
+        _ => None,
     }
 }
 
-// Asks the seat of a session, which is over then.
-fn ask_paused<C: SeatCall>(share: &mut Share, call: &C) -> C::Answer
+/// Asks the seat of a session, which is over then.
+pub(crate) fn ask_paused<C: SeatCall>(share: &mut Share, call: &C) -> C::Answer
     requires { HasSession (Some share.old) }
     ensures { AtPaused (C.does call.now) (Some share.old) result (Some share.new) }
 {
@@ -162,7 +159,7 @@ pub(crate) struct Put<'a> {
 impl SeatCall for Put<'_> {
     type Answer = Result<Result<Issued, PutError>, Busy>;
 
-    ghost does = { λ call. PutsUntold call.words.now };
+    ghost does = { λ call. PutsWithoutReceipt call.words.now };
 
     #[inline(always)]
     fn ask<L: Log>(
@@ -332,5 +329,20 @@ impl SeatCall for HandOver {
 
     fn ask<L: Log>(&self, seat: &mut Seat, _arena: &Arena<NoGate, L>) {
         seat.hand_over();
+    }
+}
+
+/// A tending of the seat's rings, whose receipts are dropped.
+#[derive(Drop)]
+pub(crate) struct Tend;
+
+impl SeatCall for Tend {
+    type Answer = Result<Tended, AllocError>;
+
+    ghost does = { λ call. Tends };
+
+    fn ask<L: Log>(&self, seat: &mut Seat, arena: &Arena<NoGate, L>) -> Result<Tended, AllocError> {
+        let mut receipts = Dropped::new();
+        seat.try_tend(arena, &mut receipts)
     }
 }

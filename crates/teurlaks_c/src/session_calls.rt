@@ -79,10 +79,7 @@ fn ask_either<C: SessionCall>(share: &mut Share, call: &C) -> C::Reply
         Share::Seat(seat) => call.reply(ask_seat(seat, call)),
         Share::Session(session) => call.reply(call.ask_in_session(session)),
         Share::RecordedSeat(seat) => call.reply(ask_recorded_seat(seat, call)),
-        Share::Steward(_) => call.no_seat(),
-        Share::RecordedSteward(_) => call.no_seat(),
-        Share::Run(_) => call.no_seat(),
-        Share::Nothing => call.no_seat(),
+        _ => call.no_seat(),
     }
 }
 
@@ -117,10 +114,7 @@ fn look_up_at_share(share: &mut Share, key: &Key, room: &mut [RawWord]) -> Words
         Share::Seat(seat) => look_up(seat, key, room),
         Share::Session(session) => look_up_in_session(session, key, room),
         Share::RecordedSeat(seat) => look_up_recorded(seat, key, room),
-        Share::Steward(_) => not_looked(NO_CORE),
-        Share::RecordedSteward(_) => not_looked(NO_CORE),
-        Share::Run(_) => not_looked(NO_CORE),
-        Share::Nothing => not_looked(NO_CORE),
+        _ => not_looked(NO_CORE),
     }
 }
 

@@ -62,10 +62,7 @@ fn holding(share: Share) -> (Share, u32)
         },
         Share::Session(session) => (Share::Session(session), OK),
         Share::RecordedSeat(seat) => (Share::RecordedSeat(seat), CONFIG),
-        Share::Steward(steward) => (Share::Steward(steward), NO_CORE),
-        Share::RecordedSteward(steward) => (Share::RecordedSteward(steward), NO_CORE),
-        Share::Run(run) => (Share::Run(run), NO_CORE),
-        Share::Nothing => (Share::Nothing, NO_CORE),
+        other => (other, NO_CORE),
     }
 }
 
@@ -86,9 +83,6 @@ fn giving(share: Share) -> (Share, u32)
         Share::Session(session) => (Share::Seat(session.pause()), OK),
         Share::Seat(seat) => (Share::Seat(seat), OK),
         Share::RecordedSeat(seat) => (Share::RecordedSeat(seat), OK),
-        Share::Steward(steward) => (Share::Steward(steward), NO_CORE),
-        Share::RecordedSteward(steward) => (Share::RecordedSteward(steward), NO_CORE),
-        Share::Run(run) => (Share::Run(run), NO_CORE),
-        Share::Nothing => (Share::Nothing, NO_CORE),
+        other => (other, NO_CORE),
     }
 }

@@ -43,9 +43,9 @@ impl SharedSession {
     }
 }
 
-/// Who keeps the open plan of an arena, and what its last mark answered.
+/// The steward of an arena, which keeps the open plan, and what its last mark answered.
 #[derive(Drop)]
-pub struct Keeper {
+pub struct StewardAndMark {
     /// The keeper of the open plan.
     pub steward: Steward,
     /// The certificate of the last mark that was not refused.
@@ -57,11 +57,11 @@ pub struct Keeper {
 pub struct SharedSteward {
     /// The arena.
     pub arena: Arc<Shards, Global>,
-    /// Its plan, and the last mark.
-    pub keeper: Keeper,
+    /// Its steward, and the last mark.
+    pub inner: StewardAndMark,
     /// The seats that no thread has.
     pub seats: Vec<Seat>,
-    pub ghost fits: { keeper.steward.limits ≡ (arc_value arena).limits },
+    pub ghost fits: { inner.steward.limits ≡ (arc_value arena).limits },
     pub ghost seats_fit: { All (λ seat. seat.limits ≡ (arc_value arena).limits) seats.items },
 }
 

@@ -1,7 +1,7 @@
 // What is asked of the steward of a handle, and what it answers.
 ghost use Rattle.std.specs.Prelude.{◌≡◌, Some};
 ghost use Rattle.certificate.specs.Text.{IsWritable};
-ghost use Rattle.teurlaks_c.specs.declared.share.Keeper.{Keeper};
+ghost use Rattle.teurlaks_c.specs.declared.share.StewardAndMark.{StewardAndMark};
 ghost use Rattle.teurlaks_c.specs.Calls.{CountsOf, kept};
 ghost use Rattle.teurlaks_c.specs.StewardCalls.{Asks, Closes, Keeps, Marks, TakesStep};
 
@@ -9,7 +9,7 @@ use crate::held::Witness;
 use crate::meshing::marked;
 use crate::recorded::RecordedSteward;
 use crate::replies::MarkReply;
-use crate::share::{Keeper, Share, SharedSteward};
+use crate::share::{Share, SharedSteward, StewardAndMark};
 use crate::share_handle::ShareHandle;
 use arena::{Arena, Busy, NoGate, Stepped, Totals};
 use certificate::Certificate;
@@ -24,13 +24,13 @@ pub(crate) trait StewardCall {
     type Answer;
 
     /// What it does.
-    ghost does: { Self → Keeper → Self.Answer → Keeper → Type 0 };
+    ghost does: { Self → StewardAndMark → Self.Answer → StewardAndMark → Type 0 };
 
     /// Makes the call.
-    fn ask<L: Log>(&self, arena: &Arena<NoGate, L>, keeper: &mut Keeper) -> Self::Answer
-        requires { keeper.old.steward.limits ≡ arena.now.limits }
-        ensures limits { keeper.new.steward.limits ≡ keeper.old.steward.limits }
-        ensures does { does self.now keeper.old result keeper.new };
+    fn ask<L: Log>(&self, arena: &Arena<NoGate, L>, inner: &mut StewardAndMark) -> Self::Answer
+        requires { inner.old.steward.limits ≡ arena.now.limits }
+        ensures limits { inner.new.steward.limits ≡ inner.old.steward.limits }
+        ensures does { does self.now inner.old result inner.new };
 }
 
 /// Asks the steward of the handle, where it has one.
@@ -56,11 +56,7 @@ fn ask_share<C: StewardCall>(share: &mut Share, call: &C) -> Option<C::Answer>
     match share {
         Share::Steward(steward) => Some(ask_steward(steward, call)),
         Share::RecordedSteward(steward) => Some(ask_recorded_steward(steward, call)),
-        Share::Seat(_) => None,
-        Share::Session(_) => None,
-        Share::RecordedSeat(_) => None,
-        Share::Run(_) => None,
-        Share::Nothing => None,
+        _ => None,
     }
 }
 
@@ -68,18 +64,18 @@ fn ask_share<C: StewardCall>(share: &mut Share, call: &C) -> Option<C::Answer>
 fn ask_steward<C: StewardCall>(shared: &mut SharedSteward, call: &C) -> C::Answer
     ensures arena { shared.new.arena ≡ shared.old.arena }
     ensures seats { shared.new.seats ≡ shared.old.seats }
-    ensures does { C.does call.now shared.old.keeper result shared.new.keeper }
+    ensures does { C.does call.now shared.old.inner result shared.new.inner }
 {
-    call.ask(&*shared.arena, &mut shared.keeper)
+    call.ask(&*shared.arena, &mut shared.inner)
 }
 
 // Asks the steward of a recorded arena.
 fn ask_recorded_steward<C: StewardCall>(shared: &mut RecordedSteward, call: &C) -> C::Answer
     ensures arena { shared.new.arena ≡ shared.old.arena }
     ensures seats { shared.new.seats ≡ shared.old.seats }
-    ensures does { C.does call.now shared.old.keeper result shared.new.keeper }
+    ensures does { C.does call.now shared.old.inner result shared.new.inner }
 {
-    call.ask(&*shared.arena, &mut shared.keeper)
+    call.ask(&*shared.arena, &mut shared.inner)
 }
 
 /// A mark of all groups.
@@ -94,10 +90,10 @@ impl StewardCall for Mark {
     fn ask<L: Log>(
         &self,
         arena: &Arena<NoGate, L>,
-        keeper: &mut Keeper,
+        inner: &mut StewardAndMark,
     ) -> Result<Result<MarkReply, MarkError>, Busy> {
-        match arena.try_mark(&mut keeper.steward)? {
-            Ok(certificate) => Ok(Ok(keep(&mut keeper.last, certificate))),
+        match arena.try_mark(&mut inner.steward)? {
+            Ok(certificate) => Ok(Ok(keep(&mut inner.last, certificate))),
             Err(refusal) => Ok(Err(refusal)),
         }
     }
@@ -115,10 +111,10 @@ impl StewardCall for MarkSome {
     fn ask<L: Log>(
         &self,
         arena: &Arena<NoGate, L>,
-        keeper: &mut Keeper,
+        inner: &mut StewardAndMark,
     ) -> Result<Result<MarkReply, MarkError>, Busy> {
-        match arena.try_mark_some(&mut keeper.steward)? {
-            Ok(certificate) => Ok(Ok(keep(&mut keeper.last, certificate))),
+        match arena.try_mark_some(&mut inner.steward)? {
+            Ok(certificate) => Ok(Ok(keep(&mut inner.last, certificate))),
             Err(refusal) => Ok(Err(refusal)),
         }
     }
@@ -136,9 +132,9 @@ impl StewardCall for Step {
     fn ask<L: Log>(
         &self,
         arena: &Arena<NoGate, L>,
-        keeper: &mut Keeper,
+        inner: &mut StewardAndMark,
     ) -> Result<Result<Stepped, AllocError>, Busy> {
-        arena.try_step(&mut keeper.steward)
+        arena.try_step(&mut inner.steward)
     }
 }
 
@@ -151,8 +147,12 @@ impl StewardCall for Close {
 
     ghost does = { λ call. Closes };
 
-    fn ask<L: Log>(&self, arena: &Arena<NoGate, L>, keeper: &mut Keeper) -> Result<bool, Busy> {
-        arena.try_close(&mut keeper.steward)
+    fn ask<L: Log>(
+        &self,
+        arena: &Arena<NoGate, L>,
+        inner: &mut StewardAndMark,
+    ) -> Result<bool, Busy> {
+        arena.try_close(&mut inner.steward)
     }
 }
 
@@ -165,7 +165,11 @@ impl StewardCall for CountAll {
 
     ghost does = { λ call. Keeps };
 
-    fn ask<L: Log>(&self, arena: &Arena<NoGate, L>, _keeper: &mut Keeper) -> Result<Totals, Busy> {
+    fn ask<L: Log>(
+        &self,
+        arena: &Arena<NoGate, L>,
+        _inner: &mut StewardAndMark,
+    ) -> Result<Totals, Busy> {
         arena.try_totals()
     }
 }

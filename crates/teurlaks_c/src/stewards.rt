@@ -12,7 +12,7 @@ use crate::limits::limits_for;
 use crate::meshing::{unmarked, unstepped, write_last};
 use crate::recorded_stewards::kept_seat_of;
 use crate::replies::{ArenaTotalsReply, CertificateReply, ForgetReply, MarkReply, StepReply};
-use crate::share::{Keeper, Shards, Share, SharedSeat, SharedSteward};
+use crate::share::{Shards, Share, SharedSeat, SharedSteward, StewardAndMark};
 use crate::share_handle::ShareHandle;
 use crate::status::{
     BUSY, CONFIG, EMPTIED, HAS_CORE, NO_CORE, NO_PAIR_LEFT, NO_PLAN, NONE, OK, OUT_OF_MEMORY,
@@ -52,13 +52,15 @@ pub extern "C" fn teurlaks_arena_open(
         ↔ (AreWithin (limits_of shards page_limit ring_capacity gens) → ⊥) }
     ensures taken { (result ≡ has_core) ↔ IsSome out.old.share }
 {
-    if has_share(alloc, out) {
-        return HAS_CORE;
-    }
-    let Some(limits) = limits_for(shards, page_limit, MOST_SPANS, ring_capacity, gens) else {
-        return CONFIG;
-    };
-    leave_steward(alloc, out, limits)
+    teurlaks_arena_open_with_spans(
+        alloc,
+        out,
+        shards,
+        page_limit,
+        MOST_SPANS,
+        ring_capacity,
+        gens,
+    )
 }
 
 /// As `teurlaks_arena_open`, of an arena each shard of which opens up to `span_limit` spans in its
@@ -111,22 +113,22 @@ fn leave_steward(alloc: Global, out: &mut ShareHandle, limits: Limits) -> u32
 
 // The steward of a new arena, with all its seats.
 fn opened(alloc: Global, limits: Limits) -> Result<SharedSteward, AllocError>
-    ensures { IfOk result (λ shared. (shared.keeper.steward ≡ record {
+    ensures { IfOk result (λ shared. (shared.inner.steward ≡ record {
       limits = limits;
       plan = None;
-    }) × (shared.keeper.last ≡ None) × (vec_len shared.seats ≡ limits.shards)) }
+    }) × (shared.inner.last ≡ None) × (vec_len shared.seats ≡ limits.shards)) }
 {
     let (arena, seats, steward) = Arena::with_limits(alloc, limits, NoGate)?;
     let Ok(arena) = Arc::new(alloc, arena) else {
         return Err(AllocError);
     };
-    let keeper = Keeper {
+    let inner = StewardAndMark {
         steward,
         last: None,
     };
     Ok(SharedSteward {
         arena,
-        keeper,
+        inner,
         seats,
     })
 }
@@ -186,11 +188,7 @@ fn take_seat(alloc: Global, share: &mut Share) -> Result<Box<Share>, u32>
     match share {
         Share::Steward(steward) => seat_of(alloc, steward),
         Share::RecordedSteward(steward) => kept_seat_of(alloc, steward),
-        Share::Seat(_) => Err(NO_CORE),
-        Share::Session(_) => Err(NO_CORE),
-        Share::RecordedSeat(_) => Err(NO_CORE),
-        Share::Run(_) => Err(NO_CORE),
-        Share::Nothing => Err(NO_CORE),
+        _ => Err(NO_CORE),
     }
 }
 
@@ -200,7 +198,7 @@ fn seat_of(alloc: Global, steward: &mut SharedSteward) -> Result<Box<Share>, u32
         (λ seat. HandsOutOf steward.old 0 steward.new (Some seat.value))
         (λ status. HandsOutOf steward.old status steward.new None) }
     ensures same { (steward.new.arena ≡ steward.old.arena)
-        × (steward.new.keeper ≡ steward.old.keeper) }
+        × (steward.new.inner ≡ steward.old.inner) }
 {
     let Some(seat) = steward.seats.pop() else {
         return Err(NONE);
@@ -308,14 +306,10 @@ fn forget_of(share: &Share) -> ForgetReply
 {
     match share {
         Share::Steward(steward) => {
-            forgotten_reply(steward.arena.try_forget(&steward.keeper.steward))
+            forgotten_reply(steward.arena.try_forget(&steward.inner.steward))
         }
         Share::RecordedSteward(_) => unforgotten(RECORDED),
-        Share::Seat(_) => unforgotten(NO_CORE),
-        Share::Session(_) => unforgotten(NO_CORE),
-        Share::RecordedSeat(_) => unforgotten(NO_CORE),
-        Share::Run(_) => unforgotten(NO_CORE),
-        Share::Nothing => unforgotten(NO_CORE),
+        _ => unforgotten(NO_CORE),
     }
 }
 
@@ -347,13 +341,9 @@ fn write_last_of(alloc: Global, share: &Share, room: &mut [u8]) -> CertificateRe
     ensures { WritesLast (Some share.now) room.old result room.new }
 {
     match share {
-        Share::Steward(steward) => write_last(alloc, &steward.keeper.last, room),
-        Share::RecordedSteward(steward) => write_last(alloc, &steward.keeper.last, room),
-        Share::Seat(_) => unwritten(),
-        Share::Session(_) => unwritten(),
-        Share::RecordedSeat(_) => unwritten(),
-        Share::Run(_) => unwritten(),
-        Share::Nothing => unwritten(),
+        Share::Steward(steward) => write_last(alloc, &steward.inner.last, room),
+        Share::RecordedSteward(steward) => write_last(alloc, &steward.inner.last, room),
+        _ => unwritten(),
     }
 }
 

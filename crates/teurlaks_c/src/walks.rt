@@ -8,7 +8,7 @@ use crate::calls::no_key;
 use crate::keys::raw_of;
 use crate::replies::{NextReply, RawWalk};
 use crate::seat_calls::{SeatCall, at_seat};
-use crate::share::Keeper;
+use crate::share::StewardAndMark;
 use crate::share_handle::ShareHandle;
 use crate::status::{BUSY, NO_CORE, NONE, OK};
 use crate::steward_calls::{StewardCall, at_steward};
@@ -82,7 +82,7 @@ impl StewardCall for Next {
     fn ask<L: Log>(
         &self,
         arena: &Arena<NoGate, L>,
-        _keeper: &mut Keeper,
+        _inner: &mut StewardAndMark,
     ) -> (Result<Option<Key>, Busy>, Walk) {
         go_on(self.from, arena)
     }

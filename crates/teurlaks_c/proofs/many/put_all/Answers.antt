@@ -1,4 +1,4 @@
-use Rattle.std.proofs.Common.{◌≡◌, ◌<◌, ◌≤◌, ◌∷◌, [], arith, get_or, length, subst, sym, take}
+use Rattle.std.proofs.Common.{◌≡◌, ◌∷◌, [], arith, get_or, length, subst, sym, take}
 use Rattle.std.proofs.lemmas.Option.{slice_get-get_or}
 use Rattle.arena_core.specs.declared.event.Event.TheVariants.{Put}
 use Rattle.arena_core.specs.declared.reply.Reply.TheVariants.{Issued, Refused}

@@ -1,8 +1,8 @@
 use mathlib.Core.Logic.{inl, inr}
-use Rattle.std.proofs.Common.{ap, refl, subst, sym}
+use Rattle.std.proofs.Common.{ap, refl}
 use Rattle.std.specs.Prelude.{None, Ok, Some}
 use Rattle.teurlaks_c.specs.Recorded.{asked_of}
-use Rattle.teurlaks_c.specs.SeatCalls.{HasNoSeat}
+use Rattle.teurlaks_c.proofs.OtherShares.{HasNoSeat-other}
 use Rattle.teurlaks_c.proofs.Recording.{asked_told}
 use Rattle.teurlaks_c.proofs.recorded_calls.tell_at_share.Goals as goal
 
@@ -44,15 +44,5 @@ returns-in-RecordedSeat g c =
       does.2,
     )
 
-pub returns-in-Steward : goal.returns-in-Steward
-returns-in-Steward g c = (Ok None, (subst (λ s. HasNoSeat (Some s)) (sym c.in-Steward.is) tt, refl), c.no_seat.ensures)
-
-pub returns-in-RecordedSteward : goal.returns-in-RecordedSteward
-returns-in-RecordedSteward g c =
-    (Ok None, (subst (λ s. HasNoSeat (Some s)) (sym c.in-RecordedSteward.is) tt, refl), c.no_seat-in-RecordedSteward.ensures)
-
-pub returns-in-Run : goal.returns-in-Run
-returns-in-Run g c = (Ok None, (subst (λ s. HasNoSeat (Some s)) (sym c.in-Run.is) tt, refl), c.no_seat-in-Run.ensures)
-
-pub returns-in-Nothing : goal.returns-in-Nothing
-returns-in-Nothing g c = (Ok None, (subst (λ s. HasNoSeat (Some s)) (sym c.in-Nothing.is) tt, refl), c.no_seat-in-Nothing.ensures)
+pub returns-in_default : goal.returns-in_default
+returns-in_default g c = (Ok None, (HasNoSeat-other c.args.share.now c.in_default.not-Seat c.in_default.not-Session c.in_default.not-RecordedSeat, refl), c.no_seat.ensures)

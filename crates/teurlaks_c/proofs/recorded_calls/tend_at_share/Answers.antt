@@ -6,15 +6,15 @@ use Rattle.teurlaks_c.proofs.recorded_calls.tend_at_share.Goals as goal
 pub returns-in-Seat : goal.returns-in-Seat
 returns-in-Seat c = inl (record {
   before = c.in-Seat.seat;
-  after = c.tend.new.shared;
+  after = c.ask_seat.new.shared;
   before_is = ap Some c.in-Seat.is;
   after_is = refl;
-  arena_is = c.tend.ensures.arena;
-  did = c.tend.ensures.does;
+  arena_is = c.ask_seat.ensures.arena;
+  did = c.ask_seat.ensures.does;
 })
 
 pub returns-in-Session : goal.returns-in-Session
-returns-in-Session c = inr (inl c.tend_paused.ensures)
+returns-in-Session c = inr (inl c.ask_paused.ensures)
 
 pub returns-in-RecordedSeat : goal.returns-in-RecordedSeat
 returns-in-RecordedSeat c = inr (inr (record {

@@ -1,7 +1,7 @@
 use mathlib.Core.Logic.{inl, inr}
 use Rattle.std.proofs.Common.{ap, refl}
 use Rattle.std.specs.Prelude.{Some}
-use Rattle.teurlaks_c.proofs.Recording.{asked_untold}
+use Rattle.teurlaks_c.proofs.Recording.{asked_without_receipt}
 use Rattle.teurlaks_c.proofs.seat_calls.ask_share.Goals as goal
 
 pub returns-in-Seat : goal.returns-in-Seat
@@ -20,6 +20,6 @@ returns-in-Session g c = inr (inl c.ask_paused.ensures)
 pub returns-in-RecordedSeat : goal.returns-in-RecordedSeat
 returns-in-RecordedSeat g c =
     let asked = c.ask_recorded_seat.ensures in
-    inr (inr (asked_untold (g.C.SeatCall.does c.args.call.now) (Some c.args.share.now) c.in-RecordedSeat.seat c.ask_recorded_seat.new.shared
+    inr (inr (asked_without_receipt (g.C.SeatCall.does c.args.call.now) (Some c.args.share.now) c.in-RecordedSeat.seat c.ask_recorded_seat.new.shared
     (ap Some c.in-RecordedSeat.is)
     asked.arena asked.receipts c.ask_recorded_seat.result asked.does))

@@ -1,8 +1,8 @@
 use mathlib.Core.Logic.{inl, inr}
-use Rattle.std.proofs.Common.{ap, refl, subst, sym}
+use Rattle.std.proofs.Common.{ap, refl}
 use Rattle.std.specs.Prelude.{None, Some}
-use Rattle.teurlaks_c.specs.SeatCalls.{HasNoSeat}
-use Rattle.teurlaks_c.proofs.Recording.{asked_untold}
+use Rattle.teurlaks_c.proofs.OtherShares.{HasNoSeat-other}
+use Rattle.teurlaks_c.proofs.Recording.{asked_without_receipt}
 use Rattle.teurlaks_c.proofs.session_calls.ask_either.Goals as goal
 
 pub returns-in-Seat : goal.returns-in-Seat
@@ -37,20 +37,11 @@ pub returns-in-RecordedSeat : goal.returns-in-RecordedSeat
 returns-in-RecordedSeat g c =
     let asked = c.ask_recorded_seat.ensures in (
       Some c.ask_recorded_seat.result,
-      inr (inr (asked_untold (g.C.SeatCall.does c.args.call.now) (Some c.args.share.now) c.in-RecordedSeat.seat c.ask_recorded_seat.new.shared
+      inr (inr (asked_without_receipt (g.C.SeatCall.does c.args.call.now) (Some c.args.share.now) c.in-RecordedSeat.seat c.ask_recorded_seat.new.shared
           (ap Some c.in-RecordedSeat.is)
           asked.arena asked.receipts c.ask_recorded_seat.result asked.does)),
       c.reply-in-RecordedSeat.ensures,
     )
 
-pub returns-in-Steward : goal.returns-in-Steward
-returns-in-Steward g c = (None, (subst (λ s. HasNoSeat (Some s)) (sym c.in-Steward.is) tt, refl), c.no_seat.ensures)
-
-pub returns-in-RecordedSteward : goal.returns-in-RecordedSteward
-returns-in-RecordedSteward g c = (None, (subst (λ s. HasNoSeat (Some s)) (sym c.in-RecordedSteward.is) tt, refl), c.no_seat-in-RecordedSteward.ensures)
-
-pub returns-in-Run : goal.returns-in-Run
-returns-in-Run g c = (None, (subst (λ s. HasNoSeat (Some s)) (sym c.in-Run.is) tt, refl), c.no_seat-in-Run.ensures)
-
-pub returns-in-Nothing : goal.returns-in-Nothing
-returns-in-Nothing g c = (None, (subst (λ s. HasNoSeat (Some s)) (sym c.in-Nothing.is) tt, refl), c.no_seat-in-Nothing.ensures)
+pub returns-in_default : goal.returns-in_default
+returns-in_default g c = (None, (HasNoSeat-other c.args.share.now c.in_default.not-Seat c.in_default.not-Session c.in_default.not-RecordedSeat, refl), c.no_seat.ensures)

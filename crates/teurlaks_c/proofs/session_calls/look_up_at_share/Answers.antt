@@ -1,7 +1,7 @@
 use mathlib.Core.Logic.{inl, inr}
-use Rattle.std.proofs.Common.{ap, refl, subst, sym}
+use Rattle.std.proofs.Common.{ap, refl}
 use Rattle.std.specs.Prelude.{None, Some}
-use Rattle.teurlaks_c.specs.SeatCalls.{HasNoSeat}
+use Rattle.teurlaks_c.proofs.OtherShares.{HasNoSeat-other}
 use Rattle.teurlaks_c.proofs.session_calls.look_up_at_share.Goals as goal
 
 pub returns-in-Seat : goal.returns-in-Seat
@@ -52,20 +52,9 @@ returns-in-RecordedSeat c =
       does.2,
     ))
 
-pub returns-in-Steward : goal.returns-in-Steward
-returns-in-Steward c = inl (None, (subst (λ s. HasNoSeat (Some s)) (sym c.in-Steward.is) tt, refl), (c.not_looked.ensures.0, c.not_looked.ensures.1, refl))
-
-pub returns-in-RecordedSteward : goal.returns-in-RecordedSteward
-returns-in-RecordedSteward c = inl (
+pub returns-in_default : goal.returns-in_default
+returns-in_default c = inl (
   None,
-  (subst (λ s. HasNoSeat (Some s)) (sym c.in-RecordedSteward.is) tt, refl),
-  (c.not_looked-in-RecordedSteward.ensures.0, c.not_looked-in-RecordedSteward.ensures.1, refl),
+  (HasNoSeat-other c.args.share.now c.in_default.not-Seat c.in_default.not-Session c.in_default.not-RecordedSeat, refl),
+  (c.not_looked.ensures.0, c.not_looked.ensures.1, refl),
 )
-
-pub returns-in-Run : goal.returns-in-Run
-returns-in-Run c =
-    inl (None, (subst (λ s. HasNoSeat (Some s)) (sym c.in-Run.is) tt, refl), (c.not_looked-in-Run.ensures.0, c.not_looked-in-Run.ensures.1, refl))
-
-pub returns-in-Nothing : goal.returns-in-Nothing
-returns-in-Nothing c =
-    inl (None, (subst (λ s. HasNoSeat (Some s)) (sym c.in-Nothing.is) tt, refl), (c.not_looked-in-Nothing.ensures.0, c.not_looked-in-Nothing.ensures.1, refl))

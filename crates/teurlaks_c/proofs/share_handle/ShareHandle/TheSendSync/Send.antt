@@ -31,7 +31,7 @@ use Rattle.teurlaks_c.specs.contracts.share.Share as Content
 use Rattle.teurlaks_c.specs.contracts.share.SharedSeat as SeatContent
 use Rattle.teurlaks_c.specs.contracts.share.SharedSession as SessionContent
 use Rattle.teurlaks_c.specs.contracts.share.SharedSteward as StewardContent
-use Rattle.teurlaks_c.specs.contracts.share.Keeper as KeeperContent
+use Rattle.teurlaks_c.specs.contracts.share.StewardAndMark as StewardAndMarkContent
 use Rattle.teurlaks_c.specs.contracts.recorded.KeptSeat as KeptSeatContent
 use Rattle.teurlaks_c.specs.contracts.recorded.RecordedRun as RunContent
 use Rattle.teurlaks_c.specs.contracts.recorded.RecordedSeat as RecordedSeatContent
@@ -48,15 +48,15 @@ seat_fields : AllSend (struct_fields SeatContent.the_type)
 seat_fields = (share, (seat_send, tt))
 
 -- a plan and the last certificate
-keeper_fields : AllSend (struct_fields KeeperContent.the_type)
-keeper_fields = (steward_send, (search (sendable, crosses, witness_send) depth 60, tt))
+inner_fields : AllSend (struct_fields StewardAndMarkContent.the_type)
+inner_fields = (steward_send, (search (sendable, crosses, witness_send) depth 60, tt))
 
-keeper_send : IsSend (KeeperContent.the_field).row
-keeper_send = struct_send (struct_shape KeeperContent.the_type) keeper_fields
+inner_send : IsSend (StewardAndMarkContent.the_field).row
+inner_send = struct_send (struct_shape StewardAndMarkContent.the_type) inner_fields
 
 -- a steward with it, its plan and the last certificate, and the seats that no thread has
 steward_fields : AllSend (struct_fields StewardContent.the_type)
-steward_fields = (share, (keeper_send, (search (sendable, crosses, seat_send) depth 60, tt)))
+steward_fields = (share, (inner_send, (search (sendable, crosses, seat_send) depth 60, tt)))
 
 -- a share of a recorded arena
 recorded_share : IsSend (Arc.the_row (Arena.the_row NoGate.the_row Kept.the_row KeptImpl.ghosts) Heap.the_row ghosts)
@@ -74,7 +74,7 @@ recorded_seat_fields : AllSend (struct_fields RecordedSeatContent.the_type)
 recorded_seat_fields = (recorded_share, (kept_send, tt))
 
 recorded_steward_fields : AllSend (struct_fields RecordedStewardContent.the_type)
-recorded_steward_fields = (recorded_share, (keeper_send, (search (sendable, crosses, kept_seat_send) depth 60, tt)))
+recorded_steward_fields = (recorded_share, (inner_send, (search (sendable, crosses, kept_seat_send) depth 60, tt)))
 
 -- logs and receipts
 run_fields : AllSend (struct_fields RunContent.the_type)
