@@ -1,6 +1,6 @@
 -- How the table of groups shows, and what it keeps. No public clause cites this module.
-use Rattle.std.specs.Prelude.{◌+◌, ◌*◌, ◌≤◌, length, nat_eq, vec_capacity}
-use Rattle.std.specs.HashMap as hash
+use Rattle.std.specs.Prelude.{◌+◌, ◌*◌, ◌≤◌, length, vec_capacity}
+use Rattle.std.specs.FinMap as table
 use Rattle.pool.specs.Groups.{GroupsState}
 use Rattle.pool.specs.Ranked.{in_order}
 use Rattle.pool.specs.Tabled.{AreKept}
@@ -11,7 +11,7 @@ abbrev pub state_of : {L : Type 0} → Inside L → GroupsState
 state_of t = record { groups = in_order t.row.items; room = t.room }
 
 pub record IsKept {L : Type 0} (t : Inside L) : Type 0 where
-  pub kept : AreKept t.row.items (vec_capacity t.row) (hash.get nat_eq t.places)
-      (hash.spare t.places) t.paged t.room
+  pub kept : AreKept t.row.items (vec_capacity t.row) (table.get t.places.entries)
+      (t.places.room) t.paged t.room
   -- no more ranks are noted than twice as many as there are groups, and one
   pub few : length t.paged.ranks ≤ 2 * length t.row.items + 1

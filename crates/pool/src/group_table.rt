@@ -1,7 +1,7 @@
 // The groups of the pool, found by their heads.
-ghost use Rattle.std.specs.Prelude.{◌≡◌, ◌<◌, ◌≤◌, ◌-◌, ◌+◌, ◌++◌, ◌*◌, ◌↔◌, ℕ, [], IfOk, IfSome, IsSome, IsTrue, MatchOption, OnErr, OnOk, Some, insert, length, map, max, nat_eq, slice_get, slice_set, vec_capacity};
+ghost use Rattle.std.specs.Prelude.{◌≡◌, ◌<◌, ◌≤◌, ◌-◌, ◌+◌, ◌++◌, ◌*◌, ◌↔◌, ℕ, [], IfOk, IfSome, IsSome, IsTrue, MatchOption, OnErr, OnOk, Some, insert, length, map, max, slice_get, slice_set, vec_capacity};
 ghost use Rattle.std.specs.Bool.{OnTrue, OnFalse};
-ghost use Rattle.std.specs.HashMap as hash;
+ghost use Rattle.std.specs.FinMap as table;
 ghost use Rattle.std.specs.List.{Contains};
 ghost use Rattle.span.specs.Ids.{rank};
 ghost use Rattle.span.specs.Log.{Holds};
@@ -31,12 +31,11 @@ use crate::pooled::Pooled;
 use crate::ranks::Ranks;
 use crate::sparse::sparse;
 use crate::walks;
-use groups::Directory;
+use groups::{Directory, LateTable};
 use shard::Shard;
 use span::names::{Entry, Key, SpanId};
 use span::spans::{Counted, Kept, Log, SpanLog};
 use std::alloc::{AllocError, Global};
-use std::collections::HashMap;
 use std::marker::Model;
 
 /// Groups in a row, with a hash table that says where the group of each head stands, and a binary
@@ -51,7 +50,7 @@ pub(crate) struct GroupTable<L: Log> {
     // The groups, in no order.
     row: Vec<Pooled<L>>,
     // By the rank of a head, where in `row` its group stands.
-    places: HashMap<u64, usize>,
+    places: LateTable<usize>,
     // The ranks of the heads of all groups that have a page, and of some that have none or are
     // here no more.
     paged: Ranks,
@@ -81,7 +80,7 @@ impl<L: Log> GroupTable<L> {
     {
         GroupTable {
             row: Vec::new(alloc),
-            places: HashMap::new(alloc),
+            places: LateTable::new(alloc),
             paged: Ranks::new(alloc),
             room: 0,
         }
@@ -126,7 +125,7 @@ impl<L: Log> GroupTable<L> {
     {
         note(&mut self.paged, &group);
         let place = self.row.len();
-        enter(&mut self.places, group.head_id().rank(), place);
+        self.places.insert_reserved(group.head_id().rank(), place);
         self.row.push_reserved(group);
         self.room -= 1;
     }
@@ -325,57 +324,33 @@ impl GroupTable<Counted> {
 }
 
 // Where in the row the head's group stands, if it is here.
-fn place_of(places: &HashMap<u64, usize>, head: SpanId) -> Option<usize>
-    ensures { result ≡ hash.get nat_eq places.now (rank head) }
+fn place_of(places: &LateTable<usize>, head: SpanId) -> Option<usize>
+    ensures { result ≡ table.get places.now.entries (rank head) }
 {
-    places.get(&head.rank()).copied()
-}
-
-// Enters the place of a new rank where there is room, which needs no memory.
-fn enter(places: &mut HashMap<u64, usize>, rank: u64, place: usize)
-    requires { 0 < hash.spare places.old }
-    ensures updates { hash.Updates nat_eq places.old places.new rank (Some place) }
-    ensures spare { hash.spare places.old ≤ hash.spare places.new + 1 }
-{
-    match places.insert(rank, place) {
-        Ok(_) => {}
-        Err(_) => unreachable!(),
-    }
-}
-
-// Writes another place to a rank that has one.
-fn move_to(places: &mut HashMap<u64, usize>, rank: u64, place: usize)
-    requires { IsSome (hash.get nat_eq places.old rank) }
-    ensures updates { hash.Updates nat_eq places.old places.new rank (Some place) }
-    ensures spare { hash.spare places.new ≡ hash.spare places.old }
-{
-    match places.get_mut(&rank) {
-        Some(noted) => *noted = place,
-        None => unreachable!(),
-    }
+    places.get(head.rank())
 }
 
 // The group at the place goes, and the last takes its place.
 fn let_go<L: Log>(
     groups: &mut Vec<Pooled<L>>,
-    places: &mut HashMap<u64, usize>,
+    places: &mut LateTable<usize>,
     place: usize,
 ) -> Pooled<L>
     requires within { place < length groups.old.items }
-    requires found { AreFound groups.old.items (hash.get nat_eq places.old) }
+    requires found { AreFound groups.old.items (table.get places.old.entries) }
     ensures gone { slice_get groups.old.items place ≡ Some result }
     ensures left { LetsGo groups.old.items place groups.new.items }
     ensures lower { (at : ℕ) → at < place
         → slice_get groups.new.items at ≡ slice_get groups.old.items at }
-    ensures found { AreFound groups.new.items (hash.get nat_eq places.new) }
+    ensures found { AreFound groups.new.items (table.get places.new.entries) }
     ensures fewer { length groups.new.items < length groups.old.items }
     ensures capacity { vec_capacity groups.new ≡ vec_capacity groups.old }
-    ensures spare { hash.spare places.old ≤ hash.spare places.new }
+    ensures spare { places.old.room ≤ places.new.room }
 {
     let group = groups.swap_remove(place);
-    places.remove(&group.head_id().rank());
+    places.remove(group.head_id().rank());
     if place < groups.len() {
-        move_to(places, groups[place].head_id().rank(), place);
+        places.write_over(groups[place].head_id().rank(), place);
     }
     group
 }
@@ -383,19 +358,18 @@ fn let_go<L: Log>(
 // Gives memory back where a quarter of the room in the row would do for the groups and those that
 // room is reserved for. Twice as much stays, so that groups that come and go move a row only where
 // it has halved or doubled.
-fn give_back<L: Log>(groups: &mut Vec<Pooled<L>>, places: &mut HashMap<u64, usize>, room: usize)
+fn give_back<L: Log>(groups: &mut Vec<Pooled<L>>, places: &mut LateTable<usize>, room: usize)
     requires room { length groups.old.items + room ≤ vec_capacity groups.old }
-    requires spare { room ≤ hash.spare places.old }
+    requires spare { room ≤ places.old.room }
     ensures same { groups.new.items ≡ groups.old.items }
-    ensures found { (number : ℕ)
-        → hash.get nat_eq places.new number ≡ hash.get nat_eq places.old number }
+    ensures entries { places.new.entries ≡ places.old.entries }
     ensures room { length groups.new.items + room ≤ vec_capacity groups.new }
-    ensures spare { room ≤ hash.spare places.new }
+    ensures spare { room ≤ places.new.room }
 {
     let wanted = groups.len() + room;
     if wanted < groups.capacity() / 4 {
         groups.shrink_to(2 * wanted);
-        places.shrink_to(places.len() + wanted);
+        places.shrink_to(wanted);
     }
 }
 
@@ -417,10 +391,10 @@ fn make_room(paged: &mut Ranks, groups: usize, more: usize) -> Result<(), AllocE
 // way.
 fn lowest_paged<L: Log>(
     row: &[Pooled<L>],
-    places: &HashMap<u64, usize>,
+    places: &LateTable<usize>,
     paged: &mut Ranks,
 ) -> Option<SpanId>
-    requires found { AreFound row.now (hash.get nat_eq places.now) }
+    requires found { AreFound row.now (table.get places.now.entries) }
     requires noted { AreNoted row.now paged.old.ranks }
     ensures lowest { MatchOption result (HasNoPage (in_order row.now))
         (IsHeadOfFirstPaged (in_order row.now)) }
@@ -438,12 +412,12 @@ fn lowest_paged<L: Log>(
 }
 
 // The head of the rank, if its group is here and has a page.
-fn paged_head<L: Log>(row: &[Pooled<L>], places: &HashMap<u64, usize>, rank: u64) -> Option<SpanId>
-    requires { AreFound row.now (hash.get nat_eq places.now) }
+fn paged_head<L: Log>(row: &[Pooled<L>], places: &LateTable<usize>, rank: u64) -> Option<SpanId>
+    requires { AreFound row.now (table.get places.now.entries) }
     ensures { MatchOption result (HasNoPageAt row.now rank)
         (IsPagedHead (in_order row.now) rank) }
 {
-    let Some(place) = places.get(&rank).copied() else {
+    let Some(place) = places.get(rank) else {
         return None;
     };
     let group = &row[place];
@@ -456,15 +430,15 @@ fn paged_head<L: Log>(row: &[Pooled<L>], places: &HashMap<u64, usize>, rank: u64
 // Notes the ranks anew where most of them are of no account, and gives memory back.
 fn tidy<L: Log>(
     row: &mut Vec<Pooled<L>>,
-    places: &mut HashMap<u64, usize>,
+    places: &mut LateTable<usize>,
     paged: &mut Ranks,
     room: usize,
 )
-    requires { AreKept row.old.items (vec_capacity row.old) (hash.get nat_eq places.old)
-        (hash.spare places.old) paged.old room }
+    requires { AreKept row.old.items (vec_capacity row.old) (table.get places.old.entries)
+        places.old.room paged.old room }
     ensures same { row.new.items ≡ row.old.items }
-    ensures kept { AreKept row.new.items (vec_capacity row.new) (hash.get nat_eq places.new)
-        (hash.spare places.new) paged.new room }
+    ensures kept { AreKept row.new.items (vec_capacity row.new) (table.get places.new.entries)
+        places.new.room paged.new room }
     ensures few { length paged.new.ranks ≤ 2 * length row.new.items + 1 }
 {
     give_back(row, places, room);
@@ -547,13 +521,13 @@ fn forget_in(group: &mut Pooled<Counted>, directory: &mut Directory)
 }
 
 // The groups that have no page go, and the last of the row takes the place of each.
-fn drop_unpaged<L: Log>(groups: &mut Vec<Pooled<L>>, places: &mut HashMap<u64, usize>)
-    requires { AreFound groups.old.items (hash.get nat_eq places.old) }
+fn drop_unpaged<L: Log>(groups: &mut Vec<Pooled<L>>, places: &mut LateTable<usize>)
+    requires { AreFound groups.old.items (table.get places.old.entries) }
     ensures left { KeepsPaged groups.old.items groups.new.items }
-    ensures found { AreFound groups.new.items (hash.get nat_eq places.new) }
+    ensures found { AreFound groups.new.items (table.get places.new.entries) }
     ensures fewer { length groups.new.items ≤ length groups.old.items }
     ensures capacity { vec_capacity groups.new ≡ vec_capacity groups.old }
-    ensures spare { hash.spare places.old ≤ hash.spare places.new }
+    ensures spare { places.old.room ≤ places.new.room }
 {
     let mut place = 0;
     while place < groups.len() {
@@ -566,16 +540,16 @@ fn drop_unpaged<L: Log>(groups: &mut Vec<Pooled<L>>, places: &mut HashMap<u64, u
 }
 
 // The group at the place goes, and the last takes its place.
-fn drop_at<L: Log>(groups: &mut Vec<Pooled<L>>, places: &mut HashMap<u64, usize>, place: usize)
+fn drop_at<L: Log>(groups: &mut Vec<Pooled<L>>, places: &mut LateTable<usize>, place: usize)
     requires within { place < length groups.old.items }
-    requires found { AreFound groups.old.items (hash.get nat_eq places.old) }
+    requires found { AreFound groups.old.items (table.get places.old.entries) }
     ensures left { LetsGo groups.old.items place groups.new.items }
     ensures lower { (at : ℕ) → at < place
         → slice_get groups.new.items at ≡ slice_get groups.old.items at }
-    ensures found { AreFound groups.new.items (hash.get nat_eq places.new) }
+    ensures found { AreFound groups.new.items (table.get places.new.entries) }
     ensures fewer { length groups.new.items < length groups.old.items }
     ensures capacity { vec_capacity groups.new ≡ vec_capacity groups.old }
-    ensures spare { hash.spare places.old ≤ hash.spare places.new }
+    ensures spare { places.old.room ≤ places.new.room }
 {
     let_go(groups, places, place);
 }

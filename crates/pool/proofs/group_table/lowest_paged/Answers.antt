@@ -1,5 +1,5 @@
-use Rattle.std.proofs.Common.{◌∙◌, ◌∷◌, arith, nat_eq}
-use Rattle.std.specs.HashMap as hash
+use Rattle.std.proofs.Common.{◌∙◌, ◌∷◌, arith}
+use Rattle.std.specs.FinMap as table
 use Rattle.std.proofs.lemmas.List.Sorted.{length_permutation}
 use Rattle.pool.specs.Ranked.{in_order}
 use Rattle.pool.proofs.NotedRanks.{AreNoted-dropped, AreNoted-in_order, HasNoPage-none, IsHeadOfFirstPaged-least}
@@ -10,7 +10,7 @@ pub returns-in-Some-paged_head-clause-lowest : goal.returns-in-Some-paged_head-c
 returns-in-Some-paged_head-clause-lowest g c =
     let row = c.args.row.now in
     IsHeadOfFirstPaged-least (in_order row) c.loop-rank.paged.ranks (AreNoted-in_order row c.loop-rank.paged.ranks c.loop-rank.invariant.noted)
-    (AreUp-found row (hash.get nat_eq c.args.places.now) c.requires.found) c.in-Some.rank
+    (AreUp-found row (table.get c.args.places.now.entries) c.requires.found) c.in-Some.rank
     c.in-Some.ensures c.in-Some-paged_head.head c.in-Some-paged_head.ensures
 
 pub loop-rank-smaller : goal.loop-rank-smaller

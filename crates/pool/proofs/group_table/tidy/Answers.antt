@@ -1,5 +1,6 @@
-use Rattle.std.proofs.Common.{List, ap, arith, length, nat_eq, subst, sym, ℕ}
-use Rattle.std.specs.HashMap as hash
+use Rattle.std.proofs.Common.{List, ap, arith, length, subst, sym, ℕ}
+use Rattle.std.specs.FinMap as table
+use Rattle.std.specs.Ordering.{nat_cmp}
 use Rattle.pool.specs.Noted.{AreNoted}
 use Rattle.pool.specs.Ranked.{AreFound}
 use Rattle.pool.specs.State.{PooledState}
@@ -13,8 +14,8 @@ returns-clause-kept g c =
     let read = ap (λ (gs : List PooledState). length gs) c.as_slice.ensures.value in
     let long = ap (λ (gs : List PooledState). length gs) same in
     record {
-      found = subst (λ (gs : List PooledState). AreFound gs (hash.get nat_eq c.give_back.new.places)) (sym same)
-          (AreFound-same c.args.row.now.items (hash.get nat_eq c.args.places.now) (hash.get nat_eq c.give_back.new.places) c.give_back.ensures.found c.requires.found);
+      found = subst (λ (gs : List PooledState). AreFound gs (table.get c.give_back.new.places.entries)) (sym same)
+          (AreFound-same c.args.row.now.items (table.get c.args.places.now.entries) (table.get c.give_back.new.places.entries) (λ number. ap (λ (es : table.FinMap nat_cmp ℕ). table.get es number) c.give_back.ensures.entries) c.requires.found);
       noted = subst (AreNoted c.give_back.new.groups.items) (sym c.give_back-2.ensures.same)
           (subst (λ (gs : List PooledState). AreNoted gs c.renew.new.paged.ranks) c.as_slice.ensures.value c.renew.ensures.noted);
       in_row = c.give_back.ensures.room;

@@ -1,5 +1,5 @@
-use Rattle.std.proofs.Common.{◌≡◌, ◌∙◌, List, ap, arith, length, nat_eq, subst, sym}
-use Rattle.std.specs.HashMap as hash
+use Rattle.std.proofs.Common.{◌≡◌, ◌∙◌, List, ap, arith, length, subst, sym}
+use Rattle.std.specs.FinMap as table
 use Rattle.std.proofs.lemmas.List.{length-map}
 use Rattle.groups.specs.Dead.{without_dead}
 use Rattle.groups.specs.Directory.{KnowsGuests}
@@ -18,14 +18,14 @@ forget_all-requires-clause-known c = KnowsGuests-row c.self.inside.row.items c.a
     (subst (λ (s : GroupsState). KnowsGuests s.groups c.args.directory.now.entries) (sym c.self.view_is) c.requires.known)
 
 pub forget_all-requires-clause-heads : goal.forget_all-requires-clause-heads
-forget_all-requires-clause-heads c = HaveOwnHeads-found c.self.inside.row.items (hash.get nat_eq c.self.inside.places) c.self.invariant.kept.found
+forget_all-requires-clause-heads c = HaveOwnHeads-found c.self.inside.row.items (table.get c.self.inside.places.entries) c.self.invariant.kept.found
 
 pub forget_all-requires-clause-once : goal.forget_all-requires-clause-once
 forget_all-requires-clause-once c = HaveGuestsOnce-row c.self.inside.row.items (subst (λ (s : GroupsState). HaveGuestsOnce s.groups) (sym c.self.view_is) c.requires.once)
 
 pub drop_unpaged-requires : goal.drop_unpaged-requires
-drop_unpaged-requires c = subst (λ (gs : List PooledState). AreFound gs (hash.get nat_eq c.self.inside.places)) (sym c.forget_all.ensures.items)
-    (AreFound-without_dead c.self.inside.row.items (hash.get nat_eq c.self.inside.places) c.self.invariant.kept.found)
+drop_unpaged-requires c = subst (λ (gs : List PooledState). AreFound gs (table.get c.self.inside.places.entries)) (sym c.forget_all.ensures.items)
+    (AreFound-without_dead c.self.inside.row.items (table.get c.self.inside.places.entries) c.self.invariant.kept.found)
 
 pub tidy-requires : goal.tidy-requires
 tidy-requires c =
@@ -50,8 +50,8 @@ invariant_of-self c = record { kept = c.tidy.ensures.kept; few = c.tidy.ensures.
 -- the groups that are left
 left : (c : goal.After-tidy) → in_order c.tidy.new.row.items ≡ left_in (in_order c.self.inside.row.items)
 left c = ap in_order c.tidy.ensures.same
-    ∙ in_order-left_in c.self.inside.row.items (hash.get nat_eq c.self.inside.places) c.self.invariant.kept.found c.drop_unpaged.new.groups.items
-    (hash.get nat_eq c.drop_unpaged.new.places) c.drop_unpaged.ensures.found
+    ∙ in_order-left_in c.self.inside.row.items (table.get c.self.inside.places.entries) c.self.invariant.kept.found c.drop_unpaged.new.groups.items
+    (table.get c.drop_unpaged.new.places.entries) c.drop_unpaged.ensures.found
     (subst (λ (gs : List PooledState). KeepsPaged gs c.drop_unpaged.new.groups.items) c.forget_all.ensures.items c.drop_unpaged.ensures.left)
 
 pub returns-clause-groups : goal.returns-clause-groups

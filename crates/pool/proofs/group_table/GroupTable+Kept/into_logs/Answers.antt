@@ -1,5 +1,5 @@
-use Rattle.std.proofs.Common.{◌≡◌, ◌∙◌, ◌++◌, ap, arith, length, map, nat_eq, rules}
-use Rattle.std.specs.HashMap as hash
+use Rattle.std.proofs.Common.{◌≡◌, ◌∙◌, ◌++◌, ap, arith, length, map, rules}
+use Rattle.std.specs.FinMap as table
 use Rattle.std.proofs.lemmas.List.Sorted.{IsNonDecreasingBy-from_sort_by_key}
 use Rattle.span.specs.SpanLogs.{span_of_log}
 use Rattle.groups.specs.Group.{spans_in}
@@ -12,7 +12,7 @@ use Rattle.pool.proofs.group_table.GroupTable+Kept.into_logs.Goals.{After-sort_u
 
 same : (c : After-sort_unstable_by_key) → c.sort_unstable_by_key.new.self.items ≡ c.args.self.groups
 same c =
-    groups-sorted c.self.inside.row.items c.sort_unstable_by_key.new.self.items (AreUp-found c.self.inside.row.items (hash.get nat_eq c.self.inside.places) c.self.invariant.kept.found)
+    groups-sorted c.self.inside.row.items c.sort_unstable_by_key.new.self.items (AreUp-found c.self.inside.row.items (table.get c.self.inside.places.entries) c.self.invariant.kept.found)
     c.sort_unstable_by_key.ensures.permutation
     (IsNonDecreasingBy-from_sort_by_key head_rank _ c.sort_unstable_by_key.ensures.sorted (λ a r q k. search rules))
     ∙ ap (λ (s : GroupsState). s.groups) c.self.view_is

@@ -1,5 +1,5 @@
-use Rattle.std.proofs.Common.{◌≡◌, ◌∙◌, ◌<◌, List, Some, ap, arith, length, length-set, nat_eq, refl, set, slice_get, subst, sym}
-use Rattle.std.specs.HashMap as hash
+use Rattle.std.proofs.Common.{◌≡◌, ◌∙◌, ◌<◌, List, Some, ap, arith, length, length-set, refl, set, slice_get, subst, sym}
+use Rattle.std.specs.FinMap as table
 use Rattle.span.specs.Ids.{rank}
 use Rattle.groups.specs.Group.{spans_of, with_span}
 use Rattle.groups.specs.Spans.{with_free_at}
@@ -17,18 +17,18 @@ use Rattle.pool.proofs.group_table.GroupTable.free.Goals as goal
 use Rattle.pool.proofs.group_table.GroupTable.free.Goals.{After-index_mut}
 
 pub unreachable-requires : goal.unreachable-requires
-unreachable-requires g c = has_place c.self.inside.row.items (hash.get nat_eq c.self.inside.places) c.self.invariant.kept.found c.args.head c.requires.0
+unreachable-requires g c = has_place c.self.inside.row.items (table.get c.self.inside.places.entries) c.self.invariant.kept.found c.args.head c.requires.0
     (subst (λ (s : GroupsState). HasHeadAt s.groups c.args.head c.requires.0) (sym c.self.view_is) c.requires.1) (sym c.place_of.ensures ∙ c.in_default.is)
 
 pub index_mut-requires : goal.index_mut-requires
 index_mut-requires g c = omega (
   arith,
-  found_within c.self.inside.row.items (hash.get nat_eq c.self.inside.places) c.self.invariant.kept.found (rank c.args.head) c.in-Some.at (sym c.place_of.ensures ∙ c.in-Some.is),
+  found_within c.self.inside.row.items (table.get c.self.inside.places.entries) c.self.invariant.kept.found (rank c.args.head) c.in-Some.at (sym c.place_of.ensures ∙ c.in-Some.is),
   c.self.inside.row.ok.0,
 )
 
 its : (g : _) (c : After-index_mut g) → IsRead c.self.inside.row.items c.args.head c.in-Some.at c.index_mut.result.now c.self.inside.room c.args.self.now
-its g c = IsRead-found c.self.inside.row.items (hash.get nat_eq c.self.inside.places) c.self.invariant.kept.found c.args.head c.in-Some.at (sym c.place_of.ensures ∙ c.in-Some.is)
+its g c = IsRead-found c.self.inside.row.items (table.get c.self.inside.places.entries) c.self.invariant.kept.found c.args.head c.in-Some.at (sym c.place_of.ensures ∙ c.in-Some.is)
     c.index_mut.result.now c.index_mut.ensures.value c.self.inside.room c.args.self.now c.self.view_is
 
 one : (g : _) (c : After-index_mut g) → c.requires.0 ≡ c.index_mut.result.now
@@ -44,7 +44,7 @@ invariant_of-self g c =
     let changed = with_free_at span.0 c.args.slot c.args.generation in
     let freed = c.free.ensures.freed span.0 span.1 in
     record {
-      kept = AreKept-set c.self.inside.row.items _ (hash.get nat_eq c.self.inside.places) _ c.self.inside.paged c.self.inside.room c.self.invariant.kept c.in-Some.at read c.free.new.self (its g (goal.at.invariant_of-self g c).After-index_mut).there
+      kept = AreKept-set c.self.inside.row.items _ (table.get c.self.inside.places.entries) _ c.self.inside.paged c.self.inside.room c.self.invariant.kept c.in-Some.at read c.free.new.self (its g (goal.at.invariant_of-self g c).After-index_mut).there
           (head-free c.free.result read c.free.new.self c.args.place span.0 changed span.1 refl freed c.free.ensures.unknown)
           (paged-free c.free.result read c.free.new.self c.args.place changed freed c.free.ensures.unknown);
       few = omega (arith, c.self.invariant.few, length-set c.self.inside.row.items c.in-Some.at c.free.new.self);

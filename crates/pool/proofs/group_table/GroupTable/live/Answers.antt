@@ -1,5 +1,5 @@
-use Rattle.std.proofs.Common.{◌∙◌, List, ap, arith, length, nat_eq, sym}
-use Rattle.std.specs.HashMap as hash
+use Rattle.std.proofs.Common.{◌∙◌, List, ap, arith, length, sym}
+use Rattle.std.specs.FinMap as table
 use Rattle.std.specs.Prelude.{filter}
 use Rattle.groups.specs.Group.{spans_in}
 use Rattle.groups.specs.Spans.{live_count}
@@ -16,7 +16,7 @@ live-requires g c = omega (
   arith,
   ap (λ (gs : List PooledState). length gs) c.as_slice.ensures.value,
   length-row c.self.inside.row.items,
-  at_most_ids (in_order c.self.inside.row.items) (AreUp-found c.self.inside.row.items (hash.get nat_eq c.self.inside.places) c.self.invariant.kept.found),
+  at_most_ids (in_order c.self.inside.row.items) (AreUp-found c.self.inside.row.items (table.get c.self.inside.places.entries) c.self.invariant.kept.found),
 )
 
 pub returns-clause-live : goal.returns-clause-live

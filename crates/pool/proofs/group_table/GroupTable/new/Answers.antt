@@ -1,6 +1,7 @@
-use Rattle.std.proofs.Common.{List, ap, arith, length, nat_eq, slice_get, subst, sym, ◌∙◌, ℕ}
-use Rattle.std.specs.HashMap as hash
-use Rattle.std.specs.Map.{lookup}
+use Rattle.std.proofs.Common.{List, ap, arith, length, slice_get, subst, sym, ◌∙◌, ℕ}
+use Rattle.std.specs.FinMap as table
+use Rattle.std.specs.Ordering.{nat_cmp}
+use Rattle.groups.specs.LateTable.{TableState}
 use Rattle.pool.specs.Ranked.{AreFound}
 use Rattle.pool.specs.State.{PooledState}
 use Rattle.pool.proofs.RankedGroups.{AreFound-none}
@@ -12,8 +13,8 @@ invariant_of-result g c =
     let no_rank = ap (λ (ns : List ℕ). length ns) c.new-3.ensures in
     record {
       kept = record {
-        found = subst (λ (gs : List PooledState). AreFound gs (hash.get nat_eq c.new-2.result)) (sym c.new.ensures.items)
-            (AreFound-none (hash.get nat_eq c.new-2.result) (λ number. ap (λ es. lookup (nat_eq number) es) c.new-2.ensures.empty));
+        found = subst (λ (gs : List PooledState). AreFound gs (table.get c.new-2.result.entries)) (sym c.new.ensures.items)
+            (AreFound-none (table.get c.new-2.result.entries) (λ number. ap (λ (t : TableState ℕ). table.get t.entries number) c.new-2.ensures ∙ table.get-empty nat_cmp number));
         noted = λ index group there paged. absurd (let e = ap (λ gs. slice_get gs index) (sym c.new.ensures.items) ∙ there in cc);
         in_row = omega (arith, none);
         in_table = omega arith;

@@ -1,5 +1,5 @@
-use Rattle.std.proofs.Common.{◌∙◌, List, Some, ap, arith, nat_eq, refl, subst, sym}
-use Rattle.std.specs.HashMap as hash
+use Rattle.std.proofs.Common.{◌∙◌, List, Some, ap, arith, refl, subst, sym}
+use Rattle.std.specs.FinMap as table
 use Rattle.span.specs.Ids.{rank}
 use Rattle.span.specs.declared.id.SpanId.{SpanId}
 use Rattle.groups.specs.Group.{HasNoHead, IsHeadOf}
@@ -13,13 +13,13 @@ use Rattle.pool.proofs.group_table.GroupTable.remove.Goals as goal
 pub returns-in_default : goal.returns-in_default
 returns-in_default g c = (
   subst (λ (s : GroupsState). HasNoHead s.groups c.args.head) c.self.view_is
-      (HasNoHead-found c.self.inside.row.items (hash.get nat_eq c.self.inside.places) c.self.invariant.kept.found c.args.head (sym c.place_of.ensures ∙ c.in_default.is)),
+      (HasNoHead-found c.self.inside.row.items (table.get c.self.inside.places.entries) c.self.invariant.kept.found c.args.head (sym c.place_of.ensures ∙ c.in_default.is)),
   refl,
 )
 
 pub let_go-group-requires-clause-within : goal.let_go-group-requires-clause-within
 let_go-group-requires-clause-within g c =
-    found_within c.self.inside.row.items (hash.get nat_eq c.self.inside.places) c.self.invariant.kept.found (rank c.args.head) c.in-Some.place (sym c.place_of.ensures ∙ c.in-Some.is)
+    found_within c.self.inside.row.items (table.get c.self.inside.places.entries) c.self.invariant.kept.found (rank c.args.head) c.in-Some.place (sym c.place_of.ensures ∙ c.in-Some.is)
 
 pub tidy-requires : goal.tidy-requires
 tidy-requires g c = record {
@@ -38,10 +38,10 @@ invariant_of-self g c = record { kept = c.tidy.ensures.kept; few = c.tidy.ensure
 pub returns : goal.returns
 returns g c =
     let row = c.self.inside.row.items in
-    let place_of = hash.get nat_eq c.self.inside.places in
+    let place_of = table.get c.self.inside.places.entries in
     let found = c.self.invariant.kept.found in
     let left = in_order-left row place_of found c.in-Some.place c.let_go-group.result c.let_go-group.ensures.gone
-    c.let_go-group.new.groups.items c.let_go-group.ensures.left (hash.get nat_eq c.let_go-group.new.places) c.let_go-group.ensures.found in
+    c.let_go-group.new.groups.items c.let_go-group.ensures.left (table.get c.let_go-group.new.places.entries) c.let_go-group.ensures.found in
     let head = head_found row place_of found c.args.head c.in-Some.place (sym c.place_of.ensures ∙ c.in-Some.is) c.let_go-group.result c.let_go-group.ensures.gone in
     subst (λ (s : GroupsState). Removes s c.args.head (Some c.let_go-group.result) (record { groups = in_order c.tidy.new.row.items; room = c.self.inside.room })) c.self.view_is (
       left.0,

@@ -1,5 +1,5 @@
-use Rattle.std.proofs.Common.{◌≡◌, ◌∙◌, ◌<◌, List, Some, ap, arith, length, length-set, nat_eq, set, slice_get, subst, sym}
-use Rattle.std.specs.HashMap as hash
+use Rattle.std.proofs.Common.{◌≡◌, ◌∙◌, ◌<◌, List, Some, ap, arith, length, length-set, set, slice_get, subst, sym}
+use Rattle.std.specs.FinMap as table
 use Rattle.span.specs.Ids.{rank}
 use Rattle.groups.specs.Group.{spans_of}
 use Rattle.groups.specs.Pages.{set_group}
@@ -17,18 +17,18 @@ use Rattle.pool.proofs.group_table.GroupTable.set.Goals as goal
 use Rattle.pool.proofs.group_table.GroupTable.set.Goals.{After-index_mut, After-set}
 
 pub unreachable-requires : goal.unreachable-requires
-unreachable-requires g c = has_place c.self.inside.row.items (hash.get nat_eq c.self.inside.places) c.self.invariant.kept.found c.args.head c.requires.0
+unreachable-requires g c = has_place c.self.inside.row.items (table.get c.self.inside.places.entries) c.self.invariant.kept.found c.args.head c.requires.0
     (subst (λ (s : GroupsState). HasHeadAt s.groups c.args.head c.requires.0) (sym c.self.view_is) c.requires.1) (sym c.place_of.ensures ∙ c.in_default.is)
 
 pub index_mut-requires : goal.index_mut-requires
 index_mut-requires g c = omega (
   arith,
-  found_within c.self.inside.row.items (hash.get nat_eq c.self.inside.places) c.self.invariant.kept.found (rank c.args.head) c.in-Some.at (sym c.place_of.ensures ∙ c.in-Some.is),
+  found_within c.self.inside.row.items (table.get c.self.inside.places.entries) c.self.invariant.kept.found (rank c.args.head) c.in-Some.at (sym c.place_of.ensures ∙ c.in-Some.is),
   c.self.inside.row.ok.0,
 )
 
 its : (g : _) (c : After-index_mut g) → IsRead c.self.inside.row.items c.args.head c.in-Some.at c.index_mut.result.now c.self.inside.room c.args.self.now
-its g c = IsRead-found c.self.inside.row.items (hash.get nat_eq c.self.inside.places) c.self.invariant.kept.found c.args.head c.in-Some.at (sym c.place_of.ensures ∙ c.in-Some.is)
+its g c = IsRead-found c.self.inside.row.items (table.get c.self.inside.places.entries) c.self.invariant.kept.found c.args.head c.in-Some.at (sym c.place_of.ensures ∙ c.in-Some.is)
     c.index_mut.result.now c.index_mut.ensures.value c.self.inside.room c.args.self.now c.self.view_is
 
 one : (g : _) (c : After-index_mut g) → c.requires.0 ≡ c.index_mut.result.now
@@ -45,7 +45,7 @@ invariant_of-self g c =
     let read = c.index_mut.result.now in
     let span = there_at (spans_of read) c.args.place (subst (λ (x : PooledState). c.args.place < length (spans_of x)) (one g (goal.at.invariant_of-self g c).After-index_mut) c.requires.2) in
     record {
-      kept = AreKept-set c.self.inside.row.items _ (hash.get nat_eq c.self.inside.places) _ c.self.inside.paged c.self.inside.room c.self.invariant.kept c.in-Some.at read c.set.new.self (its g (goal.at.invariant_of-self g c).After-index_mut).there
+      kept = AreKept-set c.self.inside.row.items _ (table.get c.self.inside.places.entries) _ c.self.inside.paged c.self.inside.room c.self.invariant.kept c.in-Some.at read c.set.new.self (its g (goal.at.invariant_of-self g c).After-index_mut).there
           (head-set read c.args.place span.0 span.1 c.args.slot c.args.generation c.args.words.now c.set.result c.set.new.self
           (c.set.ensures.set span.0 span.1) c.set.ensures.unknown c.set.ensures.err)
           (paged-set read (subst IsSoundGroup (one g (goal.at.invariant_of-self g c).After-index_mut) c.requires.3) c.args.place span.0 span.1 c.args.slot c.args.generation c.args.words.now c.set.result c.set.new.self

@@ -1,5 +1,5 @@
-use Rattle.std.proofs.Common.{◌∙◌, List, ap, map, nat_eq, rules}
-use Rattle.std.specs.HashMap as hash
+use Rattle.std.proofs.Common.{◌∙◌, List, ap, map, rules}
+use Rattle.std.specs.FinMap as table
 use Rattle.std.specs.Prelude.{filter}
 use Rattle.std.proofs.lemmas.List.Sorted.{IsNonDecreasingBy-from_sort_by_key}
 use Rattle.span.specs.Ids.{rank}
@@ -15,7 +15,7 @@ use Rattle.pool.proofs.group_table.GroupTable.summaries.Goals as goal
 pub returns : goal.returns
 returns g c =
     let row = c.self.inside.row.items in
-    summaries-sorted row c.in_ok-list.list.items c.sort_unstable_by_key.new.self.items (AreUp-found row (hash.get nat_eq c.self.inside.places) c.self.invariant.kept.found)
+    summaries-sorted row c.in_ok-list.list.items c.sort_unstable_by_key.new.self.items (AreUp-found row (table.get c.self.inside.places.entries) c.self.invariant.kept.found)
     (c.in_ok-list.ensures ∙ ap (λ (gs : List PooledState). map summary (filter paged gs)) c.as_slice.ensures.value) c.sort_unstable_by_key.ensures.permutation
     (IsNonDecreasingBy-from_sort_by_key (λ (entry : Entry). rank entry.id) _ c.sort_unstable_by_key.ensures.sorted (λ a r q k. search rules))
     ∙ ap (λ (s : GroupsState). map summary (filter paged s.groups)) c.self.view_is
