@@ -1,52 +1,29 @@
 -- The entries of the whereabouts, before and after a change of their table.
-use Rattle.std.proofs.Common.{◌≡◌, ◌≢◌, ◌⊎◌, ℕ, Bool, true, false, cond, List, [], ◌∷◌, length, Option, None, Some, ap, sym, ◌∙◌, refl, inl, inr, eq-eqb, eqb, nat_cmp, nat_eq}
-use Rattle.std.specs.Cmp.{nat_cmp_total}
+use Rattle.std.proofs.Common.{◌≡◌, ◌≢◌, ◌⊎◌, ℕ, Bool, true, false, cond, List, Option, None, Some, ap, sym, subst, ◌∙◌, refl, inl, inr, eq-eqb, eqb, nat_cmp}
 use Rattle.std.specs.FinMap as map
-use Rattle.std.specs.HashMap as hash
-use Rattle.std.specs.HashMap.{HashMap}
-use Rattle.std.specs.Map.{lookup}
 use Rattle.std.proofs.lemmas.Bool.{cases_eq, ne_eqb}
 use Rattle.std.proofs.lemmas.Option.{none-some}
 use Rattle.span.specs.Ids.{rank}
 use Rattle.span.specs.declared.id.SpanId.{SpanId}
-use Rattle.groups.proofs.Maps.{Sets, Sets-number, find-lookup, get-insert, get-remove, same_nat_map}
+use Rattle.groups.proofs.Maps.{get-insert, get-remove}
 use Rattle.groups.proofs.Ranks.{id_from_rank}
-use Rattle.arena_core.specs.Moved.{Entries, entries_of, named, taken_by, with_taken}
+use Rattle.shard.specs.State.{ShardState}
+use Rattle.arena_core.specs.Moved.{Entries, KeepsStanding, named, taken_by, with_taken}
 
-module _ {S : Type 0} where
-  pub get-entries_of : (m : HashMap ℕ ℕ S) (q : ℕ) → map.get (entries_of m) q ≡ hash.get nat_eq m q
-  unfolding entries_of
-  get-entries_of m q = map.get-from_entries nat_cmp_total m.entries q ∙ find-lookup q m.entries
+-- a table that names none
+pub KeepsStanding-none : (shards : List ShardState) (old new : Entries) → old ≡ map.empty → new ≡ map.empty → KeepsStanding shards old new
+KeepsStanding-none shards old new before after = record {
+  kept = λ id number found stands. absurd (none-some number (sym (nowhere old before id) ∙ found));
+  stands = λ id number found. absurd (none-some number (sym (nowhere new after id) ∙ found));
+}
+  where
+    nowhere : (entries : Entries) → entries ≡ map.empty → (id : SpanId) → named entries id ≡ None
+    nowhere entries is id = ap (λ (es : Entries). map.get es (rank id)) is ∙ map.get-empty nat_cmp (rank id)
 
-  pub entries_of-empty : (m : HashMap ℕ ℕ S) → m.entries ≡ [] → entries_of m ≡ map.empty
-  unfolding entries_of
-  entries_of-empty m none = ap map.from_entries none
-
-  -- a table whose entries are none has none
-  pub no_entries : (m : HashMap ℕ ℕ S) → entries_of m ≡ map.empty → length m.entries ≡ 0
-  no_entries m none = by_entries m.entries (λ q. sym (get-entries_of m q) ∙ ap (λ (es : Entries). map.get es q) none ∙ map.get-empty nat_cmp q)
-    where
-      by_entries : (entries : List (ℕ × ℕ)) → ((q : ℕ) → lookup (nat_eq q) entries ≡ None) → length entries ≡ 0
-      by_entries [] nowhere = refl
-      by_entries (entry ∷ entries) nowhere = absurd (none-some entry.1 (sym (nowhere entry.0)
-          ∙ ap (λ b. cond b (Some entry.1) (lookup (nat_eq entry.0) entries)) (eq-eqb entry.0 entry.0 refl)))
-
-  module _ (m n : HashMap ℕ ℕ S) where
-    pub entries_of-same : ((q : ℕ) → hash.get nat_eq n q ≡ hash.get nat_eq m q) → entries_of n ≡ entries_of m
-    entries_of-same same = same_nat_map _ _ (λ q. get-entries_of n q ∙ same q ∙ sym (get-entries_of m q))
-
-    set_at : (key : ℕ) (value : Option ℕ) → Sets (hash.get nat_eq m) (hash.get nat_eq n) key value → (q : ℕ) → hash.get nat_eq n q ≡ cond (eqb q key) value (map.get (entries_of m) q)
-    set_at key value set q = elim (cases_eq q key) [
-      | inl here ↦ ap (hash.get nat_eq n) here ∙ set.changed ∙ sym (ap (λ b. cond b value (map.get (entries_of m) q)) (eq-eqb q key here))
-      | inr other ↦ set.others q other ∙ sym (get-entries_of m q) ∙ sym (ap (λ b. cond b value (map.get (entries_of m) q)) (ne_eqb q key other))
-    ]
-
-    pub entries_of-insert : (key number : ℕ) → hash.Updates nat_eq m n key (Some number) → entries_of n ≡ map.insert (entries_of m) key number
-    entries_of-insert key number updates = same_nat_map _ _
-        (λ q. get-entries_of n q ∙ set_at key (Some number) (Sets-number m n key (Some number) updates) q ∙ sym (get-insert (entries_of m) key number q))
-
-    pub entries_of-remove : (key : ℕ) → hash.Updates nat_eq m n key None → entries_of n ≡ map.remove (entries_of m) key
-    entries_of-remove key updates = same_nat_map _ _ (λ q. get-entries_of n q ∙ set_at key None (Sets-number m n key None updates) q ∙ sym (get-remove (entries_of m) key q))
+-- a table that is worked on, and put back
+pub KeepsStanding-same : (shards : List ShardState) (old before after new : Entries) → old ≡ before → new ≡ after → KeepsStanding shards before after → KeepsStanding shards old new
+KeepsStanding-same shards old before after new was is keeps =
+    subst (λ (es : Entries). KeepsStanding shards es new) (sym was) (subst (KeepsStanding shards before) (sym is) keeps)
 
 -- what is named for a span that a shard took in
 

@@ -3,7 +3,6 @@ use Rattle.std.specs.Prelude.{◌≡◌, ◌≢◌, ◌⊎◌, ◌↔◌, ◌≤
 use Rattle.std.specs.Coded.{Coded, code_by, coded×, coded_ℕ}
 use Rattle.std.specs.Ordering.{nat_cmp}
 use Rattle.std.specs.FinMap as map
-use Rattle.std.specs.HashMap.{HashMap}
 use Rattle.span.specs.declared.id.SpanId.{SpanId}
 use Rattle.span.specs.Ids.{rank}
 use Rattle.shard.specs.Group.{GroupState}
@@ -33,10 +32,6 @@ pub record WhereaboutsState : Type 0 where
 abbrev pub whereabouts_code : Coded WhereaboutsState
 whereabouts_code = code_by (Entries × ℕ) (coded× (map.code coded_ℕ coded_ℕ) coded_ℕ)
     (λ w. (w.entries, w.room)) (λ p. record { entries = p.0; room = p.1 }) (λ _. refl)
-
--- the entries of a table
-unfoldable pub entries_of : {S : Type 0} → HashMap ℕ ℕ S → Entries
-entries_of shards = map.from_entries shards.entries
 
 -- the shard that the entries name for the span
 abbrev pub named : Entries → SpanId → Option ℕ

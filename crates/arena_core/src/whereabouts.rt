@@ -1,12 +1,13 @@
 // Where the spans are that left the shard which opened them.
-ghost use Rattle.std.specs.Prelude.{◌≡◌, ◌≤◌, ◌<◌, ◌+◌, ◌↔◌, ℕ, IsTrue, OnOk, Some, nat_eq};
+ghost use Rattle.std.specs.Prelude.{◌≡◌, ◌≤◌, ◌<◌, ◌+◌, ◌↔◌, ℕ, IsTrue, OnOk, Some};
 ghost use Rattle.std.specs.FinMap as map;
-ghost use Rattle.std.specs.HashMap as hash;
+ghost use Rattle.groups.specs.LateTable.{state_of};
 ghost use Rattle.shard.specs.Sound.{IsSound};
 ghost use Rattle.span.specs.Ids.{rank};
 ghost use Rattle.span.specs.declared.id.SpanId.{SpanId};
-ghost use Rattle.arena_core.specs.Moved.{HasAtMost, KeepsStanding, Notes, StandsIn, TellsStanding, entries_of, named, with_taken};
+ghost use Rattle.arena_core.specs.Moved.{HasAtMost, KeepsStanding, Notes, TellsStanding, named, with_taken};
 
+use groups::LateTable;
 use shard::Shard;
 use span::names::{MOST_SPANS, SpanId};
 use span::spans::Log;
@@ -26,20 +27,17 @@ use std::marker::Model;
 #[derive(Drop)]
 pub struct Whereabouts {
     // By the rank of the span.
-    shards: HashMap<u64, u8>,
+    shards: LateTable<u8>,
 }
 
 impl Model for Whereabouts {
     ghost use Rattle.arena_core.specs.Moved.{WhereaboutsState, whereabouts_code};
-    ghost use Rattle.std.specs.HashMap as hash;
 
     ghost Value = { WhereaboutsState };
 
     ghost coded = { whereabouts_code };
 
-    ghost use Rattle.arena_core.specs.Moved.{entries_of};
-
-    ghost view = { λ w. record { entries = entries_of w.shards; room = hash.spare w.shards } };
+    ghost view = { λ w. record { entries = w.shards.entries; room = w.shards.room } };
 }
 
 impl Whereabouts {
@@ -48,7 +46,7 @@ impl Whereabouts {
         ensures { result.entries ≡ map.empty }
     {
         Whereabouts {
-            shards: HashMap::new(alloc),
+            shards: LateTable::new(alloc),
         }
     }
 
@@ -65,8 +63,8 @@ impl Whereabouts {
     pub fn shard_of(&self, id: SpanId) -> Option<usize>
         ensures { result ≡ named self.now.entries id }
     {
-        match self.shards.get(&id.rank()) {
-            Some(shard) => Some(usize::from(*shard)),
+        match self.shards.get(id.rank()) {
+            Some(shard) => Some(usize::from(shard)),
             None => None,
         }
     }
@@ -91,9 +89,9 @@ impl Whereabouts {
         ensures room { self.old.room ≤ self.new.room + 1 }
     {
         if id.shard == u32::from(number) {
-            self.shards.remove(&id.rank());
+            self.shards.remove(id.rank());
         } else {
-            insert_reserved(&mut self.shards, id.rank(), number);
+            self.shards.insert_reserved(id.rank(), number);
         }
     }
 
@@ -120,19 +118,19 @@ impl Whereabouts {
     pub fn forget<L: Log>(&mut self, shards: &Vec<Shard<L>>)
         ensures { KeepsStanding shards.now.items self.old.entries self.new.entries }
     {
-        keep_standing(&mut self.shards, shards);
-        give_back(&mut self.shards);
+        let Some(mut table) = self.shards.take() else {
+            return;
+        };
+        keep_standing(&mut *table, shards);
+        self.shards.put_back(table);
+        self.shards.give_back(0);
     }
 }
 
 // Drops the entries of spans that do not stand in the shard of the number that they have.
 fn keep_standing<L: Log>(entries: &mut HashMap<u64, u8>, shards: &Vec<Shard<L>>)
-    ensures kept { (id : SpanId) (number : ℕ)
-        → hash.get nat_eq entries.old (rank id) ≡ Some number → StandsIn shards.now.items id number
-        → hash.get nat_eq entries.new (rank id) ≡ Some number }
-    ensures stands { (id : SpanId) (number : ℕ)
-        → hash.get nat_eq entries.new (rank id) ≡ Some number
-        → StandsIn shards.now.items id number }
+    ensures { KeepsStanding shards.now.items (state_of entries.old).entries
+        (state_of entries.new).entries }
 {
     entries.retain(|span, number| stands_in(shards, *span, *number));
 }
@@ -161,28 +159,4 @@ fn id_of(number: u64) -> Option<SpanId>
         return None;
     };
     SpanId::new(shard, serial)
-}
-
-// Gives memory back where a quarter of the room in the table would do for its entries. Twice as
-// much stays.
-fn give_back(entries: &mut HashMap<u64, u8>)
-    ensures { (number : ℕ)
-        → hash.get nat_eq entries.new number ≡ hash.get nat_eq entries.old number }
-{
-    let used = entries.len();
-    if used < entries.capacity() / 4 {
-        entries.shrink_to(2 * used);
-    }
-}
-
-// Inserts where there is room, which needs no memory.
-fn insert_reserved(shards: &mut HashMap<u64, u8>, span: u64, number: u8)
-    requires { 0 < hash.spare shards.old }
-    ensures updates { hash.Updates nat_eq shards.old shards.new span (Some number) }
-    ensures spare { hash.spare shards.old ≤ hash.spare shards.new + 1 }
-{
-    match shards.insert(span, number) {
-        Ok(_) => {}
-        Err(_) => unreachable!(),
-    }
 }

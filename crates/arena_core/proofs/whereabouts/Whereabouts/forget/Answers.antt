@@ -1,15 +1,19 @@
-use Rattle.std.proofs.Common.{◌∙◌, sym, subst}
-use Rattle.span.specs.Ids.{rank}
-use Rattle.arena_core.specs.Moved.{KeepsStanding, WhereaboutsState, entries_of}
-use Rattle.arena_core.proofs.Entries.{get-entries_of}
+use Rattle.std.proofs.Common.{◌∙◌, ap, subst, sym, ℕ}
+use Rattle.groups.specs.LateTable.{TableState, entries_of}
+use Rattle.arena_core.specs.Moved.{KeepsStanding, WhereaboutsState}
+use Rattle.arena_core.proofs.Entries.{KeepsStanding-none, KeepsStanding-same}
 use Rattle.arena_core.proofs.whereabouts.Whereabouts.forget.Goals as goal
+
+pub returns-in_default : goal.returns-in_default
+returns-in_default g c =
+    subst (λ (w : WhereaboutsState). KeepsStanding c.args.shards.now.items w.entries c.take.new.self.entries) c.self.view_is
+    (KeepsStanding-none c.args.shards.now.items c.self.inside.shards.entries c.take.new.self.entries
+    (ap (λ (t : TableState ℕ). t.entries) c.in_default.ensures.taken) (ap (λ (t : TableState ℕ). t.entries) c.take.ensures.left))
 
 pub returns : goal.returns
 returns g c =
-    subst (λ (w : WhereaboutsState). KeepsStanding c.args.shards.now.items w.entries (entries_of c.give_back.new.entries)) c.self.view_is (record {
-      kept = λ id number found stands.
-          get-entries_of c.give_back.new.entries (rank id) ∙ c.give_back.ensures (rank id)
-          ∙ c.keep_standing.ensures.kept id number (sym (get-entries_of c.self.inside.shards (rank id)) ∙ found) stands;
-      stands = λ id number found.
-          c.keep_standing.ensures.stands id number (sym (c.give_back.ensures (rank id)) ∙ sym (get-entries_of c.give_back.new.entries (rank id)) ∙ found);
-    })
+    subst (λ (w : WhereaboutsState). KeepsStanding c.args.shards.now.items w.entries c.give_back.new.self.entries) c.self.view_is
+    (KeepsStanding-same c.args.shards.now.items c.self.inside.shards.entries _ _ c.give_back.new.self.entries
+    (ap (λ (t : TableState ℕ). t.entries) c.in-Some.ensures.taken ∙ ap entries_of (sym c.deref_mut.ensures.value))
+    (c.give_back.ensures.entries ∙ ap (λ (t : TableState ℕ). t.entries) c.put_back.ensures)
+    c.keep_standing.ensures)
