@@ -132,6 +132,17 @@ impl Core {
         })
     }
 
+    /// A core of objects of so many words alone, which `put_zeros` puts.
+    ///
+    /// # Errors
+    ///
+    /// As of [`Core::new`].
+    pub(crate) fn of_objects(limits: Limits, words: usize) -> Result<Core, Refused> {
+        let mut core = Core::new(limits)?;
+        core.least_words = words as u8;
+        Ok(core)
+    }
+
     /// Whether its shards are there, which come with the first call that needs them.
     #[inline]
     fn is_open(&self) -> bool {
@@ -228,6 +239,21 @@ impl Core {
         let is_plain = put.status == raw::OK
             && put.key.generation.wrapping_sub(1) < self.earlier
             && len >= self.least_words.into();
+        self.count_plain(put, is_plain)
+    }
+
+    /// The same, if no object with fewer words is ever put: `of_objects` made the core.
+    #[allow(clippy::inline_always)]
+    #[inline(always)]
+    fn plain_key_of_least(&mut self, put: raw::PutReply) -> Option<Key> {
+        let is_plain = put.status == raw::OK && put.key.generation.wrapping_sub(1) < self.earlier;
+        self.count_plain(put, is_plain)
+    }
+
+    /// The key of the reply, which is counted, if it is plain.
+    #[allow(clippy::inline_always)]
+    #[inline(always)]
+    fn count_plain(&mut self, put: raw::PutReply, is_plain: bool) -> Option<Key> {
         if !is_plain {
             return None;
         }
@@ -375,10 +401,11 @@ impl Core {
     #[inline]
     pub(crate) fn free_live(&mut self, key: Key) {
         let (low, high) = key.numbers();
+        // Before the call, so that nothing is to do after it.
+        self.live -= 1;
         // SAFETY: as in `insert`.
         let status = unsafe { raw::teurlaks_free(&mut self.handle, low, high) };
         debug_assert_eq!(status, raw::OK, "{key} was found live");
-        self.live -= 1;
     }
 
     /// Frees the key, and gives its word, where it was live and had an object of one word; else

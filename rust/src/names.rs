@@ -121,6 +121,12 @@ impl Key {
         self.high >> 8 & 0xff
     }
 
+    /// The same, for which no bit is cut out: above the slot there is none.
+    #[inline]
+    pub(crate) fn slot_number(self) -> u32 {
+        self.high >> 8
+    }
+
     /// Which key of its slot it is, from 1 on.
     #[must_use]
     pub fn generation(self) -> u32 {
@@ -148,17 +154,13 @@ impl Key {
         (self.low.get(), self.high.into())
     }
 
-    /// The key of these numbers, or `None` where the generation is 0.
+    /// The key of these halves, which one has, or `None` where the first is 0.
     #[inline]
-    // Each part is cut out of its number.
+    // The second half has 32 bits.
     #[allow(clippy::cast_possible_truncation)]
     pub(crate) fn of_halves(low: u64, high: u64) -> Option<Key> {
-        Key::of_parts(
-            high as u8,
-            low as u32,
-            (high >> 8) as u8,
-            (low >> 32) as u32,
-        )
+        let (low, high) = (NonZeroU64::new(low)?, high as u32);
+        Some(Key { low, high })
     }
 
     /// The key as a call gets it, in two numbers: those of `raw` in the order of their bytes.
@@ -291,6 +293,11 @@ impl Span {
 
     /// The name that the span of no key has, whose shard has 8 bits.
     pub const NONE: Span = Span(u64::MAX);
+
+    /// A name that no span has, since its shard has 32 bits: with this as its serial number.
+    pub fn freed(serial: u32) -> Span {
+        Span::new(1 << 31, serial)
+    }
 
     #[inline]
     pub fn new(shard: u32, serial: u32) -> Span {

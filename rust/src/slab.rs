@@ -55,6 +55,8 @@ use std::ptr::NonNull;
 /// }
 /// # Ok::<(), teurlaks::Refused>(())
 /// ```
+// The core first, where a reference to the slab is one to its handle.
+#[repr(C)]
 pub struct Slab<T> {
     // A key is live here exactly where it has a value there, but for the one below.
     core: Core,
@@ -100,7 +102,7 @@ impl<T> Slab<T> {
     /// [`Refused::Config`] exactly where a number is out of its range.
     pub fn with_limits(limits: Limits) -> Result<Slab<T>, Refused> {
         Ok(Slab {
-            core: Core::new(limits)?,
+            core: values::Values::<T>::core(limits)?,
             values: values::Values::new(),
             first: 0,
             takes_turns: false,
@@ -313,17 +315,38 @@ impl<T> Slab<T> {
     #[doc(alias = "try_remove")]
     #[inline]
     pub fn remove(&mut self, key: Key) -> Option<T> {
+        if values::LEAN {
+            return self.remove_again(key);
+        }
+        let Some((value, page)) = self.values.take_plainly(key) else {
+            return self.remove_again(key);
+        };
+        self.note_room_on(page);
+        self.core.free_live(key);
+        Some(value)
+    }
+
+    /// The same, also of the last value of a span. A lean slab asks the core before.
+    #[cold]
+    #[inline(never)]
+    fn remove_again(&mut self, key: Key) -> Option<T> {
         if values::LEAN && (self.values.find(key).is_none() || !self.core.free(key)) {
             return None;
         }
         let (value, page) = self.values.take(key)?;
+        self.note_room_on(page);
         if !values::LEAN {
             self.core.free_live(key);
         }
+        Some(value)
+    }
+
+    /// Notes that the page has room, whose shard is then not passed over.
+    #[inline]
+    fn note_room_on(&mut self, page: u32) {
         if self.first > 0 {
             self.first = self.first.min(self.values.shard_of(page) as u8);
         }
-        Some(value)
     }
 
     /// Takes the value of a spot of a walk out.

@@ -14,21 +14,36 @@ impl Slots {
     /// No slots.
     pub const NONE: Slots = Slots([0; MOST_SLOTS / 64]);
 
+    /// The places of the numbers that are not 0, at most 256.
+    pub fn of_nonzero(numbers: &[u32]) -> Slots {
+        let mut slots = Slots::NONE;
+        let pieces = numbers.chunks_exact(BITS.len());
+        let rest = bits_of_nonzero(pieces.remainder());
+        let count = pieces.len();
+        for (place, bits) in pieces.map(bits_of_nonzero).chain([rest]).enumerate() {
+            if place < count || bits != 0 {
+                slots.0[place / 2] |= u64::from(bits) << (place % 2 * BITS.len());
+            }
+        }
+        slots
+    }
+
     /// Whether the slot is one of them.
     #[inline]
-    pub fn contains(&self, slot: u8) -> bool {
-        self.0[word_of(slot)] & bit_of(slot) != 0
+    pub fn contains(&self, slot: u32) -> bool {
+        let word = self.0.get(word_of(slot));
+        word.is_some_and(|word| word & bit_of(slot) != 0)
     }
 
     /// Adds a slot.
     #[inline]
-    pub fn insert(&mut self, slot: u8) {
+    pub fn insert(&mut self, slot: u32) {
         self.0[word_of(slot)] |= bit_of(slot);
     }
 
     /// Takes a slot out.
     #[inline]
-    pub fn remove(&mut self, slot: u8) {
+    pub fn remove(&mut self, slot: u32) {
         self.0[word_of(slot)] &= !bit_of(slot);
     }
 
@@ -50,7 +65,7 @@ impl Slots {
 
     /// Takes the lowest slot out.
     #[inline]
-    pub fn pop_first(&mut self) -> Option<u8> {
+    pub fn pop_first(&mut self) -> Option<u32> {
         for (number, word) in self.0.iter_mut().enumerate() {
             if *word != 0 {
                 let slot = slot_at(number, word.trailing_zeros());
@@ -62,7 +77,7 @@ impl Slots {
     }
 
     /// Each slot, from the lowest on.
-    pub fn iter(mut self) -> impl Iterator<Item = u8> {
+    pub fn iter(mut self) -> impl Iterator<Item = u32> {
         iter::from_fn(move || self.pop_first())
     }
 
@@ -108,7 +123,7 @@ impl Word {
 
     /// Takes the lowest slot out, of which there is one.
     #[inline]
-    pub fn pop_first(&mut self) -> u8 {
+    pub fn pop_first(&mut self) -> u32 {
         let slot = slot_at(self.number, self.bits.trailing_zeros());
         self.bits &= self.bits.wrapping_sub(1);
         slot
@@ -116,28 +131,48 @@ impl Word {
 
     /// Takes the highest slot out, of which there is one.
     #[inline]
-    pub fn pop_last(&mut self) -> u8 {
+    pub fn pop_last(&mut self) -> u32 {
         let bit = 63_u32.wrapping_sub(self.bits.leading_zeros());
         self.bits &= !(1_u64.wrapping_shl(bit));
         slot_at(self.number, bit)
     }
 }
 
+/// Each bit of a word.
+static BITS: [u32; 32] = {
+    let (mut bits, mut place) = ([0; 32], 0);
+    while place < 32 {
+        bits[place] = 1 << place;
+        place += 1;
+    }
+    bits
+};
+
+/// The bits at the places of the numbers that are not 0, at most 32.
+// From a table, since then many numbers are looked at by one instruction.
 #[inline]
-fn word_of(slot: u8) -> usize {
-    usize::from(slot) / 64
+fn bits_of_nonzero(numbers: &[u32]) -> u32 {
+    let bits = numbers.iter().zip(&BITS);
+    bits.fold(0, |bits, (number, bit)| {
+        bits | if *number == 0 { 0 } else { *bit }
+    })
 }
 
 #[inline]
-fn bit_of(slot: u8) -> u64 {
+fn word_of(slot: u32) -> usize {
+    slot as usize / 64
+}
+
+#[inline]
+fn bit_of(slot: u32) -> u64 {
     1 << (slot % 64)
 }
 
 // A set has four words of 64 bits.
 #[allow(clippy::cast_possible_truncation)]
 #[inline]
-fn slot_at(word: usize, bit: u32) -> u8 {
-    (word as u32 * 64 + bit) as u8
+fn slot_at(word: usize, bit: u32) -> u32 {
+    word as u32 * 64 + bit
 }
 
 #[cfg(test)]
@@ -153,7 +188,7 @@ mod tests {
             random ^= random << 13;
             random ^= random >> 7;
             random ^= random << 17;
-            let slot = (random >> 20) as u8;
+            let slot = (random >> 20) as u32 % 256;
             match random >> 60 {
                 0 => assert_eq!(slots.pop_first(), set.pop_first()),
                 1 => {
@@ -177,6 +212,18 @@ mod tests {
             );
         }
         assert!(slots.iter().eq(set));
+    }
+
+    #[test]
+    fn places_that_are_not_0() {
+        for len in [0, 4, 31, 32, 33, 64, 100, 128, 255, 256] {
+            for step in [1, 2, 3, 7, 64] {
+                let number = |place: u32| u32::from(place % step == 0) << (place % 32);
+                let numbers: Vec<u32> = (0..len).map(number).collect();
+                let places = (0..len).filter(|place| place % step == 0);
+                assert!(Slots::of_nonzero(&numbers).iter().eq(places));
+            }
+        }
     }
 
     #[test]

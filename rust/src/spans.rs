@@ -35,6 +35,7 @@ impl Home {
         live: 0,
     };
 
+    #[inline]
     fn is_free(&self) -> bool {
         self.span == Span::NONE
     }
@@ -51,12 +52,18 @@ pub(crate) struct Spans {
     // None at first, and then a power of two, of which at most half are homes. The others are free,
     // which the name tells that no key's span has: so one comparison tells a home.
     places: Box<[Home]>,
+    // One less than they are, or 0: so a place is a number and this.
+    mask: usize,
     // How many further spans there is room for.
     room: u32,
-    // By the numbers of spans, also of those that are free.
+    // By the numbers of spans. At one that no span has, the one that was freed before it.
     names: Vec<Span>,
-    free: Vec<u32>,
+    // The number that was freed last, or `NO_NUMBER`.
+    free: u32,
 }
+
+/// No number: there are fewer spans.
+const NO_NUMBER: u32 = u32::MAX;
 
 /// How many places there are at least, once there are any: those of one span.
 const LEAST_PLACES: usize = 2;
@@ -70,9 +77,10 @@ impl Spans {
     pub fn new() -> Spans {
         Spans {
             places: Box::default(),
+            mask: 0,
             room: 0,
             names: Vec::new(),
-            free: Vec::new(),
+            free: NO_NUMBER,
         }
     }
 
@@ -102,13 +110,12 @@ impl Spans {
         if len / 2 > u32::MAX as usize {
             return Err(Refused::OutOfMemory);
         }
-        // As many numbers as spans, so that a span that goes leaves its number without memory.
         make_room(&mut self.names, len / 2)?;
-        make_room(&mut self.free, len / 2)?;
         let mut places = Vec::new();
         make_room(&mut places, len)?;
         places.resize(len, Home::FREE);
         let homes = std::mem::replace(&mut self.places, places.into_boxed_slice());
+        self.mask = len - 1;
         self.room = (len / 2 - spans) as u32;
         for home in homes.iter().filter(|home| !home.is_free()) {
             let place = self.free_place(home.span);
@@ -128,24 +135,28 @@ impl Spans {
         }
     }
 
+    /// The home of a span that does not stand at its first place, where it has one.
+    #[cold]
+    #[inline(never)]
+    fn find_behind(&self, span: Span) -> Option<&Home> {
+        self.places.get(self.place_of(span)?)
+    }
+
     /// The home of the span, to be changed, where it has one.
     // With its steps in line: a call would have its caller keep what it knows of a key elsewhere.
     #[inline]
     pub fn find_mut(&mut self, span: Span) -> Option<&mut Home> {
         let mut place = self.first_place(span);
-        while self.places.get(place)?.span != span {
-            if self.places[place].is_free() {
-                return None;
-            }
-            place = self.place_after(place);
+        if self.places.get(place)?.span == span {
+            return self.places.get_mut(place);
         }
-        self.places.get_mut(place)
-    }
-
-    /// The home of a span that does not stand at its first place, where it has one.
-    #[inline(never)]
-    fn find_behind(&self, span: Span) -> Option<&Home> {
-        self.place_of(span).map(|place| &self.places[place])
+        while !self.places.get(place)?.is_free() {
+            place = self.place_after(place);
+            if self.places.get(place)?.span == span {
+                return self.places.get_mut(place);
+            }
+        }
+        None
     }
 
     /// How many homes there are.
@@ -180,9 +191,19 @@ impl Spans {
         home
     }
 
-    /// The home of the span of this number, to be changed, if it has one.
+    /// The home of the span of this number, if one has it.
+    pub fn find_number(&self, number: u32) -> Option<&Home> {
+        self.find(self.name(number))
+    }
+
+    /// The home of the span of this number, to be changed, if one has it.
     pub fn home_of(&mut self, number: u32) -> Option<&mut Home> {
         self.find_mut(self.name(number))
+    }
+
+    /// How many numbers spans have or had: each is below that.
+    pub fn numbers(&self) -> usize {
+        self.names.len()
     }
 
     /// Forgets the home of the span, if it has one. It takes no memory.
@@ -190,7 +211,9 @@ impl Spans {
         let Some(mut gap) = self.place_of(span) else {
             return;
         };
-        self.free.push(self.places[gap].number);
+        let number = self.places[gap].number;
+        self.names[number as usize] = Span::freed(self.free);
+        self.free = number;
         self.room += 1;
         // Of those behind the gap, each that is looked for by way of it closes it.
         let mut place = self.place_after(gap);
@@ -205,7 +228,7 @@ impl Spans {
         self.places[gap] = Home::FREE;
     }
 
-    /// The span of this number, which one has or had.
+    /// The span of this number, or a name that none has if it is free.
     #[inline]
     pub fn name(&self, number: u32) -> Span {
         self.names[number as usize]
@@ -215,8 +238,10 @@ impl Spans {
     // Room is made for no more spans than there are numbers.
     #[allow(clippy::cast_possible_truncation)]
     fn number_for(&mut self, span: Span) -> u32 {
-        if let Some(number) = self.free.pop() {
-            self.names[number as usize] = span;
+        if self.free != NO_NUMBER {
+            let number = self.free;
+            let before = std::mem::replace(&mut self.names[number as usize], span);
+            self.free = before.serial();
             return number;
         }
         self.names.push(span);
@@ -226,16 +251,13 @@ impl Spans {
     /// Where the span's home stands, if it has one.
     fn place_of(&self, span: Span) -> Option<usize> {
         let mut place = self.first_place(span);
-        loop {
-            let home = self.places.get(place)?;
-            if home.span == span {
-                return Some(place);
-            }
-            if home.is_free() {
+        while self.places.get(place)?.span != span {
+            if self.places[place].is_free() {
                 return None;
             }
             place = self.place_after(place);
         }
+        Some(place)
     }
 
     /// The free place for the span's home, which has none yet.
@@ -254,16 +276,17 @@ impl Spans {
     #[allow(clippy::cast_possible_truncation)]
     fn first_place(&self, span: Span) -> usize {
         let product = span.number().wrapping_mul(FACTOR);
-        (product >> 32) as usize & self.places.len().wrapping_sub(1)
+        (product >> 32) as usize & self.mask
     }
 
+    #[inline]
     fn place_after(&self, place: usize) -> usize {
-        (place + 1) & (self.places.len() - 1)
+        (place + 1) & self.mask
     }
 
     /// How many places on the second one is.
     fn steps(&self, from: usize, to: usize) -> usize {
-        to.wrapping_sub(from) & (self.places.len() - 1)
+        to.wrapping_sub(from) & self.mask
     }
 }
 

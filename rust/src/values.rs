@@ -16,7 +16,7 @@ pub(crate) use walks::{Walk, WalkMut};
 
 use crate::boxed::Late;
 use crate::bytes::{slots_for, MOST_WORDS};
-use crate::core::{was_put, Core};
+use crate::core::{was_put, Core, Limits};
 use crate::names::{Key, Span};
 use crate::raw::PutReply;
 use crate::refused::Refused;
@@ -45,8 +45,6 @@ const MOST_SHORT_BYTES: usize = 4096;
 
 /// The shard whose first page may be in a short block.
 const FIRST_SHARD: u32 = 0;
-
-static NO_WORDS: [u128; MOST_WORDS] = [0; MOST_WORDS];
 
 /// How many words the core's object has beside a value of so many bytes. The object is zeros, which
 /// take no memory. The more words it has, the fewer slots a page has. Fewer slots leave fewer
@@ -77,7 +75,7 @@ const fn round_up(bytes: usize, step: usize) -> usize {
 /// ```text
 ///   homes, by span:  0.0 ──► page 3 ◄── 1.7       1.7 is the group's head, 0.0 was folded there
 ///                              │
-///   block:           .. | generation | value | value | ..
+///   block:           .. | value | value | generation | ..
 ///   rows, by span:   0.0 has values at 2, 17, ..    1.7 at 0, 1, ..
 /// ```
 ///
@@ -86,13 +84,16 @@ const fn round_up(bytes: usize, step: usize) -> usize {
 /// value, or is the head of a page that has one. So what all this takes goes by the values that
 /// there are, and not by the spans that there were.
 ///
+/// A span that is *alone* on its page has no row: it has a value at each slot with a generation.
+/// Rows come with the first fold. Without generations each span has one.
+///
 /// Values that are large stand in blocks of the global allocator, and their addresses in the page.
 ///
 /// What is `unsafe` here rests on this module and its rows alone: were the core wrong, a look-up
 /// would fail, find another value of the same slot, or panic, and no memory be misused.
 pub(crate) struct Values<T> {
     spans: Spans,
-    // By the numbers of spans.
+    // By the numbers of spans that are not alone on their pages; of others there may be none.
     rows: Vec<Row>,
     paged: Late<Paged<T>>,
     // Memory for one value that does not stand in a page.
@@ -103,20 +104,45 @@ pub(crate) struct Values<T> {
     owned: PhantomData<T>,
 }
 
-/// What is known of a span with a home, beside that.
+/// What is known of a span that shares its page with others, beside its home.
 #[derive(Clone, Copy)]
 struct Row {
-    // The slots at which it has values: none if no span has the number.
+    // The slots at which it has values: none if it is alone, or no span has the number.
     live: Slots,
     // The number of the next span on its page. The head is the first.
     next: Option<u32>,
+}
+
+/// A slot that was given to a key, and whose value is still to come.
+#[must_use = "the slot counts as one that has a value"]
+pub(crate) struct Place<'v, T> {
+    // It has the slot, without a value, or with room for it apart.
+    block: Block,
+    slot: u32,
+    generation: u32,
+    values: PhantomData<&'v mut Values<T>>,
+}
+
+impl<T> Place<'_, T> {
+    /// Keeps the value there, where it is found from now on.
+    // The value first: what is known of it is then no longer kept in registers.
+    #[allow(clippy::inline_always)]
+    #[inline(always)]
+    pub fn fill(self, value: T) {
+        // SAFETY: the slot is one of the block's and has no value, so one may be written where it
+        // stands, or to the room that is there.
+        unsafe { self.block.value::<T>(self.slot).as_ptr().write(value) };
+        if !LEAN {
+            self.block.set_generation(self.slot, self.generation);
+        }
+    }
 }
 
 /// A slot that has a value.
 #[derive(Clone, Copy)]
 pub(crate) struct Spot {
     span: Span,
-    slot: u8,
+    slot: u32,
     block: Block,
 }
 
@@ -124,13 +150,14 @@ impl Spot {
     /// The key of the value.
     #[inline]
     pub fn key(&self, core: &Core) -> Key {
+        let slot = self.slot as u8;
         if LEAN {
             return core
-                .key_at(self.span, self.slot)
+                .key_at(self.span, slot)
                 .expect("the key of a value is live");
         }
-        let key = Key::of_span(self.span, self.slot, self.block.generation(self.slot));
-        debug_assert_eq!(key, core.key_at(self.span, self.slot));
+        let key = Key::of_span(self.span, slot, self.block.generation(self.slot));
+        debug_assert_eq!(key, core.key_at(self.span, slot));
         key.expect("no generation is 0")
     }
 
@@ -165,19 +192,26 @@ impl<T> Values<T> {
         4
     };
 
-    /// How many bytes of a block of so many slots are before its values: the generations.
+    /// How many bytes of a block of so many slots are before its address: the values. They are a
+    /// multiple of `ALIGN`, since the slots are one of 4.
     const fn bytes_before(slots: usize) -> usize {
+        slots * Self::STORED.size()
+    }
+
+    /// How many bytes of it are behind that: the generations.
+    const fn bytes_behind(slots: usize) -> usize {
         if LEAN {
             0
         } else {
-            round_up(slots * size_of::<u32>(), Self::ALIGN)
+            slots * size_of::<u32>()
         }
     }
 
     /// How many bytes a block of so many slots has.
     const fn bytes_of_block(slots: usize) -> usize {
+        assert!(slots % FEWEST_SLOTS == 0);
         round_up(
-            Self::bytes_before(slots) + slots * Self::STORED.size(),
+            Self::bytes_before(slots) + Self::bytes_behind(slots),
             Self::ALIGN,
         )
     }
@@ -201,6 +235,11 @@ impl<T> Values<T> {
         most
     };
 
+    /// A core whose objects such values are to stand beside.
+    pub fn core(limits: Limits) -> Result<Core, Refused> {
+        Core::of_objects(limits, Self::WORDS)
+    }
+
     /// A key of the core's shard, beside whose object a value is to stand. The object's words tell
     /// nothing: where the value is follows from its key.
     #[inline]
@@ -215,8 +254,7 @@ impl<T> Values<T> {
     #[allow(clippy::inline_always)]
     #[inline(always)]
     pub fn insert_key_plainly(core: &mut Core, shard: u32) -> Result<Key, PutReply> {
-        // SAFETY: so many words are there.
-        unsafe { core.put_words_plainly(shard, NO_WORDS.as_ptr(), Self::WORDS) }
+        core.put_zeros(shard, Self::WORDS)
     }
 
     /// A key of the core's shard, for whose value there is room.
@@ -245,8 +283,7 @@ impl<T> Values<T> {
     /// The same, whatever there is room for.
     #[cold]
     fn insert_key_again(core: &mut Core, put: PutReply, shard: u32) -> Result<Key, Refused> {
-        // SAFETY: so many words are there.
-        was_put(unsafe { core.put_words_again(put, shard, NO_WORDS.as_ptr(), Self::WORDS) })
+        was_put(core.put_zeros_again(put, shard, Self::WORDS))
     }
 
     /// No values.
@@ -294,8 +331,8 @@ impl<T> Values<T> {
         } else {
             self.reserve_blocks(1)?;
         }
-        // Rows may be missing if they were refused memory after the spans had got theirs.
-        if self.spans.is_full() || self.rows.len() < self.spans.most() {
+        // Lean rows may be missing if they were refused memory after the spans had got theirs.
+        if self.spans.is_full() || LEAN && self.rows.len() < self.spans.most() {
             self.grow_spans(1)?;
         }
         if Self::APART && self.room.is_none() {
@@ -355,9 +392,17 @@ impl<T> Values<T> {
         self.grow_spans(pages)
     }
 
-    /// Makes room for so many further spans.
+    /// Makes room for so many further spans, each alone on its page.
     fn grow_spans(&mut self, spans: usize) -> Result<(), Refused> {
         self.spans.reserve(spans)?;
+        if LEAN {
+            self.grow_rows()?;
+        }
+        Ok(())
+    }
+
+    /// Sees to it that each span has a row.
+    fn grow_rows(&mut self) -> Result<(), Refused> {
         let more = self.spans.most() - self.rows.len();
         self.rows
             .try_reserve_exact(more)
@@ -368,54 +413,63 @@ impl<T> Values<T> {
 
     /// Keeps the value of a key that has just been put, for which there is room. The shard is asked
     /// for if it has a new page.
-    // The value first: what is known of it is then no longer kept in registers.
+    #[inline]
+    pub fn put(&mut self, key: Key, value: T, shard: impl FnOnce() -> u32) {
+        if let Some(place) = self.place(key) {
+            place.fill(value);
+            return;
+        }
+        self.open(shard(), key.span());
+        self.place(key).expect("the span has a home").fill(value);
+    }
+
+    /// Where the value of such a key is to stand, if its span has a page. It is filled before any
+    /// other call.
+    // Inlined, it leaves what it finds in registers.
     #[allow(clippy::inline_always)]
     #[inline(always)]
-    pub fn put(&mut self, key: Key, value: T, shard: impl FnOnce() -> u32) {
-        let home = match self.spans.find_mut(key.span()) {
-            Some(home) => home,
-            None => self.open(shard(), key.span()),
-        };
-        home.live += 1;
-        let Home {
-            block,
-            number,
-            slots,
-            ..
-        } = *home;
-        let slot = slot_of(key);
-        assert!(u16::from(slot) < slots, "the slot is one of the page's");
+    pub fn place(&mut self, key: Key) -> Option<Place<'_, T>> {
+        let (home, slot) = (self.spans.find_mut(key.span())?, key.slot_number());
+        if !is_alone_at(home, slot) {
+            assert!(slot < home.slots.into(), "the slot is one of the page's");
+        }
+        let block = home.block;
+        debug_assert!(LEAN || block.generation(slot) == VACANT, "the slot is free");
         if Self::APART {
             let room = self.room.take().expect("room was reserved");
-            self.forget_room();
+            self.room_until = 0;
             // SAFETY: the slot has no value, so an address may be written there.
             unsafe { block.stored::<T>(slot).cast::<NonNull<T>>().write(room) };
         }
-        // SAFETY: the slot is one of the page's and has no value, so one may be written where it
-        // stands, or to the room that is there.
-        unsafe { block.value::<T>(slot).as_ptr().write(value) };
-        if !LEAN {
-            block.set_generation(slot, key.generation());
+        if !is_alone_at(home, slot) {
+            let live = &mut self.rows[home.number as usize].live;
+            debug_assert!(!live.contains(slot), "the slot is free");
+            live.insert(slot);
         }
-        let row = &mut self.rows[number as usize];
-        debug_assert!(!row.live.contains(slot), "the slot is free");
-        row.live.insert(slot);
+        home.live += 1;
+        Some(Place {
+            block,
+            slot,
+            generation: key.generation(),
+            values: PhantomData,
+        })
     }
 
-    /// A page for the values of the span, which has none.
+    /// Gives the shard's span, which has none, a page for its values. There is room for it.
     #[cold]
-    fn open(&mut self, shard: u32, head: Span) -> &mut Home {
+    fn open(&mut self, shard: u32, head: Span) {
         self.forget_room();
         let (page, block, slots) = self.paged.take();
-        let home = self.spans.insert(head, page, block, slots);
-        self.rows[home.number as usize] = Row::NONE;
+        let number = self.spans.insert(head, page, block, slots).number;
+        if let Some(row) = self.rows.get_mut(number as usize) {
+            *row = Row::NONE;
+        }
         self.paged.pages[page as usize] = Page {
             block,
-            head: Some(home.number),
+            head: Some(number),
             guests: 0,
             shard: shard as u8,
         };
-        home
     }
 
     /// Where the value of the key is.
@@ -427,47 +481,43 @@ impl<T> Values<T> {
     pub unsafe fn get_unchecked(&self, key: Key) -> NonNull<T> {
         // SAFETY: a span that has a value has a home.
         let home = unsafe { self.spans.find(key.span()).unwrap_unchecked() };
-        home.block.value::<T>(slot_of(key))
+        home.block.value::<T>(key.slot_number())
     }
 
     /// Where the value of the key is, if it has one. A lean slab asks the core beside this whether
     /// the key is live.
     #[inline]
     pub fn find(&self, key: Key) -> Option<NonNull<T>> {
-        let (home, slot) = (self.spans.find(key.span())?, slot_of(key));
-        if self.may_have(home, slot) && home.block.is_of(slot, key) {
+        let (home, slot) = (self.spans.find(key.span())?, key.slot_number());
+        let may_have = is_alone_at(home, slot) || has_in_row(&self.rows, home, slot);
+        if may_have && home.block.is_of(slot, key) {
             Some(home.block.value::<T>(slot))
         } else {
             None
         }
     }
 
-    /// Whether the block of the home has the slot, and no other span has a value there.
-    #[inline]
-    fn may_have(&self, home: &Home, slot: u8) -> bool {
-        !LEAN && u32::from(slot) < home.own || self.row_of(home).live.contains(slot)
-    }
-
     /// Takes the value of the key out, if it has one, and says which page it was on. It needs no
     /// memory. A lean slab has asked the core whether the key is live.
-    #[inline]
     pub fn take(&mut self, key: Key) -> Option<(T, u32)> {
+        if let Some(taken) = self.take_plainly(key) {
+            return Some(taken);
+        }
         let home = self.spans.find_mut(key.span())?;
-        let (block, row, slot) = (home.block, home.number, slot_of(key));
-        let live = &mut self.rows[row as usize].live;
-        if !live.contains(slot) || !block.is_of(slot, key) {
-            return None;
-        }
-        live.remove(slot);
-        block.vacate(slot);
-        home.live -= 1;
-        let (left, page) = (home.live, home.page);
-        // SAFETY: the slot had a value, which nobody finds from now on.
-        let value = unsafe { block.take::<T>(slot) };
-        if left == 0 {
-            self.forget(row, page);
-        }
+        let (number, page) = (home.number, home.page);
+        let value = take_at(home, &mut self.rows, key, true)?;
+        self.forget(number, page);
         Some((value, page))
+    }
+
+    /// The same, if its span has another value; or else nothing is done.
+    // Inlined, it leaves what it finds in registers.
+    #[allow(clippy::inline_always)]
+    #[inline(always)]
+    pub fn take_plainly(&mut self, key: Key) -> Option<(T, u32)> {
+        let home = self.spans.find_mut(key.span())?;
+        let value = take_at(home, &mut self.rows, key, false)?;
+        Some((value, home.page))
     }
 
     /// The shard that has the page of this number, or had it when it was last a page.
@@ -476,14 +526,32 @@ impl<T> Values<T> {
         u32::from(self.paged.pages[number as usize].shard)
     }
 
-    #[inline]
-    fn row_of(&self, home: &Home) -> &Row {
-        &self.rows[home.number as usize]
+    /// The slots at which the span of the home has values.
+    fn slots_of(&self, home: &Home) -> Slots {
+        if is_alone(home) {
+            home.block.slots_with_values(home.slots)
+        } else {
+            self.rows[home.number as usize].live
+        }
+    }
+
+    /// Whether the span of the home has a value at the slot.
+    fn has_at(&self, home: &Home, slot: u32) -> bool {
+        if is_alone_at(home, slot) {
+            home.block.generation(slot) != VACANT
+        } else {
+            has_in_row(&self.rows, home, slot)
+        }
+    }
+
+    /// The span that has its home on the page of this one, and comes after it, by their numbers.
+    fn next_on_page(&self, number: u32) -> Option<u32> {
+        self.rows.get(number as usize)?.next
     }
 
     /// The spans from this one on that have homes on one page, by their numbers.
     fn row_from(&self, first: u32) -> impl Iterator<Item = u32> + '_ {
-        iter::successors(Some(first), |number| self.rows[*number as usize].next)
+        iter::successors(Some(first), |number| self.next_on_page(*number))
     }
 
     /// Forgets a span that has no value any more, unless it is the head of a page that has one; and
@@ -529,10 +597,13 @@ impl<T> Values<T> {
                 .find(|spot| ptr::eq(spot.value::<T>().as_ptr(), at));
         }
         let paged = self.paged.get()?;
-        let (number, offset) = paged.find(at.cast())?;
+        let (number, distance) = paged.find(at.cast())?;
         let page = paged.pages.get(number)?;
-        let slot = u8::try_from(offset / size_of::<T>()).ok()?;
-        let has_slot = |number: &u32| self.rows[*number as usize].live.contains(slot);
+        let slot = u32::try_from(distance / size_of::<T>()).ok()?;
+        let has_slot = |number: &u32| {
+            let home = self.spans.find_number(*number);
+            home.is_some_and(|home| self.has_at(home, slot))
+        };
         let span = self.row_from(page.head?).find(has_slot)?;
         ptr::eq(page.block.value::<T>(slot).as_ptr(), at).then_some(Spot {
             span: self.spans.name(span),
@@ -547,8 +618,11 @@ impl<T> Values<T> {
             return;
         }
         for home in self.spans.iter() {
-            let row = &mut self.rows[home.number as usize];
-            while let Some(slot) = row.live.pop_first() {
+            for slot in self.slots_of(home).iter() {
+                home.block.vacate(slot);
+                if !is_alone(home) {
+                    self.rows[home.number as usize].live.remove(slot);
+                }
                 // SAFETY: the slot had a value, which nobody finds from now on.
                 drop(unsafe { home.block.take::<T>(slot) });
             }
@@ -586,7 +660,54 @@ impl Row {
     };
 }
 
+/// Whether no other span has values on the page of the home: then it has no row. A lean slab does
+/// not go by generations, so that each span has a row.
 #[inline]
-fn slot_of(key: Key) -> u8 {
-    key.slot() as u8
+fn is_alone(home: &Home) -> bool {
+    !LEAN && home.own > 0
+}
+
+/// The same, and whether the slot is one of the page's.
+#[inline]
+fn is_alone_at(home: &Home, slot: u32) -> bool {
+    !LEAN && slot < home.own
+}
+
+/// Whether the row of the home's span has a value at the slot.
+#[inline]
+fn has_in_row(rows: &[Row], home: &Home, slot: u32) -> bool {
+    let row = rows.get(home.number as usize);
+    row.is_some_and(|row| row.live.contains(slot))
+}
+
+/// Takes the value of the key out, if the span of the home has it, and has another one unless this
+/// may be its last. The page stays.
+#[inline]
+fn take_at<T>(home: &mut Home, rows: &mut [Row], key: Key, may_be_last: bool) -> Option<T> {
+    let (block, slot) = (home.block, key.slot_number());
+    if is_alone_at(home, slot) {
+        if !block.is_of(slot, key) || !count_out(home, may_be_last) {
+            return None;
+        }
+    } else {
+        let live = &mut rows.get_mut(home.number as usize)?.live;
+        if !live.contains(slot) || !block.is_of(slot, key) || !count_out(home, may_be_last) {
+            return None;
+        }
+        live.remove(slot);
+    }
+    block.vacate(slot);
+    // SAFETY: the slot had a value, which nobody finds from now on.
+    Some(unsafe { block.take::<T>(slot) })
+}
+
+/// Counts one value less at the home, and says whether it did: if this may be the last, or is not.
+#[inline]
+fn count_out(home: &mut Home, may_be_last: bool) -> bool {
+    home.live -= 1;
+    let is_done = may_be_last || home.live > 0;
+    if !is_done {
+        home.live = 1;
+    }
+    is_done
 }

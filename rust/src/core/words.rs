@@ -7,6 +7,8 @@ use crate::raw;
 use crate::refused::Refused;
 use std::mem::MaybeUninit;
 
+static NO_WORDS: [u128; MOST_WORDS] = [0; MOST_WORDS];
+
 impl Core {
     /// Keeps an object of 1 to 16 words in the shard, and gives its key.
     ///
@@ -64,7 +66,7 @@ impl Core {
     /// As of [`Core::put_words`].
     #[allow(clippy::inline_always)]
     #[inline(always)]
-    pub(crate) unsafe fn put_words_plainly(
+    unsafe fn put_words_plainly(
         &mut self,
         shard: u32,
         first: *const u128,
@@ -85,7 +87,7 @@ impl Core {
     /// As of [`Core::put_words`].
     #[cold]
     #[allow(improper_ctypes_definitions)]
-    pub(crate) unsafe extern "C" fn put_words_again(
+    unsafe extern "C" fn put_words_again(
         &mut self,
         put: raw::PutReply,
         shard: u32,
@@ -96,6 +98,46 @@ impl Core {
             // SAFETY: as of this call.
             unsafe { raw::teurlaks_put_words(&mut core.handle, shard, first.cast(), len) }
         })
+    }
+
+    /// The key of an object of so many zeros in the shard, if it is plain; or else what the library
+    /// answers, of which `put_zeros_again` makes what the put answers in the end. The core is one
+    /// of such objects alone (`of_objects`).
+    #[allow(clippy::inline_always)]
+    #[inline(always)]
+    pub(crate) fn put_zeros(&mut self, shard: u32, len: usize) -> Result<Key, raw::PutReply> {
+        debug_assert_eq!(usize::from(self.least_words), len);
+        let put = self.ask_for_zeros(shard, len);
+        match self.plain_key_of_least(put) {
+            Some(key) => Ok(key),
+            None => Err(put),
+        }
+    }
+
+    /// As `put_again`, of zeros.
+    #[cold]
+    #[allow(improper_ctypes_definitions)]
+    pub(crate) extern "C" fn put_zeros_again(
+        &mut self,
+        put: raw::PutReply,
+        shard: u32,
+        len: usize,
+    ) -> raw::PutReply {
+        self.again(put, shard, len, |core| core.ask_for_zeros(shard, len))
+    }
+
+    /// What the library answers to such a put.
+    #[allow(clippy::inline_always)]
+    #[inline(always)]
+    fn ask_for_zeros(&mut self, shard: u32, len: usize) -> raw::PutReply {
+        let first = NO_WORDS[..len].as_ptr().cast();
+        // SAFETY: as in `insert`, and so many words are there.
+        unsafe {
+            match len {
+                1 => raw::teurlaks_put(&mut self.handle, shard, 0, 0),
+                _ => raw::teurlaks_put_words(&mut self.handle, shard, first, len),
+            }
+        }
     }
 
     /// The words of the key's object, where it is live.

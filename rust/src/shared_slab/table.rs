@@ -67,7 +67,7 @@ impl<T> Table<T> {
     /// A table of a core of these limits, of one shard.
     pub fn open(limits: Limits, hints: &Arc<[Hints<T>]>, number: u8) -> Result<Table<T>, Refused> {
         Ok(Table {
-            core: Core::new(limits)?,
+            core: Values::<T>::core(limits)?,
             spans: Spans::new(),
             pages: Vec::new(),
             blocks: Blocks::new(Page::<T>::VALUE_BYTES),

@@ -1,7 +1,7 @@
 //! Inserts, each of which takes a key of the core and then keeps the value beside it.
 
 use super::{Slab, VacantEntry};
-use crate::core::ends_turn;
+use crate::core::{ends_turn, Core};
 use crate::names::Key;
 use crate::raw::PutReply;
 use crate::refused::{InsertError, Refused};
@@ -32,13 +32,26 @@ impl<T> Slab<T> {
     /// waits.
     #[inline]
     fn insert_apart(&mut self, value: T) -> (u64, u64) {
-        match self.insert_key_plainly() {
-            Ok(key) => {
-                self.keep(key, value);
-                key.halves()
-            }
-            Err(put) => self.insert_again(put, value),
+        let key = match self.insert_key_plainly() {
+            Ok(key) => key,
+            Err(put) => return self.insert_again(put, value),
+        };
+        let (low, high) = key.halves();
+        let Some(place) = self.values.place(key) else {
+            return self.keep_first(low, high, value);
+        };
+        place.fill(value);
+        (low, high)
+    }
+
+    /// The same of a key whose span has no page yet, by its halves.
+    #[cold]
+    #[inline(never)]
+    fn keep_first(&mut self, low: u64, high: u64, value: T) -> (u64, u64) {
+        if let Some(key) = Key::of_halves(low, high) {
+            self.keep(key, value);
         }
+        (low, high)
     }
 
     /// The same after that answer to the call for a key.
@@ -213,20 +226,29 @@ impl<T> Slab<T> {
     }
 
     /// Keeps the value of a key that the first shard has just put, for which there is room.
-    #[allow(clippy::inline_always)]
-    #[inline(always)]
+    #[inline]
     fn keep(&mut self, key: Key, value: T) {
-        let first = &self.first;
-        self.values.put(key, value, || u32::from(*first));
-        self.end_turn_with(key);
+        let Slab {
+            core,
+            values,
+            first,
+            takes_turns,
+            ..
+        } = self;
+        // A turn is over with the first key of a span, for which `put` opens a page, and forgets
+        // what there is room for.
+        values.put(key, value, || {
+            let shard = *first;
+            *first = first_after(core, shard, *takes_turns, key);
+            u32::from(shard)
+        });
     }
 
     /// Has the next shard be the first if the turn of this one is over with the key.
-    #[allow(clippy::inline_always)]
-    #[inline(always)]
     fn end_turn_with(&mut self, key: Key) {
-        if self.takes_turns && ends_turn(key) {
-            self.first = ((u32::from(self.first) + 1) % self.core.shards()) as u8;
+        let first = first_after(&self.core, self.first, self.takes_turns, key);
+        if first != self.first {
+            self.first = first;
             self.values.forget_room();
         }
     }
@@ -288,5 +310,15 @@ impl<T> Slab<T> {
     #[inline]
     fn insert_key_in(&mut self, shard: u32) -> Result<Key, Refused> {
         self.values.insert_key_with_room(&mut self.core, shard)
+    }
+}
+
+/// The shard that is asked first after this one has put the key: the next one if its turn is over.
+#[cold]
+fn first_after(core: &Core, first: u8, takes_turns: bool, key: Key) -> u8 {
+    if takes_turns && ends_turn(key) {
+        ((u32::from(first) + 1) % core.shards()) as u8
+    } else {
+        first
     }
 }

@@ -3,16 +3,18 @@
 use super::{Values, LEAN, VACANT};
 use crate::names::Key;
 use crate::refused::Refused;
+use crate::slots::Slots;
 use std::alloc::{alloc_zeroed, dealloc, Layout};
 use std::mem::size_of;
 use std::ptr::NonNull;
+use std::slice;
 
-/// Where a page of values is: the values stand from this address on, and the generations before it,
+/// Where a page of values is: the generations stand from this address on, and the values before it,
 /// that of slot 0 last. So where a slot is does not go by how many slots the block has.
 ///
 /// ```text
-///   .. | generation 1 | generation 0 | value 0 | value 1 | ..
-///                                    ▲ the address
+///   .. | value 1 | value 0 | generation 0 | generation 1 | ..
+///                          ▲ the address
 /// ```
 #[derive(Clone, Copy)]
 pub(crate) struct Block(NonNull<u8>);
@@ -55,25 +57,31 @@ impl Block {
     /// Whether a value stands at the slot with the generation of the key; or a lean slab, which
     /// keeps none, has a value there.
     #[inline]
-    pub(super) fn is_of(self, slot: u8, key: Key) -> bool {
+    pub(super) fn is_of(self, slot: u32, key: Key) -> bool {
         LEAN || self.generation(slot) == key.generation()
     }
 
     #[inline]
-    pub(super) fn generation(self, slot: u8) -> u32 {
+    pub(super) fn generation(self, slot: u32) -> u32 {
         unsafe { self.generation_at(slot).read() }
+    }
+
+    /// The slots that have a value, of the first so many. A lean slab does not know them.
+    pub(super) fn slots_with_values(self, slots: u16) -> Slots {
+        // SAFETY: as above, and so many generations are there, which were zeros at first.
+        Slots::of_nonzero(unsafe { slice::from_raw_parts(self.generation_at(0), slots.into()) })
     }
 
     /// Notes that the slot has no value.
     #[inline]
-    pub(super) fn vacate(self, slot: u8) {
+    pub(super) fn vacate(self, slot: u32) {
         if !LEAN {
             self.set_generation(slot, VACANT);
         }
     }
 
     #[inline]
-    pub(super) fn set_generation(self, slot: u8, generation: u32) {
+    pub(super) fn set_generation(self, slot: u32, generation: u32) {
         unsafe { self.generation_at(slot).write(generation) }
     }
 
@@ -83,20 +91,20 @@ impl Block {
     ///
     /// The slot is one of the block's, which has generations.
     #[inline]
-    unsafe fn generation_at(self, slot: u8) -> *mut u32 {
-        self.0.as_ptr().cast::<u32>().sub(1 + usize::from(slot))
+    unsafe fn generation_at(self, slot: u32) -> *mut u32 {
+        self.0.as_ptr().cast::<u32>().add(slot as usize)
     }
 
     /// Where the value of the slot stands, or its address.
     #[inline]
-    pub(super) fn stored<T>(self, slot: u8) -> *mut u8 {
-        let offset = usize::from(slot) * Values::<T>::STORED.size();
-        unsafe { self.0.as_ptr().add(offset) }
+    pub(super) fn stored<T>(self, slot: u32) -> *mut u8 {
+        let offset = (1 + slot as usize) * Values::<T>::STORED.size();
+        unsafe { self.0.as_ptr().sub(offset) }
     }
 
     /// Where the value of the slot is, or, where it stands apart, what was written of that.
     #[inline]
-    pub(super) fn value<T>(self, slot: u8) -> NonNull<T> {
+    pub(super) fn value<T>(self, slot: u32) -> NonNull<T> {
         let stored = self.stored::<T>(slot);
         if size_of::<T>() == 0 {
             NonNull::dangling()
@@ -113,7 +121,7 @@ impl Block {
     ///
     /// There is one, and nobody finds it any more.
     #[inline]
-    pub(super) unsafe fn take<T>(self, slot: u8) -> T {
+    pub(super) unsafe fn take<T>(self, slot: u32) -> T {
         let at = self.value::<T>(slot);
         let value = at.as_ptr().read();
         if Values::<T>::APART {
@@ -128,7 +136,7 @@ impl Block {
     /// # Safety
     ///
     /// There is one here, which nobody finds any more, and none there. The blocks are two.
-    pub(super) unsafe fn move_to<T>(self, to: Block, slot: u8) {
+    pub(super) unsafe fn move_to<T>(self, to: Block, slot: u32) {
         let bytes = Values::<T>::STORED.size();
         to.stored::<T>(slot)
             .copy_from_nonoverlapping(self.stored::<T>(slot), bytes);
@@ -144,8 +152,8 @@ impl Block {
     ///
     /// Both have so many slots, and are two. From now on nobody finds the values here.
     unsafe fn copy_slots<T>(self, to: Block, slots: usize) {
-        let before = if LEAN { 0 } else { slots * size_of::<u32>() };
-        let bytes = before + slots * Values::<T>::STORED.size();
+        let before = Values::<T>::bytes_before(slots);
+        let bytes = before + Values::<T>::bytes_behind(slots);
         let from = self.0.as_ptr().sub(before);
         to.0.as_ptr()
             .sub(before)

@@ -2,7 +2,7 @@
 
 use super::block::Block;
 use super::paged::Page;
-use super::{Row, Values};
+use super::{is_alone, Row, Values};
 use crate::core::{Core, Stepped};
 use crate::names::Group;
 use crate::refused::Refused;
@@ -22,7 +22,8 @@ impl<T> Values<T> {
 
     /// Makes room to follow a fold, which may bring one more span here.
     pub fn make_room(&mut self) -> Result<(), Refused> {
-        self.grow_spans(1)
+        self.grow_spans(1)?;
+        self.grow_rows()
     }
 
     /// Follows a fold: the values of the first group move to the page of the second, each to the
@@ -41,6 +42,8 @@ impl<T> Values<T> {
     fn take_over(&mut self, from: &Home, owned: Group) {
         self.forget_room();
         let host = (self.spans).insert(owned.head(), from.page, from.block, from.slots);
+        // Its row says which values on the page are its own: none.
+        host.own = 0;
         let host = host.number;
         self.rows[host as usize] = Row {
             live: Slots::NONE,
@@ -51,15 +54,19 @@ impl<T> Values<T> {
         page.guests += 1;
         page.shard = owned.shard() as u8;
         self.note_shared(from.number);
-        self.note_shared(host);
         self.forget_if_empty(from, from.page);
     }
 
-    /// Notes that the span of this number shares its page with others.
+    /// Notes that the span of this number shares its page with others from now on: what was told by
+    /// the generations there, its row tells.
     fn note_shared(&mut self, number: u32) {
-        if let Some(home) = self.spans.home_of(number) {
-            home.own = 0;
+        let Some(home) = self.spans.home_of(number) else {
+            return;
+        };
+        if is_alone(home) {
+            self.rows[number as usize].live = home.block.slots_with_values(home.slots);
         }
+        home.own = 0;
     }
 
     /// Moves each value of the page of the first home to the same slot of the page of the second,
@@ -74,6 +81,7 @@ impl<T> Values<T> {
         }
         let mut next = Some(from.number);
         while let Some(number) = next {
+            self.note_shared(number);
             let row = self.rows[number as usize];
             assert!(taken.unite(&row.live), "the library folds what fits");
             for slot in row.live.iter() {
@@ -83,7 +91,6 @@ impl<T> Values<T> {
             }
             next = row.next;
             self.move_home(number, to.page, to.block);
-            self.note_shared(number);
             self.rows[number as usize].next = self.rows[host as usize].next.replace(number);
         }
         let guests = self.paged.pages[from.page as usize].guests + 1;
@@ -126,7 +133,7 @@ impl<T> Values<T> {
                     home.own = slots as u32;
                 }
             }
-            next = self.rows[number as usize].next;
+            next = self.next_on_page(number);
         }
     }
 
@@ -144,13 +151,11 @@ impl<T> Values<T> {
     /// are, no page moves.
     pub fn pack(&mut self, most: usize) -> bool {
         self.cool();
-        let Some(paged) = self.paged.get() else {
+        let blocks = self.paged.get().and_then(|paged| paged.blocks.get());
+        let Some(blocks) = blocks.filter(|blocks| blocks.share_pages()) else {
             return false;
         };
-        if !paged.blocks.share_pages() {
-            return false;
-        }
-        let (mut within, mut end) = (paged.blocks.numbers(), 0);
+        let (mut within, mut end) = (blocks.numbers(), 0);
         for _ in 0..most {
             let Some((from, to)) = self.paged.blocks.swap_ends(&mut within) else {
                 break;
@@ -170,14 +175,15 @@ impl<T> Values<T> {
         pages[to as usize] = Page { block, ..page };
         let mut next = page.head;
         while let Some(number) = next {
-            let row = self.rows[number as usize];
-            for slot in row.live.iter() {
+            let home = self.spans.find_number(number);
+            let slots = home.map_or(Slots::NONE, |home| self.slots_of(home));
+            for slot in slots.iter() {
                 // SAFETY: the blocks are two. The slot has a value on the one, where nobody finds
                 // it from now on, and none on the other.
                 unsafe { page.block.move_to::<T>(block, slot) };
             }
             self.move_home(number, to, block);
-            next = row.next;
+            next = self.next_on_page(number);
         }
     }
 }

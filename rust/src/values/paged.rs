@@ -3,6 +3,7 @@
 use super::block::{Block, ShortBlock};
 use super::Values;
 use crate::blocks::{make_room, Blocks};
+use crate::boxed::Late;
 use crate::refused::Refused;
 use std::marker::PhantomData;
 use std::ptr::NonNull;
@@ -19,7 +20,8 @@ pub(super) const FEWEST_SLOTS: usize = 4;
 ///   two pages     page 0: block 0      page 1: block 1
 /// ```
 pub(super) struct Paged<T> {
-    pub blocks: Blocks,
+    // They come with the first page that is not in a short block.
+    pub blocks: Late<Blocks>,
     pub pages: Vec<Page>,
     // The block of page 0, be that free or not. Then there is no other page.
     short: Option<ShortBlock>,
@@ -53,7 +55,7 @@ impl<T> Paged<T> {
     /// No pages.
     pub fn new() -> Paged<T> {
         Paged {
-            blocks: Blocks::new(Values::<T>::BLOCK_BYTES),
+            blocks: Late::new(),
             pages: Vec::new(),
             short: None,
             values: PhantomData,
@@ -62,7 +64,7 @@ impl<T> Paged<T> {
 
     /// Whether page 0 is in a short block, or there is none yet.
     pub fn may_be_short(&self) -> bool {
-        self.blocks.len() == 0
+        self.blocks.get().map_or(true, |blocks| blocks.len() == 0)
     }
 
     /// How many slots the short block has: none if there is no such block.
@@ -88,8 +90,10 @@ impl<T> Paged<T> {
     /// stay, and no page has moved.
     pub fn reserve(&mut self, count: usize) -> Result<(), Refused> {
         let has_first = self.short.is_some() && self.pages[0].head.is_some();
-        self.blocks.reserve_all(count + usize::from(has_first))?;
-        self.make_pages(self.blocks.len())?;
+        let blocks = self.blocks.make(|| Blocks::new(Values::<T>::BLOCK_BYTES))?;
+        blocks.reserve_all(count + usize::from(has_first))?;
+        let blocks = blocks.len();
+        self.make_pages(blocks)?;
         if has_first {
             let (number, at) = self.blocks.take();
             assert!(number == 0, "no block was taken before");
@@ -146,7 +150,9 @@ impl<T> Paged<T> {
         if self.pages.first().is_some_and(|page| page.head.is_none()) {
             self.short = None;
         }
-        self.blocks.cool();
+        if let Some(blocks) = self.blocks.get_mut() {
+            blocks.cool();
+        }
     }
 
     /// The block of this number, which is of all slots.
@@ -160,16 +166,16 @@ impl<T> Paged<T> {
         unsafe { Block::from_first_byte::<T>(at, Values::<T>::SLOTS) }
     }
 
-    /// The number of the page with this address, and how many bytes behind its first value that is.
-    /// It looks at each segment of blocks.
+    /// The number of the page that has this address among its values, and how many bytes of them
+    /// are behind that. It looks at each segment of blocks.
     pub fn find(&self, at: *const u8) -> Option<(usize, usize)> {
         let Some(short) = &self.short else {
-            let (number, offset) = self.blocks.find(at)?;
+            let (number, offset) = self.blocks.get()?.find(at)?;
             let before = Values::<T>::bytes_before(Values::<T>::SLOTS);
-            return Some((number, offset.checked_sub(before)?));
+            return Some((number, before.checked_sub(offset + 1)?));
         };
-        let first = short.block().address().as_ptr() as usize;
-        let offset = (at as usize).checked_sub(first)?;
-        (offset < short.slots() * Values::<T>::STORED.size()).then_some((0, offset))
+        let address = short.block().address().as_ptr() as usize;
+        let behind = address.checked_sub(at as usize)?.checked_sub(1)?;
+        (behind < Values::<T>::bytes_before(short.slots())).then_some((0, behind))
     }
 }

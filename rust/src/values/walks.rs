@@ -36,7 +36,7 @@ impl Piece {
     };
 
     #[inline]
-    fn spot(&self, slot: u8) -> Spot {
+    fn spot(&self, slot: u32) -> Spot {
         Spot {
             span: self.span,
             slot,
@@ -128,7 +128,7 @@ impl<T> Values<T> {
         Walk {
             front: Piece::NONE,
             back: Piece::NONE,
-            spans: 0..self.rows.len(),
+            spans: 0..self.spans.numbers(),
             left,
         }
     }
@@ -136,16 +136,12 @@ impl<T> Values<T> {
     /// The slots at which the span of this number has values.
     #[inline]
     fn piece(&self, number: usize) -> Piece {
-        let slots = self.rows[number].live;
-        if slots.is_empty() {
-            return Piece::NONE;
-        }
-        let home = self.spans.find(self.spans.name(number as u32));
+        let home = self.spans.find_number(number as u32);
         home.map_or(Piece::NONE, |home| Piece {
             span: home.span,
             block: home.block,
             word: Word::NONE,
-            others: slots,
+            others: self.slots_of(home),
         })
     }
 
@@ -167,7 +163,7 @@ impl<T> Values<T> {
 
     fn has(&self, spot: Spot) -> bool {
         let home = self.spans.find(spot.span);
-        home.is_some_and(|home| self.row_of(home).live.contains(spot.slot))
+        home.is_some_and(|home| self.has_at(home, spot.slot))
     }
 }
 
