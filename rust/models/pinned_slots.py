@@ -80,8 +80,10 @@ SOURCES = {
         "pub fn remove(": ["remove_or(key", "slot.remove(then)", "slot.claim().is_some()"],
         "pub fn remove_awaited(": ["remove_or(key", "slot.remove_awaited()", "false"],
         "fn remove_or(": [
-            "page_if_live(home, key)",
-            "!slot.close() && !mark(slot)",
+            "page_if_named(home, key)",
+            "!slot.close()",
+            "!slot.is_live()",
+            "!mark(slot)",
             "Removed::Pinned",
             "page.take(",
             "take_name::<T>(home, key)",
@@ -89,7 +91,8 @@ SOURCES = {
         ],
         "pub fn vacate(": ["take_name::<T>(home, key)", "self.free(key"],
         "fn take_name<": ["set_name(NO_NAME)"],
-        "fn page_if_live<": ["slot.name() == name_of(key) && slot.is_live()"],
+        "fn page_if_named<": [".name() == name_of(key)"],
+        "fn page_if_live<": ["page_if_named(home, key)", ".is_live()"],
         "fn move_values(": [
             "!close_all(page)",
             "copy_value(",
@@ -105,7 +108,12 @@ SOURCES = {
         "pub fn insert_entry(": [".put(slot", ".open_pinned()"],
     },
     "../shared_slab.rs": {
-        "fn pin(": [".pin(name_of(key))", "Pin::Held", "self.finish(", "self.pin_under_lock(key)"],
+        "fn page_with_pin(": [
+            ".pin(name_of(key))",
+            "Pin::Held",
+            "self.finish(",
+            "self.pin_under_lock(key)",
+        ],
         "fn pin_under_lock(": ["find_live(inner)", ".pin_live()"],
         "fn let_go(": ["unpin()", "self.finish("],
         "fn finish(": ["page.take(slot)", ".lock()", "key_of(page.slot(slot).name()", "vacate_removed"],
@@ -336,14 +344,20 @@ class Remover(Program):
 
     def find(self, view, _):
         home = view.state.homes[view.me.key]
-        if home is None or not view.slot(home).open or view.slot(home).removed:
+        if home is None:
             return [view.unlocked().to("end")]
         return [view.to("close", slot=home)]
 
     def close(self, view, _):
         slot = view.slot()
-        if slot.pins == 0 or self.fault == "closes_with_pins":
+        may_close = slot.pins == 0 or self.fault == "closes_with_pins"
+        if slot.open and not slot.removed and may_close:
             return [view.close().to("take_out")]
+        return [view.to("look")]
+
+    def look(self, view, _):
+        if not view.slot().open or view.slot().removed:
+            return [view.unlocked().to("end")]
         return [view.to("mark")]
 
     def mark(self, view, _):

@@ -371,17 +371,26 @@ impl<T> SharedSlab<T> {
         self.get(key).is_some()
     }
 
-    /// Pins the value of the key: by its hint, or else under the lock.
+    /// Pins the value of the key.
     #[inline]
     fn pin(&self, key: Key) -> Option<Pinned<T>> {
+        let page = self.page_with_pin(key)?;
+        // SAFETY: its slot has the key's name, and is pinned.
+        Some(unsafe { Pinned::new(page, key) })
+    }
+
+    /// The page where the value of the key stands, which is pinned: by its hint, or else under the
+    /// lock.
+    // The page alone, which is in a register whoever finds it.
+    #[inline]
+    fn page_with_pin(&self, key: Key) -> Option<Page<T>> {
         let slot = slot_of(key);
         if slot >= Page::<T>::SLOTS {
             return None;
         }
         if let Some(page) = self.hints.get(key.shard() as usize)?.find(key.serial()) {
             match page.slot(slot).pin(name_of(key)) {
-                // SAFETY: its slot has the key's name, and is pinned.
-                Pin::Held => return Some(unsafe { Pinned::new(page, key) }),
+                Pin::Held => return Some(page),
                 Pin::Failed(None) => {}
                 Pin::Failed(Some(claim)) => self.finish(key.shard(), page, slot, claim),
             }
@@ -390,13 +399,12 @@ impl<T> SharedSlab<T> {
     }
 
     #[cold]
-    fn pin_under_lock(&self, key: Key) -> Option<Pinned<T>> {
+    fn pin_under_lock(&self, key: Key) -> Option<Page<T>> {
         self.with(key, |table, inner| {
             let page = table.find_live(inner)?;
             page.slot(slot_of(inner)).pin_live();
             table.hint(inner, page);
-            // SAFETY: its slot has the key's name, and is pinned.
-            Some(unsafe { Pinned::new(page, key) })
+            Some(page)
         })?
     }
 

@@ -15,7 +15,7 @@ const THREADS: usize = 64;
 /// The homes of all threads: of each the shard that took its last value.
 pub(crate) struct Homes {
     // By the thread's number, and then by turns.
-    of: Box<[[AtomicU8; TURNS]; THREADS]>,
+    of: Box<[AtomicU8; TURNS * THREADS]>,
     // How many shards there are, and how many from a home on to the next.
     shards: usize,
     apart: usize,
@@ -38,8 +38,8 @@ impl Homes {
         let apart = shards / all;
         let home = |thread, turn| (thread * turns + turn % turns) % all * apart;
         Homes {
-            of: Box::new(array::from_fn(|thread| {
-                array::from_fn(|turn| AtomicU8::new(home(thread, turn) as u8))
+            of: Box::new(array::from_fn(|at| {
+                AtomicU8::new(home(at / TURNS, at % TURNS) as u8)
             })),
             shards,
             apart,
@@ -49,16 +49,29 @@ impl Homes {
     /// The home of this thread whose turn it is.
     #[inline]
     pub fn next(&self) -> Home<'_> {
-        /// The threads that asked for a home so far.
-        static THREADS_SO_FAR: AtomicUsize = AtomicUsize::new(0);
         thread_local! {
-            static NUMBER: usize = THREADS_SO_FAR.fetch_add(1, Ordering::Relaxed);
-            static TURN: Cell<usize> = const { Cell::new(0) };
+            // Where its last home stands: not among them at first.
+            static LAST: Cell<usize> = const { Cell::new(usize::MAX) };
         }
-        let turn = TURN.with(|turn| turn.replace((turn.get() + 1) % TURNS));
-        let at = &self.of[NUMBER.with(|number| *number) % THREADS][turn];
+        let last = LAST.with(|last| {
+            let at = match last.get() {
+                usize::MAX => first_home(),
+                at => at / TURNS * TURNS + (at + 1) % TURNS,
+            };
+            last.set(at);
+            at
+        });
+        let at = &self.of[last % (TURNS * THREADS)];
         Home { homes: self, at }
     }
+}
+
+/// Where the first home of a thread stands that had none yet.
+#[cold]
+fn first_home() -> usize {
+    /// The threads that asked for a home so far.
+    static THREADS_SO_FAR: AtomicUsize = AtomicUsize::new(0);
+    THREADS_SO_FAR.fetch_add(1, Ordering::Relaxed) % THREADS * TURNS
 }
 
 impl Home<'_> {

@@ -16,6 +16,8 @@ use std::sync::Arc;
 
 /// The keys of one shard, as its core knows them, which is its only shard there: so a key has
 /// shard 0 here.
+// The core first, where a reference to the table is one to its handle.
+#[repr(C)]
 pub(super) struct Table<T> {
     // A key is live here from the vacant entry on until its value is out of its slot.
     core: Core,
@@ -197,13 +199,18 @@ impl<T> Table<T> {
         let Some(home) = self.spans.find_mut(key.span()) else {
             return Removed::Nothing;
         };
-        let Some(page) = page_if_live(home, key) else {
+        let Some(page) = page_if_named(home, key) else {
             return Removed::Nothing;
         };
         let slot = page.slot(slot_of(key));
-        if !slot.close() && !mark(slot) {
-            self.removed += 1;
-            return Removed::Pinned(page);
+        if !slot.close() {
+            if !slot.is_live() {
+                return Removed::Nothing;
+            }
+            if !mark(slot) {
+                self.removed += 1;
+                return Removed::Pinned(page);
+            }
         }
         // SAFETY: the slot was closed here with its value, and loses its name.
         let value = unsafe { page.take(slot_of(key)) };
@@ -497,15 +504,18 @@ fn page_of<T>(home: &Home) -> Page<T> {
     Page::of(home.block.address())
 }
 
-/// The page of the home of the key's span, if the value of the key is there and not removed.
+/// The page of the home of the key's span, if the key has its slot there.
+#[inline]
+fn page_if_named<T>(home: &Home, key: Key) -> Option<Page<T>> {
+    let page = page_of(home);
+    (slot_of(key) < Page::<T>::SLOTS && page.slot(slot_of(key)).name() == name_of(key))
+        .then_some(page)
+}
+
+/// The same, if the value of the key is there and not removed.
 #[inline]
 fn page_if_live<T>(home: &Home, key: Key) -> Option<Page<T>> {
-    let page = page_of(home);
-    if slot_of(key) >= Page::<T>::SLOTS {
-        return None;
-    }
-    let slot = page.slot(slot_of(key));
-    (slot.name() == name_of(key) && slot.is_live()).then_some(page)
+    page_if_named(home, key).filter(|page| page.slot(slot_of(key)).is_live())
 }
 
 /// Takes the key's name from its slot, with one of the values that its span has at this home, and
@@ -524,17 +534,21 @@ const NO_NAME: u64 = 0;
 /// generation is 0.
 #[inline]
 pub(super) fn name_of(key: Key) -> u64 {
-    u64::from(key.serial()) << 32 | u64::from(key.generation())
+    key.numbers().0
 }
 
 /// The key of the name at this slot, as the core knows it, if it is one.
 pub(super) fn key_of(name: u64, slot: usize) -> Option<Key> {
-    Key::of_span(Span::new(0, serial_of(name)), slot as u8, name as u32)
+    Key::of_span(
+        Span::new(0, serial_of(name)),
+        slot as u8,
+        (name >> 32) as u32,
+    )
 }
 
 #[inline]
 fn serial_of(name: u64) -> u32 {
-    (name >> 32) as u32
+    name as u32
 }
 
 #[inline]
