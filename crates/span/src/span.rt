@@ -1,6 +1,6 @@
 // One span: which of its slots are live, the generations that they were given, and the log of all
 // that was done, which is kept or only counted.
-ghost use Rattle.std.specs.Prelude.{◌≡◌, ◌+◌, ◌<◌, ◌≤◌, ◌↔◌, IsTrue, OnOk, OnErr, IfOk, IfSome, MatchOption, [], ◌∷◌, ◌++◌, length, true, false};
+ghost use Rattle.std.specs.Prelude.{◌≡◌, ◌+◌, ◌<◌, ◌≤◌, ◌↔◌, IsTrue, OnOk, OnErr, IfOk, IfSome, MatchOption, [], length, true, false};
 ghost use Rattle.std.specs.Bool.{OnTrue, OnFalse};
 ghost use Rattle.std.specs.FinSet as set;
 ghost use Rattle.span.specs.declared.change.Change.TheVariants as Change;
@@ -60,7 +60,7 @@ impl<L: Log> Span<L> {
     ghost use Rattle.span.specs.Classes.{slots_in, width_of};
     ghost use Rattle.span.specs.Log.{IsLegal, IsOfClass, live_slots, worn_slots, puts_of, Holds, was_issued};
     ghost use Rattle.span.specs.Order.{HoldsNoneFrom, IsFirstHeld};
-    ghost use Rattle.span.specs.State.{IsSettable};
+    ghost use Rattle.span.specs.State.{IsSettable, used_or_worn, with_change};
 
     /// A span to which nothing was done yet, whose log is kept or counted as its type says: as
     /// [`Span::new`]. Takes no memory.
@@ -99,9 +99,8 @@ impl<L: Log> Span<L> {
             was_issued self.old.log key.slot key.generation ≡ false) }
 
         // The span.
-        ensures ok { OnOk result (self.new ≡ record self.old {
-          log = self.old.log ++ Change.Put slot (puts_of slot self.old.log + 1) words.now ∷ [];
-        }) }
+        ensures ok { OnOk result (self.new ≡ with_change self.old
+            (Change.Put slot (puts_of slot self.old.log + 1) words.now)) }
         ensures err { OnErr result (self.new ≡ self.old) }
         ensures legal { IsLegal self.new.gens self.new.log }
         ensures of_class { IsOfClass self.new.class self.new.log }
@@ -169,9 +168,8 @@ impl<L: Log> Span<L> {
     ) -> Result<bool, AllocError>
         ensures found { IfOk result (λ done. IsTrue done
             ↔ IsSettable self.old slot generation words.now) }
-        ensures set { IfOk result (λ done. OnTrue done (self.new ≡ record self.old {
-          log = self.old.log ++ Change.Set slot generation words.now ∷ [];
-        })) }
+        ensures set { IfOk result (λ done. OnTrue done
+            (self.new ≡ with_change self.old (Change.Set slot generation words.now))) }
         ensures unknown { IfOk result (λ done. OnFalse done (self.new ≡ self.old)) }
         ensures refused { OnErr result (IsSettable self.old slot generation words.now) }
         ensures err { OnErr result (self.new ≡ self.old) }
@@ -189,9 +187,8 @@ impl<L: Log> Span<L> {
     // words.
     fn set_at(&mut self, slot: u8, generation: u32, words: &[u128]) -> Result<(), AllocError>
         requires { IsSettable self.old slot generation words.now }
-        ensures ok { OnOk result (self.new ≡ record self.old {
-          log = self.old.log ++ Change.Set slot generation words.now ∷ [];
-        }) }
+        ensures ok { OnOk result
+            (self.new ≡ with_change self.old (Change.Set slot generation words.now)) }
         ensures err { OnErr result (self.new ≡ self.old) }
         ensures legal { IsLegal self.new.gens self.new.log }
         ensures of_class { IsOfClass self.new.class self.new.log }
@@ -206,9 +203,8 @@ impl<L: Log> Span<L> {
     #[inline(always)]
     pub fn free_held(&mut self, slot: u8, generation: u32) -> bool
         ensures found { IsTrue result ↔ Holds self.old.log slot generation }
-        ensures freed { OnTrue result (self.new ≡ record self.old {
-          log = self.old.log ++ Change.Free slot generation ∷ [];
-        }) }
+        ensures freed { OnTrue result
+            (self.new ≡ with_change self.old (Change.Free slot generation)) }
         ensures unknown { OnFalse result (self.new ≡ self.old) }
         ensures legal { IsLegal self.new.gens self.new.log }
     {
@@ -223,9 +219,7 @@ impl<L: Log> Span<L> {
     #[inline(always)]
     fn free_at(&mut self, slot: u8, generation: u32)
         requires { Holds self.old.log slot generation }
-        ensures freed { self.new ≡ record self.old {
-          log = self.old.log ++ Change.Free slot generation ∷ [];
-        } }
+        ensures freed { self.new ≡ with_change self.old (Change.Free slot generation) }
         ensures legal { IsLegal self.new.gens self.new.log }
     {
         self.log.push_free(slot, generation);
@@ -267,12 +261,10 @@ impl<L: Log> Span<L> {
     #[inline(always)]
     pub fn lowest_unused_in(&self, used: &Bits256, word: usize) -> Option<Vacancy>
         requires { word < 4 }
-        ensures lowest { MatchOption result
-            (HasWord (set.union used.now (worn_slots self.now.gens self.now.log)) word)
-            (λ found. IsLowestOutsideIn
-            (set.union used.now (worn_slots self.now.gens self.now.log)) word found.slot) }
-        ensures last { IfSome result (λ found. IsTrue found.is_last ↔ HasWord (set.insert
-            (set.union used.now (worn_slots self.now.gens self.now.log)) found.slot) word) }
+        ensures lowest { MatchOption result (HasWord (used_or_worn self.now used.now) word)
+            (λ found. IsLowestOutsideIn (used_or_worn self.now used.now) word found.slot) }
+        ensures last { IfSome result (λ found. IsTrue found.is_last
+            ↔ HasWord (set.insert (used_or_worn self.now used.now) found.slot) word) }
         ensures in_range { IfSome result (λ found. found.slot < SLOTS) }
     {
         if self.may_be_worn {
