@@ -1,5 +1,5 @@
 -- What contracts see of the two ends of a ring, and of the rings from all workers to all shards.
-use Rattle.std.specs.Prelude.{◌≡◌, ◌<◌, ◌≤◌, ℕ, All, List, [], ◌∷◌, ◌++◌, Option, Vec, length, map, slice_get, slice_index_or, vec_len}
+use Rattle.std.specs.Prelude.{◌≡◌, ◌<◌, ◌≤◌, MatchResult, Result, ℕ, All, List, [], ◌∷◌, ◌++◌, Option, Vec, length, map, slice_get, slice_index_or, slice_set, vec_len}
 use denote.RawPtr.{Ptr}
 use Rattle.rtrb.specs.Shared.{Names}
 use Rattle.std.specs.declared.alloc.Global.{Global}
@@ -63,6 +63,10 @@ with_row [] row = []
 with_row (column ∷ columns) [] = column ∷ columns
 with_row (column ∷ columns) (entry ∷ row) = (column ++ entry ∷ []) ∷ with_row columns row
 
+-- the table with one more entry, last in the row of the number
+abbrev pub with_entry : {T : Type 0} → List (List T) → ℕ → T → List (List T)
+with_entry rows i entry = slice_set rows i (slice_index_or rows i [] ++ entry ∷ [])
+
 -- each row has n entries
 abbrev pub AreLong : {T : Type 0} → ℕ → List (List T) → Type 0
 AreLong n [] = Unit {0}
@@ -73,6 +77,17 @@ AreLong n (row ∷ rows) = (length row ≡ n) × AreLong n rows
 abbrev pub AreFreshOutboxes : ℕ → List Sending → Type 0
 AreFreshOutboxes capacity = All (λ outbox. (outbox.sent ≡ []) × (outbox.free ≡ capacity)
     × (outbox.waiting ≡ 0) × (outbox.ring.capacity ≡ capacity))
+
+-- the ends of a new ring of that capacity
+abbrev pub AreNewEnds : ℕ → Sending → Taking → Type 0
+AreNewEnds capacity outbox inbox = (outbox.ring ≡ inbox.ring) × (outbox.sent ≡ [])
+    × (outbox.free ≡ capacity) × (outbox.waiting ≡ 0) × (outbox.ring.capacity ≡ capacity)
+    × (inbox.taken ≡ [])
+
+-- the key is the last that was sent; or it is handed back, and nothing was sent
+abbrev pub IsSentOrBack : Key → List Key → Result (Unit {0}) Key → List Key → Type 0
+IsSentOrBack key old result new = MatchResult result (λ _. new ≡ old ++ key ∷ [])
+    (λ back. (back ≡ key) × (new ≡ old))
 
 -- takers' ends by which nothing was taken
 abbrev pub AreFreshInboxes : List Taking → Type 0

@@ -1,9 +1,9 @@
 // The two ends of a ring.
-ghost use Rattle.std.specs.Prelude.{◌≡◌, ◌+◌, ◌-◌, ◌<◌, ◌≤◌, ◌↔◌, [], ◌∷◌, ◌++◌, All, IfOk, IsOk, IsTrue, MatchResult, OnErr, OnOk, drop, length, max, take, vec_capacity, vec_len};
+ghost use Rattle.std.specs.Prelude.{◌≡◌, ◌+◌, ◌-◌, ◌<◌, ◌≤◌, ◌↔◌, [], ◌∷◌, ◌++◌, All, IfOk, IsOk, IsTrue, OnErr, OnOk, drop, length, max, take, vec_capacity, vec_len};
 ghost use mathlib.Core.List.{IsPrefix};
 ghost use Rattle.rtrb.specs.Ring.{ProducerLooked, SameConsumer, SameProducer, known_free, known_items, received, sent};
 ghost use Rattle.remote_queue.specs.Drawn.{drawn_keys, without_last};
-ghost use Rattle.remote_queue.specs.Rings.{IsInRange};
+ghost use Rattle.remote_queue.specs.Rings.{AreNewEnds, IsInRange, IsSentOrBack};
 ghost use Rattle.span.specs.declared.limits.TheConstants.{MOST_RING_KEYS};
 ghost use Rattle.remote_queue.specs.declared.ends.TheConstants.{BLOCK, MOST_KNOWN_KEYS};
 
@@ -91,9 +91,7 @@ impl Model for Inbox {
 // A new ring with room for that many keys.
 pub(crate) fn ring(alloc: Global, capacity: usize) -> Result<(Outbox, Inbox), AllocError>
     requires { (1 ≤ capacity) × (capacity ≤ MOST_RING_KEYS) }
-    ensures { IfOk result (λ ends. (ends.0.ring ≡ ends.1.ring) × (ends.0.sent ≡ [])
-        × (ends.0.free ≡ capacity) × (ends.0.waiting ≡ 0) × (ends.0.ring.capacity ≡ capacity)
-        × (ends.1.taken ≡ [])) }
+    ensures { IfOk result (λ ends. AreNewEnds capacity ends.0 ends.1) }
 {
     let waiting = Vec::with_capacity(alloc, capacity.min(BLOCK))?;
     let block = Vec::with_capacity(alloc, capacity.min(BLOCK))?;
@@ -209,11 +207,8 @@ fn send_after_look(
     ensures places { vec_len waiting.new + places.new ≤ known_free producer.new }
     ensures room { vec_len waiting.new < vec_capacity waiting.new }
     ensures ring { SameProducer producer.old producer.new }
-    ensures sent { MatchResult result
-        (λ _. sent producer.new ++ waiting.new.items
-        ≡ (sent producer.old ++ waiting.old.items) ++ key ∷ [])
-        (λ back. (back ≡ key) × (sent producer.new ++ waiting.new.items
-        ≡ sent producer.old ++ waiting.old.items)) }
+    ensures sent { IsSentOrBack key (sent producer.old ++ waiting.old.items) result
+        (sent producer.new ++ waiting.new.items) }
     ensures none { OnErr result (vec_len waiting.new ≡ 0) }
     ensures succeeds { vec_len waiting.old < known_free producer.old → IsOk result }
     ensures place { OnOk result (known_free producer.old + vec_len waiting.new
@@ -242,11 +237,8 @@ fn send_by(
     ensures places { vec_len waiting.new + places.new ≤ known_free producer.new }
     ensures room { vec_len waiting.new < vec_capacity waiting.new }
     ensures ring { SameProducer producer.old producer.new }
-    ensures sent { MatchResult result
-        (λ _. sent producer.new ++ waiting.new.items
-        ≡ (sent producer.old ++ waiting.old.items) ++ key ∷ [])
-        (λ back. (back ≡ key) × (sent producer.new ++ waiting.new.items
-        ≡ sent producer.old ++ waiting.old.items)) }
+    ensures sent { IsSentOrBack key (sent producer.old ++ waiting.old.items) result
+        (sent producer.new ++ waiting.new.items) }
     ensures none { OnErr result (vec_len waiting.new ≡ 0) }
     ensures succeeds { vec_len waiting.old < known_free producer.old → IsOk result }
     ensures place { OnOk result (known_free producer.old + vec_len waiting.new
@@ -271,9 +263,7 @@ impl Outbox {
     #[inline(always)]
     pub fn send(&mut self, key: Key) -> Result<(), Key>
         ensures ring { self.new.ring ≡ self.old.ring }
-        ensures sent { MatchResult result
-            (λ _. self.new.sent ≡ self.old.sent ++ key ∷ [])
-            (λ back. (back ≡ key) × (self.new.sent ≡ self.old.sent)) }
+        ensures sent { IsSentOrBack key self.old.sent result self.new.sent }
         ensures succeeds { 0 < self.old.free → IsOk result }
         ensures place { OnOk result (self.old.free ≤ self.new.free + 1) }
         ensures full { OnErr result (self.old.free ≡ 0) }

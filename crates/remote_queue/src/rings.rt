@@ -1,6 +1,6 @@
 // A ring for each worker and shard.
-ghost use Rattle.std.specs.Prelude.{◌≡◌, ◌+◌, ◌<◌, ◌≤◌, ◌↔◌, [], ◌∷◌, ◌++◌, All, IfOk, IsErrOf, IsTrue, OnOk, map, slice_index_or, slice_set, vec_len};
-ghost use Rattle.remote_queue.specs.Rings.{AreFreshInboxes, AreFreshOutboxes, AreLong, AreNewLinks, AreWithinLimits, inbox_rings, with_row};
+ghost use Rattle.std.specs.Prelude.{◌≡◌, ◌<◌, ◌≤◌, ◌↔◌, [], All, IfOk, IsErrOf, IsTrue, OnOk, map, vec_len};
+ghost use Rattle.remote_queue.specs.Rings.{AreFreshInboxes, AreFreshOutboxes, AreLong, AreNewLinks, AreWithinLimits, inbox_rings, with_entry, with_row};
 ghost use Rattle.span.specs.declared.limits.TheConstants.{MOST_RING_KEYS};
 
 use crate::ends::{Inbox, Outbox, ring};
@@ -123,8 +123,7 @@ fn push_to(columns: &mut Vec<Vec<Inbox>>, shard: usize, inbox: Inbox) -> Result<
     ensures len { vec_len columns.new ≡ vec_len columns.old }
     ensures untaken { OnOk result (All (λ column. AreFreshInboxes column.items) columns.new.items) }
     ensures rings { OnOk result (inbox_rings columns.new.items
-        ≡ slice_set (inbox_rings columns.old.items) shard
-        (slice_index_or (inbox_rings columns.old.items) shard [] ++ inbox.ring ∷ [])) }
+        ≡ with_entry (inbox_rings columns.old.items) shard inbox.ring) }
 {
     columns[shard].push(inbox)?;
     Ok(())
