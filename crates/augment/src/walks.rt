@@ -1,8 +1,9 @@
 // Alternating walks from the abandoned places left out.
 ghost use Rattle.std.specs.Prelude.{◌≡◌, ◌+◌, ◌<◌, length, true, None, IfSome, IfNone, IfOk};
 ghost use Rattle.augment.specs.Mates.{mate};
+ghost use Rattle.augment.specs.Searches.{HaveSearched, most_entries};
 ghost use Rattle.mesh_graph.specs.Groups.{compatible_at};
-ghost use Rattle.augment.specs.Walks.{Joins, pair_count, group, AreReached, IsSearch, unpassed};
+ghost use Rattle.augment.specs.Walks.{Joins, pair_count, group, AreReached};
 
 use crate::mates::Mates;
 use crate::places::Places;
@@ -64,8 +65,7 @@ impl Walks {
     /// The search that has reached the places left out alone.
     pub(crate) fn start(alloc: Global, graph: &Graph, mates: &Mates) -> Result<Self, AllocError>
         requires owned { length mates.now.planned.items ≡ length graph.now.owned }
-        ensures search { IfOk result (λ walks. IsSearch graph.now mates.now.onto.items
-            walks.entries.items walks.reached.passed.items 0) }
+        ensures search { IfOk result (λ walks. HaveSearched graph.now mates.now walks 0) }
         ensures owned { IfOk result (λ walks. length walks.reached.passed.items
             ≡ length graph.now.owned) }
     {
@@ -88,8 +88,7 @@ impl Walks {
         at: usize,
     ) -> Result<Option<usize>, AllocError>
         // The search has come to this entry.
-        requires search { IsSearch graph.now mates.now.onto.items self.old.entries.items
-            self.old.reached.passed.items at }
+        requires search { HaveSearched graph.now mates.now self.old at }
         requires at_in { at < length self.old.entries.items }
         requires groups { length mates.now.onto.items ≡ length graph.now.abandoned }
         requires owned { length mates.now.planned.items ≡ length graph.now.owned }
@@ -97,9 +96,7 @@ impl Walks {
 
         // It has gone past the entry.
         ensures searched { IfOk result (λ found. IfNone found
-            (IsSearch graph.now mates.now.onto.items self.new.entries.items
-            self.new.reached.passed.items
-            (at + 1))) }
+            (HaveSearched graph.now mates.now self.new (at + 1))) }
 
         // Or it has come to a free place.
         ensures linked { IfOk result (λ found. IfSome found
@@ -113,9 +110,7 @@ impl Walks {
             (λ free. compatible_at graph.now (group self.new.entries.items at) free ≡ true)) }
 
         // Each entry stands for a place that was passed.
-        ensures left { IfOk result (λ found. length self.new.entries.items + unpassed
-            self.new.reached.passed.items ≡ length self.old.entries.items + unpassed
-            self.old.reached.passed.items) }
+        ensures left { IfOk result (λ found. most_entries self.new ≡ most_entries self.old) }
         ensures places { IfOk result (λ found. length self.new.reached.passed.items
             ≡ length graph.now.owned) }
     {
