@@ -1,5 +1,5 @@
 -- What a mark sees of the pool and the shards, and the plan that it answers.
-use Rattle.std.specs.Prelude.{◌≡◌, ◌⊎◌, ℕ, ◌<◌, Bool, List, length, map, Some, slice_get}
+use Rattle.std.specs.Prelude.{◌≡◌, ◌⊎◌, ℕ, ◌<◌, Bool, List, length, map, Some, slice_get, sum_by, ◌++◌}
 use Rattle.std.specs.List.{IsDistinct, flat_map}
 use Rattle.std.specs.List.Sorted.{IsPermutation}
 use Rattle.span.specs.Ids.{same_span}
@@ -16,6 +16,7 @@ use Rattle.marks.specs.declared.sight.Sight.TheVariants.{All, Sparsest}
 use Rattle.certificate.specs.Plans.{IsBestPlanOf, IsCertificateOf, IsShortOf}
 use Rattle.certificate.specs.Text.{IsWritable}
 use Rattle.mesh_graph.specs.declared.build.TheConstants.{MOST_GROUPS}
+use Rattle.pool.specs.Sparse.{AreParted}
 
 -- every group of the pool that has a page
 abbrev pub abandoned_entries : PoolState → List Entry
@@ -24,6 +25,15 @@ abandoned_entries pool = map summary (paged_groups pool)
 -- every group of every shard that has a page; a shard that has ended has none
 abbrev pub owned_entries : List ShardState → List Entry
 owned_entries shards = flat_map (λ shard. map summary (paged_in shard.groups)) shards
+
+-- how many pages the shards have
+abbrev pub pages_of : List ShardState → ℕ
+pages_of shards = sum_by (λ shard. length (paged_in shard.groups)) shards
+
+-- the groups that are found among some entries become those found among more of them
+abbrev pub PartMore : ℕ → List Entry → List Entry → List Entry → Type 0
+PartMore bound more old new = (before : List Entry) → AreParted bound before old
+    → AreParted bound (before ++ more) new
 
 -- every group of the pool and of every shard that has a page, each once, by ascending head
 pub record IsSeen (pool : PoolState) (shards : List ShardState) (groups : Groups) : Type 0 where

@@ -1,12 +1,11 @@
 // Closes the groups onto which a plan folds, and opens them again.
-ghost use Rattle.std.specs.Prelude.{[], ◌≡◌, ◌++◌, ◌∷◌, List, map};
+ghost use Rattle.std.specs.Prelude.{◌≡◌, map};
 ghost use Rattle.std.specs.List.{IsDistinct};
 ghost use Rattle.span.specs.Ids.{same_span};
 ghost use Rattle.span.specs.declared.id.SpanId.{SpanId};
 ghost use Rattle.mesh_graph.specs.Groups.{ids};
-ghost use Rattle.shard.specs.State.{ShardState};
 ghost use Rattle.marks.specs.Closings.{closing, reopened};
-ghost use Rattle.marks.specs.OneShard.{ClosesAt, IsOnce};
+ghost use Rattle.marks.specs.OneShard.{CloseOneMore, ClosesAt};
 ghost use Rattle.marks.specs.Seen.{owned_entries};
 
 use crate::lends_shard::LendsShard;
@@ -37,9 +36,7 @@ pub fn reopen_all<L: Log>(shards: &mut [Shard<L>])
 // Closes the group onto which the pair folds, after those of other pairs. A shard that did not end
 // has the groups that it opened, so the one of the head's number is asked before the others.
 fn close_one<H: LendsShard>(shards: &mut [H], pair: (SpanId, SpanId))
-    ensures { (first : List ShardState) (done : List (SpanId × SpanId)) → IsOnce first pair.1
-        → map H.lent shards.old ≡ map (closing done) first
-        → map H.lent shards.new ≡ map (closing (done ++ pair ∷ [])) first }
+    ensures { CloseOneMore pair (map H.lent shards.old) (map H.lent shards.new) }
 {
     if close_at(shards, pair.1.shard as usize, pair.1) {
         return;

@@ -26,9 +26,8 @@ impl Model for Limits {
         (limits_of limits.shards limits.page_limit limits.ring_capacity limits.gens)
         limits.span_limit };
 
-    ghost invariant = { λ limits. AreWithin (with_span_limit
-        (limits_of limits.shards limits.page_limit limits.ring_capacity limits.gens)
-        limits.span_limit) };
+    ghost invariant = { λ limits. AreWithin (with_span_limit (limits_of limits.shards
+        limits.page_limit limits.ring_capacity limits.gens) limits.span_limit) };
 
     ghost inverse = { λ numbers. record {
       shards = numbers.shards;

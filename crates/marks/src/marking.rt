@@ -1,5 +1,5 @@
 // What a mark sees, and the largest plan of it.
-ghost use Rattle.std.specs.Prelude.{◌≡◌, ◌↔◌, ◌-◌, ◌^◌, ◌≤◌, ◌++◌, IfOk, IsTrue, OnErr, OnOk, length, map, min, sum_by};
+ghost use Rattle.std.specs.Prelude.{◌≡◌, ◌↔◌, ◌-◌, ◌^◌, ◌≤◌, ◌++◌, IfOk, IsTrue, OnErr, OnOk, length, map, min};
 ghost use Rattle.std.specs.List.{All};
 ghost use Rattle.shard.specs.Sound.{IsSound as IsSoundShard};
 ghost use Rattle.groups.specs.Group.{paged_in, summary};
@@ -7,7 +7,7 @@ ghost use Rattle.pool.specs.Sound.{IsSound as IsSoundPool};
 ghost use Rattle.certificate.specs.Plans.{IsBestPlanOf, IsCertificateOf, IsShortOf};
 ghost use Rattle.certificate.specs.Text.{FitsClass};
 ghost use Rattle.marks.specs.Opening.{Marks};
-ghost use Rattle.marks.specs.Seen.{AreDistinct, AreSound, AreTooMany, IsSeen, IsShown, IsTooMany, owned_entries};
+ghost use Rattle.marks.specs.Seen.{AreDistinct, AreSound, AreTooMany, IsSeen, IsShown, IsTooMany, owned_entries, pages_of};
 ghost use Rattle.mesh_graph.specs.Groups.{IsAscending};
 ghost use Rattle.mesh_graph.specs.declared.build.TheConstants.{MOST_GROUPS};
 
@@ -193,9 +193,7 @@ fn push_groups<H: LendsShard>(entries: &mut Vec<Entry>, lender: &H) -> Result<()
 
 // How many pages the shards have, or the greatest number where there are more.
 fn owned_pages<H: LendsShard>(shards: &[H]) -> usize
-    ensures { result ≡ min (sum_by (λ shard. length (paged_in shard.groups))
-        (map H.lent shards.now))
-        (2 ^ 64 - 1) }
+    ensures { result ≡ min (pages_of (map H.lent shards.now)) (2 ^ 64 - 1) }
 {
     let mut pages: usize = 0;
     for shard in shards {

@@ -1,8 +1,8 @@
 // The groups that a mark of some sees, without an entry of each other group.
-ghost use Rattle.std.specs.Prelude.{◌≤◌, ◌++◌, List, IfOk, OnErr, OnOk, map};
+ghost use Rattle.std.specs.Prelude.{◌≤◌, IfOk, OnErr, OnOk, map};
 ghost use Rattle.std.specs.List.{IsDistinct};
 ghost use Rattle.groups.specs.Group.{paged_in, summary};
-ghost use Rattle.marks.specs.Seen.{AreDistinct, AreSound, IsSeenInPart, owned_entries};
+ghost use Rattle.marks.specs.Seen.{AreDistinct, AreSound, IsSeenInPart, PartMore, owned_entries};
 ghost use Rattle.mesh_graph.specs.Groups.{ids};
 ghost use Rattle.mesh_graph.specs.declared.build.TheConstants.{MOST_GROUPS};
 ghost use Rattle.pool.specs.Sound.{IsSound as IsSoundPool};
@@ -164,10 +164,8 @@ fn push_groups_below<H: LendsShard>(
     lender: &H,
     bound: usize,
 ) -> Result<(), AllocError>
-    ensures parted { IfOk result (λ _. (before : List Entry)
-        → AreParted bound before entries.old.items
-        → AreParted bound (before ++ map summary (paged_in (H.lent lender.now).groups))
-        entries.new.items) }
+    ensures parted { IfOk result (λ _. PartMore bound (map summary
+        (paged_in (H.lent lender.now).groups)) entries.old.items entries.new.items) }
     ensures sound { IsSoundShard (H.lent lender.now) }
 {
     let shard = lender.shard();
