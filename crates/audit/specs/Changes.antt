@@ -1,12 +1,13 @@
 -- What a change does to its slot, as the walk over a log keeps it. No public clause cites this
 -- module.
-use Rattle.std.specs.Prelude.{◌≡◌, ℕ, ◌<◌, Option, Some, None, List, slice_index_or}
+use Rattle.std.specs.Prelude.{◌≡◌, Bool, IsTrue, [], ℕ, ◌<◌, Option, Some, None, List, slice_index_or, ◌++◌, ◌∷◌, ◌↔◌}
 use Rattle.std.specs.Option.{option_map}
 use Rattle.std.specs.FinMap as map
 use Rattle.span.specs.declared.change.Change.{Change}
 use Rattle.span.specs.declared.change.Change.TheVariants.{Put, Set, Free}
-use Rattle.span.specs.Log.{Held, replay, puts_of}
+use Rattle.span.specs.Log.{Held, replay, puts_of, IsChangeOf, IsLegalAfter, IsOfClass}
 use Rattle.bitmap.specs.declared.bits.TheConstants.{SLOTS}
+use Rattle.span.specs.declared.class.Class.{Class}
 
 -- the slot of a change
 abbrev pub slot_of : Change → ℕ
@@ -39,3 +40,17 @@ AreAfter changes held = (slot : ℕ) → slot < SLOTS → slice_index_or held sl
 abbrev pub AreIssued : List Change → List ℕ → Type 0
 AreIssued changes issued = (slot : ℕ) → slot < SLOTS
     → slice_index_or issued slot 0 ≡ puts_of slot changes
+
+-- whether the change is legal after changes that left this in the slots, if it and they are of one
+-- class
+abbrev pub TellsLegal : ℕ → List (Option ℕ) → List ℕ → Change → Bool → Type 0
+TellsLegal gens held issued change legal = (class : Class) (before : List Change)
+    → IsOfClass class before → IsChangeOf class change
+    → AreAfter before held → AreIssued before issued
+    → (IsTrue legal ↔ IsLegalAfter gens before change)
+
+-- the list of how many puts of each slot some changes have becomes that of these and one more, if
+-- that is legal after them
+abbrev pub CountsChange : Change → List ℕ → List ℕ → Type 0
+CountsChange change old new = (before : List Change) (gens : ℕ) → AreIssued before old
+    → IsLegalAfter gens before change → AreIssued (before ++ change ∷ []) new

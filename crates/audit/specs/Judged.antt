@@ -1,5 +1,5 @@
 -- What comes of the calls of each worker, and of all. No public clause cites this module.
-use Rattle.std.specs.Prelude.{◌≡◌, ℕ, ◌<◌, Option, None, Some, List, [], length, slice_get, slice_index_or}
+use Rattle.std.specs.Prelude.{◌≡◌, ℕ, ◌<◌, Option, None, Some, List, [], length, map, slice_get, slice_index_or, vec_items}
 use Rattle.span.specs.declared.receipt.Receipt.{Receipt}
 use Rattle.span.specs.declared.span_log.SpanLog.{SpanLog}
 use Rattle.audit.specs.declared.fault.AuditCause.{AuditCause}
@@ -8,9 +8,10 @@ use Rattle.audit.specs.declared.verdict.Verdict.{Verdict}
 use Rattle.audit.specs.declared.verdict.Verdict.TheVariants as verdict
 use Rattle.audit.specs.Agreement.{IsInOrder, IsRightReply}
 use Rattle.audit.specs.Slots.{AreBySlot}
-use Rattle.audit.specs.Tables.{IsKnown, IsTable, StandsBetween}
+use Rattle.audit.specs.Tables.{IsKnown, IsTable, StandsBetween, full_row}
 use Rattle.audit.specs.declared.log.LogPlaces.{LogPlaces}
 use Rattle.audit.specs.declared.slot.SlotChange.{SlotChange}
+use Rattle.audit.specs.declared.records.Records.{Records}
 
 -- each call of a worker was answered as its span's log says
 abbrev pub IsRightList : List SpanLog → List Receipt → Type 0
@@ -35,6 +36,11 @@ pub record AreRecords (logs : List SpanLog) (table : LogPlaces) (rows : List (Li
   pub orders_len : length orders ≡ length logs
   pub orders_are : AreBySlot logs orders
 
+-- the tables that the records carry are those of their logs
+abbrev pub CarryTables : Records → Type 0
+CarryTables records = AreRecords records.logs.now records.table.now
+    (map full_row records.sections.now) (map vec_items records.orders.now)
+
 -- what a verdict says of a worker's calls: which part they fail first; nothing where memory ran out
 abbrev pub IsVerdict : List SpanLog → List (List (Option ℕ)) → List Receipt → Verdict → Type 0
 IsVerdict logs rows list verdict.Passed = IsRightList logs list × IsInOrder list
@@ -44,6 +50,11 @@ IsVerdict logs rows list verdict.Order = IsRightList logs list × (¬ IsInOrder 
 IsVerdict logs rows list verdict.Barrier = IsRightList logs list × IsInOrder list
     × (¬ StandBetween logs rows list)
 IsVerdict logs rows list verdict.OutOfMemory = Unit {0}
+
+-- what a verdict says of a worker's calls, held against the records
+abbrev pub IsVerdictBy : Records → List Receipt → Verdict → Type 0
+IsVerdictBy records list verdict = IsVerdict records.logs.now (map full_row records.sections.now)
+    list verdict
 
 -- a verdict for each list
 pub record AreVerdicts (logs : List SpanLog) (rows : List (List (Option ℕ)))

@@ -1,12 +1,13 @@
 -- A log's changes by slot, among which the last one of a slot is found by halving. No public clause
 -- cites this module.
-use Rattle.std.specs.Prelude.{◌≡◌, ℕ, ◌+◌, ◌*◌, ◌<◌, ◌≤◌, Some, List, length, slice_get}
+use Rattle.std.specs.Prelude.{◌≡◌, Vec, ℕ, ◌+◌, ◌*◌, ◌<◌, ◌≤◌, Some, List, length, slice_get, slice_index_or, vec_items}
 use Rattle.std.specs.List.Sorted.{IsNonDecreasingBy, IsPermutation}
 use Rattle.span.specs.declared.change.Change.{Change}
 use Rattle.span.specs.KeptLogs.{kept_changes}
 use Rattle.span.specs.declared.span_log.SpanLog.{SpanLog}
 use Rattle.audit.specs.declared.slot.SlotChange.{SlotChange}
 use Rattle.audit.specs.Changes.{slot_of}
+use Rattle.std.specs.declared.alloc.Global.{Global}
 
 -- the place among all changes by slot, and then by place in the log
 abbrev pub slot_rank : ℕ → ℕ → ℕ
@@ -49,6 +50,11 @@ HaveChanges logs lists = (j : ℕ) (log : SpanLog) (found : List SlotChange)
 pub record IsSortedFrom (old new : List SlotChange) : Type 0 where
   pub permutation : IsPermutation old new
   pub sorted : IsNonDecreasingBy change_rank new
+
+-- the same changes of each log, in order
+abbrev pub AllAreSortedFrom : List (Vec SlotChange Global) → List (Vec SlotChange Global) → Type 0
+AllAreSortedFrom old new = (j : ℕ) (d : Vec SlotChange Global) → j < length old
+    → IsSortedFrom (vec_items (slice_index_or old j d)) (vec_items (slice_index_or new j d))
 
 -- the first n of the changes stand before the rank, and the others don't
 pub record IsSplitAt (found : List SlotChange) (rank n : ℕ) : Type 0 where

@@ -1,6 +1,6 @@
 -- The tables of an audit: where each span's log stands, and which section made each change. No
 -- public clause cites this module.
-use Rattle.std.specs.Prelude.{◌≡◌, ℕ, ◌+◌, ◌-◌, ◌<◌, ◌≤◌, Bool, true, false, Option, Some, None, List, [], ◌∷◌, length, map, replicate, suc, if◌then◌else◌, slice_get, slice_index_or}
+use Rattle.std.specs.Prelude.{◌≡◌, MatchOption, Vec, ℕ, ◌+◌, ◌-◌, ◌<◌, ◌≤◌, Bool, slice_set, true, false, Option, Some, None, List, [], ◌∷◌, length, map, replicate, suc, if◌then◌else◌, slice_get, slice_index_or, ◌++◌}
 use Rattle.span.specs.declared.change.Change.{Change}
 use Rattle.span.specs.declared.id.SpanId.{SpanId}
 use Rattle.span.specs.declared.receipt.Receipt.{Receipt}
@@ -9,12 +9,16 @@ use Rattle.std.specs.List.Sorted.{IsNonDecreasingBy, IsPermutation}
 use Rattle.span.specs.KeptLogs.{kept_changes}
 use Rattle.span.specs.declared.span_log.SpanLog.{SpanLog}
 use Rattle.audit.specs.Receipts.{log_of, makes_change}
-use Rattle.audit.specs.Agreement.{CallMakes}
+use Rattle.audit.specs.Agreement.{CallMakes, ChangesHaveReceipts}
 use Rattle.audit.specs.declared.log.LogPlace.{LogPlace}
 use Rattle.audit.specs.declared.log.LogPlaces.{LogPlaces}
 use Rattle.audit.specs.declared.row.Row.{Row}
 use Rattle.audit.specs.declared.row.Sections.{Sections}
 use Rattle.audit.specs.declared.row.Sections.TheVariants.{Same, Each}
+use Rattle.std.specs.List.{flat_map}
+use Rattle.std.specs.declared.alloc.Global.{Global}
+use Rattle.span.specs.ReceiptLists.{kept_receipts}
+use Rattle.span.specs.declared.receipt_list.ReceiptList.{ReceiptList}
 
 -- each place is that of a span's log, and each log has its place
 pub record ArePlaces (logs : List SpanLog) (places : List LogPlace) : Type 0 where
@@ -40,6 +44,11 @@ abbrev pub HasTwice : List LogPlace → Type 0
 HasTwice places = (k : ℕ) × (k + 1 < length places)
     × ((d : LogPlace) → same_span (slice_index_or places k d).span
     (slice_index_or places (k + 1) d).span ≡ true)
+
+-- no span stands at two places, one behind the other
+abbrev pub HasNoneTwice : List LogPlace → Type 0
+HasNoneTwice places = (k : ℕ) (d : LogPlace) → k + 1 < length places
+    → same_span (slice_index_or places k d).span (slice_index_or places (k + 1) d).span ≡ false
 
 -- the places of all logs, by the ranks of their spans
 pub record IsTable (logs : List SpanLog) (table : LogPlaces) : Type 0 where
@@ -69,6 +78,11 @@ HasMade changes receipt = (change : Change) × (slice_get changes receipt.at ≡
 -- the call makes no change, or it makes the one at its place of its span's log
 abbrev pub IsKnown : List SpanLog → Receipt → Type 0
 IsKnown logs receipt = makes_change receipt ≡ true → HasMade (log_of logs receipt.key.span) receipt
+
+-- the log at the index is that of the call's span, and has the call's change at its place
+abbrev pub HasChangeOf : List SpanLog → Receipt → ℕ → Type 0
+HasChangeOf logs receipt j = IsLogAt logs receipt.key.span j × IsKnown logs receipt
+    × (receipt.at < length (log_of logs receipt.key.span))
 
 -- the call makes a change of the span at this place
 pub record MakesAt (span : SpanId) (at : ℕ) (receipt : Receipt) : Type 0 where
@@ -122,6 +136,18 @@ told_sections sections told = []
 abbrev pub filled_row : Row → List (Option ℕ)
 filled_row row = told_sections row.sections.items row.told.items
 
+-- the place of the row has had no section, and has this one
+abbrev pub IsMarked : List (Option ℕ) → ℕ → ℕ → List (Option ℕ) → Type 0
+IsMarked old at section new = (at < length old) × (slice_index_or old at None ≡ None)
+    × (new ≡ slice_set old at (Some section))
+
+-- rows in which some calls are entered have these calls entered too; or not, since some call makes
+-- another change than that of its place, or two make the same
+abbrev pub WereEnteredToo : List SpanLog → List Receipt → List Row → List Row → Bool → Type 0
+WereEnteredToo logs calls old new done = (before : List Receipt)
+    → AreEntered logs before (map filled_row old)
+    → WereEntered logs (before ++ calls) (map filled_row new) done
+
 -- the sections of a log's changes
 abbrev pub sections_in : Sections → List ℕ
 sections_in (Same section changes) = replicate changes section
@@ -138,6 +164,15 @@ IsFull row = (at : ℕ) → at < length row → slice_index_or row at None ≡ N
 -- each place of each row has a section
 abbrev pub AreFull : List (List (Option ℕ)) → Type 0
 AreFull rows = (j : ℕ) (row : List (Option ℕ)) → slice_get rows j ≡ Some row → IsFull row
+
+-- the changes have their receipts, and the rows their sections; or they have not, and there are no
+-- rows
+abbrev pub GiveSections : List SpanLog → List ReceiptList → Option (Vec Sections Global) → Type 0
+GiveSections logs lists rows = MatchOption rows
+    (ChangesHaveReceipts logs (map kept_receipts lists) → ⊥)
+    (λ rows. ChangesHaveReceipts logs (map kept_receipts lists)
+    × AreEntered logs (flat_map kept_receipts lists) (map full_row rows.items)
+    × AreFull (map full_row rows.items))
 
 -- the section is none lower than that of the change before the place, and none higher than that of
 -- the change at it

@@ -1,10 +1,10 @@
 // The audit by threads.
-ghost use Rattle.std.specs.Prelude.{◌<◌, IfErr, IfOk, MatchOption, OnOk, [], length, map, slice_index_or, vec_items};
+ghost use Rattle.std.specs.Prelude.{◌<◌, IfErr, IfOk, OnOk, [], length, map, slice_index_or};
 ghost use Rattle.span.specs.ReceiptLists.{kept_receipts};
 ghost use Rattle.audit.specs.Agreement.{Agreement, ChangesHaveReceipts};
-ghost use Rattle.audit.specs.Faults.{FailsFirst, IsAuditError};
+ghost use Rattle.audit.specs.Faults.{IsAuditError, IsFirstFault};
 ghost use Rattle.audit.specs.History.{HaveHistories};
-ghost use Rattle.audit.specs.Judged.{AreRecords, AreVerdicts, IsVerdict};
+ghost use Rattle.audit.specs.Judged.{AreVerdicts, CarryTables, IsVerdictBy};
 ghost use Rattle.audit.specs.Tables.{full_row};
 
 use crate::change::sections_of_changes;
@@ -22,12 +22,10 @@ use std::thread::Threads;
 
 // What comes of the calls of the worker with this number.
 fn verdict_at(alloc: Global, records: &Records, lists: &[ReceiptList], w: usize) -> Verdict
-    requires records { AreRecords records.now.logs.now records.now.table.now
-        (map full_row records.now.sections.now) (map vec_items records.now.orders.now) }
+    requires records { CarryTables records.now }
     requires inside { w < length lists.now }
     requires changes { ChangesHaveReceipts records.now.logs.now (map kept_receipts lists.now) }
-    ensures { IsVerdict records.now.logs.now (map full_row records.now.sections.now)
-        (slice_index_or (map kept_receipts lists.now) w []) result }
+    ensures { IsVerdictBy records.now (slice_index_or (map kept_receipts lists.now) w []) result }
 {
     verdict_of(alloc, records, &lists[w])
 }
@@ -39,8 +37,7 @@ fn verdicts_of<R: Threads + Sync>(
     records: &Records,
     lists: &[ReceiptList],
 ) -> Result<Vec<Verdict>, AllocError>
-    requires records { AreRecords records.now.logs.now records.now.table.now
-        (map full_row records.now.sections.now) (map vec_items records.now.orders.now) }
+    requires records { CarryTables records.now }
     requires changes { ChangesHaveReceipts records.now.logs.now (map kept_receipts lists.now) }
     ensures { IfOk result (λ verdicts. AreVerdicts records.now.logs.now
         (map full_row records.now.sections.now) (map kept_receipts lists.now) verdicts.items) }
@@ -50,12 +47,9 @@ fn verdicts_of<R: Threads + Sync>(
         alloc,
         lists.len(),
         &|w: usize| -> Verdict
-            requires { (w < length lists.now) × AreRecords records.now.logs.now
-                records.now.table.now (map full_row records.now.sections.now)
-                (map vec_items records.now.orders.now)
+            requires { (w < length lists.now) × CarryTables records.now
                 × ChangesHaveReceipts records.now.logs.now (map kept_receipts lists.now) }
-            ensures { IsVerdict records.entry.now.logs.now
-                (map full_row records.entry.now.sections.now)
+            ensures { IsVerdictBy records.entry.now
                 (slice_index_or (map kept_receipts lists.entry.now) w []) result }
         { verdict_at(alloc, records, lists, w) },
     )?;
@@ -69,9 +63,7 @@ fn first_fault<R: Threads + Sync>(
     logs: &[SpanLog],
     receipts: &[ReceiptList],
 ) -> Result<Option<AuditCause>, AllocError>
-    ensures { IfOk result (λ cause. MatchOption cause
-        (Agreement logs.now (map kept_receipts receipts.now))
-        (FailsFirst logs.now (map kept_receipts receipts.now))) }
+    ensures { IfOk result (IsFirstFault logs.now (map kept_receipts receipts.now)) }
 {
     let Some(table) = table_of_legal(alloc, logs)? else {
         return Ok(Some(AuditCause::Log));

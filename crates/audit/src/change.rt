@@ -1,12 +1,10 @@
 // Whether each change has exactly one receipt, and each receipt of a change its change.
-ghost use Rattle.std.specs.Prelude.{◌≡◌, ◌↔◌, ◌<◌, ◌++◌, ◌∷◌, [], IfOk, IfSome, IsTrue, MatchOption, ℕ, List, true, length, map, flat_map, vec_len};
+ghost use Rattle.std.specs.Prelude.{◌≡◌, ◌↔◌, ◌<◌, ◌∷◌, [], IfOk, IfSome, IsTrue, MatchOption, ℕ, true, length, map, flat_map, vec_len};
 ghost use Rattle.span.specs.KeptLogs.{kept_changes};
 ghost use Rattle.span.specs.ReceiptLists.{kept_receipts};
 ghost use Rattle.span.specs.ReceiptViews.{receipt_viewed};
-ghost use Rattle.span.specs.declared.receipt.Receipt.{Receipt};
-ghost use Rattle.audit.specs.Receipts.{log_of, makes_change};
-ghost use Rattle.audit.specs.Agreement.{ChangesHaveReceipts};
-ghost use Rattle.audit.specs.Tables.{AreEntered, AreFull, HasMade, IsKnown, IsLogAt, IsTable, WereEntered, filled_row, full_row};
+ghost use Rattle.audit.specs.Receipts.{makes_change};
+ghost use Rattle.audit.specs.Tables.{AreEntered, GiveSections, HasChangeOf, HasMade, IsKnown, IsTable, WereEntered, WereEnteredToo, filled_row};
 
 use crate::calls::{call_makes, makes_change};
 use crate::log::{LogPlaces, index_of};
@@ -31,9 +29,8 @@ fn log_with_change(logs: &[SpanLog], table: &LogPlaces, receipt: &ReceiptView<'_
     requires table { IsTable logs.now table.now }
     requires makes { makes_change (receipt_viewed receipt.now) ≡ true }
     ensures within { IfSome result (λ j. j < length logs.now) }
-    ensures known { MatchOption result (IsKnown logs.now (receipt_viewed receipt.now) → ⊥) (λ j.
-        IsLogAt logs.now receipt.now.key.span j × IsKnown logs.now (receipt_viewed receipt.now)
-        × (receipt.now.at < length (log_of logs.now receipt.now.key.span))) }
+    ensures known { MatchOption result (IsKnown logs.now (receipt_viewed receipt.now) → ⊥)
+        (HasChangeOf logs.now (receipt_viewed receipt.now)) }
 {
     let j = index_of(logs, table, receipt.key.span)?;
     if makes_at(&logs[j].log, receipt) {
@@ -54,10 +51,8 @@ fn enter(
     requires table { IsTable logs.now table.now }
     requires len { vec_len rows.old ≡ length logs.now }
     ensures len { vec_len rows.new ≡ length logs.now }
-    ensures entered { (before : List Receipt)
-        → AreEntered logs.now before (map filled_row rows.old.items)
-        → WereEntered logs.now (before ++ receipt_viewed receipt.now ∷ [])
-        (map filled_row rows.new.items) result }
+    ensures entered { WereEnteredToo logs.now (receipt_viewed receipt.now ∷ []) rows.old.items
+        rows.new.items result }
 {
     if !makes_change(receipt) {
         return true;
@@ -73,10 +68,8 @@ fn enter_list(logs: &[SpanLog], table: &LogPlaces, rows: &mut Vec<Row>, list: &R
     requires table { IsTable logs.now table.now }
     requires len { vec_len rows.old ≡ length logs.now }
     ensures len { vec_len rows.new ≡ length logs.now }
-    ensures entered { (before : List Receipt)
-        → AreEntered logs.now before (map filled_row rows.old.items)
-        → WereEntered logs.now (before ++ kept_receipts list.now)
-        (map filled_row rows.new.items) result }
+    ensures entered { WereEnteredToo logs.now (kept_receipts list.now) rows.old.items
+        rows.new.items result }
 {
     let mut near = 0;
     for i in 0..list.len() {
@@ -119,11 +112,7 @@ pub fn sections_of_changes(
 ) -> Result<Option<Vec<Sections>>, AllocError>
     requires { IsTable logs.now table.now }
     ensures len { IfOk result (λ rows. IfSome rows (λ rows. vec_len rows ≡ length logs.now)) }
-    ensures entered { IfOk result (λ rows. MatchOption rows
-        (ChangesHaveReceipts logs.now (map kept_receipts lists.now) → ⊥)
-        (λ rows. ChangesHaveReceipts logs.now (map kept_receipts lists.now)
-        × AreEntered logs.now (flat_map kept_receipts lists.now) (map full_row rows.items)
-        × AreFull (map full_row rows.items))) }
+    ensures entered { IfOk result (GiveSections logs.now lists.now) }
 {
     let mut rows = empty_rows(alloc, logs)?;
     if enter_lists(logs, table, &mut rows, lists) && are_full(rows.as_slice()) {

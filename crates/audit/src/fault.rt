@@ -1,8 +1,8 @@
 // Whether the receipts of all workers agree with the logs of all spans.
-ghost use Rattle.std.specs.Prelude.{◌≡◌, IfOk, IfErr, OnOk, MatchOption, map, vec_items};
+ghost use Rattle.std.specs.Prelude.{◌≡◌, IfOk, IfErr, OnOk, map, vec_items};
 ghost use Rattle.span.specs.ReceiptLists.{kept_receipts};
 ghost use Rattle.audit.specs.Agreement.{Agreement};
-ghost use Rattle.audit.specs.Faults.{FailsFirst, IsAuditError};
+ghost use Rattle.audit.specs.Faults.{IsAuditError, IsFirstFault};
 ghost use Rattle.audit.specs.History.{HaveHistories};
 
 use crate::barrier::sections_are_in_order;
@@ -65,9 +65,7 @@ fn first_fault(
     logs: &[SpanLog],
     receipts: &[ReceiptList],
 ) -> Result<Option<AuditCause>, AllocError>
-    ensures { IfOk result (λ cause. MatchOption cause
-        (Agreement logs.now (map kept_receipts receipts.now))
-        (FailsFirst logs.now (map kept_receipts receipts.now))) }
+    ensures { IfOk result (IsFirstFault logs.now (map kept_receipts receipts.now)) }
 {
     let Some(table) = table_of_legal(alloc, logs)? else {
         return Ok(Some(AuditCause::Log));

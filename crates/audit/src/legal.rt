@@ -3,11 +3,11 @@ ghost use Rattle.std.specs.Prelude.{◌≡◌, ◌↔◌, ◌<◌, ◌≤◌, �
 ghost use Rattle.span.specs.declared.change.Change.{Change};
 ghost use Rattle.span.specs.declared.class.Class.{Class};
 ghost use Rattle.span.specs.KeptLogs.{kept_changes};
-ghost use Rattle.span.specs.Log.{IsChangeOf, IsLegal, IsLegalAfter, IsOfClass};
+ghost use Rattle.span.specs.Log.{IsChangeOf, IsLegal, IsOfClass};
 ghost use Rattle.span.specs.Views.{viewed};
 ghost use Rattle.span.specs.declared.span_log.SpanLog.{SpanLog};
 ghost use Rattle.audit.specs.Agreement.{IsLegalLog, LogsAreLegal};
-ghost use Rattle.audit.specs.Changes.{AreAfter, AreIssued};
+ghost use Rattle.audit.specs.Changes.{AreAfter, AreIssued, CountsChange, TellsLegal};
 ghost use Rattle.audit.specs.Tables.{IsTable};
 
 use crate::calls::{generation_left_by, issued_by, slot_of};
@@ -49,10 +49,7 @@ fn may_follow(
     gens: u32,
     change: ChangeView<'_>,
 ) -> bool
-    ensures { (class : Class) (before : List Change) → IsOfClass class before
-        → IsChangeOf class (viewed change.entry)
-        → AreAfter before held.now → AreIssued before issued.now
-        → (IsTrue result ↔ IsLegalAfter gens before (viewed change.entry)) }
+    ensures { TellsLegal gens held.now issued.now (viewed change.entry) result }
 {
     let here = held[usize::from(slot_of(change))];
     let last = issued[usize::from(slot_of(change))];
@@ -82,9 +79,7 @@ fn is_of_class(class: Class, change: ChangeView<'_>) -> bool
 fn enter(held: &mut [Option<u32>; SLOTS], issued: &mut [u32; SLOTS], change: ChangeView<'_>)
     ensures held { (before : List Change) → AreAfter before held.old
         → AreAfter (before ++ viewed change.entry ∷ []) held.new }
-    ensures issued { (before : List Change) (gens : ℕ) → AreIssued before issued.old
-        → IsLegalAfter gens before (viewed change.entry)
-        → AreIssued (before ++ viewed change.entry ∷ []) issued.new }
+    ensures issued { CountsChange (viewed change.entry) issued.old issued.new }
 {
     let slot = usize::from(slot_of(change));
     held[slot] = generation_left_by(change);

@@ -1,8 +1,8 @@
 // The table by which a span's log is found.
-ghost use Rattle.std.specs.Prelude.{◌≡◌, ◌+◌, ◌<◌, false, true, IfNone, IfOk, IfSome, IsTrue, MatchOption, Some, ℕ, length, slice_get, slice_index_or};
+ghost use Rattle.std.specs.Prelude.{◌≡◌, ◌<◌, false, true, IfNone, IfOk, IfSome, IsTrue, MatchOption, Some, ℕ, length, slice_get, slice_index_or};
 ghost use Rattle.span.specs.Ids.{rank, same_span};
 ghost use Rattle.audit.specs.Agreement.{HaveOneSpanEach};
-ghost use Rattle.audit.specs.Tables.{AreByRank, ArePlaces, AreSortedFrom, HasTwice, HasNoLog, IsLogAt, IsTable};
+ghost use Rattle.audit.specs.Tables.{AreByRank, ArePlaces, AreSortedFrom, HasNoneTwice, HasTwice, HasNoLog, IsLogAt, IsTable};
 ghost use Rattle.audit.specs.declared.log.LogPlace.{LogPlace};
 
 use span::names::{MOST_SHARDS, SpanId};
@@ -64,9 +64,7 @@ fn is_same(a: SpanId, b: SpanId) -> bool
 // Whether some span stands twice, one place behind the other.
 fn has_twice(places: &[LogPlace]) -> bool
     ensures yes { IsTrue result → HasTwice places.now }
-    ensures no { result ≡ false → (k : ℕ) (d : LogPlace) → k + 1 < length places.now
-        → same_span (slice_index_or places.now k d).span (slice_index_or places.now (k + 1) d).span
-        ≡ false }
+    ensures no { result ≡ false → HasNoneTwice places.now }
 {
     for k in 1..places.len() {
         if is_same(places[k - 1].span, places[k].span) {

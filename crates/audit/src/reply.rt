@@ -98,8 +98,7 @@ fn is_answered_after(
 ) -> bool
     requires order { IsBySlot (kept_changes log.now) order.now }
     requires inside { at ≤ length (kept_changes log.now) }
-    ensures { IsTrue result
-        ↔ IsAnswered (call_viewed call.entry)
+    ensures { IsTrue result ↔ IsAnswered (call_viewed call.entry)
         (value_after (take at (kept_changes log.now)) key.now) }
 {
     match call {

@@ -1,6 +1,6 @@
 // Which section made each change, as far as receipts tell.
-ghost use Rattle.std.specs.Prelude.{◌≡◌, ◌↔◌, ◌<◌, IsTrue, IfOk, [], ℕ, None, Some, false, vec_len, length, map, replicate, slice_index_or, slice_set};
-ghost use Rattle.audit.specs.Tables.{AreRowsOf, AreFull, IsFull, IsBetween, filled_row, full_row, sections_in};
+ghost use Rattle.std.specs.Prelude.{◌≡◌, ◌↔◌, ◌<◌, IsTrue, IfOk, [], ℕ, None, Some, false, vec_len, length, map, replicate, slice_index_or};
+ghost use Rattle.audit.specs.Tables.{AreRowsOf, AreFull, IsFull, IsBetween, filled_row, full_row, sections_in, IsMarked};
 
 use crate::row::{Row, Sections};
 use span::spans::{Log, SpanLog};
@@ -30,9 +30,8 @@ pub fn empty_rows(alloc: Global, logs: &[SpanLog]) -> Result<Vec<Row>, AllocErro
 
 /// Enters the section at the place, where the row has it and none stands there. Whether it did.
 pub fn mark(row: &mut Row, at: usize, section: u64) -> bool
-    ensures marked { IsTrue result → (at < length (filled_row row.old))
-        × (slice_index_or (filled_row row.old) at None ≡ None)
-        × (filled_row row.new ≡ slice_set (filled_row row.old) at (Some section)) }
+    ensures marked { IsTrue result
+        → IsMarked (filled_row row.old) at section (filled_row row.new) }
     ensures taken { result ≡ false → at < length (filled_row row.old) → (s : ℕ)
         × (slice_index_or (filled_row row.old) at None ≡ Some s) }
 {

@@ -1,10 +1,10 @@
 // A log's changes by slot.
-ghost use Rattle.std.specs.Prelude.{◌≡◌, ◌≤◌, ◌<◌, ◌-◌, IfOk, IsTrue, MatchOption, ℕ, List, Some, length, map, slice_get, slice_index_or, vec_len, vec_items};
+ghost use Rattle.std.specs.Prelude.{◌≡◌, ◌≤◌, ◌<◌, ◌-◌, IfOk, IsTrue, MatchOption, List, Some, length, map, slice_get, vec_len, vec_items};
 ghost use Rattle.std.specs.List.Sorted.{IsNonDecreasingBy};
 ghost use Rattle.span.specs.KeptLogs.{kept_changes};
 ghost use Rattle.span.specs.declared.change.Change.{Change};
 ghost use Rattle.audit.specs.declared.slot.TheConstants.{MOST_PLACES};
-ghost use Rattle.audit.specs.Slots.{change_rank, place_of, slot_rank, HasChanges, HaveChanges, IsBySlot, IsSortedFrom, AreBySlot, IsQuiet, IsLast, IsSplitAt};
+ghost use Rattle.audit.specs.Slots.{change_rank, place_of, slot_rank, AllAreSortedFrom, HasChanges, HaveChanges, IsBySlot, IsSortedFrom, AreBySlot, IsQuiet, IsLast, IsSplitAt};
 
 use crate::calls::slot_of;
 use span::spans::{Kept, Log, SpanLog};
@@ -119,9 +119,7 @@ fn all_slot_changes(alloc: Global, logs: &[SpanLog]) -> Result<Vec<Vec<SlotChang
 
 // Puts the changes of each log in order, on a few threads.
 fn sort_all<R: Threads + Sync>(rt: &R, found: &mut [Vec<SlotChange>])
-    ensures { (j : ℕ) (d : _) → j < length found.old
-        → IsSortedFrom (vec_items (slice_index_or found.old j d))
-        (vec_items (slice_index_or found.new j d)) }
+    ensures { AllAreSortedFrom found.old found.new }
 {
     thread::for_each_mut(
         rt,

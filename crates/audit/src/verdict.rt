@@ -1,8 +1,7 @@
 // What comes of the calls of one worker, where logs and changes are right.
-ghost use Rattle.std.specs.Prelude.{◌≡◌, ◌<◌, IfOk, IsTrue, ℕ, false, length, map, vec_items};
+ghost use Rattle.std.specs.Prelude.{◌≡◌, ◌<◌, IfOk, IsTrue, ℕ, false, length};
 ghost use Rattle.span.specs.ReceiptLists.{kept_receipts};
-ghost use Rattle.audit.specs.Judged.{AreKnown, AreRecords, HasVerdict, IsFirstCause, IsVerdict};
-ghost use Rattle.audit.specs.Tables.{full_row};
+ghost use Rattle.audit.specs.Judged.{AreKnown, CarryTables, HasVerdict, IsFirstCause, IsVerdictBy};
 ghost use Rattle.audit.specs.declared.fault.AuditCause.{AuditCause};
 
 use crate::barrier::stand_between;
@@ -25,11 +24,9 @@ pub enum Verdict {
 
 /// What comes of the calls of one worker. It needs no other list.
 pub fn verdict_of(alloc: Global, records: &Records, list: &ReceiptList) -> Verdict
-    requires records { AreRecords records.now.logs.now records.now.table.now
-        (map full_row records.now.sections.now) (map vec_items records.now.orders.now) }
+    requires records { CarryTables records.now }
     requires known { AreKnown records.now.logs.now (kept_receipts list.now) }
-    ensures { IsVerdict records.now.logs.now (map full_row records.now.sections.now)
-        (kept_receipts list.now) result }
+    ensures { IsVerdictBy records.now (kept_receipts list.now) result }
 {
     let (logs, table) = (records.logs, records.table);
     if !list_is_right(logs, table, records.orders, records.firsts, list) {
