@@ -22,11 +22,16 @@ mask_in masks class = row_at masks.width masks.words.items (number_of class)
 abbrev pub HasRows : Masks → ℕ → Type 0
 HasRows masks words = (masks.width ≡ words) × (length masks.words.items ≡ words * CLASSES)
 
+-- rows of so many words, that of a class at its number, have a bit for each owned group, which says
+-- whether it is of the class
+abbrev pub HaveClassBits : List Entry → ℕ → List ℕ → Type 0
+HaveClassBits owned width words = (class : Class) (j : ℕ)
+    → has_bit (row_at width words (number_of class)) j ≡ is_of class (slice_get owned j)
+
 -- the mask of each class has a bit for each owned group, which says whether it is of the class
 pub record AreMasks (owned : List Entry) (masks : Masks) : Type 0 where
   pub rows : HasRows masks (row_words (length owned))
-  pub bits : (class : Class) (j : ℕ) → has_bit (mask_in masks class) j
-      ≡ is_of class (slice_get owned j)
+  pub bits : HaveClassBits owned masks.width masks.words.items
 
 -- each group of the one side has the class of each of the other
 abbrev pub AreOfOneClass : List Entry → List Entry → Type 0

@@ -1,13 +1,13 @@
 // Rows of bits that keep to one class.
 ghost use Rattle.std.specs.Prelude.{◌≡◌, ◌==◌, ◌&&◌, ◌||◌, ◌+◌, ◌*◌, ◌/◌, ◌<◌, ◌≤◌, ℕ, IfOk, MatchOption, length};
 ghost use Rattle.std.specs.Bool.{OnTrue};
-ghost use Rattle.std.specs.List.{list_all, slice_get};
+ghost use Rattle.std.specs.List.{list_all};
 ghost use Rattle.bitmap.specs.Slots.{has_bit};
 ghost use Rattle.lane_kernels.specs.Rows.{row_at, width_of as row_words};
-ghost use Rattle.span.specs.Classes.{number_of, width_of};
+ghost use Rattle.span.specs.Classes.{width_of};
 ghost use Rattle.span.specs.declared.class.Class.{Class};
 ghost use Rattle.span.specs.declared.class.TheConstants.{CLASSES};
-ghost use Rattle.mesh_graph.specs.Masked.{AreAsWide, AreMasks, AreOfOneClass, HasRows, is_kept, is_of, mask_in};
+ghost use Rattle.mesh_graph.specs.Masked.{AreAsWide, AreMasks, AreOfOneClass, HasRows, HaveClassBits, is_kept, mask_in};
 
 use crate::graph::row_of;
 use span::names::{CLASSES, Class, Entry};
@@ -75,9 +75,7 @@ fn are_all_of(class: Class, entries: &[Entry]) -> bool
 fn mask_words(alloc: Global, owned: &[Entry], width: usize) -> Result<Vec<u64>, AllocError>
     requires { width ≡ row_words (length owned.now) }
     ensures size { IfOk result (λ words. length words.items ≡ width * CLASSES) }
-    ensures bits { IfOk result (λ words. (class : Class) (j : ℕ)
-        → has_bit (row_at width words.items (number_of class)) j
-        ≡ is_of class (slice_get owned.now j)) }
+    ensures bits { IfOk result (λ words. HaveClassBits owned.now width words.items) }
 {
     let mut words = vec![in alloc; 0; width * CLASSES]?;
     for j in 0..owned.len() {

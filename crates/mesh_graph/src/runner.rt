@@ -194,11 +194,9 @@ fn fill_runs<R: Threads + Sync>(
         sets.row_words() * run,
         |start: usize, part: &mut [u64]|
             requires { IsRun (width_of (length sets.now)) (length abandoned.now) start
-                (length part.old)
-                × AreAsWide masks.now (width_of (length sets.now)) }
-            ensures { (length part.new ≡ length part.old)
-                × AreRowsOfRun abandoned.entry.now sets.entry.now masks.entry.now start
-                (length part.old) part.new }
+                (length part.old) × AreAsWide masks.now (width_of (length sets.now)) }
+            ensures { (length part.new ≡ length part.old) × AreRowsOfRun abandoned.entry.now
+                sets.entry.now masks.entry.now start (length part.old) part.new }
         { write_run(abandoned, sets, masks, start, part) },
     );
 }
