@@ -1,6 +1,6 @@
 -- What a list of ids says of the groups of a side. No public clause cites this module.
-use Rattle.std.specs.Prelude.{ℕ, ◌≡◌, ◌<◌, ◌==◌, ◌&&◌, Bool, true, false, List, [], map, length, slice_index_or}
-use Rattle.std.specs.List.{filter, list_any}
+use Rattle.std.specs.Prelude.{ℕ, ◌≡◌, ◌<◌, ◌==◌, ◌&&◌, Bool, true, false, List, [], map, length, slice_index_or, ◌||◌}
+use Rattle.std.specs.List.{filter, flat_map, list_any}
 use Rattle.bitmap.specs.Slots.{SlotSet, has_bit}
 use Rattle.lane_kernels.specs.Disjoint.{are_disjoint}
 use Rattle.mesh_graph.specs.Groups.{has_id}
@@ -12,6 +12,7 @@ use Rattle.span.specs.Entries.{are_compatible}
 use Rattle.certificate.specs.declared.distinct.IdList.{IdList}
 use Rattle.certificate.specs.declared.distinct.IdList.TheVariants.{Abandoned, Owned, Short}
 use Rattle.certificate.specs.declared.partner.Members.{Members}
+use Rattle.span.specs.declared.class.TheConstants.{CLASSES}
 
 -- the ids of the list
 abbrev pub ids_in : IdList → List SpanId
@@ -43,6 +44,16 @@ abbrev pub HasFitting : List Entry → List SpanId → List Entry → List ℕ �
 HasFitting abandoned ids owned words = (place : ℕ) (d : Entry) → place < length owned
     → has_bit words place ≡ fits_any abandoned ids (slice_index_or owned place d)
 
+-- the bits gain the places of the groups that pass the test
+abbrev pub GainPlaces : (Entry → Bool) → List Entry → List ℕ → List ℕ → Type 0
+GainPlaces test groups old new = (place : ℕ) (d : Entry) → place < length groups
+    → has_bit new place ≡ (has_bit old place || test (slice_index_or groups place d))
+
+-- the bits gain the place, if it is to come in
+abbrev pub GainPlaceIf : Bool → ℕ → List ℕ → List ℕ → Type 0
+GainPlaceIf comes place old new = (other : ℕ)
+    → has_bit new other ≡ (has_bit old other || (other == place && comes))
+
 -- the groups with the id
 abbrev pub groups_with : List Entry → SpanId → List Entry
 groups_with abandoned id = filter (λ x. same_span x.id id) abandoned
@@ -58,6 +69,11 @@ sets_of number groups = map (λ x. x.occupied) (filter (is_of_class number) grou
 -- the sets of the class with the number; none where there is no such class
 abbrev pub members_in : Members → ℕ → List SlotSet
 members_in members number = slice_index_or members.by_class.items number []
+
+-- for each class the sets of those groups that have one of the ids
+abbrev pub AreMembers : List Entry → List SpanId → Members → Type 0
+AreMembers abandoned ids members = (number : ℕ) → number < CLASSES
+    → members_in members number ≡ sets_of number (flat_map (groups_with abandoned) ids)
 
 -- whether the group is of the class with the number and shares no slot with some of these sets
 abbrev pub fits_among : ℕ → List SlotSet → Entry → Bool

@@ -1,6 +1,7 @@
 pub mod Causes
 pub mod Chosen
 pub mod Grammar
+pub mod NextLines
 pub mod Number
 pub mod Plans
 pub mod Sides

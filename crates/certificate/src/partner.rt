@@ -1,6 +1,6 @@
 // The partners of a short set: found by the rows of its members' slots, class by class, and counted
 // by tests of two sets for the checker.
-ghost use Rattle.std.specs.Prelude.{◌≡◌, ◌==◌, ◌<◌, ◌≤◌, ◌+◌, ◌*◌, ◌^◌, ◌&&◌, ◌||◌, ◌∷◌, [], ◌++◌, ℕ, List, None, length, map, not, slice_index, slice_index_or, IfOk, OnOk};
+ghost use Rattle.std.specs.Prelude.{◌≡◌, ◌==◌, ◌<◌, ◌≤◌, ◌+◌, ◌*◌, ◌^◌, ◌∷◌, [], ◌++◌, ℕ, List, None, length, map, not, slice_index, slice_index_or, IfOk, OnOk};
 ghost use Rattle.bitmap.specs.Slots.{has_bit};
 ghost use Rattle.std.specs.List.{count_by, filter, flat_map, list_any};
 ghost use Rattle.lane_kernels.specs.Rows.{row_at, width_of as row_words};
@@ -11,7 +11,7 @@ ghost use Rattle.span.specs.Entries.{are_compatible};
 ghost use Rattle.span.specs.declared.class.TheConstants.{CLASSES};
 ghost use Rattle.span.specs.declared.entry.Entry.{Entry};
 ghost use Rattle.span.specs.declared.id.SpanId.{SpanId};
-ghost use Rattle.certificate.specs.Chosen.{HasFitting, fits_among, fits_any, fits_some, groups_with, is_of_class, members_in, sets_of};
+ghost use Rattle.certificate.specs.Chosen.{AreMembers, GainPlaceIf, GainPlaces, HasFitting, fits_among, fits_any, fits_some, groups_with, is_of_class, members_in, sets_of};
 ghost use Rattle.certificate.specs.Plans.{partners_of};
 
 use crate::place_set::PlaceSet;
@@ -85,9 +85,7 @@ impl Members {
         requires ascending { IsAscending (ids abandoned.now) }
         requires pieces { 1 ≤ pieces }
         requires ready { R.ready runner.now }
-        ensures { IfOk result (λ members. (number : ℕ) → number < CLASSES
-            → members_in members number
-            ≡ sets_of number (flat_map (groups_with abandoned.now) chosen.now)) }
+        ensures { IfOk result (AreMembers abandoned.now chosen.now) }
     {
         let groups = chosen_groups(alloc, abandoned, chosen)?;
         let mut by_class = Vec::new(alloc);
@@ -250,10 +248,8 @@ fn add_class<R: Runner>(
     requires pieces { 1 ≤ pieces }
     requires ready { R.ready runner.now }
     requires few { length owned.now ≤ MOST_GROUPS }
-    ensures { OnOk result ((place : ℕ) (d : Entry) → place < length owned.now
-        → has_bit fitting.new.words place ≡ (has_bit fitting.old.words place
-        || fits_among number (members_in members.now number)
-        (slice_index_or owned.now place d))) }
+    ensures { OnOk result (GainPlaces (fits_among number (members_in members.now number))
+        owned.now fitting.old.words fitting.new.words) }
 {
     let sets = &members.by_class[number];
     if sets.len() == 0 {
@@ -314,9 +310,8 @@ fn add_places(fitting: &mut PlaceSet, rows: &[u64], sets: &SlotRows, number: usi
     requires few { length owned.now ≤ MOST_GROUPS }
     requires rows { HaveRows (filter (is_of_class number) owned.now) sets.now None
         (length (filter (is_of_class number) owned.now)) rows.now }
-    ensures { (place : ℕ) (d : Entry) → place < length owned.now
-        → has_bit fitting.new.words place ≡ (has_bit fitting.old.words place
-        || fits_among number sets.now (slice_index_or owned.now place d)) }
+    ensures { GainPlaces (fits_among number sets.now) owned.now
+        fitting.old.words fitting.new.words }
 {
     let words = sets.row_words();
     let mut row = 0;
@@ -332,9 +327,8 @@ fn add_places(fitting: &mut PlaceSet, rows: &[u64], sets: &SlotRows, number: usi
 fn add_by_row(fitting: &mut PlaceSet, place: usize, rows: &[u64], words: usize, row: usize)
     requires place { place < MOST_GROUPS }
     requires within { words * row + words ≤ length rows.now }
-    ensures bits { (other : ℕ) → has_bit fitting.new.words other
-        ≡ (has_bit fitting.old.words other
-        || (other == place && list_any (λ word. not (word == 0)) (row_at words rows.now row))) }
+    ensures bits { GainPlaceIf (list_any (λ word. not (word == 0)) (row_at words rows.now row))
+        place fitting.old.words fitting.new.words }
     ensures words { (k : ℕ) → slice_index (row_at words rows.now row) k < 2 ^ 64 }
 {
     let start = words * row;
@@ -387,8 +381,7 @@ fn count_few(abandoned: &[Entry], chosen: &[SpanId], owned: &[Entry]) -> usize
 fn add_fitting(fitting: &mut PlaceSet, abandoned: &[Entry], id: SpanId, owned: &[Entry])
     requires ascending { IsAscending (ids abandoned.now) }
     requires few { length owned.now ≤ MOST_GROUPS }
-    ensures { (before : List SpanId)
-        → HasFitting abandoned.now before owned.now fitting.old.words
+    ensures { (before : List SpanId) → HasFitting abandoned.now before owned.now fitting.old.words
         → HasFitting abandoned.now (before ++ id ∷ []) owned.now fitting.new.words }
 {
     if let Some(place) = place_of(abandoned, id) {
@@ -399,10 +392,8 @@ fn add_fitting(fitting: &mut PlaceSet, abandoned: &[Entry], id: SpanId, owned: &
 /// Puts in the places of the owned groups that are compatible with this one.
 fn add_partners(fitting: &mut PlaceSet, abandoned: &Entry, owned: &[Entry])
     requires { length owned.now ≤ MOST_GROUPS }
-    ensures { (place : ℕ) (d : Entry) → place < length owned.now
-        → has_bit fitting.new.words place
-        ≡ (has_bit fitting.old.words place
-        || are_compatible abandoned.now (slice_index_or owned.now place d)) }
+    ensures { GainPlaces (are_compatible abandoned.now) owned.now
+        fitting.old.words fitting.new.words }
 {
     for place in 0..owned.len() {
         add_partner(fitting, place, abandoned, &owned[place]);
@@ -412,9 +403,8 @@ fn add_partners(fitting: &mut PlaceSet, abandoned: &Entry, owned: &[Entry])
 /// Puts the place in, where the groups are compatible. Where it is in, they are not tested.
 fn add_partner(fitting: &mut PlaceSet, place: usize, abandoned: &Entry, owned: &Entry)
     requires { place < MOST_GROUPS }
-    ensures { (other : ℕ) → has_bit fitting.new.words other
-        ≡ (has_bit fitting.old.words other
-        || (other == place && are_compatible abandoned.now owned.now)) }
+    ensures { GainPlaceIf (are_compatible abandoned.now owned.now) place
+        fitting.old.words fitting.new.words }
 {
     if fitting.contains(place) {
         return;

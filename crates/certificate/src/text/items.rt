@@ -2,10 +2,10 @@
 ghost use Rattle.std.specs.Prelude.{◌≡◌, ◌+◌, ◌<◌, ◌≤◌, codes, length, map, option_map, IfOk};
 ghost use Rattle.std.specs.List.{All};
 ghost use Rattle.mesh_graph.specs.Groups.{IsAscending, ids};
-ghost use Rattle.certificate.specs.Grammar.{ComesAfter, Reads, at_line, count_in, entry_in, entry_parts, id_in, id_parts, item_in, line_in, list_in, order_of, pair_in, pair_parts, result_map};
+ghost use Rattle.certificate.specs.Grammar.{ComesAfter, Reads, at_line, count_in, entry_in, entry_parts, id_in, id_parts, item_in, order_of, pair_in, pair_parts, result_map};
 ghost use Rattle.certificate.specs.Text.{FitsClass};
-ghost use Rattle.certificate.specs.Words.{lines_of};
 ghost use Rattle.mesh_graph.specs.declared.build.TheConstants.{MOST_GROUPS};
+ghost use Rattle.certificate.specs.NextLines.{next_line, next_list};
 
 use super::cause::{Cause, ReadError};
 use super::lines::Lines;
@@ -33,8 +33,7 @@ fn in_order(last: Option<SpanId>, id: SpanId) -> Result<(), Cause>
 /// How many items a list has.
 fn read_count(lines: &mut Lines, title: &[u8]) -> Result<usize, ReadError>
     requires { lines.old.at ≤ 32768 }
-    ensures read { result ≡ at_line lines.old.at
-        (line_in (count_in title.now) (lines_of lines.old.text.now) lines.old.at) }
+    ensures read { result ≡ at_line lines.old.at (next_line (count_in title.now) lines.old) }
     ensures at_most { IfOk result (λ count. count ≤ MOST_GROUPS) }
     ensures text { IfOk result (λ _. lines.new.text.now ≡ lines.old.text.now) }
     ensures passed { IfOk result (λ _. lines.new.at ≡ lines.old.at + 1) }
@@ -47,8 +46,7 @@ fn read_count(lines: &mut Lines, title: &[u8]) -> Result<usize, ReadError>
 }
 
 fn count_at(lines: &mut Lines, title: &[u8]) -> Result<usize, Cause>
-    ensures line { result ≡ line_in (count_in title.now)
-        (lines_of lines.old.text.now) lines.old.at }
+    ensures line { result ≡ next_line (count_in title.now) lines.old }
     ensures text { IfOk result (λ _. lines.new.text.now ≡ lines.old.text.now) }
     ensures passed { IfOk result (λ _. lines.new.at ≡ lines.old.at + 1) }
 {
@@ -56,9 +54,8 @@ fn count_at(lines: &mut Lines, title: &[u8]) -> Result<usize, Cause>
 }
 
 fn entry_at(lines: &mut Lines, version: Version, last: Option<SpanId>) -> Result<Entry, Cause>
-    ensures line { result_map entry_parts result ≡ line_in
-        (item_in (entry_in version) (λ x. x.id) (option_map id_parts last))
-        (lines_of lines.old.text.now) lines.old.at }
+    ensures line { result_map entry_parts result
+        ≡ next_line (item_in (entry_in version) (λ x. x.id) (option_map id_parts last)) lines.old }
     ensures fits { IfOk result FitsClass }
     ensures after { IfOk result (λ entry. ComesAfter last entry.id) }
     ensures text { IfOk result (λ _. lines.new.text.now ≡ lines.old.text.now) }
@@ -74,9 +71,8 @@ fn pair_at(
     version: Version,
     last: Option<SpanId>,
 ) -> Result<(SpanId, SpanId), Cause>
-    ensures line { result_map pair_parts result ≡ line_in
-        (item_in (pair_in version) (λ p. p.0) (option_map id_parts last))
-        (lines_of lines.old.text.now) lines.old.at }
+    ensures line { result_map pair_parts result
+        ≡ next_line (item_in (pair_in version) (λ p. p.0) (option_map id_parts last)) lines.old }
     ensures after { IfOk result (λ pair. ComesAfter last pair.0) }
     ensures text { IfOk result (λ _. lines.new.text.now ≡ lines.old.text.now) }
     ensures passed { IfOk result (λ _. lines.new.at ≡ lines.old.at + 1) }
@@ -87,9 +83,8 @@ fn pair_at(
 }
 
 fn id_at(lines: &mut Lines, version: Version, last: Option<SpanId>) -> Result<SpanId, Cause>
-    ensures line { result_map id_parts result ≡ line_in
-        (item_in (id_in version) (λ id. id) (option_map id_parts last))
-        (lines_of lines.old.text.now) lines.old.at }
+    ensures line { result_map id_parts result
+        ≡ next_line (item_in (id_in version) (λ id. id) (option_map id_parts last)) lines.old }
     ensures after { IfOk result (λ id. ComesAfter last id) }
     ensures text { IfOk result (λ _. lines.new.text.now ≡ lines.old.text.now) }
     ensures passed { IfOk result (λ _. lines.new.at ≡ lines.old.at + 1) }
@@ -108,8 +103,7 @@ pub(super) fn read_entries(
 ) -> Result<Vec<Entry>, ReadError>
     requires { lines.old.at ≤ 16384 }
     ensures read { Reads (λ entries. map entry_parts entries.items) result
-        (list_in title.now (entry_in version) (λ x. x.id) (lines_of lines.old.text.now)
-        lines.old.at) }
+        (next_list title.now (entry_in version) (λ x. x.id) lines.old) }
     ensures fit { IfOk result (λ entries. All FitsClass entries.items) }
     ensures at_most { IfOk result (λ entries. length entries.items ≤ MOST_GROUPS) }
     ensures ascending { IfOk result (λ entries. IsAscending (ids entries.items)) }
@@ -140,8 +134,7 @@ pub(super) fn read_folds(
 ) -> Result<Vec<(SpanId, SpanId)>, ReadError>
     requires { lines.old.at ≤ 16384 }
     ensures read { Reads (λ pairs. map pair_parts pairs.items) result
-        (list_in (codes "folds") (pair_in version) (λ p. p.0) (lines_of lines.old.text.now)
-        lines.old.at) }
+        (next_list (codes "folds") (pair_in version) (λ p. p.0) lines.old) }
     ensures at_most { IfOk result (λ pairs. length pairs.items ≤ MOST_GROUPS) }
     ensures ascending { IfOk result (λ pairs. IsAscending (map (λ p. p.0) pairs.items)) }
     ensures text { IfOk result (λ _. lines.new.text.now ≡ lines.old.text.now) }
@@ -170,8 +163,7 @@ pub(super) fn read_short(
 ) -> Result<Vec<SpanId>, ReadError>
     requires { lines.old.at ≤ 16384 }
     ensures read { Reads (λ short. map id_parts short.items) result
-        (list_in (codes "short") (id_in version) (λ id. id) (lines_of lines.old.text.now)
-        lines.old.at) }
+        (next_list (codes "short") (id_in version) (λ id. id) lines.old) }
     ensures at_most { IfOk result (λ short. length short.items ≤ MOST_GROUPS) }
     ensures ascending { IfOk result (λ short. IsAscending short.items) }
     ensures text { IfOk result (λ _. lines.new.text.now ≡ lines.old.text.now) }

@@ -3,6 +3,7 @@ ghost use Rattle.std.specs.Prelude.{◌≡◌, ◌+◌, ◌≤◌, IfOk};
 ghost use Rattle.certificate.specs.Grammar.{Reads, at_line, body_in, certificate_in, closing_in, end_in, last_in, line_in, outline_of, version_in};
 ghost use Rattle.certificate.specs.Text.{IsTextOf, IsWritable};
 ghost use Rattle.certificate.specs.Words.{lines_of};
+ghost use Rattle.certificate.specs.NextLines.{next_line};
 
 use super::cause::{Cause, ReadError};
 use super::items::{read_entries, read_folds, read_short};
@@ -57,7 +58,7 @@ fn read_version(lines: &mut Lines) -> Result<Version, ReadError>
 }
 
 fn version_at(lines: &mut Lines) -> Result<Version, Cause>
-    ensures line { result ≡ line_in version_in (lines_of lines.old.text.now) lines.old.at }
+    ensures line { result ≡ next_line version_in lines.old }
     ensures text { IfOk result (λ _. lines.new.text.now ≡ lines.old.text.now) }
     ensures passed { IfOk result (λ _. lines.new.at ≡ lines.old.at + 1) }
 {
@@ -95,7 +96,7 @@ fn read_ending(lines: &mut Lines, is_wanted: bool) -> Result<(), ReadError>
 fn read_last(lines: &mut Lines, is_wanted: bool) -> Result<(), ReadError>
     requires { lines.old.at ≤ 32768 }
     ensures read { result ≡ at_line lines.old.at
-        (line_in (last_in is_wanted) (lines_of lines.old.text.now) lines.old.at) }
+        (next_line (last_in is_wanted) lines.old) }
     ensures text { IfOk result (λ _. lines.new.text.now ≡ lines.old.text.now) }
     ensures passed { IfOk result (λ _. lines.new.at ≡ lines.old.at + 1) }
 {
@@ -107,8 +108,7 @@ fn read_last(lines: &mut Lines, is_wanted: bool) -> Result<(), ReadError>
 }
 
 fn last_at(lines: &mut Lines, is_wanted: bool) -> Result<(), Cause>
-    ensures line { result ≡ line_in (last_in is_wanted)
-        (lines_of lines.old.text.now) lines.old.at }
+    ensures line { result ≡ next_line (last_in is_wanted) lines.old }
     ensures text { IfOk result (λ _. lines.new.text.now ≡ lines.old.text.now) }
     ensures passed { IfOk result (λ _. lines.new.at ≡ lines.old.at + 1) }
 {
