@@ -1,5 +1,5 @@
 -- Many sets as a row of bits for each slot.
-use Rattle.std.specs.Prelude.{ℕ, ◌≡◌, ◌<◌, ◌≤◌, ◌*◌, ◌+◌, ◌/◌, Bool, true, false, not, List, length, take, drop, slice_index, slice_index_or}
+use Rattle.std.specs.Prelude.{ℕ, ◌≡◌, ◌<◌, ◌≤◌, ◌*◌, ◌+◌, ◌/◌, Bool, true, false, not, List, length, take, drop, slice_index, slice_index_or, ◌==◌}
 use Rattle.std.specs.FinSet.{contains, len}
 use Rattle.std.specs.Int.{bit_at}
 use Rattle.std.specs.List.{list_all}
@@ -19,11 +19,19 @@ row_at width words i = take width (drop (width * i) words)
 abbrev pub padded : ℕ → ℕ
 padded words = (words + 15) / 16 * 16
 
+-- row k of the rows of slots, each with a bit for each of n sets
+abbrev pub slot_row : ℕ → List ℕ → ℕ → List ℕ
+slot_row n rows k = row_at (padded (width_of n)) rows k
+
+-- whether word w has bit b
+abbrev pub bit_in : List ℕ → ℕ → ℕ → Bool
+bit_in words w b = bit_at (slice_index words w) b == 1
+
 -- the rows of so many slots from the first on: bit j of row k says whether set j has slot first + k
 pub record HaveSlots (sets : List SlotSet) (first count : ℕ) (rows : List ℕ) : Type 0 where
   pub size : length rows ≡ padded (width_of (length sets)) * count
   pub bits : (k j : ℕ) (d : SlotSet) → k < count → j < length sets
-      → has_bit (row_at (padded (width_of (length sets))) rows k) j
+      → has_bit (slot_row (length sets) rows k) j
       ≡ contains (slice_index_or sets j d) (first + k)
 
 -- a row for each slot
@@ -33,8 +41,8 @@ AreSlotRows sets rows = HaveSlots sets 0 SLOTS rows
 -- the same where the sets stand in columns: bit j of row k says whether column j has slot first + k
 pub record AreBitRows (p q r s : List ℕ) (first n : ℕ) (rows : List ℕ) : Type 0 where
   pub size : length rows ≡ padded (width_of (length p)) * n
-  pub bits : (k j : ℕ) → k < n → j < length p → has_bit
-      (row_at (padded (width_of (length p))) rows k) j ≡ has_bit (column p q r s j) (first + k)
+  pub bits : (k j : ℕ) → k < n → j < length p → has_bit (slot_row (length p) rows k) j
+      ≡ has_bit (column p q r s j) (first + k)
 
 -- a row with a bit for each of the sets, and no other
 pub record IsFullRow (sets : List SlotSet) (row : List ℕ) : Type 0 where

@@ -4,7 +4,7 @@ ghost use Rattle.std.specs.Int.{bit_at};
 ghost use Rattle.std.specs.Simd.Lanes.{chunk};
 ghost use Rattle.bitmap.specs.Slots.{ascending, has_bit};
 ghost use Rattle.lane_kernels.specs.Planes.{column, word_of};
-ghost use Rattle.lane_kernels.specs.Rows.{AreBitRows, IsClear, IsClearIn, padded, row_at, survives, width_of};
+ghost use Rattle.lane_kernels.specs.Rows.{AreBitRows, IsClear, IsClearIn, bit_in, padded, slot_row, survives, width_of};
 
 use bitmap::Bits256;
 use std::alloc::{AllocError, Global};
@@ -139,9 +139,7 @@ fn take_off(block: &[u64; 16], at: usize, row: &mut [u64])
     requires { at ≤ length row.old }
     ensures len { length row.new ≡ length row.old }
     ensures block { (i b : ℕ) → i < 16 → b < 64 → at + i < length row.old
-        → (bit_at (slice_index row.new (at + i)) b == 1)
-        ≡ ((bit_at (slice_index row.old (at + i)) b == 1)
-        && not (bit_at (slice_index block.now i) b == 1)) }
+        → bit_in row.new (at + i) b ≡ (bit_in row.old (at + i) b && not (bit_in block.now i b)) }
     ensures before { (w : ℕ) → w < at → slice_index row.new w ≡ slice_index row.old w }
     ensures after { (w : ℕ) → at + 16 ≤ w → slice_index row.new w ≡ slice_index row.old w }
 {
@@ -213,10 +211,9 @@ fn fill_slot_at(
     ensures len { length rows.new ≡ length rows.old }
     ensures earlier { take (padded (width_of (length p.now)) * k) rows.new
         ≡ take (padded (width_of (length p.now)) * k) rows.old }
-    ensures wide { length (row_at (padded (width_of (length p.now))) rows.new k)
+    ensures wide { length (slot_row (length p.now) rows.new k)
         ≡ padded (width_of (length p.now)) }
-    ensures bits { (j : ℕ) → j < length p.now
-        → has_bit (row_at (padded (width_of (length p.now))) rows.new k) j
+    ensures bits { (j : ℕ) → j < length p.now → has_bit (slot_row (length p.now) rows.new k) j
         ≡ has_bit (column p.now q.now r.now s.now j) (first + k) }
 {
     let width = padded((p.len() + 63) / 64);

@@ -46,8 +46,7 @@ impl Model for SlotRows {
 
     ghost view = { λ r. r.planes };
 
-    ghost invariant = { λ r.
-        IfSome r.rows (λ rows. AreSlotRows r.planes rows.items)
+    ghost invariant = { λ r. IfSome r.rows (λ rows. AreSlotRows r.planes rows.items)
         × IsFullRow r.planes r.full.items × AreFewest r.planes r.fewest.items };
 }
 
