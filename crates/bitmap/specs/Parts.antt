@@ -16,6 +16,10 @@ has_number parts n = set.contains (slice_index_or parts (n / SLOTS) set.empty) (
 unfoldable pub numbers_in : List SlotSet → SlotSet
 numbers_in parts = slots_where (has_number parts) (SLOTS * length parts)
 
+-- whether the number is among those that the parts have
+abbrev pub in_parts : List SlotSet → ℕ → Bool
+in_parts parts n = set.contains (numbers_in parts) n
+
 -- no number of the part is in the set
 abbrev pub HasNoneIn : SlotSet → ℕ → Type 0
 HasNoneIn numbers part = (n : ℕ) → n / SLOTS ≡ part → set.contains numbers n ≡ false

@@ -1,7 +1,7 @@
 // A set of numbers that grows.
-ghost use Rattle.std.specs.Prelude.{◌≡◌, ◌+◌, ◌*◌, ◌/◌, ◌<◌, ◌≤◌, ℕ, false, IfSome, MatchOption, OnErr, OnOk, if◌then◌else◌, nat_lt, true, vec_len};
+ghost use Rattle.std.specs.Prelude.{◌≡◌, ◌+◌, ◌*◌, ◌/◌, ◌<◌, ◌≤◌, ℕ, false, IfSome, MatchOption, OnErr, OnOk, nat_lt, true, vec_len};
 ghost use Rattle.std.specs.FinSet as set;
-ghost use Rattle.bitmap.specs.Numbers.{NumbersState};
+ghost use Rattle.bitmap.specs.Numbers.{NumbersState, without_if};
 ghost use Rattle.bitmap.specs.Parts.{IsSummary, numbers_in};
 ghost use Rattle.bitmap.specs.Slots.{IsLowest, SlotSet};
 ghost use Rattle.bitmap.specs.declared.bits.TheConstants.{SLOTS};
@@ -148,9 +148,7 @@ impl NumberSet {
     #[inline(always)]
     pub fn remove_if(&mut self, number: usize, out: bool)
         requires { number < self.old.room }
-        ensures { self.new ≡ record self.old {
-          numbers = if out then set.remove self.old.numbers number else self.old.numbers;
-        } }
+        ensures { self.new ≡ without_if self.old number out }
     {
         if number < SLOTS {
             self.low.remove_if(number as u8, out);

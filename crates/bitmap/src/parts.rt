@@ -2,7 +2,7 @@
 ghost use Rattle.std.specs.Prelude.{◌≡◌, ◌+◌, ◌*◌, ◌/◌, ◌<◌, ◌≤◌, ℕ, MatchOption, OnErr, OnOk, nat_lt, vec_len};
 ghost use Rattle.std.specs.FinSet as set;
 ghost use Rattle.bitmap.specs.declared.parts.TheConstants.{MOST_PARTS};
-ghost use Rattle.bitmap.specs.Parts.{HasNoneIn, IsLowestIn, IsSummary, has_number, numbers_in};
+ghost use Rattle.bitmap.specs.Parts.{HasNoneIn, IsLowestIn, IsSummary, has_number, in_parts, numbers_in};
 
 use crate::bits::{Bits256, SLOTS};
 use std::alloc::AllocError;
@@ -147,13 +147,11 @@ pub(crate) fn gather(part: &Bits256, limit: usize, after: &Bits256) -> Bits256
 pub(crate) fn spread_all(parts: &mut Vec<Bits256>, limit: usize, before: Bits256)
     requires { vec_len parts.old ≤ MOST_PARTS }
     ensures below { (q : ℕ) → q < limit → q < 256 * vec_len parts.old
-        → set.contains (numbers_in parts.new.items) q
-        ≡ set.contains (numbers_in parts.old.items) q }
+        → in_parts parts.new.items q ≡ in_parts parts.old.items q }
     ensures above { (q : ℕ) → limit ≤ q → q + 1 < 256 * vec_len parts.old
-        → set.contains (numbers_in parts.new.items) (q + 1)
-        ≡ set.contains (numbers_in parts.old.items) q }
+        → in_parts parts.new.items (q + 1) ≡ in_parts parts.old.items q }
     ensures first { limit ≡ 0 → 0 < vec_len parts.old
-        → set.contains (numbers_in parts.new.items) 0 ≡ set.contains before 255 }
+        → in_parts parts.new.items 0 ≡ set.contains before 255 }
     ensures len { vec_len parts.new ≡ vec_len parts.old }
 {
     let mut before = before;
@@ -168,10 +166,9 @@ pub(crate) fn spread_all(parts: &mut Vec<Bits256>, limit: usize, before: Bits256
 pub(crate) fn gather_all(parts: &mut Vec<Bits256>, limit: usize)
     requires { vec_len parts.old ≤ MOST_PARTS }
     ensures below { (q : ℕ) → q < limit
-        → set.contains (numbers_in parts.new.items) q
-        ≡ set.contains (numbers_in parts.old.items) q }
-    ensures above { (q : ℕ) → limit ≤ q → set.contains (numbers_in parts.new.items) q
-        ≡ set.contains (numbers_in parts.old.items) (q + 1) }
+        → in_parts parts.new.items q ≡ in_parts parts.old.items q }
+    ensures above { (q : ℕ) → limit ≤ q
+        → in_parts parts.new.items q ≡ in_parts parts.old.items (q + 1) }
     ensures len { vec_len parts.new ≡ vec_len parts.old }
 {
     for part in 0..parts.len() {
@@ -183,7 +180,7 @@ pub(crate) fn gather_all(parts: &mut Vec<Bits256>, limit: usize)
 /// The part at the index, which has no number where there is none.
 pub(crate) fn part_at(parts: &Vec<Bits256>, part: usize) -> Bits256
     ensures { (slot : ℕ) → slot < 256
-        → set.contains result slot ≡ set.contains (numbers_in parts.now.items) (256 * part + slot) }
+        → set.contains result slot ≡ in_parts parts.now.items (256 * part + slot) }
 {
     if part < parts.len() {
         parts[part]
