@@ -6,7 +6,7 @@ use Rattle.std.specs.FinSet as set
 use Rattle.span.specs.Ids.{rank}
 use Rattle.span.specs.Log.{live_slots}
 use Rattle.span.specs.State.{SpanState}
-use Rattle.groups.specs.Directory.{Entries}
+use Rattle.groups.specs.Directory.{Entries, entered, struck}
 use Rattle.groups.specs.Group.{Group}
 
 -- a slot of the span is live
@@ -32,6 +32,12 @@ without_dead group = record group { guests = live_among group.guests }
 -- the guests of the groups in which no slot is live, in order
 abbrev pub dead_guests : {Closed : Type 0} → List (Group Closed) → List SpanState
 dead_guests groups = flat_map (λ group. dead_among group.guests) groups
+
+-- the entries after the group has forgotten its guests in which no slot is live: theirs are gone,
+-- and those of the others say where they stand then
+abbrev pub forgotten : {Closed : Type 0} → Entries → Group Closed → Entries
+forgotten entries group = entered (struck entries (dead_among group.guests))
+    (live_among group.guests) group.head.id 1
 
 -- each of the spans has an entry
 abbrev pub AreEntered : Entries → List SpanState → Type 0

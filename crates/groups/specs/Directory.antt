@@ -1,5 +1,5 @@
 -- Where guests stand: the heads of their groups, and their places there.
-use Rattle.std.specs.Prelude.{suc, ◌≡◌, ℕ, List, [], ◌∷◌, Some, slice_get, refl}
+use Rattle.std.specs.Prelude.{suc, ◌≡◌, ℕ, ◌+◌, ◌-◌, List, [], ◌∷◌, Some, drop, length, slice_get, refl}
 use Rattle.std.specs.Coded.{Coded, code_by, coded×, coded_ℕ}
 use Rattle.std.specs.Ordering.{nat_cmp}
 use Rattle.std.specs.FinMap as map
@@ -23,12 +23,31 @@ abbrev pub directory_code : Coded Place → Coded DirectoryState
 directory_code place = code_by (Entries × ℕ) (coded× (map.code coded_ℕ place) coded_ℕ)
     (λ d. (d.entries, d.room)) (λ p. record { entries = p.0; room = p.1 }) (λ _. refl)
 
+-- the directory of the entries, with reserved room for that many more
+abbrev pub directory_of : Entries → ℕ → DirectoryState
+directory_of entries room = record { entries = entries; room = room }
+
+-- the directory with these entries, and the reserved room that it has
+abbrev pub with_entries : DirectoryState → Entries → DirectoryState
+with_entries directory entries = record directory { entries = entries }
+
+-- the entries, of which that of the guest says now that it stands at the place of the head's group
+abbrev pub with_guest : Entries → SpanId → SpanId → ℕ → Entries
+with_guest entries guest head place =
+    map.insert entries (rank guest) (record { head = head; place = place })
+
 -- with the spans entered, one after another, as guests of the head from this place on
 abbrev pub entered : Entries → List SpanState → SpanId → ℕ → Entries
 entered entries [] head place = entries
-entered entries (span ∷ spans) head place = entered
-    (map.insert entries (rank span.id) (record { head = head; place = place })) spans head
-    (suc place)
+entered entries (span ∷ spans) head place =
+    entered (with_guest entries span.id head place) spans head (suc place)
+
+-- the directory with the guests of the head entered from the place on, counted from 0, in reserved
+-- room
+abbrev pub entered_from : DirectoryState → ℕ → List SpanState → SpanId → DirectoryState
+entered_from directory first guests head = directory_of
+    (entered directory.entries (drop first guests) head (first + 1))
+    (directory.room + first - length guests)
 
 -- without the entries of the spans
 abbrev pub struck : Entries → List SpanState → Entries

@@ -1,8 +1,8 @@
 // Where guests stand.
-ghost use Rattle.std.specs.Prelude.{◌≡◌, ◌<◌, ◌≤◌, ◌-◌, ◌+◌, OnOk, OnErr, drop, is_some, length, max, true};
+ghost use Rattle.std.specs.Prelude.{◌≡◌, ◌<◌, ◌≤◌, ◌-◌, ◌+◌, OnOk, OnErr, is_some, length, max, true};
 ghost use Rattle.std.specs.FinMap as map;
 ghost use Rattle.span.specs.Ids.{rank};
-ghost use Rattle.groups.specs.Directory.{entered, struck};
+ghost use Rattle.groups.specs.Directory.{directory_of, entered, entered_from, struck, with_entries, with_guest};
 ghost use Rattle.groups.specs.Dead.{AreEntered, dead_among};
 
 use crate::late_table::LateTable;
@@ -52,7 +52,7 @@ impl Model for Directory {
 impl Directory {
     /// No entry. Takes no memory.
     pub fn new(alloc: Global) -> Directory
-        ensures { result ≡ record { entries = map.empty; room = 0 } }
+        ensures { result ≡ directory_of map.empty 0 }
     {
         Directory {
             places: LateTable::new(alloc),
@@ -90,10 +90,7 @@ impl Directory {
     pub fn enter_from<L: Log>(&mut self, first: usize, guests: &[Span<L>], head: SpanId)
         requires within { first ≤ length guests.now }
         requires room { length guests.now ≤ self.old.room + first }
-        ensures { self.new ≡ record {
-          entries = entered self.old.entries (drop first guests.now) head (first + 1);
-          room = self.old.room + first - length guests.now;
-        } }
+        ensures { self.new ≡ entered_from self.old first guests.now head }
     {
         for place in first..guests.len() {
             self.enter(guests[place].id(), head, place + 1);
@@ -103,11 +100,8 @@ impl Directory {
     // Enters the span as a guest of the head at the place, in reserved room.
     fn enter(&mut self, guest: SpanId, head: SpanId, place: usize)
         requires { 0 < self.old.room }
-        ensures { self.new ≡ record {
-          entries = map.insert self.old.entries (rank guest)
-              (record { head = head; place = place });
-          room = self.old.room - 1;
-        } }
+        ensures { self.new
+            ≡ directory_of (with_guest self.old.entries guest head place) (self.old.room - 1) }
     {
         self.places
             .insert_reserved(guest.rank(), Place { head, place });
@@ -116,7 +110,7 @@ impl Directory {
 
     /// Strikes the entries of the spans, which takes no memory and leaves the reserved room.
     pub fn strike_all<L: Log>(&mut self, guests: &[Span<L>])
-        ensures { self.new ≡ record self.old { entries = struck self.old.entries guests.now } }
+        ensures { self.new ≡ with_entries self.old (struck self.old.entries guests.now) }
     {
         for index in 0..guests.len() {
             self.strike(guests[index].id());
@@ -126,9 +120,8 @@ impl Directory {
     /// Strikes the entries of those spans in which no slot is live, which takes no memory and
     /// leaves the reserved room.
     pub fn strike_dead<L: Log>(&mut self, guests: &[Span<L>])
-        ensures { self.new ≡ record self.old {
-          entries = struck self.old.entries (dead_among guests.now);
-        } }
+        ensures { self.new
+            ≡ with_entries self.old (struck self.old.entries (dead_among guests.now)) }
     {
         for index in 0..guests.len() {
             let guest = &guests[index];
@@ -150,9 +143,7 @@ impl Directory {
     /// the head, in this order. It takes neither memory nor reserved room.
     pub fn move_all<L: Log>(&mut self, guests: &[Span<L>], head: SpanId)
         requires { AreEntered self.old.entries guests.now }
-        ensures { self.new ≡ record self.old {
-          entries = entered self.old.entries guests.now head 1;
-        } }
+        ensures { self.new ≡ with_entries self.old (entered self.old.entries guests.now head 1) }
     {
         for index in 0..guests.len() {
             self.move_to(guests[index].id(), head, index + 1);
@@ -162,20 +153,14 @@ impl Directory {
     // Writes into the entry of the guest that it is a guest of the head at the place.
     fn move_to(&mut self, guest: SpanId, head: SpanId, place: usize)
         requires { is_some (map.get self.old.entries (rank guest)) ≡ true }
-        ensures { self.new ≡ record self.old {
-          entries = map.insert self.old.entries (rank guest)
-              (record { head = head; place = place });
-        } }
+        ensures { self.new ≡ with_entries self.old (with_guest self.old.entries guest head place) }
     {
         self.places.write_over(guest.rank(), Place { head, place });
     }
 
     // Strikes the entry of the span, if it has one.
     fn strike(&mut self, guest: SpanId)
-        ensures { self.new ≡ record self.old {
-          entries = map.remove self.old.entries
-              (rank guest);
-        } }
+        ensures { self.new ≡ with_entries self.old (map.remove self.old.entries (rank guest)) }
     {
         self.places.remove(guest.rank());
     }

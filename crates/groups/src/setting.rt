@@ -1,8 +1,8 @@
 // A set in spans whose page has no words in memory yet.
-ghost use Rattle.std.specs.Prelude.{◌≡◌, ◌<◌, ◌↔◌, IfOk, IsSome, MatchOption, OnErr, Some, length, slice_get};
-ghost use Rattle.page.specs.Words.{blank_page, set_object};
-ghost use Rattle.span.specs.State.{IsSettable, SpanState};
-ghost use Rattle.groups.specs.Spans.{all_spans, with_set_at, with_span_at};
+ghost use Rattle.std.specs.Prelude.{◌≡◌, ◌<◌, ◌↔◌, IfOk, IsSome, OnErr, length};
+ghost use Rattle.span.specs.State.{IsSettable};
+ghost use Rattle.groups.specs.Pages.{SetsOnZeros};
+ghost use Rattle.groups.specs.Spans.{OfSpanAt, all_spans};
 
 use crate::spans::Spans;
 use page::Page;
@@ -27,15 +27,12 @@ pub fn set_on_zeros<L: Log>(
     words: &[u128],
 ) -> Result<Option<Page>, AllocError>
     requires { place < length (all_spans spans.old) }
-    ensures found { (span : SpanState) → slice_get (all_spans spans.old) place ≡ Some span
-        → IfOk result (λ page. IsSome page ↔ IsSettable span slot generation words.now) }
-    ensures set { (span : SpanState) → slice_get (all_spans spans.old) place ≡ Some span
-        → IfOk result (λ page. MatchOption page (spans.new ≡ spans.old) (λ page.
-        (page ≡ set_object blank_page span.class slot words.now)
-        × (spans.new ≡ with_span_at spans.old place
-        (with_set_at span slot generation words.now)))) }
-    ensures refused { (span : SpanState) → slice_get (all_spans spans.old) place ≡ Some span
-        → OnErr result (IsSettable span slot generation words.now) }
+    ensures found { OfSpanAt (all_spans spans.old) place (λ span. IfOk result (λ page.
+        IsSome page ↔ IsSettable span slot generation words.now)) }
+    ensures set { OfSpanAt (all_spans spans.old) place (λ span. IfOk result (λ page.
+        SetsOnZeros spans.old place span slot generation words.now page spans.new)) }
+    ensures refused { OfSpanAt (all_spans spans.old) place (λ span.
+        OnErr result (IsSettable span slot generation words.now)) }
     ensures err { OnErr result (spans.new ≡ spans.old) }
 {
     let span = spans.span_at(place);

@@ -1,16 +1,16 @@
 // A head and its guests, whose live slots differ.
-ghost use Rattle.std.specs.Prelude.{[], ◌∷◌, ◌++◌, ◌≡◌, ◌<◌, ◌≤◌, ◌+◌, ◌/◌, ℕ, IfOk, IfSome, OnOk, OnErr, MatchOption, Some, IsTrue, ◌↔◌, slice_get, slice_set, length, map, false, vec_len, vec_capacity};
+ghost use Rattle.std.specs.Prelude.{[], ◌∷◌, ◌++◌, ◌≡◌, ◌<◌, ◌≤◌, ◌+◌, ◌/◌, ℕ, IfOk, IfSome, OnOk, OnErr, MatchOption, Some, IsTrue, ◌↔◌, slice_get, length, map, false, vec_len, vec_capacity};
 ghost use Rattle.std.specs.Bool.{OnTrue, OnFalse};
 ghost use Rattle.std.specs.FinSet as set;
-ghost use Rattle.bitmap.specs.Slots.{AreDisjoint, HasAllBelow, HasWord, IsLowestOutside};
+ghost use Rattle.bitmap.specs.Slots.{AreDisjoint, HasWord};
 ghost use Rattle.bitmap.specs.WordSets.{has_word};
 ghost use Rattle.span.specs.Classes.{slots_in, width_of};
-ghost use Rattle.span.specs.Log.{live_slots, puts_of, worn_slots, Holds};
+ghost use Rattle.span.specs.Log.{live_slots, Holds};
 ghost use Rattle.span.specs.SpanLogs.{AreLegal, room_for_logs, span_of_log};
-ghost use Rattle.span.specs.State.{IsSettable, SpanState};
+ghost use Rattle.span.specs.State.{IsSettable};
 ghost use Rattle.groups.specs.Dead.{live_among};
 ghost use Rattle.groups.specs.SpansKept.{IsFullOutside};
-ghost use Rattle.groups.specs.Spans.{all_spans, taken, union_of, IsSpanAt, HasNoSpan, with_put, with_set_at, with_free_at, with_span_at, live_count};
+ghost use Rattle.groups.specs.Spans.{HasAllOf, IsFull, IsLowestLeft, IsLowestUsable, IsNextKey, OfSpanAt, all_spans, live_count, set_spans, summary_of, union_of, with_free_at, with_guest_at, with_head, with_more_guests, with_put, with_set_at, with_span_at, with_worn};
 ghost use Rattle.bitmap.specs.declared.bits.TheConstants.{SLOTS};
 
 use crate::live::is_live;
@@ -98,10 +98,7 @@ impl<L: Log> Spans<L> {
     /// `AllocError` where the list of guests could not grow. The spans are then as they were.
     pub fn push(&mut self, guest: Span<L>) -> Result<(), AllocError>
         requires { AreDisjoint (live_slots guest.log) (union_of (all_spans self.old)) }
-        ensures ok { OnOk result (self.new ≡ record self.old {
-          guests = self.old.guests
-              ++ guest ∷ [];
-        }) }
+        ensures ok { OnOk result (self.new ≡ with_more_guests self.old (guest ∷ [])) }
         ensures err { OnErr result (self.new ≡ self.old) }
     {
         self.guests.reserve(1)?;
@@ -117,10 +114,7 @@ impl<L: Log> Spans<L> {
         requires apart { AreDisjoint (union_of (all_spans self.old)) (union_of (all_spans spans)) }
         requires none { room.old.items ≡ [] }
         requires room { length self.old.guests + length (all_spans spans) ≤ vec_capacity room.old }
-        ensures guests { self.new ≡ record self.old {
-          guests = self.old.guests
-              ++ all_spans spans;
-        } }
+        ensures guests { self.new ≡ with_more_guests self.old (all_spans spans) }
         ensures none { room.new.items ≡ [] }
     {
         self.occupied = self.occupied.union(&spans.occupied);
@@ -144,12 +138,7 @@ impl<L: Log> Spans<L> {
     /// The group as a plan sees it: the id and the class of its head, and the slots that are live
     /// in one of its spans.
     pub fn entry(&self) -> Entry
-        ensures { result ≡ record {
-          id = self.now.head.id;
-          class = self.now.head.class;
-          occupied = union_of
-              (all_spans self.now);
-        } }
+        ensures { result ≡ summary_of self.now }
     {
         Entry {
             id: self.head_id(),
@@ -189,22 +178,15 @@ impl<L: Log> Spans<L> {
     #[inline(always)]
     pub fn put(&mut self, words: &[u128]) -> Result<Option<Placed>, AllocError>
         requires { length words.now ≡ width_of self.old.head.class }
-        ensures slot { IfOk result (λ made. MatchOption made
-            (HasAllBelow (taken self.old) (slots_in self.old.head.class))
-            (λ placed. (placed.key.slot < slots_in self.old.head.class)
-            × IsLowestOutside (taken self.old) placed.key.slot)) }
+        ensures slot { IfOk result (λ made. MatchOption made (IsFull self.old) (λ placed.
+            IsLowestUsable self.old placed.key.slot)) }
         ensures key { IfOk result (λ made. IfSome made (λ placed.
-            (placed.key.span ≡ self.old.head.id)
-            × (placed.key.generation ≡ puts_of placed.key.slot self.old.head.log + 1))) }
-        ensures ok { IfOk result (λ made. MatchOption made (self.new ≡ self.old)
-            (λ placed. self.new ≡ record self.old {
-              head = with_put self.old.head placed.key.slot
-                  words.now;
-            })) }
+            IsNextKey self.old.head placed.key)) }
+        ensures ok { IfOk result (λ made. MatchOption made (self.new ≡ self.old) (λ placed.
+            self.new ≡ with_head self.old (with_put self.old.head placed.key.slot words.now))) }
         ensures full { IfOk result (λ made. IfSome made (λ placed. IsTrue placed.is_full
-            → HasAllBelow (taken self.new) (slots_in self.new.head.class))) }
-        ensures room { OnErr result
-            (HasAllBelow (taken self.old) (slots_in self.old.head.class) → ⊥) }
+            → IsFull self.new)) }
+        ensures room { OnErr result (IsFull self.old → ⊥) }
         ensures err { OnErr result (self.new ≡ self.old) }
     {
         let found = lowest_usable(&mut self.open_words, &self.occupied, &self.head);
@@ -220,8 +202,7 @@ impl<L: Log> Spans<L> {
     /// Whether a put of an object of the head's class has a slot: one that is live in no span, and
     /// not worn in the head.
     pub fn has_usable(&mut self) -> bool
-        ensures usable { IsTrue result
-            ↔ (HasAllBelow (taken self.old) (slots_in self.old.head.class) → ⊥) }
+        ensures usable { IsTrue result ↔ (IsFull self.old → ⊥) }
         ensures same { self.new ≡ self.old }
     {
         lowest_usable(&mut self.open_words, &self.occupied, &self.head).is_some()
@@ -244,14 +225,13 @@ impl<L: Log> Spans<L> {
         words: &[u128],
     ) -> Result<bool, AllocError>
         requires { place < length (all_spans self.old) }
-        ensures found { (span : SpanState) → slice_get (all_spans self.old) place ≡ Some span
-            → IfOk result (λ done. IsTrue done ↔ IsSettable span slot generation words.now) }
-        ensures set { (span : SpanState) → slice_get (all_spans self.old) place ≡ Some span
-            → IfOk result (λ done. OnTrue done (self.new ≡ with_span_at self.old place
-            (with_set_at span slot generation words.now))) }
+        ensures found { OfSpanAt (all_spans self.old) place (λ span. IfOk result (λ done.
+            IsTrue done ↔ IsSettable span slot generation words.now)) }
+        ensures set { OfSpanAt (all_spans self.old) place (λ span. IfOk result (λ done.
+            OnTrue done (self.new ≡ set_spans self.old place span slot generation words.now))) }
         ensures unknown { IfOk result (λ done. OnFalse done (self.new ≡ self.old)) }
-        ensures refused { (span : SpanState) → slice_get (all_spans self.old) place ≡ Some span
-            → OnErr result (IsSettable span slot generation words.now) }
+        ensures refused { OfSpanAt (all_spans self.old) place (λ span.
+            OnErr result (IsSettable span slot generation words.now)) }
         ensures err { OnErr result (self.new ≡ self.old) }
     {
         if place == 0 {
@@ -265,10 +245,8 @@ impl<L: Log> Spans<L> {
     fn set_in_head(&mut self, slot: u8, generation: u32, words: &[u128]) -> Result<bool, AllocError>
         ensures found { IfOk result (λ done. IsTrue done
             ↔ IsSettable self.old.head slot generation words.now) }
-        ensures set { IfOk result (λ done. OnTrue done (self.new ≡ record self.old {
-          head = with_set_at
-              self.old.head slot generation words.now;
-        })) }
+        ensures set { IfOk result (λ done. OnTrue done (self.new
+            ≡ with_head self.old (with_set_at self.old.head slot generation words.now))) }
         ensures unknown { IfOk result (λ done. OnFalse done (self.new ≡ self.old)) }
         ensures refused { OnErr result (IsSettable self.old.head slot generation words.now) }
         ensures err { OnErr result (self.new ≡ self.old) }
@@ -286,16 +264,13 @@ impl<L: Log> Spans<L> {
         words: &[u128],
     ) -> Result<bool, AllocError>
         requires { at < length self.old.guests }
-        ensures found { (span : SpanState) → slice_get self.old.guests at ≡ Some span
-            → IfOk result (λ done. IsTrue done ↔ IsSettable span slot generation words.now) }
-        ensures set { (span : SpanState) → slice_get self.old.guests at ≡ Some span
-            → IfOk result (λ done. OnTrue done (self.new ≡ record self.old {
-              guests = slice_set self.old.guests at
-                  (with_set_at span slot generation words.now);
-            })) }
+        ensures found { OfSpanAt self.old.guests at (λ span. IfOk result (λ done.
+            IsTrue done ↔ IsSettable span slot generation words.now)) }
+        ensures set { OfSpanAt self.old.guests at (λ span. IfOk result (λ done. OnTrue done
+            (self.new ≡ with_guest_at self.old at (with_set_at span slot generation words.now)))) }
         ensures unknown { IfOk result (λ done. OnFalse done (self.new ≡ self.old)) }
-        ensures refused { (span : SpanState) → slice_get self.old.guests at ≡ Some span
-            → OnErr result (IsSettable span slot generation words.now) }
+        ensures refused { OfSpanAt self.old.guests at (λ span.
+            OnErr result (IsSettable span slot generation words.now)) }
         ensures err { OnErr result (self.new ≡ self.old) }
     {
         let done = self.guests[at].set_held(slot, generation, words)?;
@@ -307,11 +282,10 @@ impl<L: Log> Spans<L> {
     #[inline(always)]
     pub fn free(&mut self, place: usize, slot: u8, generation: u32) -> bool
         requires { place < length (all_spans self.old) }
-        ensures found { (span : SpanState) → slice_get (all_spans self.old) place ≡ Some span
-            → (IsTrue result ↔ Holds span.log slot generation) }
-        ensures freed { (span : SpanState) → slice_get (all_spans self.old) place ≡ Some span
-            → OnTrue result (self.new ≡ with_span_at self.old place
-            (with_free_at span slot generation)) }
+        ensures found { OfSpanAt (all_spans self.old) place (λ span.
+            IsTrue result ↔ Holds span.log slot generation) }
+        ensures freed { OfSpanAt (all_spans self.old) place (λ span. OnTrue result
+            (self.new ≡ with_span_at self.old place (with_free_at span slot generation))) }
         ensures unknown { OnFalse result (self.new ≡ self.old) }
     {
         if place == 0 {
@@ -324,10 +298,8 @@ impl<L: Log> Spans<L> {
     #[inline(always)]
     fn free_in_head(&mut self, slot: u8, generation: u32) -> bool
         ensures found { IsTrue result ↔ Holds self.old.head.log slot generation }
-        ensures freed { OnTrue result (self.new ≡ record self.old {
-          head = with_free_at
-              self.old.head slot generation;
-        }) }
+        ensures freed { OnTrue result
+            (self.new ≡ with_head self.old (with_free_at self.old.head slot generation)) }
         ensures unknown { OnFalse result (self.new ≡ self.old) }
     {
         if !self.head.free_held(slot, generation) {
@@ -341,13 +313,10 @@ impl<L: Log> Spans<L> {
     #[inline(never)]
     fn free_in_guest(&mut self, at: usize, slot: u8, generation: u32) -> bool
         requires { at < length self.old.guests }
-        ensures found { (span : SpanState) → slice_get self.old.guests at ≡ Some span
-            → (IsTrue result ↔ Holds span.log slot generation) }
-        ensures freed { (span : SpanState) → slice_get self.old.guests at ≡ Some span
-            → OnTrue result (self.new ≡ record self.old {
-              guests = slice_set self.old.guests at
-                  (with_free_at span slot generation);
-            }) }
+        ensures found { OfSpanAt self.old.guests at (λ span.
+            IsTrue result ↔ Holds span.log slot generation) }
+        ensures freed { OfSpanAt self.old.guests at (λ span. OnTrue result
+            (self.new ≡ with_guest_at self.old at (with_free_at span slot generation))) }
         ensures unknown { OnFalse result (self.new ≡ self.old) }
     {
         if !self.guests[at].free_held(slot, generation) {
@@ -397,17 +366,13 @@ fn lowest_usable<L: Log>(
     head: &Span<L>,
 ) -> Option<Vacancy>
     requires { IsFullOutside open_words.old (slots_in head.now.class)
-        (set.union occupied.now (worn_slots head.now.gens head.now.log)) }
-    ensures lowest { MatchOption result
-        (HasAllBelow (set.union occupied.now (worn_slots head.now.gens head.now.log))
-        (slots_in head.now.class)) (λ found. (found.slot < slots_in head.now.class)
-        × IsLowestOutside (set.union occupied.now (worn_slots head.now.gens head.now.log))
-        found.slot) }
-    ensures last { IfSome result (λ found. IsTrue found.is_last → HasWord (set.insert
-        (set.union occupied.now (worn_slots head.now.gens head.now.log)) found.slot)
-        (found.slot / 64)) }
+        (with_worn occupied.now head.now) }
+    ensures lowest { MatchOption result (HasAllOf head.now.class (with_worn occupied.now head.now))
+        (λ found. IsLowestLeft head.now.class (with_worn occupied.now head.now) found.slot) }
+    ensures last { IfSome result (λ found. IsTrue found.is_last
+        → HasWord (set.insert (with_worn occupied.now head.now) found.slot) (found.slot / 64)) }
     ensures shut { IsFullOutside open_words.new (slots_in head.now.class)
-        (set.union occupied.now (worn_slots head.now.gens head.now.log)) }
+        (with_worn occupied.now head.now) }
 {
     let class = head.class();
     while let Some(word) = open_words.first() {
