@@ -1,6 +1,6 @@
 -- The window of spans of which a shard notes where the heads stand. No public clause cites this
 -- module.
-use Rattle.std.specs.Prelude.{◌+◌, ◌-◌, ◌*◌, ℕ, List, Option, length, max, slice_get, refl}
+use Rattle.std.specs.Prelude.{◌≡◌, ◌+◌, ◌-◌, ◌*◌, ℕ, List, Option, Some, length, max, slice_get, refl}
 use Rattle.std.specs.Coded.{Coded, code_by, coded×, coded_list, coded_ℕ}
 use Rattle.shard.specs.declared.head_indexes.TheConstants.{FEWEST}
 
@@ -17,6 +17,11 @@ window_code = code_by (ℕ × List ℕ) (coded× coded_ℕ (coded_list coded_ℕ
 -- the entry of a serial that is not below the base
 abbrev pub entry_of : HeadWindow → ℕ → Option ℕ
 entry_of window serial = slice_get window.entries (serial - window.base)
+
+-- the entry of the serial, if it is this one, stays
+abbrev pub KeepsEntry : (serial entry : ℕ) → (old new : HeadWindow) → Type 0
+KeepsEntry serial entry old new =
+    entry_of old serial ≡ Some entry → entry_of new serial ≡ Some entry
 
 -- the first serial past all entries
 abbrev pub end_of : HeadWindow → ℕ

@@ -1,6 +1,6 @@
 -- Where the heads that a shard opened stand. No public clause cites this module.
-use Rattle.std.specs.Prelude.{◌≡◌, ℕ, ◌+◌, ◌-◌, ◌*◌, ◌%◌, ◌<◌, ◌≤◌, ◌==◌, ◌&&◌, List, Some, if◌then◌else◌, length, nat_le, nat_lt, slice_get}
-use Rattle.groups.specs.Group.{Ascend}
+use Rattle.std.specs.Prelude.{◌≡◌, ℕ, ◌+◌, ◌-◌, ◌*◌, ◌%◌, ◌<◌, ◌≤◌, ◌==◌, ◌&&◌, List, Some, if◌then◌else◌, insert, length, nat_le, nat_lt, slice_get}
+use Rattle.groups.specs.Group.{Ascend, HasNoHead}
 use Rattle.groups.specs.declared.directory.Place.{Place}
 use Rattle.span.specs.State.{SpanState}
 use Rattle.span.specs.declared.id.SpanId.{SpanId}
@@ -12,6 +12,10 @@ use Rattle.shard.specs.HeadWindow.{HeadWindow, end_of, entry_of}
 -- the span was opened by the shard of this number, and is not below the base of its window
 abbrev pub IsNoted : ℕ → ℕ → SpanId → Type 0
 IsNoted number base id = (id.shard ≡ number) × (base ≤ id.serial)
+
+-- the serial is not that of the span, if the shard of this number opened it
+abbrev pub IsOther : ℕ → SpanId → ℕ → Type 0
+IsOther number id serial = id.shard ≡ number → serial ≡ id.serial → ⊥
 
 -- for each such head, below the index, its index is noted under its serial
 abbrev pub KnowsBelow : ℕ → List GroupState → HeadWindow → ℕ → Type 0
@@ -64,3 +68,34 @@ note_at number at = if (at.head.shard == number) && nat_lt at.place PLACES then 
 abbrev pub IsLastOf : List SpanState → (place below : ℕ) → SpanId → Type 0
 IsLastOf spans place below id = (later : ℕ) (span : SpanState) → place < later → later < below
     → slice_get spans later ≡ Some span → span.id ≡ id → ⊥
+
+-- what is found is the index that is noted for the serial with the lowest bits of the note, of the
+-- first serials from the base on, if one is noted
+abbrev pub LeadsTo : HeadWindow → (note found : ℕ) → Type 0
+LeadsTo window note found = (serial index : ℕ) → window.base ≤ serial
+    → serial < window.base + HEADS → serial % HEADS ≡ note % HEADS
+    → entry_of window serial ≡ Some index → found ≡ index
+
+-- each guest of the head from the place on that has an entry, and stands at no later place, has the
+-- entry of its place now
+abbrev pub AreEnteredFrom : ℕ → ℕ → List SpanState → SpanId → (old new : HeadWindow) → Type 0
+AreEnteredFrom number first guests head old new = (place : ℕ) (guest : SpanState)
+    → slice_get guests place ≡ Some guest → first ≤ place → IsNoted number old.base guest.id
+    → guest.id.serial < end_of old → IsLastOf guests place (length guests) guest.id
+    → entry_of new guest.id.serial
+    ≡ Some (note_at number (record { head = head; place = place + 1 }))
+
+-- heads that were noted are noted after a group came to the index, of so many groups then, but for
+-- the head of that group
+abbrev pub MakesPlace : ℕ → (index count : ℕ) → (old new : HeadWindow) → Type 0
+MakesPlace number index count old new = (groups : List GroupState) (group : GroupState)
+    → length groups + 1 ≡ count → KnowsHeads number groups old
+    → KnowsOthers number (insert groups index group) new index
+
+-- heads that were noted are noted after a group of this head came to the index, of so many groups
+-- then, and so is this head, which has an entry if it is to be noted
+abbrev pub KnowsArrival : ℕ → SpanId → (index count : ℕ) → (old new : HeadWindow) → Type 0
+KnowsArrival number head index count old new = (groups : List GroupState) (group : GroupState)
+    → length groups + 1 ≡ count → group.head.id ≡ head → HasNoHead groups head
+    → (IsNoted number old.base head → head.serial < end_of old) → KnowsHeads number groups old
+    → KnowsHeads number (insert groups index group) new

@@ -1,12 +1,11 @@
 // Whether spans that a shard opened are guests.
-ghost use Rattle.std.specs.Prelude.{[], ◌≡◌, ◌+◌, ◌-◌, ◌<◌, ◌≤◌, ℕ, OnOk, Some, drop, false, get_or, length, slice_get, true};
+ghost use Rattle.std.specs.Prelude.{[], ◌≡◌, ◌+◌, ◌-◌, ◌<◌, ◌≤◌, ℕ, OnOk, drop, false, get_or, length, true};
 ghost use Rattle.groups.specs.Dead.{dead_among, is_live};
 ghost use Rattle.groups.specs.Directory.{Entries, entered, struck};
-ghost use Rattle.shard.specs.GuestNotes.{KnowsNotes, note_in};
+ghost use Rattle.shard.specs.GuestNotes.{HasNotesFor, KnowsNotes, NotesFollow, note_in};
 ghost use Rattle.shard.specs.HeadWindow.{HeadWindow, end_of};
-ghost use Rattle.shard.specs.Heads.{IsNoted};
+ghost use Rattle.shard.specs.Heads.{IsNoted, IsOther};
 ghost use Rattle.span.specs.Ids.{rank};
-ghost use Rattle.span.specs.State.{SpanState};
 ghost use Rattle.std.specs.FinMap as map;
 
 use crate::head_indexes::{is_noted, most_entries};
@@ -105,14 +104,11 @@ impl GuestNotes {
     /// shard of this number opened. It takes no memory.
     pub fn note_guests<L: Log>(&mut self, number: u32, first: usize, guests: &[Span<L>])
         requires within { first ≤ length guests.now }
-        requires room { (place : ℕ) (guest : SpanState) → slice_get guests.now place ≡ Some guest
-            → first ≤ place → IsNoted number self.old.base guest.id
-            → guest.id.serial < end_of self.old }
+        requires room { HasNotesFor number self.old first guests.now }
         ensures base { self.new.base ≡ self.old.base }
         ensures end { end_of self.new ≡ end_of self.old }
-        ensures known { (entries : Entries) (head : SpanId) → KnowsNotes number entries self.old
-            → KnowsNotes number (entered entries (drop first guests.now) head (first + 1))
-            self.new }
+        ensures known { (entries : Entries) (head : SpanId) → KnowsNotes number entries self.old →
+            KnowsNotes number (entered entries (drop first guests.now) head (first + 1)) self.new }
     {
         for place in first..guests.len() {
             self.write(number, guests[place].id(), GUEST);
@@ -123,8 +119,8 @@ impl GuestNotes {
     pub fn strike_guests<L: Log>(&mut self, number: u32, guests: &[Span<L>])
         ensures base { self.new.base ≡ self.old.base }
         ensures end { end_of self.new ≡ end_of self.old }
-        ensures known { (entries : Entries) → KnowsNotes number entries self.old
-            → KnowsNotes number (struck entries guests.now) self.new }
+        ensures known { NotesFollow number self.old self.new (λ entries.
+            struck entries guests.now) }
     {
         for place in 0..guests.len() {
             self.write(number, guests[place].id(), 0);
@@ -136,8 +132,8 @@ impl GuestNotes {
     pub fn strike_dead_guests<L: Log>(&mut self, number: u32, guests: &[Span<L>])
         ensures base { self.new.base ≡ self.old.base }
         ensures end { end_of self.new ≡ end_of self.old }
-        ensures known { (entries : Entries) → KnowsNotes number entries self.old
-            → KnowsNotes number (struck entries (dead_among guests.now)) self.new }
+        ensures known { NotesFollow number self.old self.new (λ entries.
+            struck entries (dead_among guests.now)) }
     {
         for place in 0..guests.len() {
             self.strike_if_dead(number, &guests[place]);
@@ -148,9 +144,8 @@ impl GuestNotes {
     fn strike_if_dead<L: Log>(&mut self, number: u32, span: &Span<L>)
         ensures base { self.new.base ≡ self.old.base }
         ensures end { end_of self.new ≡ end_of self.old }
-        ensures dead { is_live span.now ≡ false → (entries : Entries)
-            → KnowsNotes number entries self.old
-            → KnowsNotes number (map.remove entries (rank span.now.id)) self.new }
+        ensures dead { is_live span.now ≡ false → NotesFollow number self.old self.new (λ entries.
+            map.remove entries (rank span.now.id)) }
         ensures live { is_live span.now ≡ true → self.new ≡ self.old }
     {
         if is_live(span) {
@@ -166,8 +161,7 @@ impl GuestNotes {
         ensures this { IsNoted number self.old.base id → id.serial < end_of self.old
             → note_in self.new id.serial ≡ note }
         ensures past { end_of self.old ≤ id.serial → self.new ≡ self.old }
-        ensures others { (serial : ℕ) → self.old.base ≤ serial
-            → (id.shard ≡ number → serial ≡ id.serial → ⊥)
+        ensures others { (serial : ℕ) → self.old.base ≤ serial → IsOther number id serial
             → note_in self.new serial ≡ note_in self.old serial }
     {
         if !is_noted(number, self.base, id) {

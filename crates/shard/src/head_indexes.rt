@@ -1,10 +1,9 @@
 // Where the heads that a shard opened stand, and the ways to its guests.
-ghost use Rattle.std.specs.Prelude.{◌≡◌, ◌+◌, ◌-◌, ◌%◌, ◌<◌, ◌≤◌, ℕ, List, OnOk, Some, false, insert, length, map, min, remove, slice_get, true};
-ghost use Rattle.groups.specs.Group.{HasNoHead};
+ghost use Rattle.std.specs.Prelude.{◌≡◌, ◌+◌, ◌-◌, ◌%◌, ◌<◌, ◌≤◌, ℕ, List, OnOk, Some, false, length, map, min, remove, slice_get, true};
+ghost use Rattle.groups.specs.Group.{AreNoHeadsFrom};
 ghost use Rattle.shard.specs.Group.{GroupState};
-ghost use Rattle.shard.specs.HeadWindow.{HeadWindow, end_of, entry_of, most_entries};
-ghost use Rattle.shard.specs.Heads.{AreReady, IsLastOf, IsNoted, KnowsHeads, KnowsOthers, lowered, note_at, raised};
-ghost use Rattle.span.specs.State.{SpanState};
+ghost use Rattle.shard.specs.HeadWindow.{HeadWindow, KeepsEntry, end_of, entry_of, most_entries};
+ghost use Rattle.shard.specs.Heads.{AreEnteredFrom, AreReady, IsNoted, IsOther, KnowsArrival, KnowsHeads, LeadsTo, MakesPlace, lowered, note_at, raised};
 ghost use Rattle.span.specs.declared.limits.TheConstants.{MOST_PAGES};
 
 use crate::group::Group;
@@ -75,7 +74,7 @@ impl HeadIndexes {
     pub fn reserve(&mut self, count: usize, groups: usize) -> Result<(), AllocError>
         ensures base { self.old.base ≤ self.new.base }
         ensures same { (serial index : ℕ) → self.new.base ≤ serial → serial < count
-            → entry_of self.old serial ≡ Some index → entry_of self.new serial ≡ Some index }
+            → KeepsEntry serial index self.old self.new }
         ensures more { min count (end_of self.old) ≤ end_of self.new }
         ensures few { count ≤ self.new.base + most_entries groups }
         ensures ok { OnOk result (count ≤ end_of self.new) }
@@ -93,8 +92,8 @@ impl HeadIndexes {
     fn rise(&mut self, base: usize)
         requires { self.old.base ≤ base }
         ensures base { self.new.base ≡ base }
-        ensures same { (serial index : ℕ) → base ≤ serial → entry_of self.old serial ≡ Some index
-            → entry_of self.new serial ≡ Some index }
+        ensures same { (serial index : ℕ) → base ≤ serial
+            → KeepsEntry serial index self.old self.new }
         ensures len { length self.new.entries ≡ length self.old.entries }
     {
         let gone = (base - self.base).min(self.indexes.len());
@@ -118,9 +117,7 @@ impl HeadIndexes {
     /// guest's entry has of its head; past all groups where there is no such serial.
     #[inline(always)]
     pub fn index_by_note(&self, note: u32) -> usize
-        ensures { (serial index : ℕ) → self.now.base ≤ serial → serial < self.now.base + HEADS
-            → serial % HEADS ≡ note % HEADS → entry_of self.now serial ≡ Some index
-            → result ≡ index }
+        ensures { LeadsTo self.now note result }
     {
         let heads = HEADS as usize;
         let at = (note as usize + heads - self.base % heads) % heads;
@@ -147,14 +144,9 @@ impl HeadIndexes {
     pub fn note_arrival(&mut self, number: u32, head: SpanId, index: usize, count: usize)
         requires within { index < count }
         requires few { count ≤ MOST_PAGES }
-        ensures known { (groups : List GroupState) (group : GroupState)
-            → length groups + 1 ≡ count → group.head.id ≡ head → HasNoHead groups head
-            → (IsNoted number self.old.base head → head.serial < end_of self.old)
-            → KnowsHeads number groups self.old
-            → KnowsHeads number (insert groups index group) self.new }
+        ensures known { KnowsArrival number head index count self.old self.new }
         ensures guests { (serial note : ℕ) → self.old.base ≤ serial → FAR ≤ note
-            → (head.shard ≡ number → serial ≡ head.serial → ⊥)
-            → entry_of self.old serial ≡ Some note → entry_of self.new serial ≡ Some note }
+            → IsOther number head serial → KeepsEntry serial note self.old self.new }
         ensures base { self.new.base ≡ self.old.base }
         ensures end { end_of self.new ≡ end_of self.old }
     {
@@ -167,11 +159,9 @@ impl HeadIndexes {
     fn make_place(&mut self, index: usize, count: usize)
         requires within { index < count }
         requires few { count ≤ MOST_PAGES }
-        ensures known { (number : ℕ) (groups : List GroupState) (group : GroupState)
-            → length groups + 1 ≡ count → KnowsHeads number groups self.old
-            → KnowsOthers number (insert groups index group) self.new index }
-        ensures guests { (serial note : ℕ) → FAR ≤ note → entry_of self.old serial ≡ Some note
-            → entry_of self.new serial ≡ Some note }
+        ensures known { (number : ℕ) → MakesPlace number index count self.old self.new }
+        ensures guests { (serial note : ℕ) → FAR ≤ note
+            → KeepsEntry serial note self.old self.new }
         ensures base { self.new.base ≡ self.old.base }
         ensures end { end_of self.new ≡ end_of self.old }
     {
@@ -187,10 +177,9 @@ impl HeadIndexes {
         requires within { index ≤ count }
         requires few { count < MOST_PAGES }
         ensures known { (number : ℕ) (groups : List GroupState) → length groups ≡ count + 1
-            → KnowsHeads number groups self.old
-            → KnowsHeads number (remove groups index) self.new }
-        ensures guests { (serial note : ℕ) → FAR ≤ note → entry_of self.old serial ≡ Some note
-            → entry_of self.new serial ≡ Some note }
+            → KnowsHeads number groups self.old → KnowsHeads number (remove groups index) self.new }
+        ensures guests { (serial note : ℕ) → FAR ≤ note
+            → KeepsEntry serial note self.old self.new }
         ensures base { self.new.base ≡ self.old.base }
         ensures end { end_of self.new ≡ end_of self.old }
     {
@@ -209,16 +198,9 @@ impl HeadIndexes {
         guests: &[Span<L>],
         head: SpanId,
     )
-        ensures noted { (place : ℕ) (guest : SpanState) → slice_get guests.now place ≡ Some guest
-            → first ≤ place → IsNoted number self.old.base guest.id
-            → guest.id.serial < end_of self.old
-            → IsLastOf guests.now place (length guests.now) guest.id
-            → entry_of self.new guest.id.serial
-            ≡ Some (note_at number (record { head = head; place = place + 1 })) }
+        ensures noted { AreEnteredFrom number first guests.now head self.old self.new }
         ensures heads { (groups : List GroupState) → KnowsHeads number groups self.old
-            → ((place : ℕ) (guest : SpanState) → slice_get guests.now place ≡ Some guest
-            → first ≤ place → HasNoHead groups guest.id)
-            → KnowsHeads number groups self.new }
+            → AreNoHeadsFrom groups first guests.now → KnowsHeads number groups self.new }
         ensures base { self.new.base ≡ self.old.base }
         ensures end { end_of self.new ≡ end_of self.old }
     {
@@ -234,8 +216,7 @@ impl HeadIndexes {
         ensures end { end_of self.new ≡ end_of self.old }
         ensures this { IsNoted number self.old.base id → id.serial < end_of self.old
             → entry_of self.new id.serial ≡ Some note }
-        ensures others { (serial : ℕ) → self.old.base ≤ serial
-            → (id.shard ≡ number → serial ≡ id.serial → ⊥)
+        ensures others { (serial : ℕ) → self.old.base ≤ serial → IsOther number id serial
             → entry_of self.new serial ≡ entry_of self.old serial }
     {
         if !is_noted(number, self.base, id) {

@@ -6,6 +6,7 @@ ghost use Rattle.shard.specs.Group.{GroupState};
 ghost use Rattle.groups.specs.Group.{Ascend, HasNoHead, IsHeadOf, live_in, paged_in, summary};
 ghost use Rattle.span.specs.declared.class.Class.{Class};
 ghost use Rattle.shard.specs.Sound.{IsSound};
+ghost use Rattle.shard.specs.State.{IsInRange, empty_shard};
 ghost use Rattle.bitmap.specs.declared.bits.TheConstants.{SLOTS};
 ghost use Rattle.span.specs.declared.limits.TheConstants.{MOST_PAGES, MOST_SHARDS, MOST_SPANS};
 
@@ -109,18 +110,8 @@ impl Shard<Kept> {
     pub fn new(alloc: Global, number: u32, page_limit: usize, gens: u32) -> Result<Shard, Config>
         ensures in_range { IsOk result ↔ ((number < MOST_SHARDS) × (1 ≤ page_limit)
             × (page_limit ≤ MOST_PAGES) × (1 ≤ gens)) }
-        ensures empty { IfOk result (λ shard. shard ≡ record {
-          number = number;
-          page_limit = page_limit;
-          span_limit = MOST_SPANS;
-          gens = gens;
-          opened = 0;
-          ended = false;
-          groups = [];
-          group_room = 0;
-          span_room = 0;
-          onto = None;
-        }) }
+        ensures empty { IfOk result (λ shard.
+            shard ≡ empty_shard number page_limit MOST_SPANS gens) }
         ensures sound { IfOk result IsSound }
     {
         Shard::with_log(alloc, number, page_limit, MOST_SPANS, gens)
@@ -138,21 +129,9 @@ impl<L: Log> Shard<L> {
         span_limit: u32,
         gens: u32,
     ) -> Result<Shard<L>, Config>
-        ensures in_range { IsOk result ↔ ((number < MOST_SHARDS) × (1 ≤ page_limit)
-            × (page_limit ≤ MOST_PAGES) × (1 ≤ span_limit) × (span_limit ≤ MOST_SPANS)
-            × (1 ≤ gens)) }
-        ensures empty { IfOk result (λ shard. shard ≡ record {
-          number = number;
-          page_limit = page_limit;
-          span_limit = span_limit;
-          gens = gens;
-          opened = 0;
-          ended = false;
-          groups = [];
-          group_room = 0;
-          span_room = 0;
-          onto = None;
-        }) }
+        ensures in_range { IsOk result ↔ IsInRange number page_limit span_limit gens }
+        ensures empty { IfOk result (λ shard.
+            shard ≡ empty_shard number page_limit span_limit gens) }
         ensures sound { IfOk result IsSound }
     {
         if number >= MOST_SHARDS

@@ -1,15 +1,12 @@
 // Guests that can never be live again, which a shard forgets.
-ghost use Rattle.std.specs.Prelude.{◌≡◌, ◌+◌, ◌≤◌, ℕ, List, Some, count_by, map as map_list, slice_get, vec_capacity, vec_len};
-ghost use Rattle.span.specs.Ids.{same_span};
-ghost use Rattle.span.specs.declared.id.SpanId.{SpanId};
+ghost use Rattle.std.specs.Prelude.{◌≡◌, ◌+◌, ◌≤◌, List, map as map_list, vec_capacity, vec_len};
 ghost use Rattle.span.specs.declared.key.Key.{Key};
 ghost use Rattle.shard.specs.GuestNotes.{KnowsNotes};
 ghost use Rattle.shard.specs.HeadWindow.{end_of};
 ghost use Rattle.shard.specs.Heads.{KnowsHeads};
-ghost use Rattle.span.specs.State.{SpanState};
-ghost use Rattle.groups.specs.Dead.{AreEntered, dead_among, live_among, without_dead};
-ghost use Rattle.groups.specs.Directory.{KnowsGuests, entered, struck};
-ghost use Rattle.groups.specs.Group.{Ascend, HasNoHead};
+ghost use Rattle.groups.specs.Dead.{AreEntered, dead_among, forgotten, live_among, without_dead};
+ghost use Rattle.groups.specs.Directory.{KnowsGuests, struck, with_entries};
+ghost use Rattle.groups.specs.Group.{AreNoHeads, Ascend, GuestsAreNoHeads, HaveGuestsOnce};
 ghost use Rattle.shard.specs.Forgets.{Forgets};
 ghost use Rattle.shard.specs.Group.{GroupState};
 ghost use Rattle.shard.specs.Shown.{shown};
@@ -63,11 +60,8 @@ fn forget_all(
     requires ascend { Ascend groups.old.items }
     requires noted { KnowsNotes number directory.old.entries notes.old }
     requires heads { KnowsHeads number groups.old.items heads.old }
-    requires apart { (index place : ℕ) (group : GroupState) (guest : SpanState)
-        → slice_get groups.old.items index ≡ Some group
-        → slice_get group.guests place ≡ Some guest → HasNoHead groups.old.items guest.id }
-    requires once { (index : ℕ) (group : GroupState) → slice_get groups.old.items index ≡ Some group
-        → (id : SpanId) → count_by (λ span. same_span span.id id) group.guests ≤ 1 }
+    requires apart { GuestsAreNoHeads groups.old.items }
+    requires once { HaveGuestsOnce groups.old.items }
     ensures items { groups.new.items ≡ map_list without_dead groups.old.items }
     ensures capacity { vec_len groups.new + room ≤ vec_capacity groups.new }
     ensures known { KnowsGuests groups.new.items directory.new.entries }
@@ -105,11 +99,8 @@ fn forget_each(
     requires ascend { Ascend groups.old.items }
     requires noted { KnowsNotes number directory.old.entries notes.old }
     requires heads { KnowsHeads number groups.old.items heads.old }
-    requires apart { (index place : ℕ) (group : GroupState) (guest : SpanState)
-        → slice_get groups.old.items index ≡ Some group
-        → slice_get group.guests place ≡ Some guest → HasNoHead groups.old.items guest.id }
-    requires once { (index : ℕ) (group : GroupState) → slice_get groups.old.items index ≡ Some group
-        → (id : SpanId) → count_by (λ span. same_span span.id id) group.guests ≤ 1 }
+    requires apart { GuestsAreNoHeads groups.old.items }
+    requires once { HaveGuestsOnce groups.old.items }
     ensures items { groups.new.items ≡ map_list without_dead groups.old.items }
     ensures len { vec_len groups.new ≡ vec_len groups.old }
     ensures capacity { vec_capacity groups.new ≡ vec_capacity groups.old }
@@ -138,15 +129,12 @@ fn forget_in(
         (live_among group.old.guests) }
     requires known { KnowsNotes number directory.old.entries notes.old }
     ensures group { group.new ≡ without_dead group.old }
-    ensures directory { directory.new ≡ record directory.old {
-      entries = entered (struck directory.old.entries (dead_among group.old.guests))
-          (live_among group.old.guests) group.old.head.id 1;
-    } }
+    ensures directory { directory.new
+        ≡ with_entries directory.old (forgotten directory.old.entries group.old) }
     ensures noted { KnowsNotes number directory.new.entries notes.new }
     ensures end { end_of notes.new ≡ end_of notes.old }
     ensures heads { (groups : List GroupState) → KnowsHeads number groups heads.old
-        → ((place : ℕ) (guest : SpanState) → slice_get group.old.guests place ≡ Some guest
-        → HasNoHead groups guest.id) → KnowsHeads number groups heads.new }
+        → AreNoHeads groups group.old.guests → KnowsHeads number groups heads.new }
     ensures head_end { end_of heads.new ≡ end_of heads.old }
 {
     directory.strike_dead(group.spans().guests());

@@ -1,9 +1,8 @@
 // Look-ups and frees, and where the span of a key stands.
-ghost use Rattle.std.specs.Prelude.{◌≡◌, ◌≢◌, ◌+◌, ◌<◌, ◌≤◌, ◌↔◌, ℕ, false, true, IfSome, IsSome, IsTrue, MatchOption, Some, if◌then◌else◌, is_some, length, slice_get};
+ghost use Rattle.std.specs.Prelude.{◌≡◌, ◌≢◌, ◌+◌, ◌<◌, ◌≤◌, ◌↔◌, ℕ, false, true, IfSome, IsSome, IsTrue, MatchOption, Some, is_some, length, slice_get};
 ghost use Rattle.span.specs.Order.{HasNoneFrom, IsFirstFrom};
-ghost use Rattle.span.specs.PlainMap as plain;
-ghost use Rattle.span.specs.State.{SpanState};
-ghost use Rattle.groups.specs.Group.{HasNoHead, IsElsewhere, IsHeadOf, IsHere};
+ghost use Rattle.groups.specs.Group.{HasNoHead, IsElsewhere, IsHeadOf, StandsAt};
+ghost use Rattle.groups.specs.Shown.{without_if};
 ghost use Rattle.groups.specs.Spans.{HasNoSpan};
 ghost use Rattle.shard.specs.Calls.{FindsObject, Frees, Gets, StandsFirst, value_found, was_freed};
 ghost use Rattle.shard.specs.Group.{GroupState};
@@ -119,8 +118,7 @@ impl<L: Log> Shard<L> {
     // What is found of the key in its span, which stands at the place of the group at the index.
     #[inline(always)]
     fn get_at(&self, index: usize, place: usize, key: &Key) -> Found<'_>
-        requires { (group : GroupState) × (span : SpanState)
-            × IsHere self.now.groups key.now.span index place group span }
+        requires { StandsAt self.now.groups key.now.span index place }
         ensures found { Gets self.now key.now result }
         ensures here { result ≢ Found.NotHere }
         ensures width { FindsObject result }
@@ -144,8 +142,7 @@ impl<L: Log> Shard<L> {
     pub fn free(&mut self, key: &Key) -> Freed
         ensures step { Frees self.old key.now result self.new }
         ensures found { was_freed result ≡ is_some ((shown self.old).value_of key.now) }
-        ensures plain { shown self.new ≡ (if was_freed result then plain.without
-            (shown self.old) key.now else shown self.old) }
+        ensures plain { shown self.new ≡ without_if (was_freed result) (shown self.old) key.now }
         ensures sound { IsSound self.new }
     {
         let Some((index, place)) = self.find(key.span) else {
@@ -163,8 +160,7 @@ impl<L: Log> Shard<L> {
         ensures step { Frees self.old key.now result self.new }
         ensures here { result ≢ Freed.NotHere }
         ensures found { was_freed result ≡ is_some ((shown self.old).value_of key.now) }
-        ensures plain { shown self.new ≡ (if was_freed result then plain.without
-            (shown self.old) key.now else shown self.old) }
+        ensures plain { shown self.new ≡ without_if (was_freed result) (shown self.old) key.now }
         ensures sound { IsSound self.new }
     {
         self.free_at(key.span.serial as usize, 0, key)
@@ -182,13 +178,11 @@ impl<L: Log> Shard<L> {
     // Frees the key in its span, which stands at the place of the group at the index.
     #[inline(always)]
     fn free_at(&mut self, index: usize, place: usize, key: &Key) -> Freed
-        requires { (group : GroupState) × (span : SpanState)
-            × IsHere self.old.groups key.now.span index place group span }
+        requires { StandsAt self.old.groups key.now.span index place }
         ensures step { Frees self.old key.now result self.new }
         ensures here { result ≢ Freed.NotHere }
         ensures found { was_freed result ≡ is_some ((shown self.old).value_of key.now) }
-        ensures plain { shown self.new ≡ (if was_freed result then plain.without
-            (shown self.old) key.now else shown self.old) }
+        ensures plain { shown self.new ≡ without_if (was_freed result) (shown self.old) key.now }
         ensures sound { IsSound self.new }
     {
         let group = &mut self.groups[index];
@@ -221,9 +215,8 @@ impl<L: Log> Shard<L> {
     #[inline(always)]
     pub(super) fn find(&self, id: SpanId) -> Option<(usize, usize)>
         ensures sound { IsSound self.now }
-        ensures place { MatchOption result (IsElsewhere self.now.groups id)
-            (λ at. (group : GroupState) × (span : SpanState)
-            × IsHere self.now.groups id at.0 at.1 group span) }
+        ensures place { MatchOption result (IsElsewhere self.now.groups id) (λ at.
+            StandsAt self.now.groups id at.0 at.1) }
     {
         let first = id.serial as usize;
         if self.is_head(first, id) {
@@ -252,8 +245,7 @@ impl<L: Log> Shard<L> {
         ensures yes { result ≡ true → (group : GroupState)
             × IsHeadOf self.now.groups head index group }
         ensures no { result ≡ false → (group : GroupState)
-            → IsHeadOf self.now.groups head index group
-            → ⊥ }
+            → IsHeadOf self.now.groups head index group → ⊥ }
         ensures sound { IsSound self.now }
     {
         index < self.groups.len() && self.groups[index].head_id() == head
@@ -262,8 +254,7 @@ impl<L: Log> Shard<L> {
     // Where the guest stands, if what is noted of it holds.
     #[inline(always)]
     fn near_guest(&self, id: SpanId) -> Option<(usize, usize)>
-        ensures { IfSome result (λ at. (group : GroupState) × (span : SpanState)
-            × IsHere self.now.groups id at.0 at.1 group span) }
+        ensures { IfSome result (λ at. StandsAt self.now.groups id at.0 at.1) }
     {
         let Some(note) = self.heads.note_of(id.serial) else {
             return None;
@@ -290,8 +281,7 @@ impl<L: Log> Shard<L> {
     // Whether the group at the index, if there is one, has this span at the place.
     #[inline(always)]
     fn is_guest(&self, index: usize, place: usize, guest: SpanId) -> bool
-        ensures { result ≡ true → (group : GroupState) × (span : SpanState)
-            × IsHere self.now.groups guest index place group span }
+        ensures { result ≡ true → StandsAt self.now.groups guest index place }
     {
         if index >= self.groups.len() {
             return false;
@@ -334,8 +324,8 @@ impl<L: Log> Shard<L> {
     #[inline(never)]
     fn find_moved(&self, id: SpanId) -> (usize, usize)
         ensures elsewhere { length self.now.groups ≤ result.0 → IsElsewhere self.now.groups id }
-        ensures here { result.0 < length self.now.groups → (group : GroupState) × (span : SpanState)
-            × IsHere self.now.groups id result.0 result.1 group span }
+        ensures here { result.0 < length self.now.groups
+            → StandsAt self.now.groups id result.0 result.1 }
     {
         self.search(id)
     }
@@ -345,8 +335,8 @@ impl<L: Log> Shard<L> {
     #[inline(always)]
     fn search(&self, id: SpanId) -> (usize, usize)
         ensures elsewhere { length self.now.groups ≤ result.0 → IsElsewhere self.now.groups id }
-        ensures here { result.0 < length self.now.groups → (group : GroupState) × (span : SpanState)
-            × IsHere self.now.groups id result.0 result.1 group span }
+        ensures here { result.0 < length self.now.groups
+            → StandsAt self.now.groups id result.0 result.1 }
     {
         if let Some(at) = self.directory.place_of(id) {
             return match self.find_head(at.head) {

@@ -1,10 +1,9 @@
 // Sets in place.
-ghost use Rattle.std.specs.Prelude.{◌≡◌, ◌≢◌, IfOk, OnErr, if◌then◌else◌, true};
+ghost use Rattle.std.specs.Prelude.{◌≡◌, ◌≢◌, IfOk, OnErr, true};
 ghost use Rattle.span.specs.PlainMap as plain;
-ghost use Rattle.span.specs.State.{SpanState};
-ghost use Rattle.groups.specs.Group.{IsHere};
+ghost use Rattle.groups.specs.Group.{StandsAt};
+ghost use Rattle.groups.specs.Shown.{with_value_if};
 ghost use Rattle.shard.specs.Calls.{Sets, StandsFirst, was_replaced};
-ghost use Rattle.shard.specs.Group.{GroupState};
 ghost use Rattle.shard.specs.Shown.{shown};
 ghost use Rattle.shard.specs.Sound.{IsSound};
 
@@ -39,8 +38,7 @@ impl<L: Log> Shard<L> {
         ensures found { IfOk result (λ answer. was_replaced answer
             ≡ plain.may_set (shown self.old) key.now words.now) }
         ensures plain { IfOk result (λ answer. shown self.new
-            ≡ (if was_replaced answer then plain.with_value (shown self.old) key.now words.now
-            else shown self.old)) }
+            ≡ with_value_if (was_replaced answer) (shown self.old) key.now words.now) }
         ensures sound { IsSound self.new }
         ensures refused { OnErr result (plain.may_set (shown self.old) key.now words.now ≡ true) }
         ensures err { OnErr result (self.new ≡ self.old) }
@@ -65,8 +63,7 @@ impl<L: Log> Shard<L> {
         ensures found { IfOk result (λ answer. was_replaced answer
             ≡ plain.may_set (shown self.old) key.now words.now) }
         ensures plain { IfOk result (λ answer. shown self.new
-            ≡ (if was_replaced answer then plain.with_value (shown self.old) key.now words.now
-            else shown self.old)) }
+            ≡ with_value_if (was_replaced answer) (shown self.old) key.now words.now) }
         ensures sound { IsSound self.new }
         ensures refused { OnErr result (plain.may_set (shown self.old) key.now words.now ≡ true) }
         ensures err { OnErr result (self.new ≡ self.old) }
@@ -83,15 +80,13 @@ impl<L: Log> Shard<L> {
         key: &Key,
         words: &[u128],
     ) -> Result<Replaced, AllocError>
-        requires { (group : GroupState) × (span : SpanState)
-            × IsHere self.old.groups key.now.span index place group span }
+        requires { StandsAt self.old.groups key.now.span index place }
         ensures step { IfOk result (λ answer. Sets self.old key.now words.now answer self.new) }
         ensures here { IfOk result (λ answer. answer ≢ Replaced.NotHere) }
         ensures found { IfOk result (λ answer. was_replaced answer
             ≡ plain.may_set (shown self.old) key.now words.now) }
         ensures plain { IfOk result (λ answer. shown self.new
-            ≡ (if was_replaced answer then plain.with_value (shown self.old) key.now words.now
-            else shown self.old)) }
+            ≡ with_value_if (was_replaced answer) (shown self.old) key.now words.now) }
         ensures sound { IsSound self.new }
         ensures refused { OnErr result (plain.may_set (shown self.old) key.now words.now ≡ true) }
         ensures err { OnErr result (self.new ≡ self.old) }
