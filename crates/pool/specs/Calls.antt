@@ -1,6 +1,7 @@
 -- What the calls of the pool do and answer.
 use Rattle.std.specs.Prelude.{◌≡◌, ◌≢◌, ◌⊎◌, map, ℕ, ◌+◌, ◌-◌, ◌<◌, ◌≤◌, true, false, List, [], ◌∷◌, length, insert, remove, Option, Some, None, IsSome, is_some, slice_get, slice_set}
 use Rattle.std.specs.FinSet as set
+use Rattle.std.specs.List.{list_any}
 use Rattle.span.specs.declared.id.SpanId.{SpanId}
 use Rattle.span.specs.declared.key.Key.{Key}
 use Rattle.span.specs.Ids.{rank}
@@ -181,6 +182,10 @@ abbrev pub IsInPool : PoolState → ShardState → Type 0
 IsInPool pool shard = (index : ℕ) × (group : GroupState)
     × (slice_get shard.groups index ≡ Some group) × HasAny pool.groups (spans_of group)
 
+-- one of the groups is closed
+abbrev pub HasClosed : List GroupState → Type 0
+HasClosed groups = list_any (λ group. group.closed) groups ≡ true
+
 -- the first of the groups that has a page
 pub record IsFirstPaged (groups : List PooledState) (index : ℕ) (group : PooledState) : Type 0 where
   pub here : slice_get groups index ≡ Some group
@@ -243,3 +248,19 @@ WouldDouble pool shard head = (index : ℕ) × (group : PooledState)
 abbrev pub IsDoubled : PoolState → ShardState → Type 0
 IsDoubled pool shard = (index : ℕ) × (group : PooledState) × IsLowestPaged pool index group
     × HasDoubled shard (spans_of group)
+
+-- the shard may have another page and has not ended, but it has a span of the group already, or may
+-- yet open it
+abbrev pub MeetsDouble : PoolState → ShardState → Type 0
+MeetsDouble pool shard = (shard.page_limit ≢ length shard.groups) × (shard.ended ≡ false)
+    × IsDoubled pool shard
+
+-- the shard may have another page and has not ended, and no such span is there, but a plan is open
+abbrev pub MeetsPlan : PoolState → ShardState → Type 0
+MeetsPlan pool shard = (shard.page_limit ≢ length shard.groups) × (shard.ended ≡ false)
+    × (IsDoubled pool shard → ⊥) × (pool.has_plan ≡ true)
+
+-- the shard may have another page and has not ended, and no plan is open, but no group has a page
+abbrev pub MeetsNothing : PoolState → ShardState → Type 0
+MeetsNothing pool shard = (shard.page_limit ≢ length shard.groups) × (shard.ended ≡ false)
+    × (pool.has_plan ≡ false) × HasNothingToAdopt pool

@@ -1,6 +1,6 @@
 -- What a shard's groups need on their way to the pool, and what they leave behind. No public clause
 -- cites this module.
-use Rattle.std.specs.Prelude.{◌≡◌, ℕ, ◌+◌, ◌≤◌, List, [], ◌++◌, Some, length, count_by, slice_get, sum_by}
+use Rattle.std.specs.Prelude.{◌≡◌, ℕ, ◌+◌, ◌≤◌, List, [], ◌∷◌, ◌++◌, Some, length, count_by, slice_get, sum_by}
 use Rattle.span.specs.Ids.{same_span}
 use Rattle.span.specs.State.{SpanState}
 use Rattle.span.specs.declared.id.SpanId.{SpanId}
@@ -47,6 +47,11 @@ pub record AreReady (pool : PoolState) (shard : ShardState) (going rest : List L
   pub groups : length going ≤ pool.group_room
   pub spans : span_count going ≤ pool.span_room
   pub order : AreSparsestFirst shard.groups (going ++ rest)
+
+-- whatever was ready for the group and others is ready for the others then
+abbrev pub StayReady : LiveGroup → PoolState → ShardState → PoolState → ShardState → Type 0
+StayReady one old shard new left = (more rest : List LiveGroup)
+    → AreReady old shard (one ∷ more) rest → AreReady new left more rest
 
 -- one of the spans stands among the shard's groups
 abbrev pub HasAnyIn : List GroupState → List SpanState → Type 0

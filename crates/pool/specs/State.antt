@@ -1,5 +1,5 @@
 -- What contracts see of the pool.
-use Rattle.std.specs.Prelude.{ℕ, Bool, List, Option}
+use Rattle.std.specs.Prelude.{ℕ, Bool, false, List, [], Option}
 use Rattle.page.specs.Words.{Words}
 use Rattle.groups.specs.Group.{Group, paged_in}
 use Rattle.groups.specs.Spans.{SpansState}
@@ -15,6 +15,10 @@ pub record PoolState : Type 0 where
   pub group_room : ℕ
   pub span_room : ℕ
   pub has_plan : Bool
+
+-- a pool with no group
+abbrev pub new_pool : PoolState
+new_pool = record { groups = []; group_room = 0; span_room = 0; has_plan = false }
 
 -- the group of the spans, with the page, if there is one
 abbrev pub group_of : SpansState → Option Words → PooledState

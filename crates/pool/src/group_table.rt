@@ -1,22 +1,22 @@
 // The groups of the pool, found by their heads.
-ghost use Rattle.std.specs.Prelude.{◌≡◌, ◌<◌, ◌≤◌, ◌-◌, ◌+◌, ◌++◌, ◌*◌, ◌↔◌, ℕ, [], IfOk, IfSome, IsSome, IsTrue, MatchOption, OnErr, OnOk, Some, insert, length, map, max, slice_get, slice_set, vec_capacity};
+ghost use Rattle.std.specs.Prelude.{◌≡◌, ◌<◌, ◌≤◌, ◌-◌, ◌+◌, ◌++◌, ◌*◌, ◌↔◌, ℕ, [], IfOk, IfSome, IsSome, IsTrue, MatchOption, OnErr, OnOk, Some, length, map, max, slice_get, vec_capacity};
 ghost use Rattle.std.specs.Bool.{OnTrue, OnFalse};
 ghost use Rattle.std.specs.FinMap as table;
 ghost use Rattle.std.specs.List.{Contains};
 ghost use Rattle.span.specs.Ids.{rank};
 ghost use Rattle.span.specs.Log.{Holds};
 ghost use Rattle.span.specs.SpanLogs.{AreLegal, room_for_logs, span_of_log};
-ghost use Rattle.span.specs.State.{IsSettable, SpanState};
+ghost use Rattle.span.specs.State.{IsSettable};
 ghost use Rattle.groups.specs.Dead.{AreEntered, dead_among, live_among, without_dead};
-ghost use Rattle.groups.specs.Directory.{KnowsGuests, entered, struck};
+ghost use Rattle.groups.specs.Directory.{KnowsGuests, struck};
 ghost use Rattle.groups.specs.FirstLive.{IsFirstAmong};
-ghost use Rattle.groups.specs.Group.{HasNoHead, IsHeadOf, IsPlaceFor, paged_in, spans_in, spans_of, summary};
+ghost use Rattle.groups.specs.Group.{HasNoHead, paged_in, spans_in, spans_of, summary};
 ghost use Rattle.groups.specs.Pages.{set_group};
 ghost use Rattle.groups.specs.Sound.{AreSoundGroups, IsSoundGroup};
 ghost use Rattle.groups.specs.Spans.{live_count, with_free_at};
 ghost use Rattle.pool.specs.Calls.{HasNoPage};
-ghost use Rattle.pool.specs.Forgets.{left_in};
-ghost use Rattle.pool.specs.Groups.{FreesIn, HasHeadAt, Removes};
+ghost use Rattle.pool.specs.Forgets.{entries_left, left_in};
+ghost use Rattle.pool.specs.Groups.{FreesIn, HasHeadAt, Inserts, OfSpanAt, OnDone, Removes, with_group};
 ghost use Rattle.pool.specs.Handover.{HaveOneIn};
 ghost use Rattle.pool.specs.Noted.{AreNoted, HasNoPageAt, IsHeadOfFirstPaged, IsPagedHead};
 ghost use Rattle.pool.specs.Ranked.{AreFound, HaveGuestsOnce, HaveOwnHeads, KeepsPaged, LetsGo, head_rank, in_order};
@@ -117,11 +117,7 @@ impl<L: Log> GroupTable<L> {
     pub(crate) fn insert(&mut self, group: Pooled<L>)
         requires room { 0 < self.old.room }
         requires new { HasNoHead self.old.groups group.head.id }
-        ensures { (index : ℕ) × IsPlaceFor self.old.groups group.head.id index
-            × (self.new ≡ record {
-              groups = insert self.old.groups index group;
-              room = self.old.room - 1;
-            }) }
+        ensures { Inserts self.old group self.new }
     {
         note(&mut self.paged, &group);
         let place = self.row.len();
@@ -161,22 +157,13 @@ impl<L: Log> GroupTable<L> {
     ) -> Result<bool, AllocError>
         requires { (group : PooledState) × HasHeadAt self.old.groups head group
             × (place < length (spans_of group)) × IsSoundGroup group }
-        ensures found { (index : ℕ) (group : PooledState) (span : SpanState)
-            → IsHeadOf self.old.groups head index group
-            → slice_get (spans_of group) place ≡ Some span
-            → IfOk result (λ done. IsTrue done ↔ IsSettable span slot generation words.now) }
-        ensures set { (index : ℕ) (group : PooledState) (span : SpanState)
-            → IsHeadOf self.old.groups head index group
-            → slice_get (spans_of group) place ≡ Some span
-            → IfOk result (λ done. OnTrue done (self.new ≡ record self.old {
-              groups = slice_set self.old.groups index
-                  (set_group group place span slot generation words.now);
-            })) }
+        ensures found { OfSpanAt self.old.groups head place (λ _ _ span. IfOk result
+            (λ done. IsTrue done ↔ IsSettable span slot generation words.now)) }
+        ensures set { OfSpanAt self.old.groups head place (λ at group span. OnDone result (self.new
+            ≡ with_group self.old at (set_group group place span slot generation words.now))) }
         ensures unknown { IfOk result (λ done. OnFalse done (self.new ≡ self.old)) }
-        ensures refused { (index : ℕ) (group : PooledState) (span : SpanState)
-            → IsHeadOf self.old.groups head index group
-            → slice_get (spans_of group) place ≡ Some span
-            → OnErr result (IsSettable span slot generation words.now) }
+        ensures refused { OfSpanAt self.old.groups head place
+            (λ _ _ span. OnErr result (IsSettable span slot generation words.now)) }
         ensures err { OnErr result (self.new ≡ self.old) }
     {
         let Some(at) = place_of(&self.places, head) else {
@@ -190,15 +177,10 @@ impl<L: Log> GroupTable<L> {
     pub(crate) fn free(&mut self, head: SpanId, place: usize, slot: u8, generation: u32) -> bool
         requires { (group : PooledState) × HasHeadAt self.old.groups head group
             × (place < length (spans_of group)) }
-        ensures found { (index : ℕ) (group : PooledState) (span : SpanState)
-            → IsHeadOf self.old.groups head index group
-            → slice_get (spans_of group) place ≡ Some span
-            → (IsTrue result ↔ Holds span.log slot generation) }
-        ensures freed { (index : ℕ) (group : PooledState) (span : SpanState)
-            → IsHeadOf self.old.groups head index group
-            → slice_get (spans_of group) place ≡ Some span
-            → OnTrue result (FreesIn self.old index group place
-            (with_free_at span slot generation) self.new) }
+        ensures found { OfSpanAt self.old.groups head place
+            (λ _ _ span. IsTrue result ↔ Holds span.log slot generation) }
+        ensures freed { OfSpanAt self.old.groups head place (λ index group span. OnTrue result
+            (FreesIn self.old index group place (with_free_at span slot generation) self.new)) }
         ensures unknown { OnFalse result (self.new ≡ self.old) }
     {
         let Some(at) = place_of(&self.places, head) else {
@@ -510,10 +492,8 @@ fn forget_in(group: &mut Pooled<Counted>, directory: &mut Directory)
     requires { AreEntered (struck directory.old.entries (dead_among group.old.guests))
         (live_among group.old.guests) }
     ensures group { group.new ≡ without_dead group.old }
-    ensures directory { directory.new ≡ record directory.old {
-      entries = entered (struck directory.old.entries (dead_among group.old.guests))
-          (live_among group.old.guests) group.old.head.id 1;
-    } }
+    ensures directory { directory.new
+        ≡ record directory.old { entries = entries_left directory.old.entries group.old } }
 {
     directory.strike_dead(group.spans().guests());
     group.forget_guests();

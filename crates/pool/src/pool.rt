@@ -1,18 +1,18 @@
 // The pool and its calls on keys.
-ghost use Rattle.std.specs.Prelude.{◌≡◌, ◌<◌, ◌≤◌, ◌*◌, ◌↔◌, ℕ, [], map, length, IsTrue, IfOk, MatchOption, false, true, if◌then◌else◌, is_some};
+ghost use Rattle.std.specs.Prelude.{◌≡◌, ◌<◌, ◌≤◌, ◌*◌, ◌↔◌, map, length, IsTrue, IfOk, MatchOption, false, true, if◌then◌else◌, is_some};
 ghost use Rattle.std.specs.List.Sorted.{IsStrictlyIncreasing};
 ghost use Rattle.span.specs.FirstLive.{HasNoneBetween, IsFirstLive};
 ghost use Rattle.span.specs.Ids.{rank};
 ghost use Rattle.span.specs.Order.{HasNoneFrom, IsFirstFrom};
 ghost use Rattle.span.specs.PlainMap as plain;
-ghost use Rattle.span.specs.State.{SpanState};
 ghost use Rattle.shard.specs.Calls.{FindsObject, value_found, was_freed};
 ghost use Rattle.pool.specs.Calls.{Frees, Gets};
+ghost use Rattle.pool.specs.Groups.{HasAtPlace};
 ghost use Rattle.pool.specs.Shown.{shown};
 ghost use Rattle.pool.specs.Sound.{IsSound};
 ghost use Rattle.pool.specs.Sparse.{HaveSparsest};
-ghost use Rattle.pool.specs.State.{paged_groups};
-ghost use Rattle.groups.specs.Group.{HasNoHead, IsElsewhere, IsHere, live_in, summary};
+ghost use Rattle.pool.specs.State.{new_pool, paged_groups};
+ghost use Rattle.groups.specs.Group.{HasNoHead, IsElsewhere, live_in, summary};
 ghost use Rattle.span.specs.declared.limits.TheConstants.{ALL_IDS};
 ghost use Rattle.bitmap.specs.declared.bits.TheConstants.{SLOTS};
 
@@ -63,12 +63,7 @@ impl<L: Log> Model for Pool<L> {
 impl Pool<Kept> {
     /// A pool with no group. It takes no memory.
     pub fn new(alloc: Global) -> Pool
-        ensures empty { result ≡ record {
-          groups = [];
-          group_room = 0;
-          span_room = 0;
-          has_plan = false;
-        } }
+        ensures empty { result ≡ new_pool }
         ensures sound { IsSound result }
     {
         Pool::with_log(alloc)
@@ -79,12 +74,7 @@ impl<L: Log> Pool<L> {
     /// A pool with no group, whose logs are kept or counted as its type says: as [`Pool::new`]. It
     /// takes no memory.
     pub fn with_log(alloc: Global) -> Pool<L>
-        ensures empty { result ≡ record {
-          groups = [];
-          group_room = 0;
-          span_room = 0;
-          has_plan = false;
-        } }
+        ensures empty { result ≡ new_pool }
         ensures sound { IsSound result }
     {
         Pool {
@@ -251,8 +241,7 @@ impl<L: Log> Pool<L> {
     fn find(&self, id: SpanId) -> Option<(&Pooled<L>, usize)>
         ensures sound { IsSound self.now }
         ensures place { MatchOption result (IsElsewhere self.now.groups id)
-            (λ at. (index : ℕ) × (span : SpanState)
-            × IsHere self.now.groups id index at.1 at.0.now span) }
+            (λ at. HasAtPlace self.now.groups id at.1 at.0.now) }
     {
         let Some(group) = self.groups.get(id) else {
             return self.find_guest(id);
@@ -264,8 +253,7 @@ impl<L: Log> Pool<L> {
     fn find_guest(&self, id: SpanId) -> Option<(&Pooled<L>, usize)>
         requires { HasNoHead self.now.groups id }
         ensures { MatchOption result (IsElsewhere self.now.groups id)
-            (λ at. (index : ℕ) × (span : SpanState)
-            × IsHere self.now.groups id index at.1 at.0.now span) }
+            (λ at. HasAtPlace self.now.groups id at.1 at.0.now) }
     {
         let Some(at) = self.directory.place_of(id) else {
             return None;

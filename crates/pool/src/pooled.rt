@@ -9,9 +9,10 @@ ghost use Rattle.span.specs.Classes.{slots_in, width_of};
 ghost use Rattle.groups.specs.Spans.{HasNoSpan, IsSpanAt, union_of, with_free_at, live_count};
 ghost use Rattle.groups.specs.Brief.{IsBriefOf};
 ghost use Rattle.pool.specs.Calls.{GivesUp};
+ghost use Rattle.pool.specs.Groups.{FreesAt, OnDone};
 ghost use Rattle.pool.specs.State.{group_of};
 ghost use Rattle.groups.specs.Dead.{without_dead};
-ghost use Rattle.groups.specs.Group.{spans_of, summary, with_span};
+ghost use Rattle.groups.specs.Group.{spans_of, summary};
 ghost use Rattle.bitmap.specs.declared.bits.TheConstants.{SLOTS};
 
 use groups::{Brief, Spans, set_on_zeros};
@@ -164,8 +165,7 @@ impl<L: Log> Pooled<L> {
         ensures found { (span : SpanState) → slice_get (spans_of self.old) place ≡ Some span
             → IfOk result (λ done. IsTrue done ↔ IsSettable span slot generation words.now) }
         ensures set { (span : SpanState) → slice_get (spans_of self.old) place ≡ Some span
-            → IfOk result (λ done. OnTrue done (self.new
-            ≡ set_group self.old place span slot generation words.now)) }
+            → OnDone result (self.new ≡ set_group self.old place span slot generation words.now) }
         ensures unknown { IfOk result (λ done. OnFalse done (self.new ≡ self.old)) }
         ensures refused { (span : SpanState) → slice_get (spans_of self.old) place ≡ Some span
             → OnErr result (IsSettable span slot generation words.now) }
@@ -194,8 +194,7 @@ impl<L: Log> Pooled<L> {
         ensures found { (span : SpanState) → slice_get (spans_of self.old) place ≡ Some span
             → (IsTrue result ↔ Holds span.log slot generation) }
         ensures freed { (span : SpanState) → slice_get (spans_of self.old) place ≡ Some span
-            → OnTrue result (GivesUp (with_span self.old place (with_free_at span slot generation))
-            self.new) }
+            → OnTrue result (FreesAt self.old place (with_free_at span slot generation) self.new) }
         ensures unknown { OnFalse result (self.new ≡ self.old) }
     {
         if !self.spans.free(place, slot, generation) {

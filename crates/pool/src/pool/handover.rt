@@ -1,6 +1,5 @@
 // The end of a shard, and the adoption of a group by another.
 ghost use Rattle.std.specs.Prelude.{◌≡◌, ◌≢◌, ◌<◌, ◌+◌, ◌≤◌, ◌↔◌, ℕ, Err, IfOk, IsOkUnless, IsTrue, if◌then◌else◌, MatchOption, OnErr, OnOk, false, length, map, true};
-ghost use Rattle.std.specs.List.{list_any};
 ghost use Rattle.span.specs.declared.id.SpanId.{SpanId};
 ghost use Rattle.span.specs.State.{SpanState};
 ghost use Rattle.shard.specs.Group.{GroupState};
@@ -9,7 +8,7 @@ ghost use Rattle.groups.specs.Whole.{whole_of};
 ghost use Rattle.shard.specs.Shown.{shown as shown_by_shard};
 ghost use Rattle.shard.specs.Sound.{IsSound as IsSoundShard};
 ghost use Rattle.groups.specs.Group.{IsHeadOf, spans_in, spans_of};
-ghost use Rattle.pool.specs.Calls.{Adopts, HasAny, HasDoubled, HasNothingToAdopt, HasReceived, IsDoubled, IsHeadOfLowest, IsInPool, MayOpen, Receives, TakesAll, WouldDouble};
+ghost use Rattle.pool.specs.Calls.{Adopts, HasAny, HasClosed, HasDoubled, HasNothingToAdopt, HasReceived, IsDoubled, IsHeadOfLowest, IsInPool, MayOpen, MeetsDouble, MeetsNothing, MeetsPlan, Receives, TakesAll, WouldDouble};
 ghost use Rattle.pool.specs.Handover.{AreApart, HasRoomFor, HasLetAllGo};
 ghost use Rattle.pool.specs.Shown.{shown, together};
 ghost use Rattle.pool.specs.Sound.{IsSound};
@@ -43,9 +42,8 @@ impl<L: Log> Pool<L> {
         ensures ended { (result ≡ Err ReceiveError.Ended) ↔ (shard.old.ended ≡ true) }
         ensures doubled { (result ≡ Err ReceiveError.Doubled)
             ↔ ((shard.old.ended ≡ false) × IsInPool self.old shard.old) }
-        ensures plan_open { (result ≡ Err ReceiveError.PlanOpen)
-            ↔ ((shard.old.ended ≡ false) × (IsInPool self.old shard.old → ⊥)
-            × (list_any (λ group. group.closed) shard.old.groups ≡ true)) }
+        ensures plan_open { (result ≡ Err ReceiveError.PlanOpen) ↔ ((shard.old.ended ≡ false)
+            × (IsInPool self.old shard.old → ⊥) × HasClosed shard.old.groups) }
         ensures err { OnErr result (self.new ≡ self.old) }
         ensures err_shard { OnErr result (shard.new ≡ shard.old) }
 
@@ -175,15 +173,10 @@ impl<L: Log> Pool<L> {
             ↔ (shard.old.page_limit ≡ length shard.old.groups) }
         ensures ended { (result ≡ Err AdoptError.Ended)
             ↔ ((shard.old.page_limit ≢ length shard.old.groups) × (shard.old.ended ≡ true)) }
-        ensures doubled { (result ≡ Err AdoptError.Doubled)
-            ↔ ((shard.old.page_limit ≢ length shard.old.groups) × (shard.old.ended ≡ false)
-            × IsDoubled self.old shard.old) }
-        ensures plan_open { (result ≡ Err AdoptError.PlanOpen)
-            ↔ ((shard.old.page_limit ≢ length shard.old.groups) × (shard.old.ended ≡ false)
-            × (IsDoubled self.old shard.old → ⊥) × (self.old.has_plan ≡ true)) }
+        ensures doubled { (result ≡ Err AdoptError.Doubled) ↔ MeetsDouble self.old shard.old }
+        ensures plan_open { (result ≡ Err AdoptError.PlanOpen) ↔ MeetsPlan self.old shard.old }
         ensures nothing { (result ≡ Err AdoptError.NothingToAdopt)
-            ↔ ((shard.old.page_limit ≢ length shard.old.groups) × (shard.old.ended ≡ false)
-            × (self.old.has_plan ≡ false) × HasNothingToAdopt self.old) }
+            ↔ MeetsNothing self.old shard.old }
         ensures err { OnErr result (self.new ≡ self.old) }
         ensures err_shard { OnErr result (shard.new ≡ shard.old) }
 
@@ -213,15 +206,10 @@ impl<L: Log> Pool<L> {
             ↔ (shard.now.page_limit ≡ length shard.now.groups) }
         ensures ended { (result ≡ Err AdoptError.Ended)
             ↔ ((shard.now.page_limit ≢ length shard.now.groups) × (shard.now.ended ≡ true)) }
-        ensures doubled { (result ≡ Err AdoptError.Doubled)
-            ↔ ((shard.now.page_limit ≢ length shard.now.groups) × (shard.now.ended ≡ false)
-            × IsDoubled self.old shard.now) }
-        ensures plan_open { (result ≡ Err AdoptError.PlanOpen)
-            ↔ ((shard.now.page_limit ≢ length shard.now.groups) × (shard.now.ended ≡ false)
-            × (IsDoubled self.old shard.now → ⊥) × (self.old.has_plan ≡ true)) }
+        ensures doubled { (result ≡ Err AdoptError.Doubled) ↔ MeetsDouble self.old shard.now }
+        ensures plan_open { (result ≡ Err AdoptError.PlanOpen) ↔ MeetsPlan self.old shard.now }
         ensures nothing { (result ≡ Err AdoptError.NothingToAdopt)
-            ↔ ((shard.now.page_limit ≢ length shard.now.groups) × (shard.now.ended ≡ false)
-            × (self.old.has_plan ≡ false) × HasNothingToAdopt self.old) }
+            ↔ MeetsNothing self.old shard.now }
         ensures memory { result ≢ Err AdoptError.OutOfMemory }
 
         // Nothing changes, and both are sound.

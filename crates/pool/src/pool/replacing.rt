@@ -25,9 +25,8 @@ impl<L: Log> Pool<L> {
         ensures step { IfOk result (λ answer. Sets self.old key.now words.now answer self.new) }
         ensures found { IfOk result (λ answer. was_replaced answer
             ≡ plain.may_set (shown self.old) key.now words.now) }
-        ensures plain { IfOk result (λ answer. shown self.new
-            ≡ (if was_replaced answer then plain.with_value (shown self.old) key.now words.now
-            else shown self.old)) }
+        ensures plain { IfOk result (λ answer. shown self.new ≡ (if was_replaced answer
+            then plain.with_value (shown self.old) key.now words.now else shown self.old)) }
         ensures sound { IsSound self.new }
         ensures refused { OnErr result (plain.may_set (shown self.old) key.now words.now ≡ true) }
         ensures err { OnErr result (self.new ≡ self.old) }

@@ -7,8 +7,8 @@ ghost use Rattle.shard.specs.Sound.{IsSound as IsSoundShard};
 ghost use Rattle.shard.specs.Sparse.{AreSparsestFirst};
 ghost use Rattle.shard.specs.declared.shard.retiring.LiveGroup.{LiveGroup};
 ghost use Rattle.span.specs.declared.limits.TheConstants.{ALL_IDS};
-ghost use Rattle.pool.specs.Calls.{IsInPool};
-ghost use Rattle.pool.specs.Handover.{AreReady, span_count};
+ghost use Rattle.pool.specs.Calls.{HasClosed, IsInPool};
+ghost use Rattle.pool.specs.Handover.{AreReady, StayReady, span_count};
 ghost use Rattle.pool.specs.Retires.{HasRetired, MovesSparse, MovesSparsest, Retires};
 ghost use Rattle.pool.specs.Shown.{shown, together};
 ghost use Rattle.pool.specs.Sound.{IsSound};
@@ -41,9 +41,8 @@ impl<L: Log> Pool<L> {
         ensures ended { (result ≡ Err ReceiveError.Ended) ↔ (shard.old.ended ≡ true) }
         ensures doubled { (result ≡ Err ReceiveError.Doubled)
             ↔ ((shard.old.ended ≡ false) × IsInPool self.old shard.old) }
-        ensures plan_open { (result ≡ Err ReceiveError.PlanOpen)
-            ↔ ((shard.old.ended ≡ false) × (IsInPool self.old shard.old → ⊥)
-            × (list_any (λ group. group.closed) shard.old.groups ≡ true)) }
+        ensures plan_open { (result ≡ Err ReceiveError.PlanOpen) ↔ ((shard.old.ended ≡ false)
+            × (IsInPool self.old shard.old → ⊥) × HasClosed shard.old.groups) }
         ensures err { OnErr result (self.new ≡ self.old) }
         ensures err_shard { OnErr result (shard.new ≡ shard.old) }
 
@@ -130,9 +129,7 @@ impl<L: Log> Pool<L> {
         ensures moves { MovesSparsest self.old shard.old self.new shard.new }
         ensures kept { together (shown self.new) (shown_by_shard shard.new)
             ≡ together (shown self.old) (shown_by_shard shard.old) }
-        ensures ready { (more rest : List LiveGroup)
-            → AreReady self.old shard.old (one.now ∷ more) rest
-            → AreReady self.new shard.new more rest }
+        ensures ready { StayReady one.now self.old shard.old self.new shard.new }
     {
         let Some(whole) = shard.lift(one.head) else {
             unreachable!();
@@ -172,9 +169,7 @@ impl<L: Log> Pool<L> {
         ensures moves { MovesSparsest self.old (swept shard.old) self.new (swept shard.new) }
         ensures kept { together (shown self.new) (shown_by_shard (swept shard.new))
             ≡ together (shown self.old) (shown_by_shard (swept shard.old)) }
-        ensures ready { (more rest : List LiveGroup)
-            → AreReady self.old (swept shard.old) (one.now ∷ more) rest
-            → AreReady self.new (swept shard.new) more rest }
+        ensures ready { StayReady one.now self.old (swept shard.old) self.new (swept shard.new) }
     {
         let Some(whole) = shard.lift_aside(one.head) else {
             unreachable!();
