@@ -19,7 +19,7 @@ use Rattle.shard.specs.declared.shard.Freed.{Freed}
 use Rattle.shard.specs.declared.shard.Freed.TheVariants as freed
 use Rattle.shard.specs.declared.shard.replacing.Replaced.{Replaced}
 use Rattle.shard.specs.declared.shard.replacing.Replaced.TheVariants as replaced
-use Rattle.pool.specs.Calls.{Adopts, HasNothingToAdopt, IsDoubled, IsInPool, Receives, Sets as SetsPooled}
+use Rattle.pool.specs.Calls.{Adopts, HasClosed, HasNothingToAdopt, IsDoubled, IsInPool, Receives, Sets as SetsPooled}
 use Rattle.pool.specs.Shown.{shown as shown_by_pool}
 use Rattle.pool.specs.Sound.{IsSound as IsSoundPool}
 use Rattle.pool.specs.State.{PoolState}
@@ -40,7 +40,7 @@ use Rattle.arena_core.specs.Refusals.{refusal_of, refusal_of_adoption, refusal_o
 use Rattle.arena_core.specs.Sound.{IsSound}
 use Rattle.arena_core.specs.State.{CoreState, has_span, shown, with_pool}
 use Rattle.marks.specs.Numbers.{Limits}
-use Rattle.arena_core.specs.Step.{CoreStep, HasClosed}
+use Rattle.arena_core.specs.Step.{CoreStep}
 use Rattle.arena_core.proofs.Fields.{IsRead, made-read, shard-read, state_of-with_both_at, state_of-with_shard_at, with_both_at, with_shard_at}
 use Rattle.arena_core.proofs.Moves.{CoreStep-adopt_refused, CoreStep-end_refused, CoreStep-retire_refused}
 use Rattle.pool.specs.Retires.{HasRetired, Retires}

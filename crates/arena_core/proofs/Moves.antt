@@ -10,7 +10,7 @@ use Rattle.shard.specs.Group.{GroupState}
 use Rattle.shard.specs.Sound.{IsSound as IsSoundShard}
 use Rattle.shard.specs.State.{ShardState}
 use Rattle.page.specs.Words.{Words}
-use Rattle.pool.specs.Calls.{Adopts, HasNothingToAdopt, IsDoubled, IsInPool, Receives}
+use Rattle.pool.specs.Calls.{Adopts, HasClosed, HasNothingToAdopt, IsDoubled, IsInPool, Receives}
 use Rattle.pool.specs.Sound.{IsSound as IsSoundPool}
 use Rattle.pool.specs.State.{PoolState, PooledState, paged_groups}
 use Rattle.pool.specs.declared.error.AdoptError.{AdoptError}
@@ -26,7 +26,7 @@ use Rattle.arena_core.specs.Refusals.{refusal_of_adoption, refusal_of_end}
 use Rattle.arena_core.specs.Sound.{HasSoundGroups}
 use Rattle.marks.specs.Plans.{AreClosedAsPlanned, OpenPlan}
 use Rattle.arena_core.specs.State.{CoreState, with_pool, with_shard}
-use Rattle.arena_core.specs.Step.{CoreStep, HasClosed, MayTake}
+use Rattle.arena_core.specs.Step.{CoreStep, MayTake}
 use Rattle.arena_core.proofs.Changes.{HasSoundGroups-moved, sum_all-moved}
 use Rattle.arena_core.proofs.Groups.{IsMove-Adopts, IsMove-Receives}
 use Rattle.arena_core.proofs.Logged.{shown-same}

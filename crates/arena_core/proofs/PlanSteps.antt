@@ -21,7 +21,7 @@ use Rattle.shard.specs.declared.shard.Freed.TheVariants as freed
 use Rattle.shard.specs.declared.shard.replacing.Replaced.{Replaced}
 use Rattle.shard.specs.declared.shard.replacing.Replaced.TheVariants as replaced
 use Rattle.groups.proofs.Lists.{cases-insert, cases-set}
-use Rattle.pool.specs.Calls.{Adopts, Frees as FreesPooled, Receives, Sets as SetsPooled}
+use Rattle.pool.specs.Calls.{Adopts, Frees as FreesPooled, HasClosed, Receives, Sets as SetsPooled}
 use Rattle.pool.specs.Shown.{shown as shown_by_pool}
 use Rattle.pool.specs.Sound.{IsSound as IsSoundPool}
 use Rattle.pool.specs.State.{PoolState}
@@ -30,7 +30,7 @@ use Rattle.arena_core.specs.Plan.{IsOwned, IsUnderWay, HasSoundPlan}
 use Rattle.arena_core.specs.Plain.{ErasedStep}
 use Rattle.arena_core.specs.Sound.{AreRings, IsSound}
 use Rattle.arena_core.specs.State.{CoreState, has_span, opened_by, opened_of, shown, with_pool, with_shard}
-use Rattle.arena_core.specs.Step.{CoreStep, HasClosed}
+use Rattle.arena_core.specs.Step.{CoreStep}
 use Rattle.arena_core.specs.declared.event.Event.{Event}
 use Rattle.arena_core.specs.declared.event.Event.TheVariants.{Put, Set, Free, End, Retire, Trim, Adopt}
 use Rattle.arena_core.specs.declared.reply.Refusal.TheVariants.{OutOfMemory}

@@ -7,7 +7,8 @@ use Rattle.arena_core.specs.declared.event.Event.TheVariants.{Free, Later, Settl
 use Rattle.arena_core.specs.declared.reply.Refusal.{Refusal}
 use Rattle.arena_core.specs.declared.reply.Refusal.TheVariants.{Config, OutOfMemory, RingFull}
 use Rattle.arena_core.specs.declared.reply.Reply.TheVariants as reply
-use Rattle.arena_core.specs.Plain.{IsOutside, Loses, PlainStep}
+use Rattle.arena_core.specs.Calls.{CoreCall, ShownCall, ShownStep, TakeCall}
+use Rattle.arena_core.specs.Plain.{Loses}
 use Rattle.arena_core.specs.Rings.{CannotSend, RingState, Sends, Takes, keys_of, pending_at, ring_at, with_keys, with_ring_at}
 use Rattle.arena_core.specs.Sound.{IsSound}
 use Rattle.arena_core.specs.State.{CoreState, shown, with_rings}
@@ -24,9 +25,8 @@ with_rings-same old rings same = ap (with_rings old) same
 -- what a core keeps that was asked to free a key later, and how this is a step
 pub record IsSent (old : CoreState) (worker : ℕ) (key : Key) (answer : Result (Unit {0}) Refusal) (new : CoreState) : Type 0 where
   pub kept : IsSound new
-  pub exact : MatchResult answer (λ sent. CoreStep old (Later worker key) reply.Sent new) (λ refusal. CoreStep old (Later worker key) (reply.Refused refusal) new)
-  pub plain : MatchResult answer (λ sent. PlainStep old.limits (shown old) (Later worker key) reply.Sent (shown new))
-      (λ refusal. PlainStep old.limits (shown old) (Later worker key) (reply.Refused refusal) (shown new))
+  pub exact : CoreCall old (Later worker key) (λ _. reply.Sent) answer new
+  pub plain : ShownCall old (Later worker key) (λ _. reply.Sent) answer new
 
 module _ (old : CoreState) (sound : IsSound old) (worker : ℕ) (key : Key) where
   sent : (rings : List (List RingState)) (done : Unit {0}) → Sends old.rings worker key rings → IsSent old worker key (Ok done) (with_rings old rings)
@@ -76,7 +76,7 @@ module _ (old : CoreState) (sound : IsSound old) (worker : ℕ) (key : Key) wher
 -- what a core keeps of which the oldest key of a ring was taken
 pub record IsTaken (old : CoreState) (worker shard : ℕ) (answer : Result (Option Key) Refusal) (new : CoreState) : Type 0 where
   pub kept : IsSound new
-  pub taken : MatchResult answer (λ found. Takes old.rings worker shard found new.rings) (λ refusal. (refusal ≡ Config) × IsOutside old.limits worker shard × (new ≡ old))
+  pub taken : TakeCall old worker shard answer new
 
 module _ (old : CoreState) (sound : IsSound old) (worker shard : ℕ) where
   Takes-kept : (found : Option Key) (rings : List (List RingState)) → Takes old.rings worker shard found rings → IsSound (with_rings old rings)
@@ -98,14 +98,13 @@ module _ (old : CoreState) (sound : IsSound old) (worker shard : ℕ) where
 
 -- how a core that was asked to settle a key took a step
 pub record IsSettled (old : CoreState) (worker shard : ℕ) (answer : Result (Option Key) Refusal) (new : CoreState) : Type 0 where
-  pub exact : MatchResult answer (λ settled. CoreStep old (Settle worker shard) (reply.Settled settled) new) (λ refusal. CoreStep old (Settle worker shard) (reply.Refused refusal) new)
-  pub plain : MatchResult answer (λ settled. PlainStep old.limits (shown old) (Settle worker shard) (reply.Settled settled) (shown new))
-      (λ refusal. PlainStep old.limits (shown old) (Settle worker shard) (reply.Refused refusal) (shown new))
+  pub exact : CoreCall old (Settle worker shard) reply.Settled answer new
+  pub plain : ShownCall old (Settle worker shard) reply.Settled answer new
 
 -- the key that was taken is freed
 pub IsSettled-freed : (old mid new : CoreState) (worker shard : ℕ) (key : Key) (freed : Bool) → Takes old.rings worker shard (Some key) mid.rings
     → mid ≡ with_rings old mid.rings → CoreStep mid (Free key) (reply.Freed freed) new
-    → PlainStep mid.limits (shown mid) (Free key) (reply.Freed freed) (shown new) → IsSettled old worker shard (Ok (Some key)) new
+    → ShownStep mid (Free key) (reply.Freed freed) new → IsSettled old worker shard (Ok (Some key)) new
 IsSettled-freed old mid new worker shard key freed (ring, left, here, oldest, after) is exact plain =
     let mid_is : mid ≡ with_rings old (with_ring_at old.rings worker shard (with_keys ring left)) = is ∙ ap (with_rings old) after in
     record {

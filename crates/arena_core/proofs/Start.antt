@@ -10,13 +10,13 @@ use Rattle.span.specs.State.{SpanState}
 use Rattle.shard.specs.Group.{GroupState}
 use Rattle.shard.specs.State.{ShardState}
 use Rattle.groups.proofs.Logged.{same_plain_map}
-use Rattle.pool.specs.State.{PoolState}
+use Rattle.pool.specs.State.{PoolState, new_pool}
 use Rattle.pool.proofs.Started.{IsSound-new}
 use Rattle.arena_core.specs.Made.{all_shards}
 use Rattle.arena_core.specs.Rings.{RingState}
 use Rattle.arena_core.specs.Sound.{HasSoundGroups, IsSound, IsSoundAt}
 use Rattle.marks.specs.Numbers.{AreWithin, Limits}
-use Rattle.arena_core.specs.State.{CoreState, all_spans, new_core, new_pool, new_shard, opened_by, shard_spans, shard_with, shown, shown_at}
+use Rattle.arena_core.specs.State.{CoreState, all_spans, new_core, new_shard, opened_by, shard_spans, shard_with, shown, shown_at}
 use Rattle.marks.specs.Plans.{OpenPlan}
 use Rattle.arena_core.proofs.Changes.{indicator, past-indicator}
 use Rattle.arena_core.proofs.Groups.{strays, strays-each}

@@ -60,6 +60,14 @@ CannotEnter RingFull ring = length ring.keys ≡ ring.capacity
 CannotEnter OutOfMemory ring = length ring.keys < ring.capacity
 CannotEnter refusal ring = ⊥
 
+-- the refusal is Config, for this reason, and all is as it was
+abbrev pub IsConfigFor : {S : Type 0} → Refusal → Type 0 → S → S → Type 0
+IsConfigFor refusal Reason old new = (refusal ≡ Config) × Reason × (new ≡ old)
+
+-- the key goes last on the ring, which has room for it
+abbrev pub Enters : RingState → Key → RingState → Type 0
+Enters old key new = (length old.keys < old.capacity) × (new ≡ with_keys old (old.keys ++ key ∷ []))
+
 -- why a key is not sent: its ring takes none, or there is no such ring
 abbrev pub CannotSend : Refusal → List (List RingState) → ℕ → ℕ → Type 0
 CannotSend Config rings worker shard = ring_at rings worker shard ≡ None

@@ -10,7 +10,7 @@ use Rattle.groups.specs.Shown.{issued_by, span_named}
 use Rattle.shard.specs.State.{ShardState}
 use Rattle.groups.specs.Group.{live_in, paged_in, spans_in}
 use Rattle.pool.specs.Shown.{shown as shown_by_pool}
-use Rattle.pool.specs.State.{PoolState, paged_groups}
+use Rattle.pool.specs.State.{PoolState, new_pool, paged_groups}
 use Rattle.marks.specs.Numbers.{Limits}
 use Rattle.marks.specs.Plans.{OpenPlan}
 use Rattle.arena_core.specs.Rings.{RingState, new_rings, pending_at}
@@ -40,10 +40,6 @@ new_shard page_limit span_limit gens number = record {
   span_room = 0;
   onto = None;
 }
-
--- a pool with no group
-abbrev pub new_pool : PoolState
-new_pool = record { groups = []; group_room = 0; span_room = 0; has_plan = false }
 
 -- a core of new shards, one for each number, an empty pool, no plan, and empty rings, in which
 -- nothing was forgotten

@@ -1,6 +1,5 @@
 -- The steps and runs of the core.
 use Rattle.std.specs.Prelude.{◌≡◌, ◌⊎◌, ℕ, ◌+◌, ◌<◌, ◌≤◌, Bool, true, false, List, [], ◌∷◌, ◌++◌, length, map, slice_get, Some, None, is_some}
-use Rattle.std.specs.List.{list_any}
 use Rattle.span.specs.declared.id.SpanId.{SpanId}
 use Rattle.span.specs.declared.key.Key.{Key}
 use Rattle.span.specs.Classes.{class_of}
@@ -8,12 +7,11 @@ use Rattle.span.specs.Log.{Value}
 use Rattle.span.specs.PlainMap.{may_set}
 use Rattle.span.specs.declared.class.Class.{Class}
 use Rattle.shard.specs.Calls.{Puts, Frees, IsSpent, Sets}
-use Rattle.shard.specs.Group.{GroupState}
 use Rattle.shard.specs.State.{ShardState, begun}
 use Rattle.shard.specs.Trims.{Trims}
 use Rattle.shard.specs.declared.shard.Freed.TheVariants.{Yes}
 use Rattle.shard.specs.declared.shard.replacing.Replaced.TheVariants as replaced
-use Rattle.pool.specs.Calls.{Adopts, Frees as FreesPooled, HasNothingToAdopt, Receives, Sets as SetsPooled}
+use Rattle.pool.specs.Calls.{Adopts, Frees as FreesPooled, HasClosed, HasNothingToAdopt, Receives, Sets as SetsPooled}
 use Rattle.pool.specs.Retires.{HasRetired, Retires}
 use Rattle.pool.specs.State.{PoolState}
 use Rattle.certificate.specs.declared.certificate.Certificate.{Certificate}
@@ -70,10 +68,6 @@ MayTake core number = (shard : ShardState) → slice_get core.shards number ≡ 
 abbrev pub MayPut : Class → CoreState → ℕ → Type 0
 MayPut class core number = (shard : ShardState) × IsRunning core number shard
     × (IsSpent class shard → ⊥)
-
--- one of the groups is closed
-abbrev pub HasClosed : List GroupState → Type 0
-HasClosed groups = list_any (λ group. group.closed) groups ≡ true
 
 -- the shard of this number has not ended, and has a closed group
 abbrev pub HasClosedGroup : CoreState → ℕ → Type 0

@@ -4,9 +4,9 @@
 // inboxes or of rings goes only as far as a key was left for one of them, and what is behind its
 // end shows as rings in which no key waits. A ring takes its whole room with its first key, and no
 // memory after that.
-ghost use Rattle.std.specs.Prelude.{◌≡◌, ◌⊎◌, ◌+◌, ◌<◌, ◌≤◌, ◌++◌, ◌∷◌, [], None, IfErr, OnErr, OnOk, MatchOption, MatchResult, length, replicate, slice_get, vec_len};
+ghost use Rattle.std.specs.Prelude.{◌≡◌, ◌⊎◌, ◌+◌, ◌<◌, ◌≤◌, ◌∷◌, [], None, IfErr, OnErr, OnOk, MatchOption, MatchResult, length, replicate, slice_get, vec_len};
 ghost use Rattle.arena_core.specs.Filled.{CannotReach, CannotSendIn, SendsIn, TakesIn, filled};
-ghost use Rattle.arena_core.specs.Rings.{CannotEnter, CannotSend, Sends, Takes, new_ring, new_rings, ring_at};
+ghost use Rattle.arena_core.specs.Rings.{CannotEnter, CannotSend, Enters, IsConfigFor, Sends, Takes, new_ring, new_rings, ring_at};
 
 use crate::reply::Refusal;
 use span::names::Key;
@@ -46,9 +46,7 @@ impl Ring {
     // Puts the key last, where there is room. The first key takes the memory for all that the ring
     // holds.
     fn send(&mut self, key: Key) -> Result<(), Refusal>
-        ensures { MatchResult result
-            (λ _. (length self.old.keys < self.old.capacity)
-            × (self.new ≡ record self.old { keys = self.old.keys ++ key ∷ [] }))
+        ensures { MatchResult result (λ _. Enters self.old key self.new)
             (λ refusal. CannotEnter refusal self.old × (self.new ≡ self.old)) }
     {
         let waiting = self.keys.len();
@@ -63,8 +61,7 @@ impl Ring {
     // Takes the oldest key, if one waits.
     #[inline(always)]
     fn take(&mut self) -> Option<Key>
-        ensures { MatchOption result
-            ((self.old.keys ≡ []) × (self.new ≡ self.old))
+        ensures { MatchOption result ((self.old.keys ≡ []) × (self.new ≡ self.old))
             (λ key. self.old ≡ record self.new { keys = key ∷ self.new.keys }) }
     {
         self.keys.pop_front()
@@ -109,8 +106,7 @@ impl Inbox {
 
     // Puts the key last on the worker's ring.
     fn send(&mut self, worker: u32, key: Key) -> Result<(), Refusal>
-        ensures { MatchResult result
-            (λ _. SendsIn self.old worker key self.new)
+        ensures { MatchResult result (λ _. SendsIn self.old worker key self.new)
             (λ refusal. CannotSendIn refusal self.old worker × (self.new ≡ self.old)) }
     {
         let rings = &mut self.rings;
@@ -121,10 +117,8 @@ impl Inbox {
     // Takes the oldest key from the worker's ring, if one waits there.
     #[inline(always)]
     fn take(&mut self, worker: u32) -> Result<Option<Key>, Refusal>
-        ensures { MatchResult result
-            (λ found. TakesIn self.old worker found self.new)
-            (λ refusal. (refusal ≡ Refusal.Config) × (slice_get self.old worker ≡ None)
-            × (self.new ≡ self.old)) }
+        ensures { MatchResult result (λ found. TakesIn self.old worker found self.new)
+            (λ cause. IsConfigFor cause (slice_get self.old worker ≡ None) self.old self.new) }
     {
         if let Some(ring) = self.rings.get_mut(worker as usize) {
             return Ok(ring.take());
@@ -227,8 +221,7 @@ impl Rings {
     /// [`Refusal::Config`] exactly where there is no such ring. [`Refusal::OutOfMemory`] comes only
     /// where the ring has room. A ring that has taken a key takes no memory any more.
     pub fn send(&mut self, worker: u32, key: Key) -> Result<(), Refusal>
-        ensures { MatchResult result
-            (λ _. Sends self.old worker key self.new)
+        ensures { MatchResult result (λ _. Sends self.old worker key self.new)
             (λ refusal. CannotSend refusal self.old worker key.span.shard × (self.new ≡ self.old)) }
     {
         let shard = key.span.shard;
@@ -250,10 +243,8 @@ impl Rings {
     /// [`Refusal::Config`] comes exactly where there is no such ring.
     #[inline(always)]
     pub fn take(&mut self, worker: u32, shard: u32) -> Result<Option<Key>, Refusal>
-        ensures { MatchResult result
-            (λ found. Takes self.old worker shard found self.new)
-            (λ refusal. (refusal ≡ Refusal.Config) × (ring_at self.old worker shard ≡ None)
-            × (self.new ≡ self.old)) }
+        ensures { MatchResult result (λ found. Takes self.old worker shard found self.new)
+            (λ cause. IsConfigFor cause (ring_at self.old worker shard ≡ None) self.old self.new) }
     {
         let Some(inbox) = self.inboxes.get_mut(shard as usize) else {
             return none_waits(self.shards, worker, shard);
@@ -264,8 +255,7 @@ impl Rings {
 
 // What is taken from a ring on which no key was put.
 fn none_waits(shards: u32, worker: u32, shard: u32) -> Result<Option<Key>, Refusal>
-    ensures { MatchResult result
-        (λ found. (found ≡ None) × (worker < shards) × (shard < shards))
+    ensures { MatchResult result (λ found. (found ≡ None) × (worker < shards) × (shard < shards))
         (λ refusal. (refusal ≡ Refusal.Config) × ((shards ≤ worker) ⊎ (shards ≤ shard))) }
 {
     if worker >= shards || shard >= shards {

@@ -1,10 +1,8 @@
 // Frees that are left for later, on the rings.
-ghost use Rattle.std.specs.Prelude.{◌≡◌, MatchResult};
-ghost use Rattle.arena_core.specs.Plain.{IsOutside, PlainStep};
-ghost use Rattle.arena_core.specs.Rings.{Takes};
+ghost use Rattle.std.specs.Prelude.{◌≡◌};
+ghost use Rattle.arena_core.specs.Calls.{CoreCall, ShownCall, TakeCall};
 ghost use Rattle.arena_core.specs.Sound.{IsSound};
-ghost use Rattle.arena_core.specs.State.{shown, with_rings};
-ghost use Rattle.arena_core.specs.Step.{CoreStep};
+ghost use Rattle.arena_core.specs.State.{with_rings};
 ghost use Rattle.arena_core.specs.declared.event.Event.TheVariants as event;
 ghost use Rattle.arena_core.specs.declared.reply.Reply.TheVariants as reply;
 
@@ -16,15 +14,10 @@ use span::spans::Log;
 impl<L: Log> Core<L> {
     // Puts the key last on the ring from this worker to the shard that opened the key's span.
     pub(super) fn later(&mut self, worker: u32, key: Key) -> Result<(), Refusal>
-        ensures exact { MatchResult result
-            (λ _. CoreStep self.old (event.Later worker key) reply.Sent self.new)
-            (λ refusal. CoreStep self.old (event.Later worker key)
-            (reply.Refused refusal) self.new) }
-        ensures plain { MatchResult result
-            (λ _. PlainStep self.old.limits (shown self.old) (event.Later worker key) reply.Sent
-            (shown self.new))
-            (λ refusal. PlainStep self.old.limits (shown self.old) (event.Later worker key)
-            (reply.Refused refusal) (shown self.new)) }
+        ensures exact { CoreCall self.old (event.Later worker key)
+            (λ _. reply.Sent) result self.new }
+        ensures plain { ShownCall self.old (event.Later worker key)
+            (λ _. reply.Sent) result self.new }
         ensures sound { IsSound self.new }
     {
         self.rings.send(worker, key)
@@ -33,10 +26,7 @@ impl<L: Log> Core<L> {
     // Takes the oldest key from the ring from this worker to this shard, if one waits there.
     #[inline(always)]
     fn take_sent(&mut self, worker: u32, shard: u32) -> Result<Option<Key>, Refusal>
-        ensures taken { MatchResult result
-            (λ found. Takes self.old.rings worker shard found self.new.rings)
-            (λ refusal. (refusal ≡ Refusal.Config) × IsOutside self.old.limits worker shard
-            × (self.new ≡ self.old)) }
+        ensures taken { TakeCall self.old worker shard result self.new }
         ensures rest { self.new ≡ with_rings self.old self.new.rings }
         ensures sound { IsSound self.new }
     {
@@ -47,16 +37,10 @@ impl<L: Log> Core<L> {
     // waits there. Inlined, since most rings are empty where all of them are asked.
     #[inline(always)]
     pub(super) fn settle(&mut self, worker: u32, shard: u32) -> Result<Option<Key>, Refusal>
-        ensures exact { MatchResult result
-            (λ settled. CoreStep self.old (event.Settle worker shard)
-            (reply.Settled settled) self.new)
-            (λ refusal. CoreStep self.old (event.Settle worker shard)
-            (reply.Refused refusal) self.new) }
-        ensures plain { MatchResult result
-            (λ settled. PlainStep self.old.limits (shown self.old) (event.Settle worker shard)
-            (reply.Settled settled) (shown self.new))
-            (λ refusal. PlainStep self.old.limits (shown self.old) (event.Settle worker shard)
-            (reply.Refused refusal) (shown self.new)) }
+        ensures exact { CoreCall self.old (event.Settle worker shard)
+            reply.Settled result self.new }
+        ensures plain { ShownCall self.old (event.Settle worker shard)
+            reply.Settled result self.new }
         ensures sound { IsSound self.new }
     {
         let Some(key) = self.take_sent(worker, shard)? else {

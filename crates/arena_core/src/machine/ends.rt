@@ -1,5 +1,6 @@
 // The end of a shard and its beginning again, retirements, and the adoption of a group.
-ghost use Rattle.std.specs.Prelude.{◌≡◌, MatchResult};
+ghost use Rattle.std.specs.Prelude.{◌≡◌};
+ghost use Rattle.arena_core.specs.Calls.{CoreCall};
 ghost use Rattle.arena_core.specs.Filled.{CannotReach};
 ghost use Rattle.arena_core.specs.Made.{IsUnused};
 ghost use Rattle.arena_core.specs.Sound.{IsSound};
@@ -18,9 +19,8 @@ use span::spans::Log;
 impl<L: Log> Core<L> {
     // Ends the shard of this number: its groups go to the pool.
     pub(super) fn end(&mut self, number: u32) -> Result<(), Refusal>
-        ensures exact { MatchResult result
-            (λ _. CoreStep self.old (event.End number) reply.ShardEnded self.new)
-            (λ refusal. CoreStep self.old (event.End number) (reply.Refused refusal) self.new) }
+        ensures exact { CoreCall self.old (event.End number)
+            (λ _. reply.ShardEnded) result self.new }
         ensures same { shown self.new ≡ shown self.old }
         ensures sound { IsSound self.new }
     {
@@ -42,10 +42,8 @@ impl<L: Log> Core<L> {
     /// by [`Refusal::Running`] exactly where the shard has not ended, and by [`Refusal::Config`]
     /// exactly where there is no such shard.
     pub fn begin(&mut self, number: u32) -> Result<(), Refusal>
-        ensures exact { MatchResult result
-            (λ _. CoreStep self.old (event.Begin number) reply.ShardBegun self.new)
-            (λ refusal. CoreStep self.old (event.Begin number)
-            (reply.Refused refusal) self.new) }
+        ensures exact { CoreCall self.old (event.Begin number)
+            (λ _. reply.ShardBegun) result self.new }
         ensures same { shown self.new ≡ shown self.old }
         ensures sound { IsSound self.new }
     {
@@ -80,10 +78,7 @@ impl<L: Log> Core<L> {
     /// [`Refusal::Ended`] where it has ended, by [`Refusal::PlanOpen`] where one of its groups is
     /// closed, and by [`Refusal::OutOfMemory`] only where none of these holds.
     pub fn retire(&mut self, number: u32, most: usize) -> Result<usize, Refusal>
-        ensures exact { MatchResult result
-            (λ count. CoreStep self.old (event.Retire number most) (reply.Retired count) self.new)
-            (λ refusal. CoreStep self.old (event.Retire number most)
-            (reply.Refused refusal) self.new) }
+        ensures exact { CoreCall self.old (event.Retire number most) reply.Retired result self.new }
         ensures same { shown self.new ≡ shown self.old }
         ensures sound { IsSound self.new }
     {
@@ -100,10 +95,7 @@ impl<L: Log> Core<L> {
     // A retirement of a shard that is not made, and so has no group.
     fn retire_none(&self, number: u32, most: usize) -> Result<usize, Refusal>
         requires { IsUnused self.now number }
-        ensures { MatchResult result
-            (λ count. CoreStep self.now (event.Retire number most) (reply.Retired count) self.now)
-            (λ refusal. CoreStep self.now (event.Retire number most)
-            (reply.Refused refusal) self.now) }
+        ensures { CoreCall self.now (event.Retire number most) reply.Retired result self.now }
     {
         let count = self.limits.shards();
         if number >= count {
@@ -119,10 +111,7 @@ impl<L: Log> Core<L> {
     /// What [`Core::step`] does with [`Event::Trim`], without a reply to take apart. It is refused
     /// by [`Refusal::Config`] exactly where there is no such shard.
     pub fn trim(&mut self, number: u32) -> Result<usize, Refusal>
-        ensures exact { MatchResult result
-            (λ count. CoreStep self.old (event.Trim number) (reply.Trimmed count) self.new)
-            (λ refusal. CoreStep self.old (event.Trim number)
-            (reply.Refused refusal) self.new) }
+        ensures exact { CoreCall self.old (event.Trim number) reply.Trimmed result self.new }
         ensures same { shown self.new ≡ shown self.old }
         ensures sound { IsSound self.new }
     {
@@ -135,9 +124,7 @@ impl<L: Log> Core<L> {
     // A trim of a shard that is not made, and so has no page.
     fn trim_none(&self, number: u32) -> Result<usize, Refusal>
         requires { IsUnused self.now number }
-        ensures { MatchResult result
-            (λ count. CoreStep self.now (event.Trim number) (reply.Trimmed count) self.now)
-            (λ refusal. CoreStep self.now (event.Trim number) (reply.Refused refusal) self.now) }
+        ensures { CoreCall self.now (event.Trim number) reply.Trimmed result self.now }
     {
         let count = self.limits.shards();
         if number >= count {
@@ -164,9 +151,7 @@ impl<L: Log> Core<L> {
     // Moves the pool's group of lowest head that has a page to the shard of this number, and notes
     // that its spans are there. The room for the notes is made before anything changes.
     pub(super) fn adopt(&mut self, number: u32) -> Result<SpanId, Refusal>
-        ensures exact { MatchResult result
-            (λ head. CoreStep self.old (event.Adopt number) (reply.Adopted head) self.new)
-            (λ refusal. CoreStep self.old (event.Adopt number) (reply.Refused refusal) self.new) }
+        ensures exact { CoreCall self.old (event.Adopt number) reply.Adopted result self.new }
         ensures same { shown self.new ≡ shown self.old }
         ensures sound { IsSound self.new }
     {

@@ -27,8 +27,7 @@ impl Core<Counted> {
     ///
     /// It is refused with [`Refusal::PlanOpen`] exactly while a plan is open.
     pub fn forget(&mut self) -> Result<usize, Refusal>
-        ensures exact { MatchResult result
-            (λ count. Forgets self.old count self.new)
+        ensures exact { MatchResult result (λ count. Forgets self.old count self.new)
             (λ refusal. (refusal ≡ Refusal.PlanOpen) × HasPlan self.old × (self.new ≡ self.old)) }
         ensures same { shown self.new ≡ shown self.old }
         ensures sound { IsSound self.new }

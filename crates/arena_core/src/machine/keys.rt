@@ -1,10 +1,10 @@
 // Puts, look-ups and frees, wherever the span of a key is.
-ghost use Rattle.std.specs.Prelude.{◌≡◌, ◌≢◌, ◌≤◌, IfSome, MatchResult, Some, length, option_map, slice_get};
+ghost use Rattle.std.specs.Prelude.{◌≡◌, ◌≢◌, ◌≤◌, IfSome, Some, length, option_map, slice_get};
 ghost use Rattle.span.specs.Classes.{IsObject, width_of};
 ghost use Rattle.shard.specs.Calls.{FindsObject, value_found, was_freed};
+ghost use Rattle.arena_core.specs.Calls.{CoreCall, ShownCall, ShownStep};
 ghost use Rattle.arena_core.specs.Lookups.{FindsWords, HasParts, words_if};
 ghost use Rattle.arena_core.specs.Moved.{StandsIn, StandsInNoOther};
-ghost use Rattle.arena_core.specs.Plain.{PlainStep};
 ghost use Rattle.arena_core.specs.Sound.{IsSound};
 ghost use Rattle.arena_core.specs.State.{shown};
 ghost use Rattle.arena_core.specs.Step.{CoreStep};
@@ -29,15 +29,8 @@ impl<L: Log> Core<L> {
     /// only where none of these holds.
     #[inline(always)]
     pub fn put(&mut self, number: u32, value: Object) -> Result<Key, Refusal>
-        ensures exact { MatchResult result
-            (λ key. CoreStep self.old (event.Put number value) (reply.Issued key) self.new)
-            (λ refusal. CoreStep self.old (event.Put number value)
-            (reply.Refused refusal) self.new) }
-        ensures plain { MatchResult result
-            (λ key. PlainStep self.old.limits (shown self.old) (event.Put number value)
-            (reply.Issued key) (shown self.new))
-            (λ refusal. PlainStep self.old.limits (shown self.old) (event.Put number value)
-            (reply.Refused refusal) (shown self.new)) }
+        ensures exact { CoreCall self.old (event.Put number value) reply.Issued result self.new }
+        ensures plain { ShownCall self.old (event.Put number value) reply.Issued result self.new }
         ensures sound { IsSound self.new }
     {
         self.put_words(number, value.class(), value.words())
@@ -48,15 +41,10 @@ impl<L: Log> Core<L> {
     #[inline(always)]
     pub fn put_words(&mut self, number: u32, class: Class, words: &[u128]) -> Result<Key, Refusal>
         requires { length words.now ≡ width_of class }
-        ensures exact { MatchResult result
-            (λ key. CoreStep self.old (event.Put number words.now) (reply.Issued key) self.new)
-            (λ refusal. CoreStep self.old (event.Put number words.now)
-            (reply.Refused refusal) self.new) }
-        ensures plain { MatchResult result
-            (λ key. PlainStep self.old.limits (shown self.old) (event.Put number words.now)
-            (reply.Issued key) (shown self.new))
-            (λ refusal. PlainStep self.old.limits (shown self.old) (event.Put number words.now)
-            (reply.Refused refusal) (shown self.new)) }
+        ensures exact { CoreCall self.old (event.Put number words.now)
+            reply.Issued result self.new }
+        ensures plain { ShownCall self.old (event.Put number words.now)
+            reply.Issued result self.new }
         ensures sound { IsSound self.new }
     {
         reach(self.alloc, &self.limits, number, &mut self.shards)?;
@@ -265,8 +253,7 @@ impl<L: Log> Core<L> {
     #[inline(always)]
     pub fn free(&mut self, key: &Key) -> bool
         ensures exact { CoreStep self.old (event.Free key.now) (reply.Freed result) self.new }
-        ensures plain { PlainStep self.old.limits (shown self.old) (event.Free key.now)
-            (reply.Freed result) (shown self.new) }
+        ensures plain { ShownStep self.old (event.Free key.now) (reply.Freed result) self.new }
         ensures sound { IsSound self.new }
     {
         let Some(shard) = self.shards.get_mut(key.span.shard as usize) else {
@@ -286,8 +273,7 @@ impl<L: Log> Core<L> {
         ensures exact { (key : Key) → HasParts key span slot generation
             → CoreStep self.old (event.Free key) (reply.Freed result) self.new }
         ensures plain { (key : Key) → HasParts key span slot generation
-            → PlainStep self.old.limits (shown self.old) (event.Free key)
-            (reply.Freed result) (shown self.new) }
+            → ShownStep self.old (event.Free key) (reply.Freed result) self.new }
         ensures sound { IsSound self.new }
     {
         let key = Key {
@@ -302,8 +288,7 @@ impl<L: Log> Core<L> {
     #[inline(always)]
     fn free_asked(&mut self, key: &Key) -> bool
         ensures exact { CoreStep self.old (event.Free key.now) (reply.Freed result) self.new }
-        ensures plain { PlainStep self.old.limits (shown self.old) (event.Free key.now)
-            (reply.Freed result) (shown self.new) }
+        ensures plain { ShownStep self.old (event.Free key.now) (reply.Freed result) self.new }
         ensures sound { IsSound self.new }
     {
         let Some(shard) = self.shards.get_mut(key.span.shard as usize) else {
@@ -321,8 +306,7 @@ impl<L: Log> Core<L> {
     fn free_moved(&mut self, key: Key) -> bool
         requires { StandsIn self.old.shards key.span key.span.shard → ⊥ }
         ensures exact { CoreStep self.old (event.Free key) (reply.Freed result) self.new }
-        ensures plain { PlainStep self.old.limits (shown self.old) (event.Free key)
-            (reply.Freed result) (shown self.new) }
+        ensures plain { ShownStep self.old (event.Free key) (reply.Freed result) self.new }
         ensures sound { IsSound self.new }
     {
         let freed = self.free_taken_in(&key);
@@ -337,8 +321,7 @@ impl<L: Log> Core<L> {
         ensures exact { result ≢ Freed.NotHere
             → CoreStep self.old (event.Free key.now) (reply.Freed (was_freed result)) self.new }
         ensures plain { result ≢ Freed.NotHere
-            → PlainStep self.old.limits (shown self.old) (event.Free key.now)
-            (reply.Freed (was_freed result)) (shown self.new) }
+            → ShownStep self.old (event.Free key.now) (reply.Freed (was_freed result)) self.new }
         ensures sound { IsSound self.new }
         ensures not_here { result ≡ Freed.NotHere → StandsInNoOther self.old.shards key.now.span
             × (self.new ≡ self.old) }

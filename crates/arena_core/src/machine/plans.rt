@@ -1,9 +1,10 @@
 // Marks, the steps of their plans, and closes.
-ghost use Rattle.std.specs.Prelude.{◌≡◌, ◌<◌, ℕ, IsSome, MatchResult, length};
+ghost use Rattle.std.specs.Prelude.{◌≡◌, ◌<◌, ℕ, IsSome, length};
 ghost use Rattle.pool.specs.State.{PooledState};
 ghost use Rattle.shard.specs.Group.{GroupState};
 ghost use Rattle.groups.specs.Group.{IsHeadOf, spans_of};
 ghost use Rattle.shard.specs.Sound.{IsSound as IsSoundShard};
+ghost use Rattle.arena_core.specs.Calls.{CoreCall, StepCall};
 ghost use Rattle.arena_core.specs.Moved.{StandsIn};
 ghost use Rattle.arena_core.specs.Plan.{IsNext};
 ghost use Rattle.arena_core.specs.Sound.{IsSound};
@@ -11,7 +12,6 @@ ghost use Rattle.marks.specs.Plans.{OpenPlan};
 ghost use Rattle.arena_core.specs.State.{shown};
 ghost use Rattle.arena_core.specs.Step.{CoreStep};
 ghost use Rattle.arena_core.specs.declared.event.Event.TheVariants as event;
-ghost use Rattle.arena_core.specs.declared.reply.Refusal.TheVariants as refusal;
 ghost use Rattle.arena_core.specs.declared.reply.Reply.TheVariants as reply;
 
 use super::Core;
@@ -31,9 +31,7 @@ impl<L: Log> Core<L> {
     // that it folds onto. The runner fills the rows of its graph.
     pub(super) fn mark<R: Runner>(&mut self, runner: &R) -> Result<Certificate, Refusal>
         requires { R.ready runner.now }
-        ensures exact { MatchResult result
-            (λ certificate. CoreStep self.old event.Mark (reply.Marked certificate) self.new)
-            (λ refusal. CoreStep self.old event.Mark (reply.Refused refusal) self.new) }
+        ensures exact { CoreCall self.old event.Mark reply.Marked result self.new }
         ensures same { shown self.new ≡ shown self.old }
         ensures sound { IsSound self.new }
     {
@@ -50,9 +48,7 @@ impl<L: Log> Core<L> {
     // anything changes.
     pub(super) fn mark_some<R: Runner>(&mut self, runner: &R) -> Result<Certificate, Refusal>
         requires { R.ready runner.now }
-        ensures exact { MatchResult result
-            (λ certificate. CoreStep self.old event.MarkSome (reply.Marked certificate) self.new)
-            (λ refusal. CoreStep self.old event.MarkSome (reply.Refused refusal) self.new) }
+        ensures exact { CoreCall self.old event.MarkSome reply.Marked result self.new }
         ensures same { shown self.new ≡ shown self.old }
         ensures sound { IsSound self.new }
     {
@@ -119,9 +115,7 @@ impl<L: Log> Core<L> {
     ) -> Result<Step, AllocError>
         requires next { (plan : OpenPlan) × IsNext self.old plan (abandoned, owned) }
         requires there { StandsIn self.old.shards owned number }
-        ensures exact { MatchResult result
-            (λ step. CoreStep self.old event.Step (reply.Stepped abandoned owned step) self.new)
-            (λ _. CoreStep self.old event.Step (reply.Refused refusal.OutOfMemory) self.new) }
+        ensures exact { StepCall self.old abandoned owned result self.new }
         ensures same { shown self.new ≡ shown self.old }
         ensures sound { IsSound self.new }
     {

@@ -1,11 +1,10 @@
 // Sets in place, wherever the span of a key is.
-ghost use Rattle.std.specs.Prelude.{◌≡◌, ◌≢◌, ◌≤◌, IfOk, MatchResult, Err, Ok};
+ghost use Rattle.std.specs.Prelude.{◌≡◌, ◌≤◌, IfOk, MatchResult, Err, Ok};
 ghost use Rattle.shard.specs.Calls.{was_replaced};
+ghost use Rattle.arena_core.specs.Calls.{CoreCall, IfSetHere, ShownCall, ShownStep};
 ghost use Rattle.arena_core.specs.Lookups.{HasParts};
 ghost use Rattle.arena_core.specs.Moved.{StandsIn, StandsInNoOther};
-ghost use Rattle.arena_core.specs.Plain.{PlainStep};
 ghost use Rattle.arena_core.specs.Sound.{IsSound};
-ghost use Rattle.arena_core.specs.State.{shown};
 ghost use Rattle.arena_core.specs.Step.{CoreStep};
 ghost use Rattle.arena_core.specs.declared.event.Event.TheVariants as event;
 ghost use Rattle.arena_core.specs.declared.reply.Reply.TheVariants as reply;
@@ -30,15 +29,10 @@ impl<L: Log> Core<L> {
     /// [`Event::Set`]: crate::Event::Set
     #[inline(always)]
     pub fn set(&mut self, key: &Key, words: &[u128]) -> Result<bool, Refusal>
-        ensures exact { MatchResult result
-            (λ done. CoreStep self.old (event.Set key.now words.now) (reply.Replaced done) self.new)
-            (λ refusal. CoreStep self.old (event.Set key.now words.now)
-            (reply.Refused refusal) self.new) }
-        ensures plain { MatchResult result
-            (λ done. PlainStep self.old.limits (shown self.old) (event.Set key.now words.now)
-            (reply.Replaced done) (shown self.new))
-            (λ refusal. PlainStep self.old.limits (shown self.old) (event.Set key.now words.now)
-            (reply.Refused refusal) (shown self.new)) }
+        ensures exact { CoreCall self.old (event.Set key.now words.now)
+            reply.Replaced result self.new }
+        ensures plain { ShownCall self.old (event.Set key.now words.now)
+            reply.Replaced result self.new }
         ensures sound { IsSound self.new }
     {
         let Some(shard) = self.shards.get_mut(key.span.shard as usize) else {
@@ -61,15 +55,10 @@ impl<L: Log> Core<L> {
         words: &[u128],
     ) -> Result<bool, Refusal>
         requires { 1 ≤ generation }
-        ensures exact { (key : Key) → HasParts key span slot generation → MatchResult result
-            (λ done. CoreStep self.old (event.Set key words.now) (reply.Replaced done) self.new)
-            (λ refusal. CoreStep self.old (event.Set key words.now)
-            (reply.Refused refusal) self.new) }
-        ensures plain { (key : Key) → HasParts key span slot generation → MatchResult result
-            (λ done. PlainStep self.old.limits (shown self.old) (event.Set key words.now)
-            (reply.Replaced done) (shown self.new))
-            (λ refusal. PlainStep self.old.limits (shown self.old) (event.Set key words.now)
-            (reply.Refused refusal) (shown self.new)) }
+        ensures exact { (key : Key) → HasParts key span slot generation
+            → CoreCall self.old (event.Set key words.now) reply.Replaced result self.new }
+        ensures plain { (key : Key) → HasParts key span slot generation
+            → ShownCall self.old (event.Set key words.now) reply.Replaced result self.new }
         ensures sound { IsSound self.new }
     {
         let key = Key {
@@ -83,15 +72,10 @@ impl<L: Log> Core<L> {
     // Sets the key, where it may be set. The shard that opened its span is asked for it.
     #[inline(always)]
     fn set_asked(&mut self, key: &Key, words: &[u128]) -> Result<bool, Refusal>
-        ensures exact { MatchResult result
-            (λ done. CoreStep self.old (event.Set key.now words.now) (reply.Replaced done) self.new)
-            (λ refusal. CoreStep self.old (event.Set key.now words.now)
-            (reply.Refused refusal) self.new) }
-        ensures plain { MatchResult result
-            (λ done. PlainStep self.old.limits (shown self.old) (event.Set key.now words.now)
-            (reply.Replaced done) (shown self.new))
-            (λ refusal. PlainStep self.old.limits (shown self.old) (event.Set key.now words.now)
-            (reply.Refused refusal) (shown self.new)) }
+        ensures exact { CoreCall self.old (event.Set key.now words.now)
+            reply.Replaced result self.new }
+        ensures plain { ShownCall self.old (event.Set key.now words.now)
+            reply.Replaced result self.new }
         ensures sound { IsSound self.new }
     {
         let Some(shard) = self.shards.get_mut(key.span.shard as usize) else {
@@ -107,15 +91,10 @@ impl<L: Log> Core<L> {
     // Sets the key, where it may be set, and the shard that opened its span does not have the span.
     fn set_moved(&mut self, key: &Key, words: &[u128]) -> Result<bool, Refusal>
         requires { StandsIn self.old.shards key.now.span key.now.span.shard → ⊥ }
-        ensures exact { MatchResult result
-            (λ done. CoreStep self.old (event.Set key.now words.now) (reply.Replaced done) self.new)
-            (λ refusal. CoreStep self.old (event.Set key.now words.now)
-            (reply.Refused refusal) self.new) }
-        ensures plain { MatchResult result
-            (λ done. PlainStep self.old.limits (shown self.old) (event.Set key.now words.now)
-            (reply.Replaced done) (shown self.new))
-            (λ refusal. PlainStep self.old.limits (shown self.old) (event.Set key.now words.now)
-            (reply.Refused refusal) (shown self.new)) }
+        ensures exact { CoreCall self.old (event.Set key.now words.now)
+            reply.Replaced result self.new }
+        ensures plain { ShownCall self.old (event.Set key.now words.now)
+            reply.Replaced result self.new }
         ensures sound { IsSound self.new }
     {
         let replaced = self.set_taken_in(key, words)?;
@@ -128,16 +107,10 @@ impl<L: Log> Core<L> {
 
     // Sets the key in the shard that took its span in last, if one did.
     fn set_taken_in(&mut self, key: &Key, words: &[u128]) -> Result<Replaced, Refusal>
-        ensures exact { MatchResult result
-            (λ answer. answer ≢ Replaced.NotHere → CoreStep self.old
-            (event.Set key.now words.now) (reply.Replaced (was_replaced answer)) self.new)
-            (λ refusal. CoreStep self.old (event.Set key.now words.now)
-            (reply.Refused refusal) self.new) }
-        ensures plain { MatchResult result
-            (λ answer. answer ≢ Replaced.NotHere → PlainStep self.old.limits (shown self.old)
-            (event.Set key.now words.now) (reply.Replaced (was_replaced answer)) (shown self.new))
-            (λ refusal. PlainStep self.old.limits (shown self.old) (event.Set key.now words.now)
-            (reply.Refused refusal) (shown self.new)) }
+        ensures exact { IfSetHere
+            (λ answer. CoreStep self.old (event.Set key.now words.now) answer self.new) result }
+        ensures plain { IfSetHere
+            (λ answer. ShownStep self.old (event.Set key.now words.now) answer self.new) result }
         ensures sound { IsSound self.new }
         ensures not_here { IfOk result (λ answer. answer ≡ Replaced.NotHere
             → StandsInNoOther self.old.shards key.now.span × (self.new ≡ self.old)) }

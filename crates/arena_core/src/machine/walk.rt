@@ -1,9 +1,8 @@
 // The walk over the live keys, by their spans and slots.
 ghost use Rattle.std.specs.Prelude.{◌*◌, ◌+◌, ◌≡◌, ◌<◌, ◌≤◌, ℕ, MatchOption};
 ghost use Rattle.span.specs.Order.{HasNoneBeyond, HasNoneFrom, IsFirstFrom, IsNextLive};
-ghost use Rattle.span.specs.FirstLive.{HasNoneBetween, IsFirstLive};
 ghost use Rattle.span.specs.Ids.{rank};
-ghost use Rattle.arena_core.specs.NextLive.{HasNoneIn, IsFirstStanding};
+ghost use Rattle.arena_core.specs.NextLive.{HasNoneIn, IsFirstFound, IsFirstStanding};
 ghost use Rattle.arena_core.specs.State.{shown};
 ghost use Rattle.span.specs.declared.limits.TheConstants.{ALL_IDS, MOST_SHARDS, MOST_SPANS};
 
@@ -45,9 +44,7 @@ impl<L: Log> Core<L> {
     fn first_from(&self, shard: u32, serial: u32) -> Option<Key>
         requires shard { shard < MOST_SHARDS }
         requires serial { serial ≤ MOST_SPANS }
-        ensures { MatchOption result
-            (HasNoneBetween (shown self.now) (MOST_SPANS * shard + serial) ALL_IDS)
-            (IsFirstLive (shown self.now) (MOST_SPANS * shard + serial)) }
+        ensures { IsFirstFound (shown self.now) (MOST_SPANS * shard + serial) ALL_IDS result }
     {
         let end = self.end_of_near(shard, serial);
         if let Some(key) = self.first_in_spans(shard, serial, end) {
@@ -93,9 +90,8 @@ impl<L: Log> Core<L> {
         requires shard { shard < MOST_SHARDS }
         requires from { from ≤ end }
         requires end { end ≤ MOST_SPANS }
-        ensures { MatchOption result
-            (HasNoneBetween (shown self.now) (MOST_SPANS * shard + from) (MOST_SPANS * shard + end))
-            (IsFirstLive (shown self.now) (MOST_SPANS * shard + from)) }
+        ensures { IsFirstFound (shown self.now) (MOST_SPANS * shard + from)
+            (MOST_SPANS * shard + end) result }
     {
         for serial in from..end {
             let Some(id) = SpanId::new(shard, serial) else {
@@ -110,8 +106,7 @@ impl<L: Log> Core<L> {
 
     // The first live key of the spans from this id on, of all that stand in a shard or in the pool.
     fn first_of_all(&self, from: SpanId) -> Option<Key>
-        ensures { MatchOption result (HasNoneBetween (shown self.now) (rank from) ALL_IDS)
-            (IsFirstLive (shown self.now) (rank from)) }
+        ensures { IsFirstFound (shown self.now) (rank from) ALL_IDS result }
     {
         first_standing(self.shards.as_slice(), &self.pool, from)
     }

@@ -13,11 +13,10 @@ use Rattle.arena_core.specs.declared.machine.Core.TheInside.{Inside}
 use Rattle.arena_core.specs.declared.reply.Refusal.{Refusal}
 use Rattle.arena_core.specs.declared.reply.Refusal.TheVariants.{OutOfMemory}
 use Rattle.arena_core.specs.declared.reply.Reply.TheVariants.{Refused, Replaced}
+use Rattle.arena_core.specs.Calls.{CoreCall, ShownCall}
 use Rattle.arena_core.specs.Kept.{IsKept, state_of}
-use Rattle.arena_core.specs.Plain.{PlainStep}
 use Rattle.arena_core.specs.Sound.{IsSound}
-use Rattle.arena_core.specs.State.{CoreState, shown}
-use Rattle.arena_core.specs.Step.{CoreStep}
+use Rattle.arena_core.specs.State.{CoreState}
 use Rattle.arena_core.proofs.FieldSteps.{IsStep-set_home, IsStep-set_refused_home, state_of-same}
 use Rattle.arena_core.proofs.Fields.{IsRead, with_shard_at}
 use Rattle.arena_core.proofs.FieldsKept.{IsKept-same, IsKept-set}
@@ -29,12 +28,12 @@ abbrev IsReply : CoreState → Key → Value → CoreState → Result Bool Refus
 IsReply old key value new reply = MatchResult reply (λ done. IsSoundStep old (Set key value) (Replaced done) new) (λ refusal. IsSoundStep old (Set key value) (Refused refusal) new)
 
 exact_of : (old : CoreState) (key : Key) (value : Value) (new : CoreState) (reply : Result Bool Refusal) → IsReply old key value new reply
-    → MatchResult reply (λ done. CoreStep old (Set key value) (Replaced done) new) (λ refusal. CoreStep old (Set key value) (Refused refusal) new)
+    → CoreCall old (Set key value) Replaced reply new
 exact_of old key value new (Ok done) step = step.exact
 exact_of old key value new (Err refusal) step = step.exact
 
 plain_of : (old : CoreState) (key : Key) (value : Value) (new : CoreState) (reply : Result Bool Refusal) → IsReply old key value new reply
-    → MatchResult reply (λ done. PlainStep old.limits (shown old) (Set key value) (Replaced done) (shown new)) (λ refusal. PlainStep old.limits (shown old) (Set key value) (Refused refusal) (shown new))
+    → ShownCall old (Set key value) Replaced reply new
 plain_of old key value new (Ok done) step = step.plain
 plain_of old key value new (Err refusal) step = step.plain
 
@@ -90,13 +89,11 @@ set_first-requires g c = c.stands_first.ensures.0 c.if-not-stands_first.false
 -- there is no such shard
 
 pub returns-in_default-clause-exact : goal.returns-in_default-clause-exact
-returns-in_default-clause-exact g c = subst (λ old. MatchResult c.set_parts.result (λ (done : Bool). CoreStep old (Set c.args.key.now c.args.words.now) (Replaced done) c.set_parts.new.self)
-    (λ (refusal : Refusal). CoreStep old (Set c.args.key.now c.args.words.now) (Refused refusal) c.set_parts.new.self)) c.self.view_is
+returns-in_default-clause-exact g c = subst (λ old. CoreCall old (Set c.args.key.now c.args.words.now) Replaced c.set_parts.result c.set_parts.new.self) c.self.view_is
     (c.set_parts.ensures.exact c.args.key.now (refl, refl, refl))
 
 pub returns-in_default-clause-plain : goal.returns-in_default-clause-plain
-returns-in_default-clause-plain g c = subst (λ (old : CoreState). MatchResult c.set_parts.result (λ (done : Bool). PlainStep old.limits (shown old) (Set c.args.key.now c.args.words.now) (Replaced done) (shown c.set_parts.new.self))
-    (λ (refusal : Refusal). PlainStep old.limits (shown old) (Set c.args.key.now c.args.words.now) (Refused refusal) (shown c.set_parts.new.self))) c.self.view_is
+returns-in_default-clause-plain g c = subst (λ old. ShownCall old (Set c.args.key.now c.args.words.now) Replaced c.set_parts.result c.set_parts.new.self) c.self.view_is
     (c.set_parts.ensures.plain c.args.key.now (refl, refl, refl))
 
 pub set_parts-requires : goal.set_parts-requires
@@ -109,13 +106,11 @@ invariant_of-self-then-not-stands_first g c =
     IsKept-same c.self.inside c.self.invariant c.args.key.now.span.shard c.in-Some.shard.now (record { within = c.in-Some.ensures.variant.0 refl; value = c.in-Some.ensures.value }) _ refl
 
 pub returns-then-not-stands_first-clause-exact : goal.returns-then-not-stands_first-clause-exact
-returns-then-not-stands_first-clause-exact g c = subst (λ old. MatchResult c.set_parts-then-not-stands_first.result (λ (done : Bool). CoreStep old (Set c.args.key.now c.args.words.now) (Replaced done) c.set_parts-then-not-stands_first.new.self)
-    (λ (refusal : Refusal). CoreStep old (Set c.args.key.now c.args.words.now) (Refused refusal) c.set_parts-then-not-stands_first.new.self))
+returns-then-not-stands_first-clause-exact g c = subst (λ old. CoreCall old (Set c.args.key.now c.args.words.now) Replaced c.set_parts-then-not-stands_first.result c.set_parts-then-not-stands_first.new.self)
     (state_of-same c.self.inside c.args.key.now.span.shard c.in-Some.shard.now _ (record { within = c.in-Some.ensures.variant.0 refl; value = c.in-Some.ensures.value }) refl ∙ c.self.view_is)
     (c.set_parts-then-not-stands_first.ensures.exact c.args.key.now (refl, refl, refl))
 
 pub returns-then-not-stands_first-clause-plain : goal.returns-then-not-stands_first-clause-plain
-returns-then-not-stands_first-clause-plain g c = subst (λ (old : CoreState). MatchResult c.set_parts-then-not-stands_first.result (λ (done : Bool). PlainStep old.limits (shown old) (Set c.args.key.now c.args.words.now) (Replaced done) (shown c.set_parts-then-not-stands_first.new.self))
-    (λ (refusal : Refusal). PlainStep old.limits (shown old) (Set c.args.key.now c.args.words.now) (Refused refusal) (shown c.set_parts-then-not-stands_first.new.self)))
+returns-then-not-stands_first-clause-plain g c = subst (λ old. ShownCall old (Set c.args.key.now c.args.words.now) Replaced c.set_parts-then-not-stands_first.result c.set_parts-then-not-stands_first.new.self)
     (state_of-same c.self.inside c.args.key.now.span.shard c.in-Some.shard.now _ (record { within = c.in-Some.ensures.variant.0 refl; value = c.in-Some.ensures.value }) refl ∙ c.self.view_is)
     (c.set_parts-then-not-stands_first.ensures.plain c.args.key.now (refl, refl, refl))
