@@ -174,19 +174,52 @@ short_streams() {
     done
 }
 
-# Counts runs in which the first growth is refused, then the second, and so on until none is left: each ends with status 3, has said so
-# and has written nothing, or goes on without what it was refused and writes all.
+# Whether a run with a growth refused, which ended so and wrote to this folder, did well: it ended with status 3, has said so and has written
+# nothing, or it went on without what it was refused and has written all.
+refused_well() {
+    local status=$1 at=$2 report=$3 certificate=$4
+    [ -e "$at/f" ] || : >"$at/f"
+    if [ "$status" = 3 ]; then
+        told=$((told + 1))
+        [ ! -s "$at/out" ] && cmp -s memory "$at/err" && [ ! -s "$at/f" ]
+    else
+        [ "$status" = 0 ] && [ ! -s "$at/err" ] && cmp -s "$report" "$at/out" && cmp -s "$certificate" "$at/f"
+    fi
+}
+
+# Whether each copy of the last run, which was refused a growth, did well. `number` is then that of the last one, and else the folder has what
+# the one of that number wrote.
+copies_did_well() {
+    local at
+    while read -r _ at _ ended; do
+        number=$((number + 1))
+        if [ "$at" != "$number" ] || ! refused_well "$ended" "copies/$at" "$@"; then
+            cp "copies/$at"/* .
+            return 1
+        fi
+    done < <(grep '^growth ' log)
+}
+
+# Counts a run of whose growths each is refused to a copy of it. Once it has threads, further runs are refused the next growth each, until
+# none is left.
 expect_memory() {
     local report=$1 certificate=$2 number=0 told=0 under
+    local loaded=("REFUSE_LOG=$PWD/log" "LD_PRELOAD=$PWD/refuse.so")
     shift 2
-    while :; do
+    rm -rf log copies
+    mkdir copies
+    under=(env REFUSE_EACH=1000000 "REFUSE_FOLDER=$PWD/copies" "${loaded[@]}")
+    run "$@"
+    if [ "$ended" = 3 ] || ! refused_well "$ended" . "$report" "$certificate" || ! copies_did_well "$report" "$certificate"; then
+        fail "${built##*/} $* is to tell that growth $number was refused, or to write all of $report"
+        return
+    fi
+    until grep -qx "$number growths, 0 refused" log; do
         number=$((number + 1))
         rm -f log
-        under=(env "REFUSE_GROWTH=$number" "REFUSE_LOG=$PWD/log" "LD_PRELOAD=$PWD/refuse.so")
+        under=(env "REFUSE_GROWTH=$number" "${loaded[@]}")
         run "$@"
-        if [ "$ended" = 3 ] && [ ! -s out ] && cmp -s memory err && [ ! -s f ]; then
-            told=$((told + 1))
-        elif [ "$ended" != 0 ] || [ -s err ] || ! cmp -s "$report" out || ! cmp -s "$certificate" f; then
+        if ! refused_well "$ended" . "$report" "$certificate"; then
             fail "${built##*/} $* is to tell that growth $number was refused, or to write all of $report"
             return
         fi
@@ -402,12 +435,22 @@ refusing_tests() {
     done
 }
 
+# How many growths were refused to a copy of the last run, each in its turn; whether all copies ended with this status.
+copies_of() {
+    awk -v status="$1" '/^growth / { wrong += $2 != ++copies || $4 != status } END { print copies + 0; exit wrong > 0 }' log
+}
+
 # Counts tests that make a refused call again: they pass whichever of their first 300 growths is
-# refused, each in a process of its own.
+# refused, each to a copy of one process, or once that has begun threads, in a process of its own.
 repeating_tests() {
     local test number
     for test in "$@"; do
-        for ((number = 1; number <= 300; number++)); do
+        if ! run_refused "$tests" "$test" REFUSE_EACH=300 || ! number=$(copies_of 0); then
+            fail "$test is to pass whichever growth is refused: $(grep -v ' ends 0$' log)"
+            continue
+        fi
+        if grep -q "^$number growths, " log; then pass && continue; fi
+        for ((number++; number <= 300; number++)); do
             if ! run_refused "$tests" "$test" "REFUSE_GROWTH=$number"; then
                 fail "$test is to pass where growth $number is refused"
                 continue 2
@@ -418,21 +461,22 @@ repeating_tests() {
     done
 }
 
-# Tests of the crates of tests with growths refused, over the program that tools/tried made of them.
+# Tests of the crates of tests with growths refused, over the program that tools/tried made of them. A test that ends in `_in_full` goes on
+# from the first rounds of another, which has more growths than are refused.
 refused_tests() {
-    local before=$passed kind named=()
+    local before=$passed kind names=()
     : >f
     if ! build_library refuse; then
         fail "the kit's clang is to compile what is loaded before the tests"
         return
     fi
     for kind in refusals:: plan_tests:: runner_tests::refused::; do
-        mapfile -t named < <(tests_of "$tests" | grep "^$kind")
+        mapfile -t names < <(tests_of "$tests" | grep "^$kind" | grep -v '_in_full$')
         case $kind in
-            refusals::) refusing_tests "${named[@]}" ;;
-            *) repeating_tests "${named[@]}" ;;
+            refusals::) refusing_tests "${names[@]}" ;;
+            *) repeating_tests "${names[@]}" ;;
         esac
-        if [ "${#named[@]}" = 0 ]; then fail "there is no test $kind in $tests"; fi
+        if [ "${#names[@]}" = 0 ]; then fail "there is no test $kind in $tests"; fi
     done
     echo "check: tests with growths refused: $((passed - before)) passed"
 }

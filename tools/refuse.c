@@ -2,6 +2,11 @@
    for no header, so that the kit's own clang compiles it.
 
    REFUSE_GROWTH=N   the N-th block that is asked for or grown, from 1 on, is refused
+   REFUSE_EACH=N     each of the first N of these is refused to a copy of the process (fork), which goes on from there to its end alone.
+                     Then the process goes on with that growth met. Once it has begun a thread no copy is made. REFUSE_LOG gets a line for each
+                     copy: which growth it was refused, and its status, or 128 more than the signal that ended it
+   REFUSE_FOLDER=D   a copy works in the new folder D/N, which has the file `f` if the process has it, and writes to D/N/out and D/N/err,
+                     which begin with what the process has written
    REFUSE_WRITE=N    the N-th write fails, as on a full disk
    REFUSE_THREADS=1  no thread is started
    REFUSE_SHORT=1    each write takes one byte, and each read gives one
@@ -27,13 +32,22 @@ char *getenv(const char *);
 long syscall(long, ...);
 int open(const char *, int, ...);
 int close(int);
+int dup2(int, int);
 int dprintf(int, const char *, ...);
+int snprintf(char *, size, const char *, ...);
 int getrusage(int, long *);
 void *dlsym(void *, const char *);
+int fork(void);
+int waitpid(int, int *, int);
+unsigned alarm(unsigned);
+int mkdir(const char *, unsigned);
+int chdir(const char *);
 
 enum { OF_EINTR = 4, OF_EAGAIN = 11, OF_ENOMEM = 12, OF_ENOSPC = 28 };
 enum { OF_READ = 0, OF_WRITE = 1, OF_EXIT_GROUP = 231 };
-enum { APPENDED = 02001 | 0100 };
+enum { APPENDED = 02001 | 0100, ANEW = 01 | 0100 | 01000 };
+/* The longest that a copy may run, and the status of one that has no folder. */
+enum { MOST_SECONDS = 300, UNABLE = 70 };
 
 static const size COMMAND = (size)1 << 62, MEASURE = (size)1 << 61;
 
@@ -45,9 +59,9 @@ static int was_refused;
 static size standing;
 
 /* What the environment asks for. */
-static unsigned long growth_at, write_at, writes;
-static int is_short, is_interrupted, has_no_threads;
-static const char *log_name;
+static unsigned long growth_at, each_to, write_at, writes;
+static int is_short, is_interrupted, has_no_threads, has_threads, is_apart;
+static const char *log_name, *folder;
 
 static unsigned long number(const char *name) {
     const char *at = getenv(name);
@@ -58,6 +72,8 @@ static unsigned long number(const char *name) {
 
 __attribute__((constructor)) static void begin(void) {
     growth_at = number("REFUSE_GROWTH");
+    each_to = number("REFUSE_EACH");
+    folder = getenv("REFUSE_FOLDER");
     write_at = number("REFUSE_WRITE");
     is_short = number("REFUSE_SHORT") != 0;
     is_interrupted = number("REFUSE_EINTR") != 0;
@@ -69,6 +85,7 @@ __attribute__((constructor)) static void begin(void) {
 __attribute__((destructor)) static void end(void) {
     int file = log_name ? open(log_name, APPENDED, 0644) : -1;
     log_name = 0;
+    is_apart = 1;
     if (file < 0) return;
     /* The system's record: two times of two numbers each, and then what was resident at most. */
     long usage[18] = {0};
@@ -89,10 +106,64 @@ static int failed(int error) {
     return -1;
 }
 
-/* Whether one more growth is refused. */
+/* Has what is written to `to` go to a new file, behind what stands in the file `from`, if there is one. */
+static void write_anew(const char *from, int to, const char *name) {
+    static char bytes[1 << 16];
+    int was = open(from, 0), file = open(name, ANEW, 0644);
+    long taken;
+    if (file < 0) _exit(UNABLE);
+    while (was >= 0 && (taken = syscall(OF_READ, was, bytes, sizeof bytes)) > 0)
+        if (syscall(OF_WRITE, file, bytes, taken) != taken) _exit(UNABLE);
+    close(was);
+    if (to >= 0) dup2(file, to);
+    close(file);
+}
+
+/* Has the copy work in a folder of its own. */
+static void move_to(unsigned long n) {
+    char name[512], kept[512];
+    int has_file = open("f", 0);
+    snprintf(name, sizeof name, "%s/%lu", folder, n);
+    snprintf(kept, sizeof kept, "%s/f", name);
+    if (mkdir(name, 0755)) _exit(UNABLE);
+    if (has_file >= 0) write_anew("f", -1, kept);
+    close(has_file);
+    if (chdir(name)) _exit(UNABLE);
+    write_anew("/proc/self/fd/1", 1, "out");
+    write_anew("/proc/self/fd/2", 2, "err");
+}
+
+/* Notes how the copy ended that was refused the N-th growth. */
+static void note(unsigned long n, int child) {
+    int status = 0, file = log_name ? open(log_name, APPENDED, 0644) : -1;
+    if (child < 0 || waitpid(child, &status, 0) != child) status = UNABLE << 8;
+    dprintf(file, "growth %lu ends %d\n", n, status & 127 ? 128 + (status & 127) : status >> 8 & 255);
+    close(file);
+}
+
+/* Whether this is the copy of the process that is refused the N-th growth. */
+static int is_copy(unsigned long n) {
+    int child;
+    if (n > each_to || has_threads) return 0;
+    is_apart = 1;
+    child = fork();
+    if (child) note(n, child);
+    else {
+        each_to = 0;
+        log_name = 0;
+        alarm(MOST_SECONDS);
+        if (folder) move_to(n);
+    }
+    is_apart = 0;
+    return !child;
+}
+
+/* Whether one more growth is refused. What is asked for on the way of a copy or of the log is none. */
 static int refuses(void) {
-    unsigned long n = __atomic_add_fetch(&growths, 1, __ATOMIC_SEQ_CST);
+    unsigned long n = is_apart ? 0 : __atomic_add_fetch(&growths, 1, __ATOMIC_SEQ_CST);
     int is_armed = n == __atomic_load_n(&armed_at, __ATOMIC_SEQ_CST);
+    if (!n) return 0;
+    if (is_copy(n)) growth_at = n;
     if (!is_armed && n != growth_at) return 0;
     if (is_armed) was_refused = 1;
     __atomic_add_fetch(&refused, 1, __ATOMIC_SEQ_CST);
@@ -164,6 +235,7 @@ long read(int file, void *bytes, size count) {
 int pthread_create(void *thread, const void *how, void *(*run)(void *), void *with) {
     static int (*next)(void *, const void *, void *(*)(void *), void *);
     if (has_no_threads) return OF_EAGAIN;
+    has_threads = 1;
     if (!next) next = (int (*)(void *, const void *, void *(*)(void *), void *))dlsym((void *)-1L, "pthread_create");
     return next(thread, how, run, with);
 }

@@ -153,6 +153,20 @@ fn some_sides(owned: u32, slots: u32, classes: usize) -> Sides {
 
 #[test]
 fn partners_by_threads_are_those_at_hand(rt: HostRuntime) {
+    for pieces in [1, 3] {
+        for slots in [170, 240] {
+            for classes in [1, 3, CLASSES] {
+                assert_eq!(rt;
+                    are_same(&rt, rt.alloc(), some_sides(65, slots, classes), pieces),
+                    Some(true)
+                );
+            }
+        }
+    }
+}
+
+#[test]
+fn partners_by_threads_are_those_at_hand_in_full(rt: HostRuntime) {
     for pieces in [1, 2, 3, 7, 64] {
         for owned in [65, 300] {
             for slots in [170, 240] {
@@ -169,6 +183,17 @@ fn partners_by_threads_are_those_at_hand(rt: HostRuntime) {
 
 #[test]
 fn partners_of_more_groups_than_a_graph_has(rt: HostRuntime) {
+    let sides = Sides {
+        abandoned: 30,
+        owned: 4200,
+        slots: 240,
+        classes: 1,
+    };
+    assert_eq!(rt; are_same(&rt, rt.alloc(), sides, 3), Some(true));
+}
+
+#[test]
+fn partners_of_more_groups_than_a_graph_has_in_full(rt: HostRuntime) {
     for classes in [1, 3, CLASSES] {
         assert_eq!(rt;
             are_same(&rt, rt.alloc(), some_sides(4200, 240, classes), 3),
