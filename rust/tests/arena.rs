@@ -336,12 +336,12 @@ fn settle<T>(seats: &mut [Seat<T>]) {
     }
 }
 
-/// Five million calls are asked for, where no variable says how many.
+/// A million calls are asked for, where no variable says how many.
 fn calls() -> usize {
     let asked = std::env::var("CALLS")
         .ok()
         .and_then(|calls| calls.parse().ok());
-    asked.unwrap_or(5_000_000)
+    asked.unwrap_or(1_000_000)
 }
 
 #[test]

@@ -199,12 +199,12 @@ fn threads_find_what_they_expect<const WORDS: usize>(threads: usize, limits: Lim
     assert_eq!(store.pages(), 0);
 }
 
-/// Ten million calls are asked for, where no variable says how many.
+/// Two million calls are asked for, where no variable says how many.
 fn calls() -> usize {
     let asked = std::env::var("CALLS")
         .ok()
         .and_then(|calls| calls.parse().ok());
-    asked.unwrap_or(10_000_000)
+    asked.unwrap_or(2_000_000)
 }
 
 #[test]

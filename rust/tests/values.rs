@@ -383,13 +383,16 @@ fn few_as_a_map<T: Made>(seed: u64) -> Result<(), Refused> {
     Ok(())
 }
 
-/// Four runs of so many calls, or as many runs as `RUNS` says.
-fn as_a_map<T: Made>(calls: usize) -> Result<(), Refused> {
-    let runs = std::env::var("RUNS")
-        .ok()
-        .and_then(|runs| runs.parse().ok())
-        .unwrap_or(4);
-    for seed in 0..runs {
+/// The number that a variable has, or this one.
+fn asked(name: &str, or: u64) -> u64 {
+    let told = std::env::var(name).ok();
+    told.and_then(|told| told.parse().ok()).unwrap_or(or)
+}
+
+/// Two runs of so many calls, or as many runs as `RUNS` says, of as many calls as `CALLS` says.
+fn as_a_map<T: Made>(calls: u64) -> Result<(), Refused> {
+    let calls = asked("CALLS", calls) as usize;
+    for seed in 0..asked("RUNS", 2) {
         let folds = Pair::<T>::new(seed)?.run(calls, 8000)?;
         assert!(folds >= 3, "only {folds} folds");
         few_as_a_map::<T>(seed)?;
