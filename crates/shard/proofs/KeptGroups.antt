@@ -12,6 +12,7 @@ use Rattle.shard.specs.Group.{GroupState}
 use Rattle.shard.specs.GuestNotes.{AreNoted}
 use Rattle.shard.specs.HeadWindow.{HeadWindow, end_of, entry_of}
 use Rattle.shard.specs.Kept.{IsKept, state_of}
+use Rattle.shard.specs.Least.{KnowsLeast}
 use Rattle.shard.specs.Rooms.{HasRooms, room_of, rooms_of}
 use Rattle.shard.specs.Sound.{IsSound}
 use Rattle.shard.specs.declared.shard.Shard.TheInside.{Inside}
@@ -29,15 +30,35 @@ module _ {L : Type 0} (s : Inside L) (kept : IsKept s) (groups : Vec GroupState)
   pub IsKept-same : groups.items ≡ s.groups.items → vec_capacity s.groups ≤ vec_capacity groups
       → ((class : Class) → HasRooms class s.groups.items (rooms_of rooms class)) → ((class : Class) → room_of s.rooms class ≤ room_of rooms class)
       → IsKept after
-  IsKept-same same room has more = search (rules, HaveRoom-same)
+  IsKept-same same room has more = record {
+    number_fits = kept.number_fits;
+    pages_fit = kept.pages_fit;
+    gens_fit = kept.gens_fit;
+    sound = rw same kept.sound;
+    rooms = λ class. rw same (has class);
+    room_for_groups = omega (arith, kept.room_for_groups, room, ap length same, s.groups.ok.0, groups.ok.0);
+    room_for_rooms = HaveRoom-same s.groups.items s.rooms (vec_len s.groups + s.group_room) kept.room_for_rooms groups.items same rooms _
+        (omega (arith, ap length same, s.groups.ok.0, groups.ok.0)) more;
+    room_for_class = λ some class. omega (arith, kept.room_for_class some class, more class, ap length same, s.groups.ok.0, groups.ok.0);
+    no_guests = kept.no_guests;
+    room_for_guests = rw same kept.room_for_guests;
+    guests_known = rw same kept.guests_known;
+    room_for_entries = kept.room_for_entries;
+    heads_known = rw same kept.heads_known;
+    room_for_heads = kept.room_for_heads;
+    guests_noted = kept.guests_noted;
+    least_known = rw same kept.least_known;
+    room_for_bytes = omega (arith, kept.room_for_bytes, ap length same, s.groups.ok.0, groups.ok.0);
+  }
 
   -- one is replaced by a group of its class whose spans have the same ids
-  pub IsKept-replaced : (index : ℕ) (group now : GroupState) → slice_get s.groups.items index ≡ Some group → AreAlike group now → now.head.class ≡ group.head.class
+  pub IsKept-replaced : (least : Vec ℕ) → vec_len s.least ≤ vec_len least → (index : ℕ) (group now : GroupState) → slice_get s.groups.items index ≡ Some group → AreAlike group now → now.head.class ≡ group.head.class
       → groups.items ≡ set s.groups.items index now → vec_capacity s.groups ≡ vec_capacity groups
       → IsSound (record (state_of s) { groups = set s.groups.items index now })
       → ((class : Class) → HasRooms class (set s.groups.items index now) (rooms_of rooms class))
-      → ((class : Class) → room_of s.rooms class ≤ room_of rooms class) → IsKept after
-  IsKept-replaced index group now here ids class_is same room sound has more = record {
+      → ((class : Class) → room_of s.rooms class ≤ room_of rooms class)
+      → KnowsLeast (set s.groups.items index now) least.items → IsKept (record after { least = least })
+  IsKept-replaced least bytes index group now here ids class_is same room sound has more known = record {
     number_fits = kept.number_fits;
     pages_fit = kept.pages_fit;
     gens_fit = kept.gens_fit;
@@ -55,13 +76,16 @@ module _ {L : Type 0} (s : Inside L) (kept : IsKept s) (groups : Vec GroupState)
     heads_known = rw same (KnowsHeads-set s.number s.groups.items s.heads kept.heads_known index group now here (head-alike group now ids));
     room_for_heads = kept.room_for_heads;
     guests_noted = kept.guests_noted;
+    least_known = rw same known;
+    room_for_bytes = omega (arith, kept.room_for_bytes, bytes, ap length same ∙ length-set s.groups.items index now, s.groups.ok.0, groups.ok.0);
   }
 
   -- only flags and pages change
-  pub IsKept-alike : (f : GroupState → GroupState) → ((group : GroupState) → (f group).head.class ≡ group.head.class) → groups.items ≡ map_list f s.groups.items
+  pub IsKept-alike : (least : Vec ℕ) → vec_len s.least ≤ vec_len least → (f : GroupState → GroupState) → ((group : GroupState) → (f group).head.class ≡ group.head.class) → groups.items ≡ map_list f s.groups.items
       → map_list bare groups.items ≡ map_list bare s.groups.items → vec_capacity s.groups ≤ vec_capacity groups → AreSoundGroups groups.items
-      → ((class : Class) → HasRooms class groups.items (rooms_of rooms class)) → ((class : Class) → room_of s.rooms class ≤ room_of rooms class) → IsKept after
-  IsKept-alike f class_is is same capacity sound has more =
+      → ((class : Class) → HasRooms class groups.items (rooms_of rooms class)) → ((class : Class) → room_of s.rooms class ≤ room_of rooms class)
+      → KnowsLeast groups.items least.items → IsKept (record after { least = least })
+  IsKept-alike least bytes f class_is is same capacity sound has more known =
       let many = (alike s.groups.items groups.items same).many in
       record {
         number_fits = kept.number_fits;
@@ -80,7 +104,13 @@ module _ {L : Type 0} (s : Inside L) (kept : IsKept s) (groups : Vec GroupState)
         heads_known = KnowsHeads-alike s.number s.groups.items groups.items s.heads same kept.heads_known;
         room_for_heads = kept.room_for_heads;
         guests_noted = kept.guests_noted;
+        least_known = known;
+        room_for_bytes = omega (arith, kept.room_for_bytes, bytes, many, s.groups.ok.0, groups.ok.0);
       }
+
+-- the bytes of the groups are others, and no fewer
+pub IsKept-bytes : {L : Type 0} (s : Inside L) → IsKept s → (least : Vec ℕ) → vec_len s.least ≤ vec_len least → KnowsLeast s.groups.items least.items → IsKept (record s { least = least })
+IsKept-bytes s kept least bytes known = search (rules)
 
 -- more indexes of heads are noted
 pub IsKept-more_heads : {L : Type 0} (s : Inside L) → IsKept s → (count : ℕ) → s.opened ≤ count → (heads : HeadWindow) → s.heads.base ≤ heads.base

@@ -86,6 +86,8 @@ pub struct Shard<L: Log = Kept> {
     // An empty list with room for the guests of the group `onto` and those for which room is
     // reserved.
     guest_room: Vec<Span<L>>,
+    // For each group a byte: 0, or how many of its slots are live at the least, if it is open.
+    least: Vec<u8>,
 }
 
 impl<L: Log> Model for Shard<L> {
@@ -158,6 +160,7 @@ impl<L: Log> Shard<L> {
             onto: None,
             guest_room: Vec::new(alloc),
             notes: GuestNotes::new(alloc),
+            least: Vec::new(alloc),
         })
     }
 

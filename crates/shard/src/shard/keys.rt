@@ -11,6 +11,7 @@ ghost use Rattle.shard.specs.Sound.{IsSound};
 
 use super::{Found, Freed, Shard, head_index};
 use crate::head_indexes::{HEADS, is_noted};
+use crate::least_live::clear_byte;
 use span::names::{Key, SpanId};
 use span::spans::Log;
 
@@ -191,6 +192,8 @@ impl<L: Log> Shard<L> {
             return Freed::No(at);
         }
         let class = group.class();
+        // Before the set, whose slow branch is a call: the index is not needed after it.
+        clear_byte(&mut self.least, index);
         self.rooms.insert(class, index);
         Freed::Yes(at)
     }

@@ -9,6 +9,7 @@ ghost use Rattle.span.specs.declared.class.Class.{Class};
 use super::Shard;
 use crate::class_rooms::ClassRooms;
 use crate::group::Group;
+use crate::least_live::{clear_byte, clear_bytes};
 use groups::Whole;
 use span::names::SpanId;
 use span::spans::Log;
@@ -32,6 +33,7 @@ impl<L: Log> Shard<L> {
         }
         let place = Group::left_by(self.alloc, group.head_id(), group.class(), self.gens);
         let (spans, page) = replace(group, place).into_parts();
+        clear_byte(&mut self.least, index);
         self.directory.strike_all(spans.guests());
         self.notes.strike_guests(self.number, spans.guests());
         self.onto = None;
@@ -46,6 +48,7 @@ impl<L: Log> Shard<L> {
         sweep_rooms(self.groups.as_slice(), &mut self.rooms);
         drop_places(&mut self.groups);
         self.heads.note_from(self.groups.as_slice(), 0, self.number);
+        clear_bytes(&mut self.least);
     }
 }
 

@@ -9,6 +9,7 @@ ghost use Rattle.shard.specs.Sound.{IsSound};
 use super::{Shard, insert_reserved, lower_heads};
 use crate::error::PutError;
 use crate::group::Group;
+use crate::least_live::{add_byte, reserve_bytes};
 use groups::{Placed, Spans};
 use page::{MaybePage, Page, set_on};
 use span::names::{Class, Key, Object, SpanId};
@@ -151,6 +152,7 @@ impl<L: Log> Shard<L> {
         self.rooms.reserve(class, self.groups.len() + 1)?;
         self.heads
             .reserve(self.opened as usize + 1, self.groups.len() + 1)?;
+        reserve_bytes(&mut self.least, &self.groups, 1)?;
         set_on(&mut page, class, 0, words);
         let index = lower_heads(self.groups.as_slice(), id);
         insert_reserved(
@@ -158,6 +160,7 @@ impl<L: Log> Shard<L> {
             index,
             Group::of(Spans::of(self.alloc, head), MaybePage::new(page, true)),
         );
+        add_byte(&mut self.least, index);
         self.rooms.note_arrival(class, index, self.groups.len());
         self.heads
             .note_arrival(self.number, id, index, self.groups.len());

@@ -91,7 +91,7 @@ invariant_of-self-2 g c =
     let place = c.args.place in
     let span = c.span_at.result.now in
     let key = c.args.key.now in
-    IsKept-replaced c.self.inside kept _ c.insert.new.self c.args.index group (with_span group place (with_free span key)) here.group_is
+    IsKept-replaced c.self.inside kept _ c.insert.new.self c.clear_byte.new.least (omega (arith, c.clear_byte.ensures.len)) c.args.index group (with_span group place (with_free span key)) here.group_is
     (AreAlike-with_span group place span (with_free span key) here.span_is refl)
     (class-with_span group place span (with_free span key) here.span_is refl)
     (ap (set c.self.inside.groups.items c.args.index) (freed_now g c))
@@ -106,6 +106,7 @@ invariant_of-self-2 g c =
           (ap (λ (g : GroupState). g.head.class) (freed_now g c) ∙ class-with_span group place span (with_free span key) here.span_is refl) (λ e. apart (sym e ∙ sym c.class-class.ensures)))
     ]))
     (λ class. omega (arith, c.insert.ensures.room class))
+    (c.clear_byte.ensures.known c.self.inside.groups.items (with_span group place (with_free span key)) kept.least_known)
 
 pub returns-clause-step : goal.returns-clause-step
 returns-clause-step g c = (
@@ -127,3 +128,10 @@ returns-clause-plain g c = shown-Frees c.args.self.now _ c.args.key.now (Yes c.c
 
 pub returns-clause-sound : goal.returns-clause-sound
 returns-clause-sound g c = IsSound-Frees c.args.self.now _ c.args.key.now (Yes c.changes-at.result) (subst IsSound c.self.view_is c.self.invariant.sound) (returns-clause-step g c)
+
+pub clear_byte-requires : goal.clear_byte-requires
+clear_byte-requires g c =
+    let found = found_in c.args.self.now.groups c.self.inside.groups.items c.args.key.now.span c.args.index c.args.place
+    (ap (λ (s : ShardState). s.groups) (sym c.self.view_is)) c.requires in
+    let here = here_read _ _ _ _ found.0 found.1 found.2 c.index_mut-group.result.now c.index_mut-group.ensures.value c.span_at.result.now c.span_at.ensures in
+    omega (arith, slice_get_within c.self.inside.groups.items c.args.index c.index_mut-group.result.now here.group_is, c.self.invariant.room_for_bytes, c.self.inside.groups.ok.0)

@@ -3,6 +3,7 @@ use Rattle.std.specs.Prelude.{filter, remove}
 use Rattle.groups.specs.Directory.{DirectoryState}
 use Rattle.groups.specs.Group.{HasNoHead, IsHeadOf}
 use Rattle.groups.proofs.Lists.{set-same}
+use Rattle.std.proofs.lemmas.Option.{slice_get_within}
 use Rattle.shard.specs.Group.{GroupState}
 use Rattle.shard.specs.Kept.{state_of}
 use Rattle.shard.specs.Leaving.{has_stayed, left_place, swept}
@@ -90,6 +91,8 @@ invariant_of-self-2 g c =
           (KnowsNotes-struck _ c.self.inside.directory.entries _ c.strike_guests.new.self _ _ (c.strike_guests.ensures.known _ c.self.invariant.guests_noted.known)
           (c.guests-2.ensures ∙ sym c.guests.ensures) (ap (λ (d : DirectoryState). d.entries) c.strike_all.ensures))
           c.strike_guests.ensures.end;
+      least_known = c.clear_byte.ensures.known c.self.inside.groups.items c.replace.new.dest c.self.invariant.least_known;
+      room_for_bytes = omega (arith, c.self.invariant.room_for_bytes, c.clear_byte.ensures.len);
     }
 
 pub returns-clause-lifts : goal.returns-clause-lifts
@@ -108,3 +111,10 @@ returns-clause-lifts g c =
 
 pub returns-clause-sound : goal.returns-clause-sound
 returns-clause-sound g c = (invariant_of-self-2 g c).sound
+
+pub clear_byte-requires : goal.clear_byte-requires
+clear_byte-requires g c =
+    let head_here = head_read c.self.inside.groups.items c.args.self.now.groups
+    (ap (λ (s : ShardState). s.groups) c.self.view_is) c.args.head c.in-Some.index c.in-Some.ensures.head c.index_mut-group.result.now
+    c.index_mut-group.ensures.value in
+    omega (arith, slice_get_within c.self.inside.groups.items c.in-Some.index c.index_mut-group.result.now head_here.here, c.self.invariant.room_for_bytes, c.self.inside.groups.ok.0)

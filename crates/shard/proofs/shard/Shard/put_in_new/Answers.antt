@@ -26,7 +26,7 @@ use Rattle.shard.proofs.KnownHeads.{KnowsHeads-moved}
 use Rattle.shard.proofs.Classes.{cases_class}
 use Rattle.shard.proofs.GuestRoom.{HasGuestRoom-none}
 use Rattle.shard.proofs.HeadPlaces.{IsPlaceFor-lower, no_head_next}
-use Rattle.shard.proofs.KeptGroups.{IsKept-more_heads, IsKept-same}
+use Rattle.shard.proofs.KeptGroups.{IsKept-bytes, IsKept-more_heads, IsKept-same}
 use Rattle.shard.proofs.KnownGuests.{KnowsGuests-alone}
 use Rattle.shard.proofs.NotedGuests.{AreNoted-come}
 use Rattle.shard.proofs.PutInNew.{IsSound-put_in_new}
@@ -190,6 +190,17 @@ invariant_of-self-2 g c = record {
       c.in_ok-reserve-2.ensures.base c.in_ok-reserve-2.ensures.same));
   room_for_heads = λ some. omega (arith, c.in_ok-reserve-2.ensures.ok, c.note_arrival-2.ensures.end);
   guests_noted = AreNoted-come _ _ _ _ _ _ c.self.invariant.guests_noted _ _ c.self.invariant.guests_noted.known _ _ c.saturating_sub-self-inside.ensures;
+  least_known = rw (groups_now g c) (c.add_byte.ensures.known c.self.inside.groups.items (made g c) (place_now g c).within (c.in_ok-reserve_bytes.ensures.known c.self.inside.groups.items c.self.invariant.least_known));
+  room_for_bytes = omega (
+    arith,
+    c.self.invariant.room_for_bytes,
+    c.insert_reserved.ensures.len,
+    c.in_ok-reserve_group.ensures.len,
+    c.in_ok-reserve_bytes.ensures.no_fewer,
+    c.in_ok-reserve_bytes.ensures.ok,
+    c.add_byte.ensures.len,
+    c.saturating_sub-self-inside.ensures,
+  );
 }
 
 pub returns-clause-ok : goal.returns-clause-ok
@@ -236,6 +247,26 @@ invariant_of-self-in_err-reserve-2 g c =
     (omega (arith, c.in_ok-reserve_group.ensures.capacity)) (λ class. rw (c.in_ok-reserve.ensures.same class) (c.self.invariant.rooms class))
     (λ class. omega (arith, c.in_ok-reserve.ensures.more class)))
     (c.self.inside.opened + 1) (omega arith) c.reserve-2.new.self c.in_err-reserve-2.ensures.base c.in_err-reserve-2.ensures.same c.in_err-reserve-2.ensures.more
+
+-- where there was no room for a byte more, the bytes say what they said
+pub invariant_of-self-in_err-reserve_bytes : goal.invariant_of-self-in_err-reserve_bytes
+invariant_of-self-in_err-reserve_bytes g c =
+    IsKept-bytes _ (IsKept-more_heads _ (IsKept-same c.self.inside c.self.invariant c.reserve_group.new.groups c.reserve.new.self c.in_ok-reserve_group.ensures.items
+    (omega (arith, c.in_ok-reserve_group.ensures.capacity)) (λ class. rw (c.in_ok-reserve.ensures.same class) (c.self.invariant.rooms class))
+    (λ class. omega (arith, c.in_ok-reserve.ensures.more class)))
+    (c.self.inside.opened + 1) (omega arith) c.reserve-2.new.self c.in_ok-reserve-2.ensures.base c.in_ok-reserve-2.ensures.same c.in_ok-reserve-2.ensures.more)
+    c.reserve_bytes.new.least c.in_err-reserve_bytes.ensures.no_fewer (rw c.in_ok-reserve_group.ensures.items (c.in_err-reserve_bytes.ensures.known c.self.inside.groups.items c.self.invariant.least_known))
+
+pub add_byte-requires : goal.add_byte-requires
+add_byte-requires g c =
+    omega (
+      arith,
+      c.lower_heads-index.ensures.within,
+      ap length (c.as_slice.ensures.value ∙ c.in_ok-reserve_group.ensures.items),
+      c.self.inside.groups.ok.0,
+      c.in_ok-reserve_group.ensures.len,
+      c.in_ok-reserve_bytes.ensures.ok,
+    )
 
 -- words are made where the object needs them
 pub set_on-requires-clause-room : goal.set_on-requires-clause-room

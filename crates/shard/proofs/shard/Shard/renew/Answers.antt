@@ -10,6 +10,7 @@ use Rattle.shard.specs.Rooms.{rooms_of}
 use Rattle.shard.specs.State.{ShardState}
 use Rattle.shard.proofs.AlikeGroups.{IsSound-alike, bare}
 use Rattle.shard.proofs.KeptGroups.{IsKept-replaced}
+use Rattle.shard.proofs.LeastLive.{KnowsLeast-set}
 use Rattle.shard.proofs.RoomBits.{HasRooms-full}
 use Rattle.shard.proofs.shard.Shard.renew.Goals as goal
 
@@ -26,8 +27,8 @@ same g c = set-same c.self.inside.groups.items c.args.index c.index_mut.result.n
 pub invariant_of-self : goal.invariant_of-self
 invariant_of-self g c =
     let group = c.index_mut.result.now in
-    IsKept-replaced c.self.inside c.self.invariant _ c.self.inside.rooms c.args.index group group (here g c) (HaveSameIds-same (spans_of group)) refl
+    IsKept-replaced c.self.inside c.self.invariant _ c.self.inside.rooms c.self.inside.least (omega arith) c.args.index group group (here g c) (HaveSameIds-same (spans_of group)) refl
     (ap (set c.self.inside.groups.items c.args.index) c.renew.ensures) refl
     (IsSound-alike (state_of c.self.inside) (set c.self.inside.groups.items c.args.index group) (ap (map_list bare) (same g c)) (subst AreSoundGroups (sym (same g c)) c.self.invariant.sound.groups) c.self.invariant.sound)
     (λ class. HasRooms-full class c.self.inside.groups.items (rooms_of c.self.inside.rooms class) (c.self.invariant.rooms class) c.args.index group group (here g c) refl (λ none. none))
-    (λ class. omega arith)
+    (λ class. omega arith) (KnowsLeast-set c.self.inside.groups.items c.self.inside.least.items c.self.invariant.least_known c.args.index group group (here g c) (λ least is. is))

@@ -5,6 +5,7 @@ use Rattle.shard.specs.Kept.{state_of}
 use Rattle.shard.specs.State.{ShardState}
 use Rattle.shard.proofs.ClassesHere.{HaveRoom-none}
 use Rattle.shard.proofs.KnownHeads.{KnowsHeads-none}
+use Rattle.shard.proofs.LeastLive.{KnowsLeast-none}
 use Rattle.shard.proofs.GuestRoom.{HasGuestRoom-none}
 use Rattle.shard.proofs.NotedGuests.{KnowsNotes-none}
 use Rattle.shard.proofs.RoomBits.{HasRooms-empty}
@@ -41,6 +42,8 @@ invariant_of-self g c =
         for_group = λ some. absurd (omega (arith, some));
         for_guests = λ head named. absurd cc;
       };
+      least_known = rw c.new-7.ensures.items (KnowsLeast-none _);
+      room_for_bytes = omega (arith, c.new.result.ok.1, c.new-7.result.ok.1);
     }
 
 pub returns-clause-ended : goal.returns-clause-ended

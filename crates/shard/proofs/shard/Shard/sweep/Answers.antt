@@ -39,6 +39,8 @@ invariant_of-self g c =
       heads_known = subst (λ gs. KnowsHeads c.self.inside.number gs c.note_from.new.self) c.as_slice-2.ensures.value c.note_from.ensures.known;
       room_for_heads = λ some. let enough = c.self.invariant.room_for_heads some in omega (arith, enough, c.note_from.ensures.base, c.note_from.ensures.len);
       guests_noted = c.self.invariant.guests_noted;
+      least_known = c.clear_bytes.ensures.known c.drop_places.new.groups.items;
+      room_for_bytes = omega (arith, fewer, c.self.invariant.room_for_bytes, c.clear_bytes.ensures.len);
     }
 
 pub returns-clause-sound : goal.returns-clause-sound
