@@ -1,7 +1,7 @@
 -- What calls on a key do in the shard or the pool that is lent.
 use Rattle.std.proofs.Common.{◌≡◌, ℕ, Bool, true, Option, None, subst, rules}
 use Rattle.std.proofs.lemmas.Option.{none-some}
-use Rattle.std.specs.Prelude.{IfOk, OnErr, Ok, Err, Result}
+use Rattle.std.specs.Prelude.{IfOk, OnErr, Result}
 use Rattle.std.specs.Result.{result_transpose}
 use Rattle.std.specs.declared.alloc.AllocError.{AllocError}
 use Rattle.groups.specs.Group.{IsElsewhere}

@@ -1,5 +1,5 @@
 -- The receipts of single calls.
-use Rattle.std.specs.Prelude.{◌≡◌, ℕ, ◌++◌, All, Bool, true, false, List, Option, Some, None, flat_map, map}
+use Rattle.std.specs.Prelude.{◌≡◌, ℕ, ◌++◌, All, Bool, true, false, List, Option, flat_map, map}
 use Rattle.span.specs.Log.{Value}
 use Rattle.span.specs.declared.key.Key.{Key}
 use Rattle.span.specs.declared.receipt.Call.{Call}

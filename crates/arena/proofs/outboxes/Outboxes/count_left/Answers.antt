@@ -1,4 +1,4 @@
-use Rattle.std.proofs.Common.{◌≡◌, ◌<◌, ◌∙◌, [], Some, ap, arith, length, map, slice_get, sym}
+use Rattle.std.proofs.Common.{◌<◌, ◌∙◌, [], ap, arith, length, sym}
 use Rattle.std.proofs.lemmas.List.{get_or-map}
 use Rattle.remote_queue.specs.Rings.{Sending}
 use Rattle.arena.proofs.Sending.{KeepSent-set, read_within}
