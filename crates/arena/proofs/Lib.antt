@@ -7,6 +7,7 @@ mod KeptSpans
 mod KeyCalls
 pub mod LentFolds
 pub mod LentForgets
+mod LentPages
 pub mod Linking
 mod Made
 mod OneWord

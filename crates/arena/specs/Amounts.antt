@@ -1,8 +1,7 @@
 -- How many pages and live keys the pool and the shards have that are lent. No public clause cites
 -- this module.
-use Rattle.std.specs.Prelude.{◌⊎◌, ℕ, ◌+◌, ◌-◌, ◌<◌, ◌^◌, List, Option, None, Some, length, min, sum_by}
+use Rattle.std.specs.Prelude.{ℕ, ◌+◌, ◌-◌, ◌^◌, List, Option, None, Some, length, min, sum_by}
 use Rattle.groups.specs.Group.{live_in, paged_in}
-use Rattle.mesh_graph.specs.declared.build.TheConstants.{MOST_GROUPS}
 use Rattle.pool.specs.State.{PoolState, paged_groups}
 use Rattle.shard.specs.State.{ShardState}
 
@@ -35,8 +34,3 @@ page_count pool shards = owned_pages shards + length (paged_groups pool)
 -- how many keys are live in the pool and the shards
 abbrev pub key_count : PoolState → List (Option ShardState) → ℕ
 key_count pool shards = owned_keys shards + live_in pool.groups
-
--- a side has more groups with a page than a plan may have
-abbrev pub AreTooMany : PoolState → List (Option ShardState) → Type 0
-AreTooMany pool shards = (MOST_GROUPS < length (paged_groups pool))
-    ⊎ (MOST_GROUPS < owned_pages shards)

@@ -1,7 +1,8 @@
 -- What calls on a key answer.
-use Rattle.std.specs.Prelude.{◌≡◌, ◌≤◌, ◌<◌, ◌⊎◌, ◌++◌, ℕ, Bool, true, false, List, Option, Some, None, IfSome, drop, length, map}
+use Rattle.std.specs.Prelude.{◌≡◌, ◌≤◌, ◌<◌, ◌⊎◌, ◌++◌, ℕ, Bool, true, false, List, Option, Some, None, IfSome, drop, if◌then◌else◌, length, map}
 use Rattle.span.specs.Classes.{IsObject}
 use Rattle.span.specs.Log.{Value}
+use Rattle.span.specs.PlainMap.{PlainMap, with_value, without}
 use Rattle.span.specs.declared.key.Key.{Key}
 use Rattle.shard.specs.declared.shard.Found.{Found}
 use Rattle.shard.specs.declared.shard.Found.TheVariants as found
@@ -52,3 +53,11 @@ free_answer key freed.NotHere = None
 abbrev pub is_done : Option (Key × Bool × ℕ) → Bool
 is_done None = false
 is_done (Some answer) = answer.1
+
+-- the plain map after a set of the key to the object that was answered so
+abbrev pub map_after_set : PlainMap → Key → Value → Option (Key × Bool × ℕ) → PlainMap
+map_after_set map key words set = if is_done set then with_value map key words else map
+
+-- the plain map after a free of the key that was answered so
+abbrev pub map_after_free : PlainMap → Key → Option (Key × Bool × ℕ) → PlainMap
+map_after_free map key freed = if is_done freed then without map key else map

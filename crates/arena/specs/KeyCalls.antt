@@ -1,5 +1,5 @@
 -- What calls on a key do in the shard or the pool that is lent to them, and whose answer theirs is.
-use Rattle.std.specs.Prelude.{◌≡◌, ◌⊎◌, ℕ, Bool, true, false, List, Option, Some, None, Result, Ok, Err, MatchOption, option_map}
+use Rattle.std.specs.Prelude.{◌≡◌, ◌⊎◌, ℕ, Bool, true, false, IfSome, List, Option, Some, None, Result, Ok, Err, MatchOption, option_map}
 use Rattle.std.specs.declared.alloc.AllocError.{AllocError}
 use Rattle.groups.specs.Group.{IsElsewhere}
 use Rattle.span.specs.Log.{Value}
@@ -28,6 +28,14 @@ IsAnswered in_shard in_pool nowhere room answer after =
     ((old : ShardState) × (new : ShardState) × in_shard old room (Some answer) new after)
     ⊎ (((old : PoolState) × (new : PoolState) × in_pool old room (Some answer) new after)
     ⊎ (nowhere answer × (after ≡ room)))
+
+-- the same of a call that is made in one place: it is answered so, if the span is there
+abbrev pub IsAnsweredIfThere : {W Answer : Type 0}
+    → (ShardState → List W → Option Answer → ShardState → List W → Type 0)
+    → (PoolState → List W → Option Answer → PoolState → List W → Type 0)
+    → (Answer → Type 0) → List W → Option Answer → List W → Type 0
+IsAnsweredIfThere in_shard in_pool nowhere room made after =
+    IfSome made (λ answer. IsAnswered in_shard in_pool nowhere room answer after)
 
 -- a look-up of the key answers how many words its value there has, and how many changes its span's
 -- log has, and writes these words into the room, if there is enough; or it answers none and does

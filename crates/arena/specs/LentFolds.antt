@@ -18,6 +18,12 @@ abbrev pub HasItAt : List (Option ShardState) → SpanId → ℕ → ShardState 
 HasItAt shards id number shard = (slice_get shards number ≡ Some (Some shard))
     × HasGroup id (Some shard)
 
+-- the step is one of the pool and of some shard; of which shard stays open
+abbrev pub StepsSomewhere : PoolState → SpanId → SpanId → Step → PoolState → Type 0
+StepsSomewhere pool abandoned owned step pool_new =
+    (before : ShardState) × (after : ShardState)
+    × Steps pool before abandoned owned step pool_new after
+
 -- the step is that of one shard which has the owned span, and all others stay; or no shard has it,
 -- the pair is absent, and all stays
 abbrev pub StepsLent : PoolState → List (Option ShardState) → SpanId → SpanId → Step → PoolState

@@ -2,7 +2,7 @@
 -- cites this module.
 use Rattle.std.specs.Prelude.{ℕ, ◌+◌, List, Option, None, Some, length, map, option_map, sum_by}
 use Rattle.groups.specs.Dead.{dead_guests, without_dead}
-use Rattle.pool.specs.Forgets.{gone_from}
+use Rattle.pool.specs.Forgets.{gone_from, left_in}
 use Rattle.pool.specs.State.{PoolState}
 use Rattle.shard.specs.State.{ShardState}
 
@@ -22,6 +22,10 @@ all_without_dead shards = map (option_map without_dead_guests) shards
 -- how many such guests the shards have
 abbrev pub dead_of_all : List (Option ShardState) → ℕ
 dead_of_all shards = sum_by dead_count shards
+
+-- the pool, with what is left of its groups
+abbrev pub pool_left : PoolState → PoolState
+pool_left pool = record pool { groups = left_in pool.groups }
 
 -- how many spans go from the pool and the shards
 abbrev pub gone_of_all : PoolState → List (Option ShardState) → ℕ

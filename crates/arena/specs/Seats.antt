@@ -1,13 +1,21 @@
 -- What contracts see of a seat, and of seats whose ends of rings belong together.
-use Rattle.std.specs.Prelude.{◌≡◌, ℕ, ◌<◌, ◌≤◌, All, List, [], ◌∷◌, ◌++◌, MatchResult, Option, Result, length, map, slice_index_or, slice_set}
+use Rattle.std.specs.Prelude.{◌≡◌, ℕ, ◌<◌, ◌≤◌, All, List, [], ◌∷◌, ◌++◌, MatchResult, None, Option, Result, Vec, length, map, slice_index_or, slice_set}
+use Rattle.std.specs.declared.alloc.Global.{Global}
 use Rattle.span.specs.declared.key.Key.{Key}
 use Rattle.marks.specs.Numbers.{Limits}
-use Rattle.remote_queue.specs.Rings.{AreTransposed, Ring, Sending, Taking, cell}
+use Rattle.remote_queue.specs.Rings.{AreFreshInboxes, AreFreshOutboxes, AreTransposed, Ring, Sending, Taking, cell, inbox_rings, outbox_rings}
 
 -- the rings of an arena: by worker those to each shard, and by shard those from each worker
 pub record Table : Type 0 where
   pub rows : List (List Ring)
   pub columns : List (List Ring)
+
+-- the rings of these ends, by worker and by shard
+abbrev pub table_of_ends : List (Vec Sending Global) → List (Vec Taking Global) → Table
+table_of_ends outboxes inboxes = record {
+  rows = outbox_rings outboxes;
+  columns = inbox_rings inboxes;
+}
 
 -- a table of as many workers and shards, in which the ring of a worker to a shard is that of the
 -- shard from the worker
@@ -29,6 +37,25 @@ pub record SeatState : Type 0 where
   pub delay : Option ℕ
   pub outboxes : List Sending
   pub inboxes : List Taking
+
+-- the seat of a worker in the first section, at which no key waits
+abbrev pub new_seat : ℕ → Limits → Table → List Sending → List Taking → SeatState
+new_seat worker limits table outboxes inboxes = record {
+  worker = worker;
+  section = 0;
+  limits = limits;
+  table = table;
+  delay = None;
+  outboxes = outboxes;
+  inboxes = inboxes;
+}
+
+-- the seat with these takers' ends, and these rings by shard
+abbrev pub with_inboxes : SeatState → List (List Ring) → List Taking → SeatState
+with_inboxes seat columns inboxes = record seat {
+  table = record { rows = seat.table.rows; columns = columns };
+  inboxes = inboxes;
+}
 
 -- who sits there, and in which section
 pub record Standing : Type 0 where
@@ -77,6 +104,15 @@ known_lists inboxes = map (λ inbox. inbox.known) inboxes
 abbrev pub free_places : List Sending → List ℕ
 free_places outboxes = map (λ outbox. outbox.free) outboxes
 
+-- how many places of the ring to the shard are known to be free
+abbrev pub free_places_to : List Sending → ℕ → ℕ
+free_places_to outboxes shard = slice_index_or (free_places outboxes) shard 0
+
+-- of each ring but the one to this shard at least as many places are known to be free as before
+abbrev pub KeepPlacesBut : ℕ → List Sending → List Sending → Type 0
+KeepPlacesBut this before after = (shard : ℕ) → (shard ≡ this → ⊥)
+    → free_places_to before shard ≤ free_places_to after shard
+
 -- of each ring at least as many places are known to be free as before
 abbrev pub AreNoFewer : List ℕ → List ℕ → Type 0
 AreNoFewer before after = (shard : ℕ) → slice_index_or before shard 0 ≤ slice_index_or after shard 0
@@ -105,6 +141,11 @@ pub record KeepsEnds (old new : SeatState) : Type 0 where
   pub outboxes_are : out_rings new ≡ out_rings old
   pub inboxes_are : in_rings new ≡ in_rings old
 
+-- the same ends in the same section, of which the takers' are as they were
+abbrev pub KeepsAllButSent : SeatState → SeatState → Type 0
+KeepsAllButSent old new = KeepsEnds old new × (new.section ≡ old.section)
+    × (new.inboxes ≡ old.inboxes)
+
 -- what a seat sends by: its worker, section, numbers and rings, and the keys sent by each
 pub record SendingSide : Type 0 where
   pub worker : ℕ
@@ -132,6 +173,11 @@ pub record AreLinked (seats : List SeatState) : Type 0 where
       × (length seat.inboxes ≡ length seats)) seats
   pub linked : (worker shard : ℕ) → cell (map out_rings seats) worker shard
       ≡ cell (map in_rings seats) shard worker
+
+-- no key was sent or taken by an end of the seats, and all places of their rings are free
+abbrev pub HaveFreshRings : ℕ → List SeatState → Type 0
+HaveFreshRings capacity seats = All (λ seat. AreFreshOutboxes capacity seat.outboxes
+    × AreFreshInboxes seat.inboxes) seats
 
 -- each seat stands at its worker's number
 abbrev pub AreInOrder : List SeatState → Type 0

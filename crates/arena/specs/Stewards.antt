@@ -15,6 +15,14 @@ pub record StewardState : Type 0 where
   pub limits : Limits
   pub plan : Option OpenPlan
 
+-- the steward of an arena of these numbers, with no plan
+abbrev pub new_steward : Limits → StewardState
+new_steward limits = record { limits = limits; plan = None }
+
+-- the steward, done with one pair more
+abbrev pub with_pair_done : StewardState → StewardState
+with_pair_done steward = record steward { plan = option_map with_next_done steward.plan }
+
 -- the steward with an open plan of these pairs, of which none is done with
 abbrev pub begun : StewardState → List (SpanId × SpanId) → StewardState
 begun steward pairs = record steward { plan = Some (record { pairs = pairs; done = 0 }) }

@@ -4,6 +4,7 @@ use mathlib.Core.List.{IsPrefix}
 use Rattle.span.specs.declared.key.Key.{Key}
 use Rattle.span.specs.declared.receipt.Receipt.{Receipt}
 use Rattle.remote_queue.specs.Rings.{Taking}
+use Rattle.arena.specs.Delays.{HandsOver}
 use Rattle.arena.specs.Receipts.{AddsFrees, joined}
 use Rattle.arena.specs.Seats.{SeatState, taken_lists}
 use Rattle.arena.specs.Settled.{taking_side}
@@ -46,3 +47,9 @@ pub record AreRingsTended (most worker section rings : ℕ) (before after : List
 abbrev pub IsTended : ℕ → SeatState → SeatState → List Receipt → List Receipt → ℕ → Type 0
 IsTended most before after = AreRingsTended most before.worker before.section
     (length before.inboxes) before.inboxes after.inboxes
+
+-- a seat takes no key: it hands over those that waited, and may know more of those on its rings;
+-- the receipts stay
+abbrev pub TendsNone : SeatState → SeatState → List Receipt → List Receipt → Type 0
+TendsNone old new before after = HandsOver old (record new { inboxes = old.inboxes })
+    × AreLookedAt old.inboxes new.inboxes × (after ≡ before)

@@ -1,6 +1,7 @@
 // An adoption, after which others find the spans that came.
 ghost use Rattle.std.specs.Prelude.{◌≡◌, ◌≢◌, ◌↔◌, ◌<◌, Err, IfOk, OnErr, OnOk, false, length, true};
 ghost use Rattle.pool.specs.Calls.{Adopts, HasNothingToAdopt, IsDoubled};
+ghost use Rattle.arena.specs.Adoptions.{MayTakeBut};
 ghost use Rattle.pool.specs.Shown.{shown, together};
 ghost use Rattle.pool.specs.Sound.{IsSound};
 ghost use Rattle.shard.specs.Shown.{shown as shown_by_shard};
@@ -37,14 +38,11 @@ impl<G: Gate, L: Log> Arena<G, L> {
         ensures ended { (result ≡ Err AdoptError.Ended)
             ↔ ((shard.old.page_limit ≢ length shard.old.groups) × (shard.old.ended ≡ true)) }
         ensures doubled { (result ≡ Err AdoptError.Doubled)
-            ↔ ((shard.old.page_limit ≢ length shard.old.groups) × (shard.old.ended ≡ false)
-            × IsDoubled pool.old shard.old) }
-        ensures plan_open { (result ≡ Err AdoptError.PlanOpen)
-            ↔ ((shard.old.page_limit ≢ length shard.old.groups) × (shard.old.ended ≡ false)
-            × (IsDoubled pool.old shard.old → ⊥) × (pool.old.has_plan ≡ true)) }
+            ↔ MayTakeBut shard.old (IsDoubled pool.old shard.old) }
+        ensures plan_open { (result ≡ Err AdoptError.PlanOpen) ↔ MayTakeBut shard.old
+            ((IsDoubled pool.old shard.old → ⊥) × (pool.old.has_plan ≡ true)) }
         ensures nothing { (result ≡ Err AdoptError.NothingToAdopt)
-            ↔ ((shard.old.page_limit ≢ length shard.old.groups) × (shard.old.ended ≡ false)
-            × (pool.old.has_plan ≡ false) × HasNothingToAdopt pool.old) }
+            ↔ MayTakeBut shard.old ((pool.old.has_plan ≡ false) × HasNothingToAdopt pool.old) }
         ensures err { OnErr result ((pool.new ≡ pool.old) × (shard.new ≡ shard.old)) }
         ensures sound { IsSound pool.new × IsSoundShard shard.new }
     {

@@ -1,6 +1,7 @@
 // Shards behind locks.
-ghost use Rattle.std.specs.Prelude.{◌≡◌, ◌≢◌, ◌≤◌, Err, IfOk, IsErr, IsOk, IsSome, None, Ok, OnErr, OnOk, Some, is_some, map, option_map, vec_len};
+ghost use Rattle.std.specs.Prelude.{◌≡◌, ◌≢◌, ◌≤◌, Err, IfOk, IsErr, IsOk, IsSome, None, Ok, OnErr, OnOk, Some, is_some, map, vec_len};
 ghost use Rattle.marks.specs.Plans.{next_pair};
+ghost use Rattle.arena.specs.Locked.{latches_of};
 ghost use Rattle.arena.specs.Seats.{IsTableOf};
 ghost use Rattle.arena.specs.Stewards.{KeepsMark, Steps};
 
@@ -315,8 +316,8 @@ impl<G: Gate, L: Log> Arena<G, L> {
 
     // The locks of all shards.
     pub(crate) fn lock_all<P: Patience>(&self, patience: &P) -> Result<LockedShards<'_, L>, P::Busy>
-        ensures lent { IfOk result (λ locked. map (option_map (λ shard. shard.guard.latch.now))
-            locked.items ≡ map Some self.now.shards.items) }
+        ensures lent { IfOk result (λ locked. latches_of locked.items
+            ≡ map Some self.now.shards.items) }
     {
         // For the prover: there are 64 shards at most.
         let _ = self.limits.shards();

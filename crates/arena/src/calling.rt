@@ -1,6 +1,6 @@
 // A call on a key, made under the lock of whoever has the key's span.
-ghost use Rattle.std.specs.Prelude.{◌≡◌, IfOk, IfSome, List, MatchOption, None, OnErr, Option};
-ghost use Rattle.arena.specs.KeyCalls.{IsAnswered};
+ghost use Rattle.std.specs.Prelude.{◌≡◌, IfOk, List, MatchOption, None, OnErr, Option};
+ghost use Rattle.arena.specs.KeyCalls.{IsAnswered, IsAnsweredIfThere};
 ghost use Rattle.groups.specs.Group.{IsElsewhere};
 ghost use Rattle.pool.specs.State.{PoolState};
 ghost use Rattle.shard.specs.State.{ShardState};
@@ -149,9 +149,8 @@ impl<G: Gate, L: Log> Arena<G, L> {
         call: &C,
         room: &mut [W],
     ) -> Result<Option<C::Answer>, Busy>
-        ensures answered { IfOk result (λ made. IfSome made (λ answer.
-            IsAnswered (C.in_shard_does call.now) (C.in_pool_does call.now)
-            (C.nowhere_is call.now) room.old answer room.new)) }
+        ensures answered { IfOk result (λ made. IsAnsweredIfThere (C.in_shard_does call.now)
+            (C.in_pool_does call.now) (C.nowhere_is call.now) room.old made room.new) }
         ensures does { IfOk result (λ answered. MatchOption answered (room.new ≡ room.old)
             (λ answer. C.does call.now room.old answer room.new)) }
         ensures busy { OnErr result (room.new ≡ room.old) }
@@ -176,9 +175,8 @@ impl<G: Gate, L: Log> Arena<G, L> {
         call: &C,
         room: &mut [W],
     ) -> Result<Option<C::Answer>, Busy>
-        ensures answered { IfOk result (λ made. IfSome made (λ answer.
-            IsAnswered (C.in_shard_does call.now) (C.in_pool_does call.now)
-            (C.nowhere_is call.now) room.old answer room.new)) }
+        ensures answered { IfOk result (λ made. IsAnsweredIfThere (C.in_shard_does call.now)
+            (C.in_pool_does call.now) (C.nowhere_is call.now) room.old made room.new) }
         ensures does { IfOk result (λ answered. MatchOption answered (room.new ≡ room.old)
             (λ answer. C.does call.now room.old answer room.new)) }
         ensures busy { OnErr result (room.new ≡ room.old) }

@@ -1,8 +1,8 @@
 // How many keys are left in each ring.
-ghost use Rattle.std.specs.Prelude.{◌≡◌, ◌<◌, ◌≤◌, ◌++◌, ℕ, [], All, IfOk, length, map, slice_get, slice_index_or, vec_capacity, vec_len};
+ghost use Rattle.std.specs.Prelude.{◌≡◌, ◌<◌, ◌≤◌, ℕ, [], All, IfOk, length, map, slice_get, slice_index_or, vec_capacity, vec_len};
 ghost use Rattle.remote_queue.specs.Rings.{cell};
-ghost use Rattle.arena.specs.Seats.{AreLinked, KeepPlaces, known_lists, out_rings, sending_side, sent_lists, taken_lists};
-ghost use Rattle.arena.specs.Settled.{AreCounted, AreSameSeats, known_by, taking_side};
+ghost use Rattle.arena.specs.Seats.{AreLinked, KeepPlaces, known_lists, out_rings, sending_side};
+ghost use Rattle.arena.specs.Settled.{AreCounted, AreSameSeats, KnowAllLeft, known_by, taking_side};
 ghost use Rattle.remote_queue.specs.declared.ends.TheConstants.{MOST_KNOWN_KEYS};
 ghost use Rattle.span.specs.declared.limits.TheConstants.{MOST_SHARDS};
 
@@ -29,10 +29,7 @@ fn count_rings(seats: &mut [Seat], shard: usize, inboxes: &mut Vec<Inbox>, count
     ensures inboxes { taking_side inboxes.new.items ≡ taking_side inboxes.old.items }
     ensures counted { counts.new.items ≡ map length (known_lists inboxes.new.items) }
     ensures few { All (λ count. count ≤ MOST_KNOWN_KEYS) counts.new.items }
-    ensures whole { (worker : ℕ) → worker < length seats.old
-        → slice_index_or (slice_index_or (map sent_lists seats.old) worker []) shard []
-        ≡ slice_index_or (taken_lists inboxes.old.items) worker []
-        ++ slice_index_or (known_lists inboxes.new.items) worker [] }
+    ensures whole { KnowAllLeft seats.old shard inboxes.old.items inboxes.new.items }
 {
     for from in 0..seats.len() {
         counts.push_reserved(seats[from].count_left(shard, &mut inboxes[from]));

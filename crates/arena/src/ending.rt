@@ -1,8 +1,8 @@
 // The end of an arena.
-ghost use Rattle.std.specs.Prelude.{◌≡◌, ◌<◌, ℕ, IfErr, IfOk, OnErr, OnOk, length, map, slice_index_or, vec_len};
+ghost use Rattle.std.specs.Prelude.{◌≡◌, IfErr, IfOk, OnErr, OnOk, length, map, vec_len};
 ghost use Rattle.span.specs.SpanLogs.{AreLegal};
 ghost use Rattle.arena.specs.Seats.{AreLinked, AreSeatsOf};
-ghost use Rattle.arena.specs.Settled.{AreSameSeats, IsSettled, greatest_section};
+ghost use Rattle.arena.specs.Settled.{AreSameSeats, AreSettled};
 
 use crate::arena::Arena;
 use crate::gate::Gate;
@@ -55,11 +55,8 @@ pub fn finish<G: Gate, K: Receipts>(
     // What a settled end hands out.
     ensures legal { IfOk result (λ finished. AreLegal finished.logs.items) }
     ensures counts { IfOk result (λ finished. vec_len finished.counts ≡ vec_len seats) }
-    ensures settled { IfOk result (λ finished. (shard : ℕ) (c d e : _) → shard < vec_len seats
-        → IsSettled seats.items shard (greatest_section seats.items)
-        (slice_index_or finished.counts.items shard c).items
-        (K.told (slice_index_or receipts.old shard d))
-        (K.told (slice_index_or receipts.new shard e))) }
+    ensures settled { IfOk result (λ finished. AreSettled K.told seats.items
+        finished.counts.items receipts.old receipts.new) }
     ensures rings { OnOk result (AreLinked seats.items) }
 
     // What a refusal hands back.
@@ -110,11 +107,8 @@ fn settled<G: Gate, K: Receipts>(
 
     // What a settled end hands out.
     ensures counts { IfOk result (λ ended. vec_len ended.1 ≡ length seats.old) }
-    ensures settled { IfOk result (λ ended. (shard : ℕ) (c d e : _) → shard < length seats.old
-        → IsSettled seats.old shard (greatest_section seats.old)
-        (slice_index_or ended.1.items shard c).items
-        (K.told (slice_index_or receipts.old shard d))
-        (K.told (slice_index_or receipts.new shard e))) }
+    ensures settled { IfOk result (λ ended. AreSettled K.told seats.old ended.1.items
+        receipts.old receipts.new) }
     ensures rings { OnOk result (AreLinked seats.old) }
 
     // What a refusal hands back.

@@ -1,10 +1,10 @@
 // Folds of pairs of a plan, each under the pool's lock and that of the shard which has the owned
 // group.
-ghost use Rattle.std.specs.Prelude.{◌≡◌, ◌↔◌, ◌<◌, ◌≤◌, All, IfOk, IfSome, IsTrue, MatchOption, None, OnErr, Some, length, map, option_map, slice_index_or};
+ghost use Rattle.std.specs.Prelude.{◌≡◌, ◌↔◌, ◌<◌, ◌≤◌, All, IfOk, IfSome, IsTrue, MatchOption, None, OnErr, Some, length, map, slice_index_or};
 ghost use Rattle.fold.specs.Folds.{MayFold, Steps};
 ghost use Rattle.shard.specs.State.{ShardState};
-ghost use Rattle.arena.specs.LentFolds.{MayFoldLent, StepsLent};
-ghost use Rattle.arena.specs.Locked.{HasGroup, latches_of, lent_by};
+ghost use Rattle.arena.specs.LentFolds.{MayFoldLent, StepsLent, StepsSomewhere};
+ghost use Rattle.arena.specs.Locked.{HasGroup, latches_of, lent_by, shard_lent};
 ghost use Rattle.span.specs.declared.limits.TheConstants.{MOST_SHARDS};
 
 use crate::arena::Arena;
@@ -47,9 +47,8 @@ impl<G: Gate, L: Log> Arena<G, L> {
         owned: SpanId,
     ) -> Result<Option<Folding>, P::Busy>
         requires { number < MOST_SHARDS }
-        ensures steps { IfOk result (λ made. MatchOption made (pool.new ≡ pool.old)
-            (λ folding. IfOk folding.step (λ step. (before : ShardState) × (after : ShardState)
-            × Steps pool.old before abandoned owned step pool.new after))) }
+        ensures steps { IfOk result (λ made. MatchOption made (pool.new ≡ pool.old) (λ folding.
+            IfOk folding.step (λ step. StepsSomewhere pool.old abandoned owned step pool.new))) }
         ensures may { IfOk result (λ made. IfSome made (λ folding. OnErr folding.step
             ((before : ShardState) × MayFold pool.old before abandoned owned))) }
         ensures err { IfOk result (λ made. IfSome made
@@ -138,8 +137,7 @@ pub(crate) fn number_with<L: Log>(
 
 // Whether there is a shard that has the span.
 fn has<L: Log>(shard: &Option<LockedShard<'_, L>>, owned: SpanId) -> bool
-    ensures { IsTrue result ↔ HasGroup owned (option_map (λ locked. locked.guard.value.value)
-        shard.now) }
+    ensures { IsTrue result ↔ HasGroup owned (shard_lent shard.now) }
 {
     match shard {
         Some(shard) => shard.shard().has(owned),

@@ -1,8 +1,7 @@
 // What an arena forgets under the locks of all.
 ghost use Rattle.std.specs.Prelude.{◌≡◌, Some, map};
-ghost use Rattle.pool.specs.Forgets.{left_in};
 ghost use Rattle.arena.specs.Amounts.{at_most_word};
-ghost use Rattle.arena.specs.LentForgets.{all_without_dead, gone_of_all};
+ghost use Rattle.arena.specs.LentForgets.{all_without_dead, gone_of_all, pool_left};
 ghost use Rattle.arena.specs.Locked.{latches_of, lent_by};
 
 use crate::arena::Arena;
@@ -29,9 +28,7 @@ impl Forgotten {
         requires pool { pool.old.latch.now ≡ arena.now.pool }
         requires lent { latches_of shards.old ≡ map Some arena.now.shards.items }
         ensures shards { lent_by shards.new ≡ all_without_dead (lent_by shards.old) }
-        ensures pooled { pool.new.value.value ≡ record pool.old.value.value {
-          groups = left_in pool.old.value.value.groups;
-        } }
+        ensures pooled { pool.new.value.value ≡ pool_left pool.old.value.value }
         ensures count { result.count
             ≡ at_most_word (gone_of_all pool.old.value.value (lent_by shards.old)) }
     {

@@ -4,7 +4,7 @@
 //! and how many changes stood in the span's log before it: with the caller's worker and section,
 //! that is what a receipt has, which an audit holds against the logs. No other module makes an
 //! answer, so an answer comes from a shard or the pool, or from a span that is nowhere.
-ghost use Rattle.std.specs.Prelude.{◌≡◌, ◌≤◌, ℕ, IfOk, IfSome, List, None, OnErr, false, if◌then◌else◌, is_some, length, option_map, take, true};
+ghost use Rattle.std.specs.Prelude.{◌≡◌, ◌≤◌, ℕ, IfOk, IfSome, List, None, OnErr, false, is_some, length, option_map, take, true};
 ghost use Rattle.span.specs.Classes.{IsObject};
 ghost use Rattle.span.specs.PlainMap as plain;
 ghost use Rattle.shard.specs.Calls.{FindsObject, Frees, Gets, Sets, value_found};
@@ -14,7 +14,7 @@ ghost use Rattle.pool.specs.Calls.{Frees as FreesPooled, Gets as GetsPooled, Set
 ghost use Rattle.pool.specs.Shown.{shown as shown_by_pool};
 ghost use Rattle.pool.specs.Sound.{IsSound as IsSoundPool};
 ghost use Rattle.arena.specs.Receipts.{IsFreeBy, free_receipt, get_receipt, put_receipt, set_receipt};
-ghost use Rattle.arena.specs.KeyAnswers.{LooksUp, WritesFound, changes_at, free_answer, is_done, set_answer};
+ghost use Rattle.arena.specs.KeyAnswers.{LooksUp, WritesFound, changes_at, free_answer, map_after_free, map_after_set, set_answer};
 
 use crate::hints::Announced;
 use crate::nowhere::Nowhere;
@@ -348,8 +348,8 @@ pub fn set_in<L: Log>(
     ensures key { IfOk result (λ set. IfSome set (λ outcome. outcome.0 ≡ key.now)) }
     ensures done { IfOk result (λ set. IfSome set (λ outcome. outcome.1
         ≡ plain.may_set (shown shard.old) key.now words.now)) }
-    ensures plain { IfOk result (λ set. shown shard.new ≡ (if is_done set
-        then plain.with_value (shown shard.old) key.now words.now else shown shard.old)) }
+    ensures plain { IfOk result (λ set. shown shard.new
+        ≡ map_after_set (shown shard.old) key.now words.now set) }
     ensures sound { IsSound shard.new }
     ensures refused { OnErr result (plain.may_set (shown shard.old) key.now words.now ≡ true) }
     ensures err { OnErr result (shard.new ≡ shard.old) }
@@ -375,9 +375,8 @@ pub fn set_pool<L: Log>(
     ensures key { IfOk result (λ set. IfSome set (λ outcome. outcome.0 ≡ key.now)) }
     ensures done { IfOk result (λ set. IfSome set (λ outcome. outcome.1
         ≡ plain.may_set (shown_by_pool pool.old) key.now words.now)) }
-    ensures plain { IfOk result (λ set. shown_by_pool pool.new ≡ (if is_done set
-        then plain.with_value (shown_by_pool pool.old) key.now words.now
-        else shown_by_pool pool.old)) }
+    ensures plain { IfOk result (λ set. shown_by_pool pool.new
+        ≡ map_after_set (shown_by_pool pool.old) key.now words.now set) }
     ensures sound { IsSoundPool pool.new }
     ensures refused { OnErr result (plain.may_set (shown_by_pool pool.old) key.now words.now
         ≡ true) }
@@ -396,8 +395,7 @@ pub fn free_in<L: Log>(shard: &mut Shard<L>, key: &Key) -> Option<Outcome>
     ensures key { IfSome result (λ outcome. outcome.0 ≡ key.now) }
     ensures done { IfSome result (λ outcome. outcome.1
         ≡ is_some ((shown shard.old).value_of key.now)) }
-    ensures plain { shown shard.new ≡ (if is_done result then plain.without
-        (shown shard.old) key.now else shown shard.old) }
+    ensures plain { shown shard.new ≡ map_after_free (shown shard.old) key.now result }
     ensures sound { IsSound shard.new }
 {
     outcome_of_free(key, shard.free(key))
@@ -411,8 +409,8 @@ pub fn free_pool<L: Log>(pool: &mut Pool<L>, key: &Key) -> Option<Outcome>
     ensures key { IfSome result (λ outcome. outcome.0 ≡ key.now) }
     ensures done { IfSome result (λ outcome. outcome.1
         ≡ is_some ((shown_by_pool pool.old).value_of key.now)) }
-    ensures plain { shown_by_pool pool.new ≡ (if is_done result then plain.without
-        (shown_by_pool pool.old) key.now else shown_by_pool pool.old) }
+    ensures plain { shown_by_pool pool.new
+        ≡ map_after_free (shown_by_pool pool.old) key.now result }
     ensures sound { IsSoundPool pool.new }
 {
     outcome_of_free(key, pool.free(key))

@@ -5,7 +5,7 @@ ghost use Rattle.std.specs.Prelude.{◌≡◌, ◌≤◌, IfOk, Some, length, ma
 ghost use Rattle.marks.specs.Closings.{reopened};
 ghost use Rattle.arena.specs.Amounts.{at_most_word};
 ghost use Rattle.arena.specs.LentForgets.{all_without_dead, dead_count, dead_of_all, without_dead_guests};
-ghost use Rattle.arena.specs.Locked.{lent_by};
+ghost use Rattle.arena.specs.Locked.{latches_of, lent_by, shard_lent};
 ghost use Rattle.span.specs.declared.limits.TheConstants.{MOST_SHARDS};
 
 use crate::patience::Patience;
@@ -59,8 +59,7 @@ pub(crate) fn lock_all<'a, L: Log, P: Patience>(
     shards: &'a [Latch<Shard<L>>],
 ) -> Result<LockedShards<'a, L>, P::Busy>
     requires few { length shards.now ≤ MOST_SHARDS }
-    ensures lent { IfOk result (λ locked.
-        map (option_map (λ shard. shard.guard.latch.now)) locked.items ≡ map Some shards.now) }
+    ensures lent { IfOk result (λ locked. latches_of locked.items ≡ map Some shards.now) }
 {
     let mut locked = ArrayVec::new();
     for shard in shards {
@@ -71,9 +70,7 @@ pub(crate) fn lock_all<'a, L: Log, P: Patience>(
 
 /// Opens all groups of the shards.
 pub(crate) fn reopen_all<L: Log>(shards: &mut [Option<LockedShard<'_, L>>])
-    ensures { map (option_map (λ shard. shard.guard.value.value)) shards.new
-        ≡ map (option_map reopened) (map (option_map (λ shard. shard.guard.value.value))
-        shards.old) }
+    ensures { lent_by shards.new ≡ map (option_map reopened) (lent_by shards.old) }
 {
     for shard in shards.iter_mut() {
         reopen_one(shard);
@@ -82,8 +79,7 @@ pub(crate) fn reopen_all<L: Log>(shards: &mut [Option<LockedShard<'_, L>>])
 
 // Opens all groups of the shard, if there is one.
 fn reopen_one<L: Log>(shard: &mut Option<LockedShard<'_, L>>)
-    ensures { option_map (λ shard. shard.guard.value.value) shard.new
-        ≡ option_map reopened (option_map (λ shard. shard.guard.value.value) shard.old) }
+    ensures { shard_lent shard.new ≡ option_map reopened (shard_lent shard.old) }
 {
     if let Some(shard) = shard {
         let guard = &mut shard.guard;
@@ -105,11 +101,9 @@ pub(crate) fn forget_all(shards: &mut [Option<LockedShard<'_, Counted>>]) -> usi
 
 // The same of the shard, if there is one.
 fn forget_one(shard: &mut Option<LockedShard<'_, Counted>>) -> usize
-    ensures shard { option_map (λ locked. locked.guard.value.value) shard.new
-        ≡ option_map without_dead_guests
-        (option_map (λ locked. locked.guard.value.value) shard.old) }
-    ensures count { result
-        ≡ dead_count (option_map (λ locked. locked.guard.value.value) shard.old) }
+    ensures shard { shard_lent shard.new
+        ≡ option_map without_dead_guests (shard_lent shard.old) }
+    ensures count { result ≡ dead_count (shard_lent shard.old) }
 {
     match shard {
         Some(shard) => {

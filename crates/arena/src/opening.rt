@@ -1,9 +1,10 @@
 // A new arena, with its seats and its steward.
-ghost use Rattle.std.specs.Prelude.{◌≡◌, ◌<◌, ◌↔◌, All, IfOk, IsErrOf, None, map, vec_len};
+ghost use Rattle.std.specs.Prelude.{◌≡◌, ◌<◌, ◌↔◌, IfOk, IsErrOf, map, vec_len};
 ghost use Rattle.std.specs.List.{range_with_len};
 ghost use Rattle.marks.specs.Numbers.{AreWithin, limits_of};
-ghost use Rattle.remote_queue.specs.Rings.{AreFreshInboxes, AreFreshOutboxes, AreNewLinks, inbox_rings, outbox_rings};
-ghost use Rattle.arena.specs.Seats.{AreLinked, AreSeatsOf, IsTableOf, first_standing, standing};
+ghost use Rattle.remote_queue.specs.Rings.{AreNewLinks};
+ghost use Rattle.arena.specs.Seats.{AreLinked, AreSeatsOf, HaveFreshRings, IsTableOf, first_standing, standing, table_of_ends};
+ghost use Rattle.arena.specs.Stewards.{new_steward};
 
 use crate::arena::Arena;
 use crate::error::OpenError;
@@ -51,13 +52,8 @@ impl<G: Gate> Arena<G, Kept> {
         ensures seats { IfOk result (λ opened. AreSeatsOf opened.0.limits opened.0.table
             opened.1.items) }
         ensures linked { IfOk result (λ opened. AreLinked opened.1.items) }
-        ensures fresh { IfOk result (λ opened. All (λ seat.
-            AreFreshOutboxes ring_capacity seat.outboxes × AreFreshInboxes seat.inboxes)
-            opened.1.items) }
-        ensures steward { IfOk result (λ opened. opened.2 ≡ record {
-          limits = opened.0.limits;
-          plan = None;
-        }) }
+        ensures fresh { IfOk result (λ opened. HaveFreshRings ring_capacity opened.1.items) }
+        ensures steward { IfOk result (λ opened. opened.2 ≡ new_steward opened.0.limits) }
     {
         Arena::open_with_log(alloc, shards, page_limit, ring_capacity, gens, gate)
     }
@@ -85,13 +81,8 @@ impl<G: Gate, L: Log> Arena<G, L> {
         ensures seats { IfOk result (λ opened. AreSeatsOf opened.0.limits opened.0.table
             opened.1.items) }
         ensures linked { IfOk result (λ opened. AreLinked opened.1.items) }
-        ensures fresh { IfOk result (λ opened. All (λ seat.
-            AreFreshOutboxes ring_capacity seat.outboxes × AreFreshInboxes seat.inboxes)
-            opened.1.items) }
-        ensures steward { IfOk result (λ opened. opened.2 ≡ record {
-          limits = opened.0.limits;
-          plan = None;
-        }) }
+        ensures fresh { IfOk result (λ opened. HaveFreshRings ring_capacity opened.1.items) }
+        ensures steward { IfOk result (λ opened. opened.2 ≡ new_steward opened.0.limits) }
     {
         let Some(limits) = Limits::new(shards, page_limit, ring_capacity, gens) else {
             return Err(OpenError::Config);
@@ -116,13 +107,9 @@ impl<G: Gate, L: Log> Arena<G, L> {
         ensures seats { IfOk result (λ opened. AreSeatsOf opened.0.limits opened.0.table
             opened.1.items) }
         ensures linked { IfOk result (λ opened. AreLinked opened.1.items) }
-        ensures fresh { IfOk result (λ opened. All (λ seat.
-            AreFreshOutboxes limits.ring_capacity seat.outboxes × AreFreshInboxes seat.inboxes)
-            opened.1.items) }
-        ensures steward { IfOk result (λ opened. opened.2 ≡ record {
-          limits = opened.0.limits;
-          plan = None;
-        }) }
+        ensures fresh { IfOk result (λ opened.
+            HaveFreshRings limits.ring_capacity opened.1.items) }
+        ensures steward { IfOk result (λ opened. opened.2 ≡ new_steward opened.0.limits) }
     {
         let links = links_of(alloc, limits)?;
         let table = RingTable::of(&links);
@@ -156,19 +143,14 @@ fn seats_of(
     // The rings are new, and those of the table.
     requires links { AreNewLinks limits.shards limits.shards limits.ring_capacity
         links.outboxes.items links.inboxes.items }
-    requires table { table.now ≡ record {
-      rows = outbox_rings links.outboxes.items;
-      columns = inbox_rings links.inboxes.items;
-    } }
+    requires table { table.now ≡ table_of_ends links.outboxes.items links.inboxes.items }
 
     // Each seat has its place and its rings.
     ensures standing { IfOk result (λ seats. map standing seats.items
         ≡ map (first_standing limits) (range_with_len 0 limits.shards)) }
     ensures seats { IfOk result (λ seats. AreSeatsOf limits table.now seats.items) }
     ensures linked { IfOk result (λ seats. AreLinked seats.items) }
-    ensures fresh { IfOk result (λ seats. All (λ seat.
-        AreFreshOutboxes limits.ring_capacity seat.outboxes × AreFreshInboxes seat.inboxes)
-        seats.items) }
+    ensures fresh { IfOk result (λ seats. HaveFreshRings limits.ring_capacity seats.items) }
 {
     let Links {
         outboxes: mut rows,

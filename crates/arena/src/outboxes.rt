@@ -1,8 +1,8 @@
 // A worker's ends of its rings: how keys that wait for their block to be full are handed over in
 // time.
-ghost use Rattle.std.specs.Prelude.{◌≡◌, ℕ, ◌+◌, ◌<◌, ◌≤◌, ◌++◌, IfSome, IsOk, IsSome, None, OnErr, OnOk, Some, [], length, map, slice_get, slice_index_or};
+ghost use Rattle.std.specs.Prelude.{◌≡◌, ◌+◌, ◌<◌, ◌≤◌, ◌++◌, IfSome, IsOk, IsSome, None, OnErr, OnOk, Some, [], length, map, slice_get, slice_index_or};
 ghost use Rattle.arena.specs.Delays.{IsDelayOf, KeepSent, NoneWaits, delay_after, delay_begun};
-ghost use Rattle.arena.specs.Seats.{Sends, free_places, sent_by};
+ghost use Rattle.arena.specs.Seats.{KeepPlacesBut, Sends, free_places_to, sent_by};
 ghost use Rattle.remote_queue.specs.declared.ends.TheConstants.{MOST_KNOWN_KEYS};
 ghost use Rattle.arena.specs.declared.outboxes.TheConstants.{MOST_DELAY};
 
@@ -63,13 +63,10 @@ impl Outboxes {
         ensures rings { map (λ outbox. outbox.ring) self.new.ends
             ≡ map (λ outbox. outbox.ring) self.old.ends }
         ensures sent { Sends key (sent_by self.old.ends) result (sent_by self.new.ends) }
-        ensures succeeds { 0 < slice_index_or (free_places self.old.ends) key.span.shard 0
-            → IsOk result }
-        ensures place { OnOk result (slice_index_or (free_places self.old.ends) key.span.shard 0
-            ≤ slice_index_or (free_places self.new.ends) key.span.shard 0 + 1) }
-        ensures places { (shard : ℕ) → (shard ≡ key.span.shard → ⊥)
-            → slice_index_or (free_places self.old.ends) shard 0
-            ≤ slice_index_or (free_places self.new.ends) shard 0 }
+        ensures succeeds { 0 < free_places_to self.old.ends key.span.shard → IsOk result }
+        ensures place { OnOk result (free_places_to self.old.ends key.span.shard
+            ≤ free_places_to self.new.ends key.span.shard + 1) }
+        ensures places { KeepPlacesBut key.span.shard self.old.ends self.new.ends }
         ensures begun { OnOk result (self.new.delay ≡ delay_begun self.old.delay) }
         ensures refused { OnErr result (self.new.delay ≡ None) }
         ensures none { self.new.delay ≡ None → NoneWaits self.new.ends }
@@ -138,13 +135,10 @@ fn send(ends: &mut Vec<Outbox>, key: Key) -> Result<(), Key>
     ensures rings { map (λ outbox. outbox.ring) ends.new.items
         ≡ map (λ outbox. outbox.ring) ends.old.items }
     ensures sent { Sends key (sent_by ends.old.items) result (sent_by ends.new.items) }
-    ensures succeeds { 0 < slice_index_or (free_places ends.old.items) key.span.shard 0
-        → IsOk result }
-    ensures place { OnOk result (slice_index_or (free_places ends.old.items) key.span.shard 0
-        ≤ slice_index_or (free_places ends.new.items) key.span.shard 0 + 1) }
-    ensures places { (shard : ℕ) → (shard ≡ key.span.shard → ⊥)
-        → slice_index_or (free_places ends.old.items) shard 0
-        ≤ slice_index_or (free_places ends.new.items) shard 0 }
+    ensures succeeds { 0 < free_places_to ends.old.items key.span.shard → IsOk result }
+    ensures place { OnOk result (free_places_to ends.old.items key.span.shard
+        ≤ free_places_to ends.new.items key.span.shard + 1) }
+    ensures places { KeepPlacesBut key.span.shard ends.old.items ends.new.items }
 {
     ends[key.span.shard as usize].send(key)
 }

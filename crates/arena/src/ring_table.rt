@@ -1,6 +1,7 @@
 // Which rings the seats of an arena send and take by, as contracts see it.
 ghost use Rattle.std.specs.Prelude.{◌≡◌};
-ghost use Rattle.remote_queue.specs.Rings.{inbox_rings, outbox_rings};
+ghost use Rattle.remote_queue.specs.Rings.{inbox_rings};
+ghost use Rattle.arena.specs.Seats.{table_of_ends};
 
 use remote_queue::{Inbox, Links, Outbox};
 use span::ghost_list::GhostList;
@@ -18,24 +19,17 @@ pub struct RingTable {
 }
 
 impl Model for RingTable {
-    ghost use Rattle.remote_queue.specs.Rings.{inbox_rings, outbox_rings};
-    ghost use Rattle.arena.specs.Seats.{Table};
+    ghost use Rattle.arena.specs.Seats.{Table, table_of_ends};
 
     ghost Value = { Table };
 
-    ghost view = { λ table. record {
-      rows = outbox_rings table.rows.items;
-      columns = inbox_rings table.columns.items;
-    } };
+    ghost view = { λ table. table_of_ends table.rows.items table.columns.items };
 }
 
 impl RingTable {
     // The rings of these ends.
     pub(crate) fn of(links: &Links) -> RingTable
-        ensures { result ≡ record {
-          rows = outbox_rings links.now.outboxes.items;
-          columns = inbox_rings links.now.inboxes.items;
-        } }
+        ensures { result ≡ table_of_ends links.now.outboxes.items links.now.inboxes.items }
     {
         RingTable {
             rows: GhostList::listed(&links.outboxes),

@@ -1,11 +1,11 @@
 // A worker's place at the arena.
-ghost use Rattle.std.specs.Prelude.{◌≡◌, ℕ, ◌+◌, ◌-◌, ◌<◌, ◌≤◌, ◌^◌, ◌↔◌, ◌++◌, [], IfOk, IfSome, IsOk, IsTrue, None, OnErr, OnOk, Some, length, map, slice_get, slice_index_or, sum, vec_len};
+ghost use Rattle.std.specs.Prelude.{◌≡◌, ◌+◌, ◌-◌, ◌<◌, ◌≤◌, ◌^◌, ◌↔◌, ◌++◌, [], IfOk, IfSome, IsOk, IsTrue, None, OnErr, OnOk, Some, length, map, slice_get, slice_index_or, sum, vec_len};
 ghost use Rattle.arena.specs.Delays.{CountsCall, HandsOver, HasNoneWaiting, NoneWaits, delay_begun};
 ghost use Rattle.arena.specs.KeyCalls.{IsFreed, IsLookedUp, IsSet};
 ghost use Rattle.arena.specs.Receipts.{AddsFrees, free_receipt, get_receipt, joined, put_receipt, set_receipt};
-ghost use Rattle.arena.specs.Seats.{AreNoFewer, HasItsRings, KeepsEnds, Sends, free_places, in_rings, known_lists, sending_side, sent_lists, taken_lists};
+ghost use Rattle.arena.specs.Seats.{AreNoFewer, HasItsRings, KeepPlacesBut, KeepsAllButSent, KeepsEnds, Sends, free_places, free_places_to, in_rings, known_lists, new_seat, sending_side, sent_lists, taken_lists, with_inboxes};
 ghost use Rattle.arena.specs.Settled.{taken_with_known};
-ghost use Rattle.arena.specs.Tended.{AreLookedAt, IsTended};
+ghost use Rattle.arena.specs.Tended.{IsTended, TendsNone};
 ghost use Rattle.arena.specs.KeyAnswers.{LooksUp};
 ghost use Rattle.span.specs.Classes.{width_of};
 ghost use Rattle.remote_queue.specs.Rings.{inbox_rings};
@@ -109,15 +109,7 @@ impl Seat {
         requires column { map (λ inbox. inbox.ring) inboxes.items
             ≡ slice_index_or table.columns worker [] }
         ensures rings { HasItsRings result }
-        ensures seat { result ≡ record {
-          worker = worker;
-          section = 0;
-          limits = limits;
-          table = table;
-          delay = None;
-          outboxes = outboxes.items;
-          inboxes = inboxes.items;
-        } }
+        ensures seat { result ≡ new_seat worker limits table outboxes.items inboxes.items }
     {
         Seat {
             worker,
@@ -285,19 +277,14 @@ impl Seat {
     pub fn free_later(&mut self, key: Key) -> Result<(), Key>
         requires { key.span.shard < self.old.limits.shards }
         ensures sent { Sends key (sent_lists self.old) result (sent_lists self.new) }
-        ensures succeeds { 0 < slice_index_or (free_places self.old.outboxes) key.span.shard 0
-            → IsOk result }
-        ensures place { OnOk result (slice_index_or (free_places self.old.outboxes)
-            key.span.shard 0
-            ≤ slice_index_or (free_places self.new.outboxes) key.span.shard 0 + 1) }
-        ensures places { (shard : ℕ) → (shard ≡ key.span.shard → ⊥)
-            → slice_index_or (free_places self.old.outboxes) shard 0
-            ≤ slice_index_or (free_places self.new.outboxes) shard 0 }
+        ensures succeeds { 0 < free_places_to self.old.outboxes key.span.shard → IsOk result }
+        ensures place { OnOk result (free_places_to self.old.outboxes key.span.shard
+            ≤ free_places_to self.new.outboxes key.span.shard + 1) }
+        ensures places { KeepPlacesBut key.span.shard self.old.outboxes self.new.outboxes }
         ensures waits { OnOk result (self.new.delay ≡ delay_begun self.old.delay) }
         ensures none { self.new.delay ≡ None → NoneWaits self.new.outboxes }
         ensures refused { OnErr result (HasNoneWaiting self.new) }
-        ensures seat { KeepsEnds self.old self.new × (self.new.section ≡ self.old.section)
-            × (self.new.inboxes ≡ self.old.inboxes) }
+        ensures seat { KeepsAllButSent self.old self.new }
     {
         self.outboxes.leave(key)
     }
@@ -334,10 +321,8 @@ impl Seat {
             × (sending_side self.new ≡ sending_side self.old) }
         ensures places { AreNoFewer (free_places self.old.outboxes)
             (free_places self.new.outboxes) }
-        ensures err { OnErr result (HandsOver self.old
-            (record self.new { inboxes = self.old.inboxes })
-            × AreLookedAt self.old.inboxes self.new.inboxes
-            × (K.told receipts.new ≡ K.told receipts.old)) }
+        ensures err { OnErr result (TendsNone self.old self.new (K.told receipts.old)
+            (K.told receipts.new)) }
     {
         self.hand_over();
         let most = self.limits.ring_capacity();
@@ -680,10 +665,8 @@ impl Seat {
         requires few { vec_len inboxes.old ≤ MOST_SHARDS }
         requires column { map (λ inbox. inbox.ring) inboxes.old.items
             ≡ slice_index_or (inbox_rings columns.old.items) self.old.worker [] }
-        ensures seat { self.new ≡ record self.old {
-          table = record { rows = self.old.table.rows; columns = inbox_rings columns.old.items };
-          inboxes = inboxes.old.items;
-        } }
+        ensures seat { self.new
+            ≡ with_inboxes self.old (inbox_rings columns.old.items) inboxes.old.items }
         ensures inboxes { inboxes.new.items ≡ self.old.inboxes }
         ensures columns { inbox_rings columns.new.items ≡ self.old.table.columns }
         ensures column { map (λ inbox. inbox.ring) inboxes.new.items

@@ -1,19 +1,15 @@
 // A worker's shard that its seat keeps out of its lock over many calls.
 ghost use Rattle.std.specs.Arc.{arc_value};
-ghost use Rattle.std.specs.Prelude.{◌≡◌, ◌<◌, ◌↔◌, Err, IfOk, IsOk, MatchResult, OnErr, OnOk, Some, false, length, slice_get, slice_index_or, true};
+ghost use Rattle.std.specs.Prelude.{◌≡◌, ◌<◌, ◌↔◌, Err, IfOk, IsOk, MatchResult, OnErr, OnOk, Some, length, slice_get, true};
 ghost use Rattle.groups.specs.Group.{IsElsewhere};
-ghost use Rattle.shard.specs.Calls.{Frees, Gets, IsSpent, Puts, Sets};
+ghost use Rattle.shard.specs.Calls.{Puts};
 ghost use Rattle.shard.specs.Shown.{shown};
 ghost use Rattle.shard.specs.declared.error.PutError.TheVariants as put_error;
-ghost use Rattle.shard.specs.declared.shard.Found.{Found};
-ghost use Rattle.shard.specs.declared.shard.Freed.{Freed};
-ghost use Rattle.shard.specs.declared.shard.replacing.Replaced.{Replaced};
 ghost use Rattle.span.specs.Classes.{width_of};
 ghost use Rattle.span.specs.PlainMap as plain;
 ghost use Rattle.arena.specs.Delays.{CountsCall, HandsOver, HasNoneWaiting, delay_begun};
-ghost use Rattle.arena.specs.Seats.{KeepsEnds, Sends, free_places, sent_lists};
-ghost use Rattle.arena.specs.Sessions.{LooksUpOwn, TellsOwn};
-ghost use Rattle.arena.specs.KeyAnswers.{changes_at, free_answer, set_answer};
+ghost use Rattle.arena.specs.Seats.{KeepsAllButSent, Sends, free_places_to, sent_lists};
+ghost use Rattle.arena.specs.Sessions.{FreesFirstIn, IsSpentRunning, LooksUpFirstIn, MaySetHere, SetsFirstIn};
 
 use crate::arena::Arena;
 use crate::gate::Gate;
@@ -61,8 +57,7 @@ impl<G: Gate, L: Log> Session<G, L> {
         seat: Seat,
     ) -> Result<Session<G, L>, (Arc<Arena<G, L>, Global>, Seat)>
         requires { seat.limits ≡ (arc_value arena).limits }
-        ensures { MatchResult result
-            (λ session. (session.arena ≡ arena) × (session.seat ≡ seat))
+        ensures { MatchResult result (λ session. (session.arena ≡ arena) × (session.seat ≡ seat))
             (λ back. (back.0 ≡ arena) × (back.1 ≡ seat)) }
     {
         let worker = seat.worker();
@@ -105,8 +100,7 @@ impl<G: Gate, L: Log> Session<G, L> {
         ensures ended { (result ≡ Err put_error.Ended)
             ↔ (self.old.shard.value.value.ended ≡ true) }
         ensures spent { (result ≡ Err put_error.PagesSpent)
-            ↔ ((self.old.shard.value.value.ended ≡ false)
-            × IsSpent class self.old.shard.value.value) }
+            ↔ IsSpentRunning class self.old.shard.value.value }
         ensures err { OnErr result (self.new.shard.value.value ≡ self.old.shard.value.value) }
         ensures seat { CountsCall self.old.seat self.new.seat }
         ensures arena { self.new.arena ≡ self.old.arena }
@@ -126,10 +120,8 @@ impl<G: Gate, L: Log> Session<G, L> {
     #[inline(always)]
     pub fn try_get<W: Word>(&mut self, key: &Key, room: &mut [W]) -> Result<Looked, Busy>
         ensures key { IfOk result (λ got. got.0 ≡ key.now) }
-        ensures told { (what : Found) × Gets self.old.shard.value.value key.now what
-            × LooksUpOwn W.word (changes_at what) ((shown self.old.shard.value.value).value_of
-            key.now)
-            room.old result room.new }
+        ensures told { LooksUpFirstIn W.word self.old.shard.value.value key.now room.old result
+            room.new }
         ensures shard { self.new.shard ≡ self.old.shard }
         ensures seat { OnOk result (CountsCall self.old.seat self.new.seat) }
         ensures busy { OnErr result (self.new.seat ≡ self.old.seat) }
@@ -155,12 +147,10 @@ impl<G: Gate, L: Log> Session<G, L> {
         words: &[u128],
     ) -> Result<Result<Outcome, AllocError>, Busy>
         ensures key { IfOk result (λ made. IfOk made (λ set. set.0 ≡ key.now)) }
-        ensures told { IfOk result (λ set. IfOk set (λ told. (what : Replaced)
-            × Sets self.old.shard.value.value key.now words.now what self.new.shard.value.value
-            × TellsOwn (set_answer key.now what) told)) }
+        ensures told { IfOk result (λ set. IfOk set (λ told. SetsFirstIn
+            self.old.shard.value.value key.now words.now told self.new.shard.value.value)) }
         ensures refused { IfOk result (λ set. OnErr set
-            ((IsElsewhere self.old.shard.value.value.groups key.now.span → ⊥)
-            → plain.may_set (shown self.old.shard.value.value) key.now words.now ≡ true)) }
+            (MaySetHere self.old.shard.value.value key.now words.now)) }
         ensures err { IfOk result (λ set. OnErr set
             (self.new.shard.value.value ≡ self.old.shard.value.value)) }
         ensures seat { OnOk result (CountsCall self.old.seat self.new.seat) }
@@ -185,9 +175,8 @@ impl<G: Gate, L: Log> Session<G, L> {
     #[inline(always)]
     pub fn try_free(&mut self, key: &Key) -> Result<Outcome, Busy>
         ensures key { IfOk result (λ freed. freed.0 ≡ key.now) }
-        ensures told { IfOk result (λ told. (what : Freed)
-            × Frees self.old.shard.value.value key.now what self.new.shard.value.value
-            × TellsOwn (free_answer key.now what) told) }
+        ensures told { IfOk result (λ told. FreesFirstIn self.old.shard.value.value key.now told
+            self.new.shard.value.value) }
         ensures seat { OnOk result (CountsCall self.old.seat self.new.seat) }
         ensures elsewhere { OnErr result
             (IsElsewhere self.old.shard.value.value.groups key.now.span) }
@@ -210,13 +199,10 @@ impl<G: Gate, L: Log> Session<G, L> {
     pub fn free_later(&mut self, key: Key) -> Result<(), Key>
         requires { key.span.shard < self.old.seat.limits.shards }
         ensures sent { Sends key (sent_lists self.old.seat) result (sent_lists self.new.seat) }
-        ensures succeeds { 0 < slice_index_or (free_places self.old.seat.outboxes) key.span.shard 0
-            → IsOk result }
+        ensures succeeds { 0 < free_places_to self.old.seat.outboxes key.span.shard → IsOk result }
         ensures waits { OnOk result (self.new.seat.delay ≡ delay_begun self.old.seat.delay) }
         ensures refused { OnErr result (HasNoneWaiting self.new.seat) }
-        ensures seat { KeepsEnds self.old.seat self.new.seat
-            × (self.new.seat.section ≡ self.old.seat.section)
-            × (self.new.seat.inboxes ≡ self.old.seat.inboxes) }
+        ensures seat { KeepsAllButSent self.old.seat self.new.seat }
         ensures shard { self.new.shard ≡ self.old.shard }
         ensures arena { self.new.arena ≡ self.old.arena }
     {
@@ -252,9 +238,7 @@ fn look_up<G: Gate, L: Log, W: Word>(
     room: &mut [W],
 ) -> Result<Looked, Busy>
     ensures key { IfOk result (λ got. got.0 ≡ key.now) }
-    ensures told { (what : Found) × Gets shard.now key.now what
-        × LooksUpOwn W.word (changes_at what) ((shown shard.now).value_of key.now)
-        room.old result room.new }
+    ensures told { LooksUpFirstIn W.word shard.now key.now room.old result room.new }
 {
     match get_in(shard, key, room) {
         Some(got) => Ok(got),
@@ -272,11 +256,9 @@ fn set<G: Gate, L: Log>(
     words: &[u128],
 ) -> Result<Result<Outcome, AllocError>, Busy>
     ensures key { IfOk result (λ made. IfOk made (λ set. set.0 ≡ key.now)) }
-    ensures told { IfOk result (λ set. IfOk set (λ told. (what : Replaced)
-        × Sets shard.old key.now words.now what shard.new
-        × TellsOwn (set_answer key.now what) told)) }
-    ensures refused { IfOk result (λ set. OnErr set ((IsElsewhere shard.old.groups key.now.span → ⊥)
-        → plain.may_set (shown shard.old) key.now words.now ≡ true)) }
+    ensures told { IfOk result (λ set. IfOk set
+        (λ told. SetsFirstIn shard.old key.now words.now told shard.new)) }
+    ensures refused { IfOk result (λ set. OnErr set (MaySetHere shard.old key.now words.now)) }
     ensures err { IfOk result (λ set. OnErr set (shard.new ≡ shard.old)) }
     ensures elsewhere { OnErr result (IsElsewhere shard.old.groups key.now.span) }
     ensures busy { OnErr result (shard.new ≡ shard.old) }
@@ -297,8 +279,7 @@ fn free<G: Gate, L: Log>(
     key: &Key,
 ) -> Result<Outcome, Busy>
     ensures key { IfOk result (λ freed. freed.0 ≡ key.now) }
-    ensures told { IfOk result (λ told. (what : Freed) × Frees shard.old key.now what shard.new
-        × TellsOwn (free_answer key.now what) told) }
+    ensures told { IfOk result (λ told. FreesFirstIn shard.old key.now told shard.new) }
     ensures elsewhere { OnErr result (IsElsewhere shard.old.groups key.now.span) }
     ensures busy { OnErr result (shard.new ≡ shard.old) }
 {

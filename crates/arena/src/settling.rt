@@ -2,7 +2,7 @@
 ghost use Rattle.std.specs.Prelude.{◌≡◌, ◌+◌, ◌<◌, ◌≤◌, ◌↔◌, ◌++◌, ℕ, All, IfOk, IsTrue, OnErr, OnOk, length, map, sum, slice_index_or, vec_len};
 ghost use Rattle.arena.specs.Receipts.{AddsFrees, IsFreeBy, joined};
 ghost use Rattle.arena.specs.Seats.{AreInOrder, AreLinked, AreSeatsOf, in_rings, known_lists, sending_side, taken_lists};
-ghost use Rattle.arena.specs.Settled.{AreCounted, AreEmptied, AreSameSeats, IsSettled, greatest_section, taken_with_known};
+ghost use Rattle.arena.specs.Settled.{AreCounted, AreEmptied, AreSameSeats, AreSettled, CountAllKnown, FreeAllKnown, HaveRoomFor, greatest_section, taken_with_known};
 ghost use Rattle.remote_queue.specs.declared.ends.TheConstants.{MOST_KNOWN_KEYS};
 ghost use Rattle.span.specs.declared.limits.TheConstants.{MOST_SHARDS};
 
@@ -73,11 +73,8 @@ impl<G: Gate, L: Log> Arena<G, L> {
 
         // Every ring is emptied.
         ensures counts { IfOk result (λ counts. vec_len counts ≡ length seats.old) }
-        ensures settled { IfOk result (λ counts. (shard : ℕ) (c d e : _) → shard < length seats.old
-            → IsSettled seats.old shard (greatest_section seats.old)
-            (slice_index_or counts.items shard c).items
-            (K.told (slice_index_or receipts.old shard d))
-            (K.told (slice_index_or receipts.new shard e))) }
+        ensures settled { IfOk result (λ counts. AreSettled K.told seats.old counts.items
+            receipts.old receipts.new) }
         ensures emptied { OnOk result (AreEmptied seats.old seats.new) }
 
         // The seats stay the arena's, and a refusal changes nothing.
@@ -140,9 +137,8 @@ pub(crate) fn make_room<K: Receipts>(
     ensures len { IfOk result (λ counts. vec_len counts ≡ length seats.old) }
     ensures counted { IfOk result (λ counts. (shard : ℕ) (d : _) → shard < length seats.old
         → AreCounted seats.old seats.new shard (slice_index_or counts.items shard d).items) }
-    ensures room { IfOk result (λ counts. (shard : ℕ) (d e : _) → shard < length seats.old
-        → sum (slice_index_or counts.items shard e).items
-        ≤ K.room (slice_index_or receipts.new shard d)) }
+    ensures room { IfOk result (λ counts. HaveRoomFor K.room (length seats.old) counts.items
+        receipts.new) }
 {
     let counts = count_all(alloc, seats)?;
     reserve_all(receipts, counts.as_slice())?;
@@ -162,18 +158,11 @@ pub(crate) fn settle_seats<F: Frees, K: Receipts>(
     requires wide { (length counts.now ≡ length seats.old)
         × (length receipts.old ≡ length seats.old) }
     requires in_order { AreInOrder seats.old }
-    requires counts { (shard : ℕ) (x d : _) → shard < length seats.old
-        → (slice_index_or counts.now shard d).items
-        ≡ map length (known_lists (slice_index_or seats.old shard x).inboxes) }
-    requires room { (shard : ℕ) (d e : _) → shard < length seats.old
-        → sum (slice_index_or counts.now shard e).items
-        ≤ K.room (slice_index_or receipts.old shard d) }
+    requires counts { CountAllKnown seats.old counts.now }
+    requires room { HaveRoomFor K.room (length seats.old) counts.now receipts.old }
 
     // Each counted key is freed, and has its receipt.
-    ensures freed { (shard : ℕ) (x d e : _) → shard < length seats.old
-        → AddsFrees shard section (joined (known_lists (slice_index_or seats.old shard x).inboxes))
-        (K.told (slice_index_or receipts.old shard d))
-        (K.told (slice_index_or receipts.new shard e)) }
+    ensures freed { FreeAllKnown K.told seats.old section receipts.old receipts.new }
     ensures sending { map sending_side seats.new ≡ map sending_side seats.old }
     ensures tables { map (λ seat. seat.table) seats.new ≡ map (λ seat. seat.table) seats.old }
     ensures outboxes { map (λ seat. seat.outboxes) seats.new
@@ -257,9 +246,7 @@ fn reserve_all<K: Receipts>(receipts: &mut [K], counts: &[Vec<usize>]) -> Result
     requires few { All (λ row. All (λ count. count ≤ MOST_KNOWN_KEYS) row.items
         × (vec_len row ≤ MOST_SHARDS)) counts.now }
     ensures told { map K.told receipts.new ≡ map K.told receipts.old }
-    ensures room { OnOk result ((shard : ℕ) (d e : _) → shard < length receipts.old
-        → sum (slice_index_or counts.now shard e).items
-        ≤ K.room (slice_index_or receipts.new shard d)) }
+    ensures room { OnOk result (HaveRoomFor K.room (length receipts.old) counts.now receipts.new) }
 {
     for shard in 0..receipts.len() {
         let more = total(counts[shard].as_slice());

@@ -1,11 +1,11 @@
 // Who keeps the open plan.
 ghost use Rattle.std.specs.Prelude.{◌≡◌, ◌≢◌, ◌↔◌, Err, IfOk, IsErr, IsSome, IsTrue, MatchOption, None, OnErr, Some, false, is_some, map, option_map, true};
-ghost use Rattle.arena.specs.Amounts.{AreTooMany as AreTooManyLent};
-ghost use Rattle.arena.specs.Locked.{all_lent_by, latches_of, lent_by};
-ghost use Rattle.arena.specs.Stewards.{KeepsMark};
+ghost use Rattle.arena.specs.Locked.{all_lent_by, latches_of, lent_by, those_lent};
+ghost use Rattle.arena.specs.Stewards.{KeepsMark, new_steward, with_pair_done};
 ghost use Rattle.marks.specs.Closings.{reopened};
-ghost use Rattle.marks.specs.Opening.{Marks};
-ghost use Rattle.marks.specs.Plans.{next_pair, with_next_done};
+ghost use Rattle.marks.specs.Opening.{IsRefused, Marks};
+ghost use Rattle.marks.specs.Plans.{next_pair};
+ghost use Rattle.marks.specs.Seen.{AreTooMany};
 
 use crate::arena::Arena;
 use crate::gate::Gate;
@@ -47,9 +47,8 @@ impl Marked {
         requires lent { latches_of shards.now ≡ map Some arena.now.shards.items }
         ensures plan_open { (result.made ≡ Err MarkError.PlanOpen)
             ↔ (pool.now.value.value.has_plan ≡ true) }
-        ensures too_many { (result.made ≡ Err MarkError.TooMany) ↔ ((sight ≡ Sight.All)
-            × (pool.now.value.value.has_plan ≡ false)
-            × AreTooManyLent pool.now.value.value (lent_by shards.now)) }
+        ensures too_many { (result.made ≡ Err MarkError.TooMany) ↔ IsRefused sight
+            pool.now.value.value (those_lent (lent_by shards.now)) MarkError.TooMany }
         ensures doubled { result.made ≢ Err MarkError.Doubled }
         ensures refused { IsErr result.made }
     {
@@ -85,7 +84,7 @@ impl Model for Steward {
 impl Steward {
     // The steward of an arena of these numbers, with no plan.
     pub(crate) fn new(alloc: Global, limits: Limits) -> Result<Steward, AllocError>
-        ensures { IfOk result (λ steward. steward ≡ record { limits = limits; plan = None }) }
+        ensures { IfOk result (λ steward. steward ≡ new_steward limits) }
     {
         Ok(Steward {
             limits,
@@ -130,9 +129,7 @@ impl Steward {
     // Goes on to the pair after the next one.
     pub(crate) fn advance(&mut self)
         requires { IsSome (next_pair self.old.plan) }
-        ensures { self.new ≡ record self.old {
-          plan = option_map with_next_done self.old.plan;
-        } }
+        ensures { self.new ≡ with_pair_done self.old }
     {
         self.plan.advance();
     }
@@ -173,13 +170,10 @@ impl Steward {
         shards: &mut [Option<LockedShard<'_, L>>],
     )
         requires pool { pool.old.latch.now ≡ arena.now.pool }
-        requires lent { map (option_map (λ shard. shard.guard.latch.now)) shards.old
-            ≡ map Some arena.now.shards.items }
+        requires lent { latches_of shards.old ≡ map Some arena.now.shards.items }
         ensures plan { self.new ≡ record self.old { plan = None } }
         ensures closed { pool.new.value.value ≡ record pool.old.value.value { has_plan = false } }
-        ensures open { map (option_map (λ shard. shard.guard.value.value)) shards.new
-            ≡ map (option_map reopened)
-            (map (option_map (λ shard. shard.guard.value.value)) shards.old) }
+        ensures open { lent_by shards.new ≡ map (option_map reopened) (lent_by shards.old) }
     {
         reopen_all(shards);
         pool.value.plan_closed();
@@ -189,7 +183,7 @@ impl Steward {
 
 // Whether a side has more groups with a page than a plan may have. It takes no memory.
 fn has_too_many<L: Log>(pool: &Pool<L>, shards: &[Option<LockedShard<'_, L>>]) -> bool
-    ensures { IsTrue result ↔ AreTooManyLent pool.now (lent_by shards.now) }
+    ensures { IsTrue result ↔ AreTooMany pool.now (those_lent (lent_by shards.now)) }
 {
     pool.pages() > MOST_GROUPS || owned_totals(shards).pages > MOST_GROUPS
 }

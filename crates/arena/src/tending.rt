@@ -40,9 +40,8 @@ pub(crate) fn tend_rings<G: Gate, L: Log, P: CallsKeys, K: Receipts>(
     requires few { (vec_len inboxes.old ≤ MOST_SHARDS) × (most ≤ MOST_RING_KEYS) }
     requires room { sum_by (known_count most) inboxes.old.items ≤ K.room receipts.old }
     ensures len { vec_len inboxes.new ≡ vec_len inboxes.old }
-    ensures tended { AreRingsTended most worker section
-        (vec_len inboxes.old) inboxes.old.items inboxes.new.items (K.told receipts.old)
-        (K.told receipts.new) result.count }
+    ensures tended { AreRingsTended most worker section (vec_len inboxes.old) inboxes.old.items
+        inboxes.new.items (K.told receipts.old) (K.told receipts.new) result.count }
 {
     let mut total = 0;
     let mut is_busy = false;
@@ -135,9 +134,9 @@ fn tend_some<G: Gate, L: Log, P: CallsKeys, K: Receipts>(
         ≤ length inbox.new.known + count) }
     ensures tended { IfOk result (λ count. IsRingTended worker section count inbox.old inbox.new
         (K.told receipts.old) (K.told receipts.new)) }
-    ensures busy { OnErr result ((K.room receipts.old ≤ K.room receipts.new)
-        × IsRingTended worker section 0 inbox.old inbox.new (K.told receipts.old)
-        (K.told receipts.new)) }
+    ensures busy { OnErr result (IsRingTended worker section 0 inbox.old inbox.new
+        (K.told receipts.old) (K.told receipts.new)) }
+    ensures busy_room { OnErr result (K.room receipts.old ≤ K.room receipts.new) }
 {
     inbox.draw(most);
     let drawn = inbox.drawn();

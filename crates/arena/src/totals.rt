@@ -1,7 +1,7 @@
 // How many pages and live keys an arena has, counted at one time.
-ghost use Rattle.std.specs.Prelude.{◌≡◌, Some, map, option_map};
+ghost use Rattle.std.specs.Prelude.{◌≡◌, Some, map};
 ghost use Rattle.arena.specs.Amounts.{at_most_word, key_count, owned_keys, owned_pages, page_count, shard_keys, shard_pages};
-ghost use Rattle.arena.specs.Locked.{latches_of, lent_by};
+ghost use Rattle.arena.specs.Locked.{latches_of, lent_by, shard_lent};
 
 use crate::arena::Arena;
 use crate::gate::Gate;
@@ -68,10 +68,8 @@ pub(crate) fn owned_totals<L: Log>(shards: &[Option<LockedShard<'_, L>>]) -> Tot
 
 // What the shard has, if it is lent.
 fn totals_of<L: Log>(shard: &Option<LockedShard<'_, L>>) -> Totals
-    ensures pages { result.pages
-        ≡ shard_pages (option_map (λ locked. locked.guard.value.value) shard.now) }
-    ensures live { result.live
-        ≡ shard_keys (option_map (λ locked. locked.guard.value.value) shard.now) }
+    ensures pages { result.pages ≡ shard_pages (shard_lent shard.now) }
+    ensures live { result.live ≡ shard_keys (shard_lent shard.now) }
 {
     match shard {
         Some(locked) => Totals {

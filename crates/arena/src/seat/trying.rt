@@ -4,7 +4,7 @@ ghost use Rattle.std.specs.Prelude.{◌≡◌, ◌≤◌, IfOk, OnErr, OnOk, len
 ghost use Rattle.arena.specs.Delays.{CountsCall, HandsOver, HasNoneWaiting};
 ghost use Rattle.arena.specs.KeyCalls.{IsFreed, IsLookedUp, IsSet};
 ghost use Rattle.arena.specs.Seats.{AreNoFewer, KeepsEnds, free_places, sending_side};
-ghost use Rattle.arena.specs.Tended.{AreLookedAt, IsTended};
+ghost use Rattle.arena.specs.Tended.{IsTended, TendsNone};
 ghost use Rattle.arena.specs.KeyAnswers.{LooksUp};
 ghost use Rattle.span.specs.Classes.{width_of};
 
@@ -149,10 +149,8 @@ impl Seat {
             × (sending_side self.new ≡ sending_side self.old) }
         ensures places { AreNoFewer (free_places self.old.outboxes)
             (free_places self.new.outboxes) }
-        ensures err { OnErr result (HandsOver self.old
-            (record self.new { inboxes = self.old.inboxes })
-            × AreLookedAt self.old.inboxes self.new.inboxes
-            × (K.told receipts.new ≡ K.told receipts.old)) }
+        ensures err { OnErr result (TendsNone self.old self.new (K.told receipts.old)
+            (K.told receipts.new)) }
     {
         self.hand_over();
         let most = self.limits.ring_capacity();

@@ -1,4 +1,4 @@
-use Rattle.std.proofs.Common.{◌∙◌, arith, subst, sym}
+use Rattle.std.proofs.Common.{◌∙◌, subst, sym}
 use Rattle.arena.specs.Seats.{AreLinked, AreSeatsOf, sending_side}
 use Rattle.arena.specs.Settled.{AreSameSeats}
 use Rattle.arena.proofs.Ended.{written_back}
@@ -7,9 +7,7 @@ use Rattle.arena.proofs.SeatRings.{AreSeatsOf-same}
 use Rattle.arena.proofs.ending.finish.Goals as goal
 
 pub returns-in-Ok-clause-settled : goal.returns-in-Ok-clause-settled
-returns-in-Ok-clause-settled g c =
-    let settled = rw c.as_mut_slice.ensures.value at c.in-Ok.ensures.settled in
-    λ s k d e below. settled s k d e (omega (arith, below, c.args.seats.ok.0))
+returns-in-Ok-clause-settled g c = rw c.as_mut_slice.ensures.value at c.in-Ok.ensures.settled
 
 pub returns-in-Err-clause-seats : goal.returns-in-Err-clause-seats
 returns-in-Err-clause-seats g c =

@@ -1,6 +1,7 @@
-use Rattle.std.proofs.Common.{◌≡◌, ◌↔◌, Err, IfOk, false, subst}
-use Rattle.shard.specs.Calls.{IsSpent, Puts}
+use Rattle.std.proofs.Common.{◌≡◌, ◌↔◌, Err, IfOk, subst}
+use Rattle.shard.specs.Calls.{Puts}
 use Rattle.shard.specs.declared.error.PutError.TheVariants as put_error
+use Rattle.arena.specs.Sessions.{IsSpentRunning}
 use Rattle.arena.proofs.session.Session.put.Goals as goal
 
 pub returns-clause-ok : goal.returns-clause-ok
@@ -8,5 +9,5 @@ returns-clause-ok g c = subst (λ shard. IfOk c.put_in.result (λ made. Puts sha
     c.deref_mut.ensures.value c.put_in.ensures.ok
 
 pub returns-clause-spent : goal.returns-clause-spent
-returns-clause-spent g c = subst (λ shard. (c.put_in.result ≡ Err put_error.PagesSpent) ↔ ((shard.ended ≡ false) × IsSpent c.args.class shard))
+returns-clause-spent g c = subst (λ shard. (c.put_in.result ≡ Err put_error.PagesSpent) ↔ IsSpentRunning c.args.class shard)
     c.deref_mut.ensures.value c.put_in.ensures.spent

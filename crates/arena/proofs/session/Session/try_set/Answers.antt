@@ -1,11 +1,6 @@
-use Rattle.std.proofs.Common.{rules, ◌≡◌, IfOk, OnErr, subst, true}
+use Rattle.std.proofs.Common.{rules, IfOk, OnErr, subst}
 use Rattle.groups.specs.Group.{IsElsewhere}
-use Rattle.shard.specs.Calls.{Sets}
-use Rattle.shard.specs.Shown.{shown}
-use Rattle.shard.specs.declared.shard.replacing.Replaced.{Replaced}
-use Rattle.span.specs.PlainMap as plain
-use Rattle.arena.specs.Sessions.{TellsOwn}
-use Rattle.arena.specs.KeyAnswers.{set_answer}
+use Rattle.arena.specs.Sessions.{MaySetHere, SetsFirstIn}
 use Rattle.arena.proofs.session.Session.try_set.Goals as goal
 
 pub returns-in_err-set-clause-elsewhere : goal.returns-in_err-set-clause-elsewhere
@@ -15,11 +10,9 @@ returns-in_err-set-clause-elsewhere g c =
     search (rules, elsewhere)
 
 pub returns-clause-told : goal.returns-clause-told
-returns-clause-told g c = subst
-    (λ shard. IfOk c.in_ok-set.set (λ told. (what : Replaced) × Sets shard c.args.key.now c.args.words.now what c.set.new.shard × TellsOwn (set_answer c.args.key.now what) told))
+returns-clause-told g c = subst (λ shard. IfOk c.in_ok-set.set (λ told. SetsFirstIn shard c.args.key.now c.args.words.now told c.set.new.shard))
     c.deref_mut.ensures.value c.in_ok-set.ensures.told
 
 pub returns-clause-refused : goal.returns-clause-refused
-returns-clause-refused g c = subst
-    (λ shard. OnErr c.in_ok-set.set ((IsElsewhere shard.groups c.args.key.now.span → ⊥) → plain.may_set (shown shard) c.args.key.now c.args.words.now ≡ true))
+returns-clause-refused g c = subst (λ shard. OnErr c.in_ok-set.set (MaySetHere shard c.args.key.now c.args.words.now))
     c.deref_mut.ensures.value c.in_ok-set.ensures.refused
