@@ -1,7 +1,6 @@
 // An adoption, after which others find the spans that came.
-ghost use Rattle.std.specs.Prelude.{◌≡◌, ◌≢◌, ◌↔◌, ◌<◌, Err, IfOk, OnErr, OnOk, false, length, true};
-ghost use Rattle.pool.specs.Calls.{Adopts, HasNothingToAdopt, IsDoubled};
-ghost use Rattle.arena.specs.Adoptions.{MayTakeBut};
+ghost use Rattle.std.specs.Prelude.{◌≡◌, ◌≢◌, ◌↔◌, ◌<◌, Err, IfOk, OnErr, OnOk, length, true};
+ghost use Rattle.pool.specs.Calls.{Adopts, MeetsDouble, MeetsNothing, MeetsPlan};
 ghost use Rattle.pool.specs.Shown.{shown, together};
 ghost use Rattle.pool.specs.Sound.{IsSound};
 ghost use Rattle.shard.specs.Shown.{shown as shown_by_shard};
@@ -37,12 +36,10 @@ impl<G: Gate, L: Log> Arena<G, L> {
             ↔ (shard.old.page_limit ≡ length shard.old.groups) }
         ensures ended { (result ≡ Err AdoptError.Ended)
             ↔ ((shard.old.page_limit ≢ length shard.old.groups) × (shard.old.ended ≡ true)) }
-        ensures doubled { (result ≡ Err AdoptError.Doubled)
-            ↔ MayTakeBut shard.old (IsDoubled pool.old shard.old) }
-        ensures plan_open { (result ≡ Err AdoptError.PlanOpen) ↔ MayTakeBut shard.old
-            ((IsDoubled pool.old shard.old → ⊥) × (pool.old.has_plan ≡ true)) }
+        ensures doubled { (result ≡ Err AdoptError.Doubled) ↔ MeetsDouble pool.old shard.old }
+        ensures plan_open { (result ≡ Err AdoptError.PlanOpen) ↔ MeetsPlan pool.old shard.old }
         ensures nothing { (result ≡ Err AdoptError.NothingToAdopt)
-            ↔ MayTakeBut shard.old ((pool.old.has_plan ≡ false) × HasNothingToAdopt pool.old) }
+            ↔ MeetsNothing pool.old shard.old }
         ensures err { OnErr result ((pool.new ≡ pool.old) × (shard.new ≡ shard.old)) }
         ensures sound { IsSound pool.new × IsSoundShard shard.new }
     {
