@@ -46,6 +46,12 @@ pub record PutsMany (old : CoreState) (shard : ℕ) (values : List Value) (room 
   pub written : room_new ≡ keys ++ drop says.count room
   pub stops : StopsAt mid shard (slice_get values says.count) says.status new
 
+-- an object of one word for each word is put so, as far as the room goes
+abbrev pub PutsEach : ℕ → List RawWord → List RawKey → ManyReply → List RawKey → CoreState
+    → CoreState → Type 0
+PutsEach shard words room says room_new old new =
+    PutsMany old shard (take (length room) (objects_of words)) room says room_new new
+
 -- the key with these numbers is freed, if it is live; else nothing changes
 abbrev pub FreesRaw : CoreState → RawKey → Bool → CoreState → Type 0
 FreesRaw old raw freed new = (IsNoKey raw × (freed ≡ false) × (new ≡ old))

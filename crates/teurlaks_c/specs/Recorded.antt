@@ -1,6 +1,6 @@
 -- What a call does at the seat of an arena whose run is recorded: it is the call of any seat, and
 -- its receipts are kept.
-use Rattle.std.specs.Prelude.{◌≡◌, ◌++◌, List, Option, Some, Result, Ok, Err, IfOk, OnErr}
+use Rattle.std.specs.Prelude.{◌≡◌, ◌++◌, ℕ, List, Option, Some, Result, Ok, Err, IfOk, OnErr}
 use Rattle.std.specs.declared.alloc.AllocError.{AllocError}
 use Rattle.span.specs.ReceiptLists.{kept_receipts}
 use Rattle.span.specs.declared.receipt.Receipt.{Receipt}
@@ -23,6 +23,17 @@ DoesKept does told before answer after =
     IfOk answer (λ answer. does before.seat answer after.seat
     × (receipts_of after ≡ receipts_of before ++ told before.seat answer))
     × OnErr answer ((after.seat ≡ before.seat) × (receipts_of after ≡ receipts_of before))
+
+-- this is done from one state to the other, with an answer of which this holds
+abbrev pub Answers : {State Answer : Type 0} → (State → Answer → State → Type 0)
+    → (Answer → Type 0) → State → State → Type 0
+Answers does says old new = (answer : _) × does old answer new × says answer
+
+-- to the receipts before, those of the answer at a seat of this worker in this section are added
+abbrev pub AddsTold : {Answer : Type 0} → (SeatState → Answer → List Receipt) → ℕ → ℕ → Answer
+    → List Receipt → List Receipt → Type 0
+AddsTold told worker section answer before after = (seat : SeatState) → seat.worker ≡ worker
+    → seat.section ≡ section → after ≡ before ++ told seat answer
 
 -- the recorded seat of the handle does so, at the same arena
 pub record AtRecorded {Answer : Type 0} (does : SeatState → Answer → SeatState

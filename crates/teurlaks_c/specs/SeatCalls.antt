@@ -12,7 +12,7 @@ use Rattle.pool.specs.declared.error.AdoptError.{AdoptError}
 use Rattle.latch.specs.declared.latch.Busy.{Busy}
 use Rattle.arena.specs.Delays.{CountsCall, HandsOver as HandsOverKeys, HasNoneWaiting, delay_begun}
 use Rattle.arena.specs.Receipts.{get_receipt, put_receipt, set_receipt, free_receipt}
-use Rattle.arena.specs.Seats.{KeepsEnds, SeatState, free_places, sending_side, sent_lists}
+use Rattle.arena.specs.Seats.{KeepsEnds, SeatState, free_places_to, sending_side, sent_lists}
 use Rattle.arena.specs.Tended.{IsTended}
 use Rattle.arena.specs.declared.seat.trying.Tended.{Tended}
 use Rattle.teurlaks_c.specs.declared.replies.PutReply.{PutReply}
@@ -220,7 +220,7 @@ FreesLater key before answer after = MatchOption answer
     ((key.span.shard < before.limits.shards → ⊥) × (after ≡ before))
     (λ sent. (key.span.shard < before.limits.shards) × KeepsEnds before after
     × (after.section ≡ before.section) × (after.inboxes ≡ before.inboxes)
-    × (0 < slice_index_or (free_places before.outboxes) key.span.shard 0 → IsOk sent)
+    × (0 < free_places_to before.outboxes key.span.shard → IsOk sent)
     × MatchResult sent
     (λ left. (after.delay ≡ delay_begun before.delay)
     × (sent_lists after ≡ slice_set (sent_lists before) key.span.shard
@@ -428,6 +428,10 @@ LeavesKey old raw says new = (IsNoKey raw × AsksNothing none old says new)
     ⊎ ((key : Key) × IsKeyOf raw key × ((answer : _)
     × AsksEither (FreesLater key) (AtHeldSeat (FreesLater key)) old answer new
     × SaysLeft says answer))
+
+-- the keys that wait at the seat are handed over
+abbrev pub HandsOver : SeatState → Unit {0} → SeatState → Type 0
+HandsOver before answer after = HandsOverKeys before after
 
 -- what C reads of a hand-over
 abbrev pub SaysHandedOver : ℕ → Option (Unit {0}) → Type 0

@@ -7,19 +7,17 @@ use Rattle.span.specs.Log.{Value}
 use Rattle.span.specs.PlainMap as plain
 use Rattle.span.specs.declared.class.Class.{Class}
 use Rattle.span.specs.declared.key.Key.{Key}
-use Rattle.shard.specs.Calls.{Frees, Gets, IsSpent, Puts, Sets}
+use Rattle.shard.specs.Calls.{Gets, IsSpent, Puts}
 use Rattle.shard.specs.Shown.{shown}
 use Rattle.shard.specs.State.{ShardState}
 use Rattle.shard.specs.declared.error.PutError.{PutError}
 use Rattle.shard.specs.declared.error.PutError.TheVariants.{Ended, OutOfMemory, PagesSpent}
 use Rattle.shard.specs.declared.shard.Found.{Found}
-use Rattle.shard.specs.declared.shard.Freed.{Freed}
-use Rattle.shard.specs.declared.shard.replacing.Replaced.{Replaced}
 use Rattle.latch.specs.declared.latch.Busy.{Busy}
 use Rattle.arena.specs.Delays.{CountsCall}
 use Rattle.arena.specs.Seats.{SeatState}
-use Rattle.arena.specs.Sessions.{TellsOwn}
-use Rattle.arena.specs.KeyAnswers.{changes_at, free_answer, set_answer}
+use Rattle.arena.specs.Sessions.{FreesFirstIn, IsSpentRunning, MaySetHere, SetsFirstIn}
+use Rattle.arena.specs.KeyAnswers.{changes_at}
 use Rattle.teurlaks_c.specs.declared.share.Share.{Share}
 use Rattle.teurlaks_c.specs.declared.share.Share.TheVariants.{Seat, Session}
 use Rattle.teurlaks_c.specs.declared.share.SharedSeat.{SharedSeat}
@@ -86,7 +84,7 @@ pub record AtPaused {Answer : Type 0} (does : SeatState → Answer → SeatState
 -- a put of an object of the class is refused for just this cause
 abbrev pub IsRefused : Class → ShardState → PutError → Type 0
 IsRefused class shard Ended = shard.ended ≡ true
-IsRefused class shard PagesSpent = (shard.ended ≡ false) × IsSpent class shard
+IsRefused class shard PagesSpent = IsSpentRunning class shard
 IsRefused class shard OutOfMemory = (shard.ended ≡ false) × (IsSpent class shard → ⊥)
 
 -- an object of the class is put into the session's shard, or refused for its cause, with the shard
@@ -123,20 +121,17 @@ GetsHeld key before answer after =
 abbrev pub SetsHeld : Key → Value → Held → Result (Result (Key × Bool × ℕ) AllocError) Busy → Held
     → Type 0
 SetsHeld key words before (Ok (Ok told)) after = (told.0 ≡ key)
-    × ((what : Replaced) × Sets before.shard key words what after.shard
-    × TellsOwn (set_answer key what) told) × CountsCall before.seat after.seat
+    × SetsFirstIn before.shard key words told after.shard × CountsCall before.seat after.seat
 SetsHeld key words before (Ok (Err error)) after =
-    ((IsElsewhere before.shard.groups key.span → ⊥) → plain.may_set (shown before.shard) key words
-    ≡ true)
-    × (after.shard ≡ before.shard) × CountsCall before.seat after.seat
+    MaySetHere before.shard key words × (after.shard ≡ before.shard)
+    × CountsCall before.seat after.seat
 SetsHeld key words before (Err busy) after = IsElsewhere before.shard.groups key.span
     × (after.seat ≡ before.seat) × (after.shard ≡ before.shard)
 
 -- the key is freed in the session's shard, and elsewhere only where that does not have its span
 abbrev pub FreesHeld : Key → Held → Result (Key × Bool × ℕ) Busy → Held → Type 0
 FreesHeld key before (Ok told) after = (told.0 ≡ key)
-    × ((what : Freed) × Frees before.shard key what after.shard
-    × TellsOwn (free_answer key what) told) × CountsCall before.seat after.seat
+    × FreesFirstIn before.shard key told after.shard × CountsCall before.seat after.seat
 FreesHeld key before (Err busy) after = IsElsewhere before.shard.groups key.span
     × (after.seat ≡ before.seat) × (after.shard ≡ before.shard)
 

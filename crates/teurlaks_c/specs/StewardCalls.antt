@@ -1,6 +1,8 @@
 -- What the calls on the steward of an arena do.
-use Rattle.std.specs.Prelude.{◌≡◌, ℕ, All, List, Bool, true, false, Option, Some, None, Result, Ok, Err, IfOk, IsErr, IsSome, ◌↔◌, OnErr, OnOk, MatchOption, is_some, ◌++◌, ◌∷◌, [], ◌⊎◌, vec_len}
+use Rattle.std.specs.Prelude.{◌≡◌, ℕ, All, List, Bool, true, false, Option, Some, None, Result, Ok, Err, IfOk, IsErr, IsSome, ◌↔◌, OnErr, OnOk, MatchOption, MatchResult, is_some, ◌++◌, ◌∷◌, [], ◌⊎◌, vec_len}
 use Rattle.std.specs.declared.alloc.AllocError.{AllocError}
+use Rattle.std.specs.declared.alloc.Global.{Global}
+use Rattle.std.specs.declared.boxed.Box.{Box}
 use Rattle.certificate.specs.declared.certificate.Certificate.{Certificate}
 use Rattle.latch.specs.declared.latch.Busy.{Busy}
 use Rattle.arena_core.specs.declared.reply.Refusal.TheVariants.{PlanOpen as PlanIsOpen}
@@ -8,7 +10,7 @@ use Rattle.marks.specs.declared.error.MarkError.{MarkError}
 use Rattle.marks.specs.declared.totals.Totals.{Totals}
 use Rattle.marks.specs.Numbers.{Limits}
 use Rattle.marks.specs.Seen.{IsShown}
-use Rattle.arena.specs.Stewards.{Steps, begun}
+use Rattle.arena.specs.Stewards.{Steps, begun, new_steward}
 use Rattle.arena.specs.declared.arena.Stepped.{Stepped}
 use Rattle.arena.specs.declared.error.PlanOpen.{PlanOpen}
 use Rattle.arena.specs.declared.arena.Stepped.TheVariants.{NoPairLeft, NoPlan, Taken}
@@ -39,7 +41,7 @@ HasNoSteward held = Unit {0}
 pub record HasNewArena (limits : Limits) (new : Option Share) : Type 0 where
   pub steward : SharedSteward
   pub is : new ≡ Some (Steward steward)
-  pub state : steward.inner.steward ≡ record { limits = limits; plan = None }
+  pub state : steward.inner.steward ≡ new_steward limits
   pub last : steward.inner.last ≡ None
   pub seats : vec_len steward.seats ≡ limits.shards
 
@@ -51,7 +53,7 @@ HaveNoReceipt seats = All (λ kept. receipts_of kept ≡ []) seats
 pub record HasNewRecord (limits : Limits) (new : Option Share) : Type 0 where
   pub steward : Recorder
   pub is : new ≡ Some (RecordedSteward steward)
-  pub state : steward.inner.steward ≡ record { limits = limits; plan = None }
+  pub state : steward.inner.steward ≡ new_steward limits
   pub last : steward.inner.last ≡ None
   pub seats : vec_len steward.seats ≡ limits.shards
   pub none : HaveNoReceipt steward.seats.items
@@ -109,6 +111,18 @@ LeavesSeat old (Some taken) says new out_new = (says ≡ has_core) × (new ≡ o
     × (out_new ≡ Some taken)
 LeavesSeat old None says new out_new = (HasNoSteward old × (says ≡ no_core) × (new ≡ old)
     × (out_new ≡ None)) ⊎ HandsOut old says new out_new
+
+-- a seat is handed out so in a box of its own, or none is, for the cause that the status says
+abbrev pub HandsBoxed : (ℕ → Option Share → Type 0) → Result (Box Share Global) ℕ → Type 0
+HandsBoxed hands answer = MatchResult answer (λ seat. hands done (Some seat.value))
+    (λ status. hands status None)
+
+-- a seat of the handle's steward is handed out in a box of its own; or none is left to another
+-- handle, for the cause that the status says
+abbrev pub HandsOutBoxed : Option Share → Result (Box Share Global) ℕ → Option Share → Type 0
+HandsOutBoxed old answer new = MatchResult answer
+    (λ seat. HandsOut old done new (Some seat.value))
+    (λ status. LeavesSeat old None status new None)
 
 -- the steward of the handle does this and answers that, at the same arena and with the same seats
 -- to give out

@@ -1,8 +1,8 @@
 // A core from its beginning to its end, and the calls on keys.
 ghost use Rattle.std.specs.Prelude.{◌≡◌, ◌↔◌, ◌⊎◌, ◌∷◌, [], IfSome, IsSome, None, Some, length, option_map};
 ghost use Rattle.span.specs.Classes.{IsObject, width_of};
-ghost use Rattle.marks.specs.Numbers.{AreWithin, limits_of, with_span_limit};
-ghost use Rattle.arena_core.specs.State.{new_core};
+ghost use Rattle.marks.specs.Numbers.{AreWithin, limits_of};
+ghost use Rattle.teurlaks_c.specs.Numbers.{limits_given};
 ghost use Rattle.teurlaks_c.specs.Calls.{Counts, Frees, FreesKey, Gets, GetsKey, GetsWords, HasNew, Nexts, Puts, PutsWords, SaysGot, SaysNext, SaysWords, Sets, SetsKey, SetsWords};
 ghost use Rattle.teurlaks_c.specs.Words.{word_of, words_of};
 ghost use Rattle.teurlaks_c.specs.Status.{config, has_core, no_core, out_of_memory};
@@ -39,8 +39,7 @@ pub extern "C" fn teurlaks_new(
     ensures ok { result ≡ 0 → HasNew (limits_of shards page_limit ring_capacity gens) out.new.held }
     ensures refused { (result ≡ 0 → ⊥) → out.new.held ≡ out.old.held }
     ensures config { out.old.held ≡ None → (result ≡ config)
-        ↔ (AreWithin (limits_of shards page_limit ring_capacity gens)
-        → ⊥) }
+        ↔ (AreWithin (limits_of shards page_limit ring_capacity gens) → ⊥) }
     ensures taken { (result ≡ has_core) ↔ IsSome out.old.held }
 {
     teurlaks_new_with_spans(
@@ -66,12 +65,11 @@ pub extern "C" fn teurlaks_new_with_spans(
     ring_capacity: u32,
     gens: u32,
 ) -> u32
-    ensures ok { result ≡ 0
-        → HasNew (with_span_limit (limits_of shards page_limit ring_capacity gens) span_limit)
-        out.new.held }
+    ensures ok { result ≡ 0 → HasNew
+        (limits_given shards page_limit span_limit ring_capacity gens) out.new.held }
     ensures refused { (result ≡ 0 → ⊥) → out.new.held ≡ out.old.held }
-    ensures config { out.old.held ≡ None → (result ≡ config) ↔ (AreWithin
-        (with_span_limit (limits_of shards page_limit ring_capacity gens) span_limit) → ⊥) }
+    ensures config { out.old.held ≡ None → (result ≡ config)
+        ↔ (AreWithin (limits_given shards page_limit span_limit ring_capacity gens) → ⊥) }
     ensures taken { (result ≡ has_core) ↔ IsSome out.old.held }
 {
     if !out.is_null() {

@@ -1,6 +1,7 @@
 // The numbers of a core or an arena, as a caller in C gives them.
 ghost use Rattle.std.specs.Prelude.{◌≡◌, ◌↔◌, IfSome, IsSome};
-ghost use Rattle.marks.specs.Numbers.{AreWithin, limits_of, with_span_limit};
+ghost use Rattle.marks.specs.Numbers.{AreWithin};
+ghost use Rattle.teurlaks_c.specs.Numbers.{limits_given};
 
 use marks::Limits;
 
@@ -12,10 +13,10 @@ pub(crate) fn limits_for(
     ring_capacity: u32,
     gens: u32,
 ) -> Option<Limits>
-    ensures in_range { IsSome result ↔ AreWithin
-        (with_span_limit (limits_of shards page_limit ring_capacity gens) span_limit) }
+    ensures in_range { IsSome result
+        ↔ AreWithin (limits_given shards page_limit span_limit ring_capacity gens) }
     ensures parts { IfSome result (λ limits. limits
-        ≡ with_span_limit (limits_of shards page_limit ring_capacity gens) span_limit) }
+        ≡ limits_given shards page_limit span_limit ring_capacity gens) }
 {
     let (pages, keys) = (page_limit as usize, ring_capacity as usize);
     let Some(limits) = Limits::new(shards, pages, keys, gens) else {

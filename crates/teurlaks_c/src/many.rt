@@ -1,6 +1,6 @@
 // Many puts, look-ups and frees by one call, which tests the handle once.
-ghost use Rattle.std.specs.Prelude.{◌≡◌, ◌↔◌, ◌≤◌, ◌∷◌, [], IsSome, None, Some, drop, length, take};
-ghost use Rattle.teurlaks_c.specs.Many.{Changes, FreesAll, FreesRaw, GetsAll, GetsRaw, PutsMany, objects_of};
+ghost use Rattle.std.specs.Prelude.{◌≡◌, IsSome, None, Some, length, take};
+ghost use Rattle.teurlaks_c.specs.Many.{Changes, FreesAll, FreesRaw, GetsAll, GetsRaw, PutsEach, PutsMany, objects_of};
 ghost use Rattle.teurlaks_c.specs.Status.{done, no_core};
 
 use crate::calls::got;
@@ -26,9 +26,8 @@ pub extern "C" fn teurlaks_put_many(
     words: &[RawWord],
     keys: &mut [RawKey],
 ) -> ManyReply
-    ensures live { IsSome handle.old.held → Changes handle.old.held (λ old new.
-        PutsMany old shard (take (length keys.old) (objects_of words.now)) keys.old result keys.new
-        new) handle.new.held }
+    ensures live { IsSome handle.old.held → Changes handle.old.held
+        (PutsEach shard words.now keys.old result keys.new) handle.new.held }
     ensures none { handle.old.held ≡ None → (result.status ≡ no_core) × (result.count ≡ 0)
         × (keys.new ≡ keys.old) × (handle.new.held ≡ None) }
 {
@@ -42,9 +41,8 @@ pub extern "C" fn teurlaks_put_many(
 /// answers how many were live. It takes no memory.
 #[unsafe(no_mangle)]
 pub extern "C" fn teurlaks_free_many(handle: &mut Handle, keys: &[RawKey]) -> ManyReply
-    ensures live { IsSome handle.old.held → (result.status ≡ done)
-        × Changes handle.old.held (λ old new. FreesAll old keys.now result.count new)
-        handle.new.held }
+    ensures live { IsSome handle.old.held → (result.status ≡ done) × Changes handle.old.held
+        (λ old new. FreesAll old keys.now result.count new) handle.new.held }
     ensures none { handle.old.held ≡ None → (result.status ≡ no_core) × (result.count ≡ 0)
         × (handle.new.held ≡ None) }
 {
@@ -65,9 +63,8 @@ pub extern "C" fn teurlaks_get_many(
     keys: &[RawKey],
     replies: &mut [GetReply],
 ) -> ManyReply
-    ensures live { IsSome handle.old.held → (result.status ≡ done)
-        × Changes handle.old.held (λ old new. (new ≡ old)
-        × GetsAll old keys.now replies.old replies.new) handle.new.held }
+    ensures live { IsSome handle.old.held → (result.status ≡ done) × Changes handle.old.held
+        (λ old new. (new ≡ old) × GetsAll old keys.now replies.old replies.new) handle.new.held }
     ensures none { handle.old.held ≡ None → (result.status ≡ no_core) × (result.count ≡ 0)
         × (replies.new ≡ replies.old) × (handle.new.held ≡ None) }
 {

@@ -1,11 +1,11 @@
 // The calls of a seat that a recorded arena keeps receipts of.
-ghost use Rattle.std.specs.Prelude.{◌≡◌, ◌++◌, ◌<◌, ◌≤◌, ℕ, IfSome, List, Some, length};
+ghost use Rattle.std.specs.Prelude.{◌≡◌, ◌<◌, ◌≤◌, ℕ, IfSome, List, Some, length};
 ghost use Rattle.arena.specs.Seats.{SeatState};
 ghost use Rattle.span.specs.ReceiptLists.{kept_receipts, receipt_room, receipt_word_room};
 ghost use Rattle.span.specs.declared.receipt.Receipt.{Receipt};
 ghost use Rattle.teurlaks_c.specs.Calls.{SaysWords};
 ghost use Rattle.teurlaks_c.specs.SeatCalls.{AsksTend, AsksTold, Gets, OrNoRoom, SaysGotOrNoRoom, TendsInto, frees_kept, got_kept, puts_kept, sets_kept};
-ghost use Rattle.teurlaks_c.specs.Recorded.{DoesKept, asked_of};
+ghost use Rattle.teurlaks_c.specs.Recorded.{AddsTold, Answers, DoesKept, asked_of};
 ghost use Rattle.teurlaks_c.specs.Status.{out_of_memory};
 
 use crate::calls::tell;
@@ -41,9 +41,8 @@ pub(crate) trait ToldCall: SessionCall + Copy {
             × Self.does self.now before answer.now after }
         requires room { 0 < receipt_room receipts.old }
         requires words { MOST_WORDS ≤ receipt_word_room receipts.old }
-        ensures { (seat : SeatState) → seat.worker ≡ worker → seat.section ≡ section
-            → kept_receipts receipts.new ≡ kept_receipts receipts.old
-            ++ told self.now seat answer.now };
+        ensures { AddsTold (told self.now) worker section answer.now
+            (kept_receipts receipts.old) (kept_receipts receipts.new) };
 
     /// What C reads where there is no room for the receipt.
     fn no_room(&self) -> Self::Reply
@@ -59,9 +58,8 @@ pub(crate) fn tell_at_seat<C: ToldCall>(
     handle: &mut ShareHandle,
     call: &C,
 ) -> C::Reply
-    ensures { (answer : _) × AsksTold (C.does call.now) (C.does_held call.now) (C.told call.now)
-        handle.old.share answer handle.new.share
-        × OrNoRoom (C.status result) (C.says call.now result) answer }
+    ensures { Answers (AsksTold (C.does call.now) (C.does_held call.now) (C.told call.now))
+        (OrNoRoom (C.status result) (C.says call.now result)) handle.old.share handle.new.share }
 {
     let Some(mut share) = replace(handle, ShareHandle::none()).into_box(alloc) else {
         return call.no_seat();
@@ -74,9 +72,8 @@ pub(crate) fn tell_at_seat<C: ToldCall>(
 // The same of what is shared.
 #[inline(always)]
 fn tell_at_share<C: ToldCall>(share: &mut Share, call: &C) -> C::Reply
-    ensures { (answer : _) × AsksTold (C.does call.now) (C.does_held call.now) (C.told call.now)
-        (Some share.old) answer (Some share.new)
-        × OrNoRoom (C.status result) (C.says call.now result) answer }
+    ensures { Answers (AsksTold (C.does call.now) (C.does_held call.now) (C.told call.now))
+        (OrNoRoom (C.status result) (C.says call.now result)) (Some share.old) (Some share.new) }
 {
     match share {
         Share::Seat(seat) => call.reply(ask_seat(seat, call)),
@@ -91,9 +88,8 @@ fn tell_at_share<C: ToldCall>(share: &mut Share, call: &C) -> C::Reply
 #[inline(always)]
 fn tell_at_recorded<C: ToldCall>(shared: &mut RecordedSeat, call: &C) -> C::Reply
     ensures arena { shared.new.arena ≡ shared.old.arena }
-    ensures does { (answer : _) × DoesKept (C.does call.now) (C.told call.now) shared.old.kept
-        answer
-        shared.new.kept × OrNoRoom (C.status result) (C.says call.now result) (asked_of answer) }
+    ensures does { Answers (DoesKept (C.does call.now) (C.told call.now)) (λ got. OrNoRoom
+        (C.status result) (C.says call.now result) (asked_of got)) shared.old.kept shared.new.kept }
 {
     let answer = tell_recorded(shared, *call);
     told_reply(call, answer)
@@ -182,9 +178,8 @@ pub(crate) fn look_up_recorded(
     room: &mut [RawWord],
 ) -> WordsReply
     ensures arena { shared.new.arena ≡ shared.old.arena }
-    ensures does { (answer : _) × DoesKept (Gets key.now) got_kept shared.old.kept answer
-        shared.new.kept
-        × SaysGotOrNoRoom room.old result room.new (asked_of answer) }
+    ensures does { Answers (DoesKept (Gets key.now) got_kept) (λ got. SaysGotOrNoRoom
+        room.old result room.new (asked_of got)) shared.old.kept shared.new.kept }
 {
     let answer = got_recorded(shared, key);
     got_reply(answer, room)

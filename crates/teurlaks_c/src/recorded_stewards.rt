@@ -1,13 +1,14 @@
 // A recorded arena from its beginning to its audit, and the seats that its steward hands out.
-ghost use Rattle.std.specs.Prelude.{◌≡◌, ◌↔◌, IfErr, IfOk, IsSome, MatchResult, None, Some, map, vec_capacity, vec_len, ◌≤◌, ◌⊎◌};
+ghost use Rattle.std.specs.Prelude.{◌≡◌, ◌↔◌, IfErr, IfOk, IsSome, None, Some, map, vec_capacity, vec_len, ◌≤◌, ◌⊎◌};
 ghost use Rattle.std.specs.Arc.{arc_value};
-ghost use Rattle.marks.specs.Numbers.{AreWithin, limits_of, with_span_limit};
+ghost use Rattle.marks.specs.Numbers.{AreWithin, limits_of};
+ghost use Rattle.teurlaks_c.specs.Numbers.{limits_given};
 ghost use Rattle.span.specs.ReceiptLists.{kept_receipts};
 ghost use Rattle.span.specs.SpanLogs.{AreLegal};
 ghost use Rattle.teurlaks_c.specs.declared.share.Share.TheVariants as shares;
 ghost use Rattle.teurlaks_c.specs.declared.recorded.RecordedSeat.{RecordedSeat};
 ghost use Rattle.teurlaks_c.specs.Audits.{AuditsRun, Ends, EndsRun, Holds, SaysAudited, SaysAuditedShare};
-ghost use Rattle.teurlaks_c.specs.StewardCalls.{HandsOutKept, HasNewRecord, HaveNoReceipt};
+ghost use Rattle.teurlaks_c.specs.StewardCalls.{HandsBoxed, HandsOutKept, HasNewRecord, HaveNoReceipt};
 ghost use Rattle.teurlaks_c.specs.Status.{busy, cause_status, config, has_core, out_of_memory};
 
 use crate::limits::limits_for;
@@ -73,12 +74,11 @@ pub extern "C" fn teurlaks_arena_open_recorded_with_spans(
     ring_capacity: u32,
     gens: u32,
 ) -> u32
-    ensures ok { result ≡ 0
-        → HasNewRecord (with_span_limit (limits_of shards page_limit ring_capacity gens) span_limit)
-        out.new.share }
+    ensures ok { result ≡ 0 → HasNewRecord
+        (limits_given shards page_limit span_limit ring_capacity gens) out.new.share }
     ensures refused { (result ≡ 0 → ⊥) → out.new.share ≡ out.old.share }
-    ensures config { out.old.share ≡ None → (result ≡ config) ↔ (AreWithin
-        (with_span_limit (limits_of shards page_limit ring_capacity gens) span_limit) → ⊥) }
+    ensures config { out.old.share ≡ None → (result ≡ config)
+        ↔ (AreWithin (limits_given shards page_limit span_limit ring_capacity gens) → ⊥) }
     ensures taken { (result ≡ has_core) ↔ IsSome out.old.share }
 {
     if has_share(alloc, out) {
@@ -111,11 +111,7 @@ fn leave_recorder(alloc: Global, out: &mut ShareHandle, limits: Limits) -> u32
 
 // The steward of a new arena, with all its seats, of which none has a receipt.
 fn opened(alloc: Global, limits: Limits) -> Result<RecordedSteward, AllocError>
-    ensures { IfOk result (λ shared. (shared.inner.steward ≡ record {
-      limits = limits;
-      plan = None;
-    }) × (shared.inner.last ≡ None) × (vec_len shared.seats ≡ limits.shards)
-        × HaveNoReceipt shared.seats.items) }
+    ensures { IfOk result (λ shared. HasNewRecord limits (Some (shares.RecordedSteward shared))) }
 {
     let (arena, seats, steward) = Arena::with_limits(alloc, limits, NoGate)?;
     let seats = kept_seats(alloc, seats)?;
@@ -148,9 +144,7 @@ fn kept_seats(alloc: Global, seats: Vec<Seat>) -> Result<Vec<KeptSeat>, AllocErr
 
 /// A seat of the steward, in a box of its own, or the status that says why there is none.
 pub(crate) fn kept_seat_of(alloc: Global, steward: &mut RecordedSteward) -> Result<Box<Share>, u32>
-    ensures handed { MatchResult result
-        (λ seat. HandsOutKept steward.old 0 steward.new (Some seat.value))
-        (λ status. HandsOutKept steward.old status steward.new None) }
+    ensures handed { HandsBoxed (λ says out. HandsOutKept steward.old says steward.new out) result }
     ensures same { (steward.new.arena ≡ steward.old.arena)
         × (steward.new.inner ≡ steward.old.inner) }
 {
@@ -173,9 +167,8 @@ fn boxed_seat(
     kept: KeptSeat,
 ) -> Result<Box<Share>, KeptSeat>
     requires { kept.seat.limits ≡ (arc_value arena.now).limits }
-    ensures ok { IfOk result (λ boxed. (shared : RecordedSeat)
-        × (boxed.value ≡ shares.RecordedSeat shared)
-        × (arc_value shared.arena ≡ arc_value arena.now) × (shared.kept ≡ kept)) }
+    ensures ok { IfOk result (λ got. (seat : RecordedSeat) × (got.value ≡ shares.RecordedSeat seat)
+        × (arc_value seat.arena ≡ arc_value arena.now) × (seat.kept ≡ kept)) }
     ensures err { IfErr result (λ back. back ≡ kept) }
 {
     let Ok(arena) = Arc::try_clone(arena) else {

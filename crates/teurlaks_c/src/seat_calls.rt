@@ -1,10 +1,9 @@
 // What is asked of the seat of a handle, and what it answers.
-ghost use Rattle.std.specs.Prelude.{◌≡◌, MatchOption, Some, length};
-ghost use Rattle.arena.specs.Delays.{HandsOver};
+ghost use Rattle.std.specs.Prelude.{◌≡◌, Some, length};
 ghost use Rattle.arena.specs.Seats.{SeatState};
 ghost use Rattle.span.specs.Classes.{IsObject, width_of};
 ghost use Rattle.teurlaks_c.specs.SessionCalls.{AtPaused, HasSession};
-ghost use Rattle.teurlaks_c.specs.SeatCalls.{AsksPaused, AtSeat, Ends, Frees, FreesLater, Gets, HasNoSeat, IsOneCall, PutsWithoutReceipt, Retires, SaysGot, SaysLooked, Sets, Stays, Tends, free_told, set_told};
+ghost use Rattle.teurlaks_c.specs.SeatCalls.{AsksPaused, Ends, Frees, FreesLater, Gets, HandsOver, IsOneCall, PutsWithoutReceipt, Retires, SaysGot, SaysLooked, Sets, Stays, Tends, free_told, set_told};
 
 use crate::recorded::RecordedSeat;
 use crate::replies::{RawWord, WordsReply};
@@ -325,7 +324,7 @@ pub(crate) struct HandOver;
 impl SeatCall for HandOver {
     type Answer = ();
 
-    ghost does = { λ call before _ after. HandsOver before after };
+    ghost does = { λ call. HandsOver };
 
     fn ask<L: Log>(&self, seat: &mut Seat, _arena: &Arena<NoGate, L>) {
         seat.hand_over();

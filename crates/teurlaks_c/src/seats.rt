@@ -1,8 +1,8 @@
 // The calls of a seat, for the thread that has its handle.
 ghost use Rattle.std.specs.Prelude.{◌≡◌, ◌∷◌, ◌≤◌, [], length};
-ghost use Rattle.arena.specs.Delays.{HandsOver};
 ghost use Rattle.span.specs.Classes.{IsObject, width_of};
-ghost use Rattle.teurlaks_c.specs.SeatCalls.{AsksEither, AsksNothing, AsksPaused, AsksTend, Ends, FreesBy, FreesKey, GetsWords, IsOneCall, LeavesKey, PutsBy, PutsWords, Retires, SaysAdopted, SaysBegun, SaysEnded, SaysHandedOver, SaysRetired, SaysTended, SaysTrimmed, SetsBy, SetsWords};
+ghost use Rattle.teurlaks_c.specs.SeatCalls.{AsksEither, AsksNothing, AsksPaused, AsksTend, Ends, FreesBy, FreesKey, GetsWords, HandsOver, IsOneCall, LeavesKey, PutsBy, PutsWords, Retires, SaysAdopted, SaysBegun, SaysEnded, SaysHandedOver, SaysRetired, SaysTended, SaysTrimmed, SetsBy, SetsWords};
+ghost use Rattle.teurlaks_c.specs.Recorded.{Answers};
 ghost use Rattle.teurlaks_c.specs.SessionCalls.{AtHeldSeat};
 ghost use Rattle.teurlaks_c.specs.Status.{adopt_status, receive_status};
 ghost use Rattle.teurlaks_c.specs.Words.{words_of};
@@ -180,9 +180,8 @@ pub extern "C" fn teurlaks_seat_free_later(
 /// takes no lock and no memory.
 #[unsafe(no_mangle)]
 pub extern "C" fn teurlaks_seat_hand_over(alloc: Global, handle: &mut ShareHandle) -> u32
-    ensures { (answer : _) × AsksEither (λ before _ after. HandsOver before after)
-        (AtHeldSeat (λ before _ after. HandsOver before after)) handle.old.share answer
-        handle.new.share × SaysHandedOver result answer }
+    ensures { Answers (AsksEither HandsOver (AtHeldSeat HandsOver)) (SaysHandedOver result)
+        handle.old.share handle.new.share }
 {
     at_seat_or_session(alloc, handle, &HandOver)
 }

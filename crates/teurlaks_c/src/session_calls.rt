@@ -1,8 +1,8 @@
 // What is asked of the seat of a handle that may keep its shard, and what it answers.
-ghost use Rattle.std.specs.Prelude.{◌≡◌, None, Option, Some, if◌then◌else◌, length};
-ghost use Rattle.arena.specs.Delays.{HandsOver};
-ghost use Rattle.teurlaks_c.specs.SeatCalls.{AsksEither, FreesLater, GetsKey, SaysFreed, SaysGot, SaysHandedOver, SaysInstead, SaysLeft, SaysPut, SaysSet, Stays};
-ghost use Rattle.teurlaks_c.specs.SessionCalls.{AtHeldSeat, FreesHeld, GetsHeld, Held, InSession, PutsHeld, SetsHeld, held};
+ghost use Rattle.std.specs.Prelude.{◌≡◌, None, Option, Some, if◌then◌else◌};
+ghost use Rattle.teurlaks_c.specs.Recorded.{Answers};
+ghost use Rattle.teurlaks_c.specs.SeatCalls.{AsksEither, FreesLater, GetsKey, HandsOver, SaysFreed, SaysGot, SaysHandedOver, SaysInstead, SaysLeft, SaysPut, SaysSet, Stays};
+ghost use Rattle.teurlaks_c.specs.SessionCalls.{AtHeldSeat, FreesHeld, GetsHeld, Held, PutsHeld, SetsHeld, held};
 ghost use Rattle.teurlaks_c.specs.Status.{done, none, put_status};
 
 use crate::calls::no_key;
@@ -56,9 +56,8 @@ pub(crate) fn at_seat_or_session<C: SessionCall>(
     handle: &mut ShareHandle,
     call: &C,
 ) -> C::Reply
-    ensures { (answer : _) × AsksEither (C.does call.now) (C.does_held call.now) handle.old.share
-        answer
-        handle.new.share × C.says call.now result answer }
+    ensures { Answers (AsksEither (C.does call.now) (C.does_held call.now))
+        (C.says call.now result) handle.old.share handle.new.share }
 {
     let Some(mut share) = replace(handle, ShareHandle::none()).into_box(alloc) else {
         return call.no_seat();
@@ -71,9 +70,8 @@ pub(crate) fn at_seat_or_session<C: SessionCall>(
 // Asks the seat, where that is what is shared.
 #[inline(always)]
 fn ask_either<C: SessionCall>(share: &mut Share, call: &C) -> C::Reply
-    ensures { (answer : _) × AsksEither (C.does call.now) (C.does_held call.now) (Some share.old)
-        answer
-        (Some share.new) × C.says call.now result answer }
+    ensures { Answers (AsksEither (C.does call.now) (C.does_held call.now))
+        (C.says call.now result) (Some share.old) (Some share.new) }
 {
     match share {
         Share::Seat(seat) => call.reply(ask_seat(seat, call)),
@@ -262,7 +260,7 @@ impl SessionCall for FreeLater {
 impl SessionCall for HandOver {
     type Reply = u32;
 
-    ghost does_held = { λ call. AtHeldSeat (λ before _ after. HandsOver before after) };
+    ghost does_held = { λ call. AtHeldSeat HandsOver };
 
     ghost says = { λ call. SaysHandedOver };
 

@@ -1,11 +1,12 @@
 // An arena from its beginning to its end, and the calls of its steward.
-ghost use Rattle.std.specs.Prelude.{◌≡◌, ◌↔◌, ◌≢◌, ◌⊎◌, IfErr, IfOk, IsSome, MatchBool, None, vec_len, MatchResult, Some};
+ghost use Rattle.std.specs.Prelude.{◌≡◌, ◌↔◌, ◌⊎◌, IfErr, IfOk, IsSome, MatchBool, None, Some};
 ghost use Rattle.std.specs.Arc.{arc_value};
 ghost use Rattle.teurlaks_c.specs.declared.share.SharedSeat.{SharedSeat};
 ghost use Rattle.teurlaks_c.specs.declared.share.Share.TheVariants as shares;
-ghost use Rattle.marks.specs.Numbers.{AreWithin, limits_of, with_span_limit};
+ghost use Rattle.marks.specs.Numbers.{AreWithin, limits_of};
+ghost use Rattle.teurlaks_c.specs.Numbers.{limits_given};
 ghost use Rattle.teurlaks_c.specs.Status.{config, has_core, mark_status, no_core, out_of_memory, status_of_outcome};
-ghost use Rattle.teurlaks_c.specs.StewardCalls.{Asks, Closes, ForgetsAll, HandsOut, HandsOutOf, HasNewArena, Keeps, LeavesSeat, Marks, SaysClosed, SaysForgotten, SaysMarked, SaysStepped, SaysTotals, TakesStep, WritesLast};
+ghost use Rattle.teurlaks_c.specs.StewardCalls.{Asks, Closes, ForgetsAll, HandsBoxed, HandsOutBoxed, HandsOutOf, HasNewArena, Keeps, LeavesSeat, Marks, SaysClosed, SaysForgotten, SaysMarked, SaysStepped, SaysTotals, TakesStep, WritesLast};
 
 use crate::keys::raw_span;
 use crate::limits::limits_for;
@@ -75,12 +76,11 @@ pub extern "C" fn teurlaks_arena_open_with_spans(
     ring_capacity: u32,
     gens: u32,
 ) -> u32
-    ensures ok { result ≡ 0
-        → HasNewArena (with_span_limit (limits_of shards page_limit ring_capacity gens) span_limit)
-        out.new.share }
+    ensures ok { result ≡ 0 → HasNewArena
+        (limits_given shards page_limit span_limit ring_capacity gens) out.new.share }
     ensures refused { (result ≡ 0 → ⊥) → out.new.share ≡ out.old.share }
-    ensures config { out.old.share ≡ None → (result ≡ config) ↔ (AreWithin
-        (with_span_limit (limits_of shards page_limit ring_capacity gens) span_limit) → ⊥) }
+    ensures config { out.old.share ≡ None → (result ≡ config)
+        ↔ (AreWithin (limits_given shards page_limit span_limit ring_capacity gens) → ⊥) }
     ensures taken { (result ≡ has_core) ↔ IsSome out.old.share }
 {
     if has_share(alloc, out) {
@@ -113,10 +113,7 @@ fn leave_steward(alloc: Global, out: &mut ShareHandle, limits: Limits) -> u32
 
 // The steward of a new arena, with all its seats.
 fn opened(alloc: Global, limits: Limits) -> Result<SharedSteward, AllocError>
-    ensures { IfOk result (λ shared. (shared.inner.steward ≡ record {
-      limits = limits;
-      plan = None;
-    }) × (shared.inner.last ≡ None) × (vec_len shared.seats ≡ limits.shards)) }
+    ensures { IfOk result (λ shared. HasNewArena limits (Some (shares.Steward shared))) }
 {
     let (arena, seats, steward) = Arena::with_limits(alloc, limits, NoGate)?;
     let Ok(arena) = Arc::new(alloc, arena) else {
@@ -167,9 +164,7 @@ pub extern "C" fn teurlaks_steward_seat(
 
 // A seat of the handle's steward, in a box of its own, or the status that says why there is none.
 fn hand_out(alloc: Global, handle: &mut ShareHandle) -> Result<Box<Share>, u32>
-    ensures { MatchResult result
-        (λ seat. HandsOut handle.old.share 0 handle.new.share (Some seat.value))
-        (λ status. LeavesSeat handle.old.share None status handle.new.share None) }
+    ensures { HandsOutBoxed handle.old.share result handle.new.share }
 {
     let Some(mut share) = replace(handle, ShareHandle::none()).into_box(alloc) else {
         return Err(NO_CORE);
@@ -181,9 +176,7 @@ fn hand_out(alloc: Global, handle: &mut ShareHandle) -> Result<Box<Share>, u32>
 
 // The same of what is shared.
 fn take_seat(alloc: Global, share: &mut Share) -> Result<Box<Share>, u32>
-    ensures { MatchResult result
-        (λ seat. HandsOut (Some share.old) 0 (Some share.new) (Some seat.value))
-        (λ status. LeavesSeat (Some share.old) None status (Some share.new) None) }
+    ensures { HandsOutBoxed (Some share.old) result (Some share.new) }
 {
     match share {
         Share::Steward(steward) => seat_of(alloc, steward),
@@ -194,9 +187,7 @@ fn take_seat(alloc: Global, share: &mut Share) -> Result<Box<Share>, u32>
 
 // The same of a steward.
 fn seat_of(alloc: Global, steward: &mut SharedSteward) -> Result<Box<Share>, u32>
-    ensures handed { MatchResult result
-        (λ seat. HandsOutOf steward.old 0 steward.new (Some seat.value))
-        (λ status. HandsOutOf steward.old status steward.new None) }
+    ensures handed { HandsBoxed (λ says out. HandsOutOf steward.old says steward.new out) result }
     ensures same { (steward.new.arena ≡ steward.old.arena)
         × (steward.new.inner ≡ steward.old.inner) }
 {
