@@ -1,11 +1,16 @@
 -- What is kept of the lines before a line. No public clause cites this module.
-use Rattle.std.specs.Prelude.{◌≡◌, ◌≤◌, ◌&&◌, ◌||◌, ℕ, Bool, not, List, Option, Some, nat_eq, if◌then◌else◌}
+use Rattle.std.specs.Prelude.{◌≡◌, ◌≤◌, ◌&&◌, ◌||◌, ℕ, Bool, not, List, Option, Some, None, Result, nat_eq, if◌then◌else◌}
 use Rattle.std.specs.HashMap as hash
 use Rattle.std.specs.HashSet as bag
 use Rattle.std.specs.Option.{option_or}
+use Rattle.std.specs.Str.{bytes_eq}
 use Rattle.std.specs.Cmp.Lexicographic.{pointwise}
 use Rattle.trace_text.specs.Barrier.{is_barrier, open_lines}
 use Rattle.trace_text.specs.Causes.{awaits_mark, begins, binding_at, binding_of, ends, has_ended, is_adopt, keys_in, marks, speaks}
+use Rattle.trace_text.specs.Places.{place_at, unless}
+use Rattle.trace_text.specs.Within.{cause_but_bound}
+use Rattle.trace_text.specs.declared.cause.Cause.{Cause}
+use Rattle.trace_text.specs.declared.header.Header.{Header}
 use Rattle.trace_text.specs.declared.line.Line.{Line}
 use Rattle.trace_text.specs.declared.line.Keys.{Keys}
 use Rattle.trace_text.specs.declared.line.Keys.TheVariants.{One, Many}
@@ -48,6 +53,17 @@ pub record Knows (lines : List Line) (e : Earlier) : Type 0 where
   pub keys : e.keys ≡ keys_in lines
   pub awaits : e.awaits_mark ≡ awaits_mark lines
   pub few : Few lines
+
+-- the place of the first key that the line after those reads, 0 if it reads none; or what is wrong
+-- with the line, but for a name that it binds again
+abbrev pub place_or_cause : Header → List Line → Line → Result ℕ Cause
+place_or_cause header before line =
+    unless (cause_but_bound header before line) (place_at before line)
+
+-- the new table has the binding of the name, and beside it what the old one had
+abbrev pub BindsName : (old new : Earlier) → (name : List ℕ) → Binding → Type 0
+BindsName old new name binding = (other : List ℕ) → bound_in new other
+    ≡ option_or (if bytes_eq name other then Some binding else None) (bound_in old other)
 
 -- the new table has what the line at that place binds, and beside it what the old one had
 abbrev pub NotesNames : (old new : Earlier) (place : ℕ) → Line → Type 0

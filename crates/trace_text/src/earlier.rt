@@ -3,8 +3,8 @@
 ghost use Rattle.std.specs.Prelude.{◌≡◌, ◌+◌, ◌-◌, ◌<◌, ◌^◌, List, IfOk, OnOk, is_some, nat_le};
 ghost use Rattle.trace_text.specs.Causes.{binds_again, class_named, classed, classed_call, is_abandoned, is_call, is_call_over, keys_at, marks_at};
 ghost use Rattle.trace_text.specs.Objects.{last_word};
-ghost use Rattle.trace_text.specs.Places.{place_at, place_by, unless};
-ghost use Rattle.trace_text.specs.Within.{caller_cause, cause_but_bound, read_cause, thread_cause};
+ghost use Rattle.trace_text.specs.Places.{place_by, unless};
+ghost use Rattle.trace_text.specs.Within.{caller_cause, read_cause, thread_cause};
 ghost use Rattle.trace_text.specs.declared.line.Line.{Line};
 ghost use Rattle.trace_text.specs.declared.line.Line.TheVariants as line;
 
@@ -52,11 +52,9 @@ pub struct Earlier {
 }
 
 impl Earlier {
-    ghost use Rattle.trace_text.specs.Earlier.{Knows, NotesEnd, NotesLeaving, NotesNames, awaits_after, bound_in};
+    ghost use Rattle.trace_text.specs.Earlier.{BindsName, Knows, NotesEnd, NotesLeaving, NotesNames, awaits_after, bound_in, place_or_cause};
     ghost use Rattle.trace_text.specs.Causes.{awaits_mark};
-    ghost use Rattle.std.specs.Prelude.{[], ℕ, Some, None, if◌then◌else◌};
-    ghost use Rattle.std.specs.Option.{option_or};
-    ghost use Rattle.std.specs.Str.{bytes_eq};
+    ghost use Rattle.std.specs.Prelude.{[], Some, None};
 
     /// Before the first line, of a text whose names are hashed by that seed.
     pub fn new(alloc: Global, seed: TextSeed) -> Earlier
@@ -209,8 +207,7 @@ impl Earlier {
     /// none; or what is wrong with it, but for a name that it binds again.
     fn call_place(&self, header: &Header, thread: u32, call: &Call) -> Result<usize, Cause>
         ensures { (before : List Line) → Knows before self.now
-            → result ≡ unless (cause_but_bound header.now before (line.Call thread call.now))
-            (place_by before call.now) }
+            → result ≡ place_or_cause header.now before (line.Call thread call.now) }
     {
         if self.is_over(call) {
             return Err(Cause::Limit);
@@ -231,8 +228,7 @@ impl Earlier {
     /// that the table is asked for the name once.
     pub fn place_of(&self, header: &Header, line: &Line) -> Result<usize, Cause>
         ensures { (before : List Line) → Knows before self.now
-            → result ≡ unless (cause_but_bound header.now before line.now)
-            (place_at before line.now) }
+            → result ≡ place_or_cause header.now before line.now }
     {
         match line {
             Line::Silent | Line::Mark => Ok(0),
@@ -248,9 +244,7 @@ impl Earlier {
     /// before.
     fn bind(&mut self, name: &Name, binding: Binding, count: usize) -> Result<bool, AllocError>
         ensures again { IfOk result (λ again. again ≡ is_some (bound_in self.old name.now)) }
-        ensures names { OnOk result ((other : List ℕ)
-            → bound_in self.new other ≡ option_or
-            (if bytes_eq name.now other then Some binding else None) (bound_in self.old other)) }
+        ensures names { OnOk result (BindsName self.old self.new name.now binding) }
         ensures keys { OnOk result (self.new.keys ≡ self.old.keys + count) }
         ensures ended { self.new.ended ≡ self.old.ended }
         ensures leaving { self.new.leaving ≡ self.old.leaving }
