@@ -1,11 +1,12 @@
 -- What a run keeps of the replies to its lines, and of the report. No public clause cites this
 -- module.
-use Rattle.std.specs.Prelude.{◌≡◌, ◌<◌, ◌≤◌, ◌+◌, ◌++◌, ℕ, Bool, true, false, List, [], filter, length, map, slice_get, Option, Some, None, unwrap_or}
+use Rattle.std.specs.Prelude.{◌≡◌, ◌<◌, ◌≤◌, ◌+◌, ◌++◌, ℕ, Bool, true, false, List, [], filter, length, map, slice_get, Option, Some, None, unwrap_or, if◌then◌else◌}
 use Rattle.std.specs.List.{AllByRecursion, flat_map}
 use Rattle.span.specs.declared.key.Key.{Key}
 use Rattle.trace_runner.specs.Made.{Asked, Calls, Did, Made, asked_of}
 use Rattle.trace_runner.specs.Answers.{told_of}
 use Rattle.trace_runner.specs.News.{news_of}
+use Rattle.trace_runner.specs.Report.{line_of_answer}
 use Rattle.trace_runner.specs.Runs.{key_at, key_bound, key_made}
 use Rattle.trace_text.specs.Causes.{binding_of}
 use Rattle.trace_text.specs.Earlier.{key_count}
@@ -14,8 +15,10 @@ use Rattle.trace_text.specs.declared.line.Call.{Call}
 use Rattle.trace_text.specs.declared.line.Call.TheVariants.{Get, Set, Free, Sweep, Later}
 use Rattle.trace_text.specs.declared.line.Line.{Line}
 use Rattle.trace_text.specs.declared.line.Line.TheVariants as line
+use Rattle.trace_text.specs.declared.name.Reference.{Reference}
 use Rattle.arena_core.specs.declared.event.Event.TheVariants.{Put}
 use Rattle.trace_runner.specs.declared.replies.Replies.{Replies}
+use Rattle.trace_runner.specs.declared.report.Answer.{Answer}
 
 -- ---- what is kept
 
@@ -38,8 +41,17 @@ kept_in r =
       text = r.text.items;
     }
 
+-- of what is kept, no more than the report changed
+abbrev pub KeepsButText : (old new : Replies) → Type 0
+KeepsButText old new = kept_in new ≡ record (kept_in old) { text = new.text.items }
+
 abbrev pub kept_none : Bool → Kept
 kept_none asked = record { keys = []; count = 0; asked = asked; text = [] }
+
+-- the report so far goes on with the answer on the line of that number, where it tells the answers
+abbrev pub with_answer : Replies → (number : ℕ) → Answer → List ℕ
+with_answer r number answer =
+    r.text.items ++ (if r.asked then line_of_answer number answer else [])
 
 -- what is asked for is a put
 abbrev pub is_put : Asked → Bool
@@ -85,16 +97,17 @@ abbrev pub FindsOne : List Line → List Did → List (Option Key) → (first : 
 FindsOne lines done keys first name place = slice_get keys (first + place)
     ≡ Some (key_at lines done name place)
 
+-- so does the key that a reference names; a plain name is that of its only put
+abbrev pub FindsNamed : List Line → List Did → List (Option Key) → (first : ℕ) → Reference → Type 0
+FindsNamed lines done keys first reference =
+    FindsOne lines done keys first reference.name (unwrap_or reference.index 0)
+
 -- so do all keys that the call reads, sets, frees or sends off
 abbrev pub Finds : List Line → List Did → List (Option Key) → (first : ℕ) → Call → Type 0
-Finds lines done keys first (Get key) = FindsOne lines done keys first key.name
-    (unwrap_or key.index 0)
-Finds lines done keys first (Set key class value) =
-    FindsOne lines done keys first key.name (unwrap_or key.index 0)
-Finds lines done keys first (Free key) = FindsOne lines done keys first key.name
-    (unwrap_or key.index 0)
-Finds lines done keys first (Later key) = FindsOne lines done keys first key.name
-    (unwrap_or key.index 0)
+Finds lines done keys first (Get key) = FindsNamed lines done keys first key
+Finds lines done keys first (Set key class value) = FindsNamed lines done keys first key
+Finds lines done keys first (Free key) = FindsNamed lines done keys first key
+Finds lines done keys first (Later key) = FindsNamed lines done keys first key
 Finds lines done keys first (Sweep name from to) = (place : ℕ) → from ≤ place → place < to
     → FindsOne lines done keys first name place
 Finds lines done keys first _ = Unit {0}

@@ -9,5 +9,6 @@ pub mod Runs
 pub mod Given
 pub mod Kept
 pub mod Recalls
+pub mod RunState
 pub mod Replay
 pub mod Verdict

@@ -8,10 +8,11 @@ use Rattle.trace_text.specs.Barrier.{is_barrier, open_lines}
 use Rattle.trace_text.specs.Causes.{begins_again, has_ended, is_call, is_call_over, keys_in, thread_of}
 use Rattle.arena_core.specs.State.{CoreState}
 use Rattle.trace_runner.specs.Made.{Asked, AreAsRequested, CalledEvent, Called, Did, Made, Request, all_made, asked_of, keys_taken}
-use Rattle.trace_runner.specs.Kept.{AreHome, Kept, Recalls, keeping, kept_of}
+use Rattle.trace_runner.specs.Kept.{AreHome, Kept, Recalls, keeping, kept_in, kept_of}
 use Rattle.trace_runner.specs.News.{News, news_of, with_all_made}
 use Rattle.trace_runner.specs.Runs.{AreSteps, DoLines, IsAnswered, MayMeetPlan, ends_asked, plan_end_asked, pairs_left_of, planning_at, rings_asked}
 use Rattle.trace_runner.specs.declared.plans.Plans.{Plans}
+use Rattle.trace_runner.specs.declared.replies.Replies.{Replies}
 use Rattle.arena_core.specs.declared.event.Event.{Event}
 use Rattle.arena_core.specs.declared.event.Event.TheVariants.{Put, Later, Settle, End, Begin, Retire, Trim, Adopt, Mark, MarkSome, Step, Close}
 use Rattle.arena_core.specs.declared.reply.Reply.{Reply}
@@ -188,6 +189,9 @@ news_at kept plans =
       text = kept.text;
       certificate = plans.certificate.items;
     }
+
+abbrev pub news_in : Replies → Plans → News
+news_in replies plans = news_at (kept_in replies) plans
 
 -- the run knows how many pairs of the open plan are left, and where none is open
 abbrev pub KnowsPlan : Plans → CoreState → Type 0

@@ -52,6 +52,10 @@ answer_text (answer.Other what) = other_text what
 abbrev pub answer_line : LineAnswer → List ℕ
 answer_line a = decimal a.line ++ codes " " ++ answer_text a.answer ++ codes "\n"
 
+-- the line of that number, with its answer
+abbrev pub line_of_answer : (number : ℕ) → Answer → List ℕ
+line_of_answer number answer = answer_line (record { line = number; answer = answer })
+
 -- a line for each answer, where replies are asked for
 abbrev pub answers_text : Bool → List LineAnswer → List ℕ
 answers_text replies answers = if replies then flat_map answer_line answers else []

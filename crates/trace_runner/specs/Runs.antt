@@ -1,6 +1,7 @@
 -- What the lines of a trace do.
 use Rattle.std.specs.Prelude.{◌≡◌, ◌+◌, ◌-◌, ℕ, Bool, nat_lt, List, [], ◌∷◌, ◌++◌, length, map, replicate, take, slice_get, Option, Some, None, option_and_then, unwrap_or, if◌then◌else◌}
 use Rattle.std.specs.List.{AllByRecursion, range_with_len}
+use Rattle.span.specs.declared.class.Class.{Class}
 use Rattle.span.specs.declared.key.Key.{Key}
 use Rattle.trace_runner.specs.Barrier.{leavers}
 use Rattle.trace_text.specs.Barrier.{is_barrier}
@@ -54,19 +55,28 @@ abbrev pub on_key : (Key → Event) → Option Key → Asked
 on_key event None = Keyless
 on_key event (Some key) = Calls (event key)
 
+-- the puts of so many objects of the class, which count up from the value, from the next and so on
+abbrev pub puts_asked : (thread : ℕ) → Class → (count value : ℕ) → List Asked
+puts_asked thread class count value =
+    map (λ i. Calls (event.Put thread (counted_from class (value + i)))) (range_with_len 0 count)
+
+-- the frees of the keys of a name from one place up to, and without, another
+abbrev pub frees_asked : List Line → List Did → (name : List ℕ) → (from to : ℕ) → List Asked
+frees_asked lines done name from to =
+    map (λ place. on_key event.Free (key_at lines done name place))
+    (range_with_len from (to - from))
+
 -- what a thread's call asks for, in order, after what the lines above it have done
 abbrev pub asked_by_call : (shards : ℕ) → List Line → List Did → ℕ → Call → List Asked
 asked_by_call shards lines done thread (Put name class value) =
     Calls (event.Put thread (counted_from class value)) ∷ []
 asked_by_call shards lines done thread (Fill name class count value) =
-    map (λ i. Calls (event.Put thread (counted_from class (value + i)))) (range_with_len 0 count)
+    puts_asked thread class count value
 asked_by_call shards lines done thread (Get key) = on_key event.Get (key_of lines done key) ∷ []
 asked_by_call shards lines done thread (Set key class value) =
     on_key (λ k. event.Set k (counted_from class value)) (key_of lines done key) ∷ []
 asked_by_call shards lines done thread (Free key) = on_key event.Free (key_of lines done key) ∷ []
-asked_by_call shards lines done thread (Sweep name from to) =
-    map (λ place. on_key event.Free (key_at lines done name place))
-    (range_with_len from (to - from))
+asked_by_call shards lines done thread (Sweep name from to) = frees_asked lines done name from to
 asked_by_call shards lines done thread (Later key) =
     on_key (event.Later thread) (key_of lines done key) ∷ []
 asked_by_call shards lines done thread Tend = Tends shards thread ∷ []

@@ -1,8 +1,7 @@
 //! The keys that puts gave out, and which puts were refused.
 
 ghost use Rattle.std.specs.Prelude.{◌≡◌, ◌+◌, ◌<◌, ◌≤◌, ◌^◌, ◌++◌, ◌∷◌, [], ℕ, List, IfNone, IfOk, IfSome, None, OnErr, OnOk, get_or, length, nat_le, slice_get};
-ghost use Rattle.std.specs.List.{flat_map};
-ghost use Rattle.trace_runner.specs.Given.{AllGiven, AreInRow, all_given, given_in, key_at};
+ghost use Rattle.trace_runner.specs.Given.{AllGiven, AreCountable, AreInRow, all_given, given_above, given_at, key_at};
 ghost use Rattle.span.specs.declared.key.Key.{Key};
 ghost use Rattle.trace_runner.specs.declared.key_list.Stretch.{Stretch};
 ghost use Rattle.trace_runner.specs.declared.key_list.TheConstants.{MOST_REFUSED};
@@ -93,9 +92,8 @@ fn count_to(closed: &[Stretch], place: usize) -> usize
 fn index_above(closed: &[Stretch], place: usize) -> Option<usize>
     requires { (end : ℕ) × (last : ℕ) × AreInRow 0 0 closed.now end last × (place < end)
         × (last < 2 ^ 64) }
-    ensures { (keys : List Key) (end : ℕ) (last : ℕ) → AreInRow 0 0 closed.now end last
-        → place < end → last ≤ length keys
-        → get_or (flat_map (given_in keys) closed.now) place None ≡ key_at keys result }
+    ensures { (keys : List Key) (end last : ℕ) → AreInRow 0 0 closed.now end last → place < end
+        → last ≤ length keys → given_above keys closed.now place ≡ key_at keys result }
 {
     let count = count_to(closed, place);
     if count == 0 {
@@ -120,10 +118,8 @@ fn index_of(
     below: u32,
 ) -> Option<usize>
     requires { AreInRow 0 0 closed.now last above }
-    ensures { (keys : List Key) (refused : ℕ) → above ≤ length keys
-        → last + refused ≤ above + MOST_REFUSED → length keys < 2 ^ 63
-        → get_or (all_given keys closed.now above refused).items (first + below) None
-        ≡ key_at keys result }
+    ensures { (keys : List Key) (refused : ℕ) → AreCountable keys last above refused
+        → given_at keys closed.now above refused (first + below) ≡ key_at keys result }
 {
     let Some(place) = place_below(first, below) else {
         return None;

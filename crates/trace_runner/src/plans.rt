@@ -2,12 +2,12 @@
 
 ghost use Rattle.std.specs.Prelude.{◌≡◌, ◌+◌, ◌-◌, ◌<◌, ◌≤◌, ◌^◌, ◌∷◌, [], Bool, IfOk, length, replicate, None, Some, OnOk};
 ghost use Rattle.arena_core.specs.declared.event.Event.TheVariants as event;
-ghost use Rattle.arena_core.specs.declared.reply.Reply.TheVariants as reply;
+ghost use Rattle.arena_core.specs.declared.reply.Reply.TheVariants.{Marked};
 ghost use Rattle.certificate.specs.Text.{IsWritable};
 ghost use Rattle.trace_runner.specs.Made.{Calls, Called};
-ghost use Rattle.trace_runner.specs.Kept.{Kept, kept_in, kept_none};
+ghost use Rattle.trace_runner.specs.Kept.{KeepsButText, Kept, kept_none};
 ghost use Rattle.trace_runner.specs.News.{mark_news, no_news, with_called};
-ghost use Rattle.trace_runner.specs.Recalls.{Carries, KeepsShards, KnowsPlan, news_at};
+ghost use Rattle.trace_runner.specs.Recalls.{Carries, KeepsShards, KnowsPlan, news_at, news_in};
 ghost use Rattle.trace_runner.specs.Runs.{plan_end_asked, stepping};
 
 use crate::replies::Replies;
@@ -96,9 +96,8 @@ impl Plans {
     /// Takes a step of the open plan while a pair is left, as after each thread's line.
     pub(crate) fn follow(&mut self, core: &mut Core<Counted>) -> Result<(), AllocError>
         requires knows { KnowsPlan self.old core.old }
-        ensures made { (kept : Kept) → OnOk result
-            (Carries (stepping core.old.plan) core.old (news_at kept self.old) core.new
-            (news_at kept self.new)) }
+        ensures made { (kept : Kept) → OnOk result (Carries (stepping core.old.plan) core.old
+            (news_at kept self.old) core.new (news_at kept self.new)) }
         ensures knows { OnOk result (KnowsPlan self.new core.new) }
         ensures shards { KeepsShards core.old core.new }
         ensures marks { self.new.marks ≡ self.old.marks }
@@ -117,10 +116,8 @@ impl Plans {
     ) -> Result<(), AllocError>
         requires knows { KnowsPlan self.old core.old }
         ensures made { OnOk result (Carries (plan_end_asked core.old.plan) core.old
-            (news_at (kept_in replies.old) self.old) core.new
-            (news_at (kept_in replies.new) self.new)) }
-        ensures rest { kept_in replies.new ≡ record
-            (kept_in replies.old) { text = replies.new.text.items } }
+            (news_in replies.old self.old) core.new (news_in replies.new self.new)) }
+        ensures rest { KeepsButText replies.old replies.new }
         ensures ended { OnOk result (core.new.plan ≡ None) }
         ensures left { OnOk result (self.new.left ≡ None) }
         ensures shards { KeepsShards core.old core.new }
@@ -137,9 +134,8 @@ impl Plans {
     fn take_steps_left(&mut self, core: &mut Core<Counted>, left: usize) -> Result<(), AllocError>
         requires knows { KnowsPlan self.old core.old }
         requires left { self.old.left ≡ Some left }
-        ensures made { (kept : Kept) → OnOk result
-            (Carries (replicate left (Calls event.Step)) core.old (news_at kept self.old) core.new
-            (news_at kept self.new)) }
+        ensures made { (kept : Kept) → OnOk result (Carries (replicate left (Calls event.Step))
+            core.old (news_at kept self.old) core.new (news_at kept self.new)) }
         ensures knows { OnOk result (KnowsPlan self.new core.new) }
         ensures none { OnOk result (self.new.left ≡ Some 0) }
         ensures shards { KeepsShards core.old core.new }
@@ -159,9 +155,8 @@ impl Plans {
         requires some { 0 < left }
 
         // The step is made, and what is kept of the plan goes on with it.
-        ensures made { (kept : Kept) → OnOk result
-            (Carries (Calls event.Step ∷ []) core.old (news_at kept self.old) core.new
-            (news_at kept self.new)) }
+        ensures made { (kept : Kept) → OnOk result (Carries (Calls event.Step ∷ []) core.old
+            (news_at kept self.old) core.new (news_at kept self.new)) }
         ensures knows { OnOk result (KnowsPlan self.new core.new) }
         ensures one_less { OnOk result (self.new.left ≡ Some (left - 1)) }
         ensures shards { KeepsShards core.old core.new }
@@ -189,10 +184,8 @@ impl Plans {
 
         // The close is made and told.
         ensures made { OnOk result (Carries (Calls event.Close ∷ []) core.old
-            (news_at (kept_in replies.old) self.old) core.new
-            (news_at (kept_in replies.new) self.new)) }
-        ensures rest { kept_in replies.new ≡ record
-            (kept_in replies.old) { text = replies.new.text.items } }
+            (news_in replies.old self.old) core.new (news_in replies.new self.new)) }
+        ensures rest { KeepsButText replies.old replies.new }
 
         // No plan is open then.
         ensures ended { core.new.plan ≡ None }
@@ -235,10 +228,8 @@ impl Plans {
 
         // The mark is made and told.
         ensures made { OnOk result (Carries (Calls event.Mark ∷ []) core.old
-            (news_at (kept_in replies.old) self.old) core.new
-            (news_at (kept_in replies.new) self.new)) }
-        ensures rest { kept_in replies.new ≡ record
-            (kept_in replies.old) { text = replies.new.text.items } }
+            (news_in replies.old self.old) core.new (news_in replies.new self.new)) }
+        ensures rest { KeepsButText replies.old replies.new }
 
         // What is kept of its plan.
         ensures knows { OnOk result (KnowsPlan self.new core.new) }
@@ -271,11 +262,9 @@ impl Plans {
         requires pieces { 1 ≤ pieces }
         requires few { self.old.marks + 1 < 2 ^ 64 }
         requires writable { IsWritable certificate }
-        ensures news { OnOk result (news_at (kept_in replies.new) self.new
-            ≡ with_called (news_at (kept_in replies.old) self.old)
-            (Called event.Mark (reply.Marked certificate) core.now)) }
-        ensures rest { kept_in replies.new ≡ record
-            (kept_in replies.old) { text = replies.new.text.items } }
+        ensures news { OnOk result (news_in replies.new self.new ≡ with_called
+            (news_in replies.old self.old) (Called event.Mark (Marked certificate) core.now)) }
+        ensures rest { KeepsButText replies.old replies.new }
         ensures left { OnOk result (self.new.left ≡ Some (length certificate.plan)) }
         ensures marks { OnOk result (self.new.marks ≡ self.old.marks + 1) }
     {

@@ -1,12 +1,12 @@
 //! What a run keeps of the replies to its lines, and the report as it is told.
 
-ghost use Rattle.std.specs.Prelude.{◌≡◌, ◌+◌, ◌++◌, ◌^◌, ◌≤◌, ◌∷◌, [], ℕ, IfOk, IfSome, OnErr, Option, OnOk, Some, length, option_map, slice_get, if◌then◌else◌};
+ghost use Rattle.std.specs.Prelude.{◌≡◌, ◌+◌, ◌++◌, ◌^◌, ◌≤◌, ◌∷◌, [], ℕ, IfOk, IfSome, OnErr, Option, OnOk, Some, length, option_map, slice_get};
 ghost use Rattle.arena_core.specs.declared.reply.Reply.TheVariants.{Found, Freed, Replaced};
 ghost use Rattle.span.specs.Classes.{IsObject};
 ghost use Rattle.span.specs.declared.key.Key.{Key};
-ghost use Rattle.trace_runner.specs.Kept.{AreHome, IsHome, kept_in, kept_none};
+ghost use Rattle.trace_runner.specs.Kept.{AreHome, IsHome, KeepsButText, kept_in, kept_none, with_answer};
 ghost use Rattle.trace_runner.specs.Answers.{answer_told, put_told};
-ghost use Rattle.trace_runner.specs.Report.{answer_line, news_text};
+ghost use Rattle.trace_runner.specs.Report.{news_text};
 
 use crate::key_list::KeyList;
 use crate::report::{Answer, Other, PlanNews};
@@ -71,11 +71,7 @@ impl Replies {
     /// Counts an answer to a call that is no put, and tells it where the report does.
     pub(crate) fn tell(&mut self, line: usize, answer: &Answer) -> Result<(), AllocError>
         ensures count { OnOk result ((kept_in self.new).count ≡ (kept_in self.old).count + 1) }
-        ensures text { OnOk result (self.new.text.items ≡ self.old.text.items
-            ++ (if self.old.asked then answer_line (record {
-              line = line;
-              answer = answer.now;
-            }) else [])) }
+        ensures text { OnOk result (self.new.text.items ≡ with_answer self.old line answer.now) }
         ensures keys { self.new.keys ≡ self.old.keys }
         ensures asked { self.new.asked ≡ self.old.asked }
     {
@@ -94,11 +90,8 @@ impl Replies {
     ) -> Result<(), AllocError>
         requires { IfSome found (λ words. IsObject words.now) }
         ensures count { OnOk result ((kept_in self.new).count ≡ (kept_in self.old).count + 1) }
-        ensures text { OnOk result (self.new.text.items ≡ self.old.text.items
-            ++ (if self.old.asked then answer_line (record {
-              line = line;
-              answer = answer_told (Found (option_map (λ words. words.now) found.entry));
-            }) else [])) }
+        ensures text { OnOk result (self.new.text.items ≡ with_answer self.old line
+            (answer_told (Found (option_map (λ words. words.now) found.entry)))) }
         ensures keys { self.new.keys ≡ self.old.keys }
         ensures asked { self.new.asked ≡ self.old.asked }
     {
@@ -114,11 +107,8 @@ impl Replies {
     /// The same for a set: whether it was done.
     pub(crate) fn tell_set(&mut self, line: usize, replaced: bool) -> Result<(), AllocError>
         ensures count { OnOk result ((kept_in self.new).count ≡ (kept_in self.old).count + 1) }
-        ensures text { OnOk result (self.new.text.items ≡ self.old.text.items
-            ++ (if self.old.asked then answer_line (record {
-              line = line;
-              answer = answer_told (Replaced replaced);
-            }) else [])) }
+        ensures text { OnOk result (self.new.text.items ≡ with_answer self.old line
+            (answer_told (Replaced replaced))) }
         ensures keys { self.new.keys ≡ self.old.keys }
         ensures asked { self.new.asked ≡ self.old.asked }
     {
@@ -131,11 +121,8 @@ impl Replies {
     /// The same for a free: whether the key was live.
     pub(crate) fn tell_free(&mut self, line: usize, freed: bool) -> Result<(), AllocError>
         ensures count { OnOk result ((kept_in self.new).count ≡ (kept_in self.old).count + 1) }
-        ensures text { OnOk result (self.new.text.items ≡ self.old.text.items
-            ++ (if self.old.asked then answer_line (record {
-              line = line;
-              answer = answer_told (Freed freed);
-            }) else [])) }
+        ensures text { OnOk result (self.new.text.items ≡ with_answer self.old line
+            (answer_told (Freed freed))) }
         ensures keys { self.new.keys ≡ self.old.keys }
         ensures asked { self.new.asked ≡ self.old.asked }
     {
@@ -161,11 +148,8 @@ impl Replies {
     /// page. It is counted by its key.
     pub(crate) fn tell_put(&mut self, line: usize, key: Option<Key>) -> Result<(), AllocError>
         ensures count { OnOk result ((kept_in self.new).count ≡ (kept_in self.old).count + 1) }
-        ensures text { OnOk result (self.new.text.items ≡ self.old.text.items
-            ++ (if self.old.asked then answer_line (record {
-              line = line;
-              answer = put_told key;
-            }) else [])) }
+        ensures text { OnOk result (self.new.text.items ≡ with_answer self.old line
+            (put_told key)) }
         ensures keys { OnOk result (self.new.keys.items ≡ self.old.keys.items ++ key ∷ []) }
         ensures asked { self.new.asked ≡ self.old.asked }
     {
@@ -178,11 +162,7 @@ impl Replies {
 
     // Adds the answer's line to the report, where it tells the answers.
     fn write(&mut self, line: usize, answer: &Answer) -> Result<(), AllocError>
-        ensures text { OnOk result (self.new.text.items ≡ self.old.text.items
-            ++ (if self.old.asked then answer_line (record {
-              line = line;
-              answer = answer.now;
-            }) else [])) }
+        ensures text { OnOk result (self.new.text.items ≡ with_answer self.old line answer.now) }
         ensures keys { self.new.keys ≡ self.old.keys }
         ensures others { self.new.others ≡ self.old.others }
         ensures asked { self.new.asked ≡ self.old.asked }
@@ -197,7 +177,7 @@ impl Replies {
     pub(crate) fn tell_news(&mut self, news: &PlanNews) -> Result<(), AllocError>
         ensures text { OnOk result (self.new.text.items ≡ self.old.text.items
             ++ news_text self.old.asked news.now) }
-        ensures rest { kept_in self.new ≡ record (kept_in self.old) { text = self.new.text.items } }
+        ensures rest { KeepsButText self.old self.new }
     {
         push_news(&mut self.text, self.asked, news)
     }

@@ -1,17 +1,16 @@
 //! Runs the lines of a trace on a core.
 
-ghost use Rattle.std.specs.Prelude.{◌≡◌, ◌+◌, ◌≤◌, ◌^◌, ◌<◌, ◌&&◌, ◌||◌, ◌==◌, ◌++◌, [], ◌∷◌, true, false, not, List, ℕ, Bool, Some, None, filter, OnOk, IfOk, length, slice_get, take, if◌then◌else◌};
-ghost use Rattle.std.specs.List.{range_with_len};
+ghost use Rattle.std.specs.Prelude.{◌≡◌, ◌+◌, ◌≤◌, ◌^◌, ◌<◌, ◌&&◌, ◌||◌, ◌==◌, [], ◌∷◌, true, false, not, List, ℕ, Bool, Some, None, filter, OnOk, IfOk, length, slice_get, take, if◌then◌else◌};
 ghost use Rattle.arena_core.specs.State.{CoreState};
 ghost use Rattle.trace_text.specs.Barrier.{is_barrier};
-ghost use Rattle.trace_runner.specs.Kept.{AreHome, Finds, FindsAt, kept_in};
-ghost use Rattle.trace_runner.specs.Recalls.{CanLeave, Carries, EndsBelow, EndsOne, HasCome, IsAtRest, IsOpen, IsReady, KnowsPlan, Makes, MakesLine, Resumes, Serves, TurnsBelow, has, news_at, settling_with};
-ghost use Rattle.trace_text.specs.Places.{place_at};
+ghost use Rattle.trace_runner.specs.Kept.{AreHome, KeepsButText};
+ghost use Rattle.trace_runner.specs.Recalls.{CanLeave, Carries, EndsBelow, EndsOne, IsAtRest, IsOpen, IsReady, KnowsPlan, Resumes, Serves, TurnsBelow, has};
 ghost use Rattle.trace_text.specs.declared.line.Line.{Line};
 ghost use Rattle.trace_text.specs.Causes.{begins, begins_again, call_ends, ends, first_cause, is_adopt, is_call_over};
 ghost use Rattle.trace_runner.specs.Made.{Did};
 ghost use Rattle.trace_runner.specs.News.{News};
-ghost use Rattle.trace_runner.specs.Runs.{IsRun, asked_by, asked_by_call, ends_asked, plan_end_asked, rings_asked};
+ghost use Rattle.trace_runner.specs.Runs.{ends_asked};
+ghost use Rattle.trace_runner.specs.RunState.{CarriesOut, HasRun, IsLeftBy, KeepsKeysAt, KeepsKeysOf, MakesAt, MakesLineAt, asked_in, leavers_in, leaves_at, settling_in};
 ghost use Rattle.arena_core.specs.declared.event.Event.{Event};
 
 use crate::plans::Plans;
@@ -43,8 +42,7 @@ impl<'t> Run<'t> {
     fn new(alloc: Global, trace: &'t Trace, replies: bool, core: Core<Counted>) -> Run<'t>
         requires { Serves trace.now.header.shards core }
         ensures trace { result.trace.now ≡ trace.now }
-        ensures come { HasCome replies trace.now.header.shards trace.now.lines.items 0 core
-            result.core (kept_in result.replies) (has result.leaving) result.plans }
+        ensures come { HasRun replies 0 core result }
     {
         Run {
             trace,
@@ -72,12 +70,8 @@ impl<'t> Run<'t> {
         requires enough { self.old.trace.now.header.shards ≤ self.old.core.limits.shards }
 
         // What it asks for is made.
-        ensures made { (done : List Did)
-            → Finds self.old.trace.now.lines.items done self.old.replies.keys.items first call.now
-            → OnOk result (Makes number (asked_by_call self.old.trace.now.header.shards
-            self.old.trace.now.lines.items done thread call.now)
-            self.old.core (kept_in self.old.replies)
-            self.new.core (kept_in self.new.replies)) }
+        ensures made { (done : List Did) → KeepsKeysOf self.old done first call.now → OnOk result
+            (MakesAt number (asked_in self.old done thread call.now) self.old self.new) }
 
         // All else stays.
         ensures shards { Resumes self.old.core (λ other. begins_again call.now && thread == other)
@@ -127,9 +121,7 @@ impl<'t> Run<'t> {
 
         // Their ends are made.
         ensures made { (news : News) → OnOk result
-            (Carries (ends_asked (filter (has self.old.leaving)
-            (range_with_len 0 self.old.trace.now.header.shards))) self.old.core news self.new.core
-            news) }
+            (Carries (ends_asked (leavers_in self.old)) self.old.core news self.new.core news) }
 
         // All else stays.
         ensures shards { OnOk result (EndsBelow self.old.core self.old.trace.now.header.shards
@@ -160,12 +152,7 @@ impl<'t> Run<'t> {
         requires enough { self.old.trace.now.header.shards ≤ self.old.core.limits.shards }
 
         // What settles it is made.
-        ensures made { OnOk result (Carries (plan_end_asked self.old.core.plan
-            ++ (ends_asked (filter (has self.old.leaving)
-            (range_with_len 0 self.old.trace.now.header.shards))
-            ++ rings_asked self.old.trace.now.header.shards)) self.old.core
-            (news_at (kept_in self.old.replies) self.old.plans) self.new.core
-            (news_at (kept_in self.new.replies) self.new.plans)) }
+        ensures made { OnOk result (CarriesOut (settling_in self.old) self.old self.new) }
 
         // No plan is open, and all else stays.
         ensures shards { OnOk result (EndsBelow self.old.core self.old.trace.now.header.shards
@@ -173,8 +160,7 @@ impl<'t> Run<'t> {
         ensures unplanned { OnOk result (self.new.core.plan ≡ None) }
         ensures left { OnOk result (self.new.plans.left ≡ None) }
         ensures marks { self.new.plans.marks ≡ self.old.plans.marks }
-        ensures rest { kept_in self.new.replies ≡ record
-            (kept_in self.old.replies) { text = self.new.replies.text.items } }
+        ensures rest { KeepsButText self.old.replies self.new.replies }
         ensures leaving { OnOk result ((other : ℕ) → has self.new.leaving other ≡ false) }
         ensures trace { self.new.trace.now ≡ self.old.trace.now }
     {
@@ -199,26 +185,14 @@ impl<'t> Run<'t> {
         requires home { AreHome self.old.core.limits.shards self.old.replies.keys.items }
 
         // What it asks for is made.
-        ensures made { (done : List Did)
-            → FindsAt self.old.trace.now.lines.items done self.old.replies.keys.items
-            (place_at (take place self.old.trace.now.lines.items) line.now) line.now
-            → OnOk result (MakesLine (place + 6)
-            (settling_with self.old.trace.now.header.shards
-            (filter (has self.old.leaving) (range_with_len 0 self.old.trace.now.header.shards))
-            self.old.core line.now)
-            (asked_by self.old.trace.now.header.shards self.old.trace.now.lines.items done line.now)
-            line.now
-            self.old.core (kept_in self.old.replies)
-            (news_at (kept_in self.old.replies) self.old.plans)
-            self.new.core (kept_in self.new.replies)
-            (news_at (kept_in self.new.replies) self.new.plans)) }
+        ensures made { (done : List Did) → KeepsKeysAt self.old done place line.now
+            → OnOk result (MakesLineAt place done line.now self.old self.new) }
 
         // The run is ready for the line after it.
         ensures knows { OnOk result (KnowsPlan self.new.plans self.new.core) }
         ensures marks { OnOk result (self.new.plans.marks ≤ self.old.plans.marks + 1) }
         ensures shards { OnOk result (TurnsBelow self.old.core self.old.trace.now.header.shards
-            (λ thread. is_barrier line.now && has self.old.leaving thread)
-            (λ thread. begins thread line.now) self.new.core) }
+            (leaves_at self.old line.now) (λ thread. begins thread line.now) self.new.core) }
         ensures leaving { OnOk result ((other : ℕ) → has self.new.leaving other
             ≡ (not (is_barrier line.now) && (ends other line.now || has self.old.leaving other))) }
         ensures trace { self.new.trace.now ≡ self.old.trace.now }
@@ -256,14 +230,9 @@ impl<'t> Run<'t> {
         requires fine { first_cause self.old.trace.now.header
             (take place self.old.trace.now.lines.items) line.now ≡ None }
         requires come { (replies : Bool) × (start : CoreState)
-            × HasCome replies self.old.trace.now.header.shards self.old.trace.now.lines.items place
-            start self.old.core (kept_in self.old.replies) (has self.old.leaving) self.old.plans }
-        ensures more { (replies : Bool) (start : CoreState)
-            → HasCome replies self.old.trace.now.header.shards self.old.trace.now.lines.items place
-            start self.old.core (kept_in self.old.replies) (has self.old.leaving) self.old.plans
-            → OnOk result (HasCome replies self.old.trace.now.header.shards
-            self.old.trace.now.lines.items (place + 1)
-            start self.new.core (kept_in self.new.replies) (has self.new.leaving) self.new.plans) }
+            × HasRun replies place start self.old }
+        ensures more { (replies : Bool) (start : CoreState) → HasRun replies place start self.old
+            → OnOk result (HasRun replies (place + 1) start self.new) }
         ensures trace { self.new.trace.now ≡ self.old.trace.now }
     {
         self.line(runner, place, line)?;
@@ -299,9 +268,7 @@ pub fn run_lines<R: Runner>(
 ) -> Result<Ran, AllocError>
     requires serves { Serves trace.now.header.shards core }
     requires runner { R.ready runner.now }
-    ensures { IfOk result (λ ran. (news : News)
-        × IsRun trace.now.header.shards replies trace.now.lines.items core ran.core ran.calls news
-        × (ran.report.items ≡ news.text) × (ran.certificate.items ≡ news.certificate)) }
+    ensures { IfOk result (λ ran. IsLeftBy replies trace.now core ran) }
 {
     let mut run = Run::new(alloc, trace, replies, core);
     for place in 0..trace.lines.len() {

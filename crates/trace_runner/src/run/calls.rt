@@ -1,14 +1,14 @@
 // The calls that the lines of a trace ask for.
-ghost use Rattle.std.specs.Prelude.{◌≡◌, ◌+◌, ◌-◌, ◌≤◌, ◌^◌, ◌<◌, ◌||◌, ◌==◌, [], ◌∷◌, false, List, ℕ, Some, None, map, OnOk, Ok, length, unwrap_or};
-ghost use Rattle.std.specs.List.{range_with_len};
-ghost use Rattle.trace_runner.specs.Kept.{AreHome, Finds, FindsOne, IsHome, is_put, kept_in};
-ghost use Rattle.trace_runner.specs.Recalls.{IsAtRest, IsOpen, KeepsPlan, Makes, MayCall, Resumes, has};
+ghost use Rattle.std.specs.Prelude.{◌≡◌, ◌+◌, ◌-◌, ◌≤◌, ◌^◌, ◌<◌, ◌||◌, ◌==◌, [], ◌∷◌, false, List, ℕ, Some, None, OnOk, Ok, length, unwrap_or};
+ghost use Rattle.trace_runner.specs.Kept.{AreHome, IsHome, is_put};
+ghost use Rattle.trace_runner.specs.Recalls.{IsAtRest, IsOpen, KeepsPlan, MayCall, Resumes, has};
 ghost use Rattle.span.specs.Classes.{width_of};
 ghost use Rattle.trace_text.specs.Objects.{counted_from, last_word};
 ghost use Rattle.trace_text.specs.declared.line.Line.{Line};
 ghost use Rattle.trace_text.specs.Causes.{begins_again, call_ends, is_call_over};
 ghost use Rattle.trace_runner.specs.Made.{Did, Calls, Keyless, Leaves, Tends};
-ghost use Rattle.trace_runner.specs.Runs.{asked_by_call, on_key, key_at, key_of};
+ghost use Rattle.trace_runner.specs.Runs.{on_key, key_of, puts_asked};
+ghost use Rattle.trace_runner.specs.RunState.{KeepsAll, KeepsKey, KeepsKeysOf, MakesAt, asked_in, frees_in, lines_in};
 ghost use Rattle.arena_core.specs.declared.event.Event.{Event};
 ghost use Rattle.arena_core.specs.declared.event.Event.TheVariants as event;
 
@@ -29,8 +29,7 @@ impl<'t> Run<'t> {
         requires kind { is_put (Calls event) ≡ false }
 
         // It is made, and its reply kept or told.
-        ensures made { OnOk result (Makes number (Calls event ∷ []) self.old.core
-            (kept_in self.old.replies) self.new.core (kept_in self.new.replies)) }
+        ensures made { OnOk result (MakesAt number (Calls event ∷ []) self.old self.new) }
         ensures keys { self.new.replies.keys ≡ self.old.replies.keys }
 
         // All else stays.
@@ -50,8 +49,8 @@ impl<'t> Run<'t> {
     #[inline(never)]
     pub(super) fn adopt(&mut self, number: usize, shard: u32) -> Result<(), AllocError>
         requires { MayCall self.old.core (event.Adopt shard) }
-        ensures made { OnOk result (Makes number (Calls (event.Adopt shard) ∷ []) self.old.core
-            (kept_in self.old.replies) self.new.core (kept_in self.new.replies)) }
+        ensures made { OnOk result (MakesAt number (Calls (event.Adopt shard) ∷ []) self.old
+            self.new) }
         ensures keys { self.new.replies.keys ≡ self.old.replies.keys }
         ensures shards { KeepsPlan self.old.core self.new.core }
         ensures plans { self.new.plans ≡ self.old.plans }
@@ -71,9 +70,8 @@ impl<'t> Run<'t> {
     ) -> Result<(), AllocError>
         requires running { IsOpen self.old.core thread }
         requires within { last_word class base < 2 ^ 128 }
-        ensures made { OnOk result (Makes number
-            (Calls (event.Put thread (counted_from class base)) ∷ []) self.old.core
-            (kept_in self.old.replies) self.new.core (kept_in self.new.replies)) }
+        ensures made { OnOk result (MakesAt number
+            (Calls (event.Put thread (counted_from class base)) ∷ []) self.old self.new) }
         ensures shards { KeepsPlan self.old.core self.new.core }
         ensures plans { self.new.plans ≡ self.old.plans }
         ensures leaving { self.new.leaving ≡ self.old.leaving }
@@ -99,8 +97,8 @@ impl<'t> Run<'t> {
     ) -> Result<(), AllocError>
         requires running { IsOpen self.old.core thread }
         requires width { length words.now ≡ width_of class }
-        ensures made { OnOk result (Makes number (Calls (event.Put thread words.now) ∷ [])
-            self.old.core (kept_in self.old.replies) self.new.core (kept_in self.new.replies)) }
+        ensures made { OnOk result (MakesAt number (Calls (event.Put thread words.now) ∷ [])
+            self.old self.new) }
         ensures shards { KeepsPlan self.old.core self.new.core }
         ensures plans { self.new.plans ≡ self.old.plans }
         ensures leaving { self.new.leaving ≡ self.old.leaving }
@@ -114,8 +112,7 @@ impl<'t> Run<'t> {
 
     /// Keeps that no call was made, since the key that the line names was never given out.
     fn skip(&mut self, number: usize) -> Result<(), AllocError>
-        ensures made { OnOk result (Makes number (Keyless ∷ []) self.old.core
-            (kept_in self.old.replies) self.new.core (kept_in self.new.replies)) }
+        ensures made { OnOk result (MakesAt number (Keyless ∷ []) self.old self.new) }
         ensures keys { self.new.replies.keys ≡ self.old.replies.keys }
         ensures shards { KeepsPlan self.old.core self.new.core }
         ensures plans { self.new.plans ≡ self.old.plans }
@@ -138,10 +135,8 @@ impl<'t> Run<'t> {
     ) -> Result<(), AllocError>
         requires running { IsOpen self.old.core thread }
         requires within { last_word class (value + count - 1) < 2 ^ 128 }
-        ensures made { OnOk result (Makes number
-            (map (λ i. Calls (event.Put thread (counted_from class (value + i))))
-            (range_with_len 0 count)) self.old.core (kept_in self.old.replies) self.new.core
-            (kept_in self.new.replies)) }
+        ensures made { OnOk result (MakesAt number (puts_asked thread class count value) self.old
+            self.new) }
         ensures shards { KeepsPlan self.old.core self.new.core }
         ensures plans { self.new.plans ≡ self.old.plans }
         ensures leaving { self.new.leaving ≡ self.old.leaving }
@@ -155,9 +150,8 @@ impl<'t> Run<'t> {
 
     /// The key that a reference names, where the first key of its name has that place.
     fn key_of(&self, first: usize, reference: &Reference) -> Option<Key>
-        ensures found { (done : List Did) → FindsOne self.now.trace.now.lines.items done
-            self.now.replies.keys.items first reference.now.name (unwrap_or reference.now.index 0)
-            → result ≡ key_of self.now.trace.now.lines.items done reference.now }
+        ensures found { (done : List Did) → KeepsKey self.now done first reference.now
+            → result ≡ key_of (lines_in self.now) done reference.now }
         ensures home { (shards : ℕ) → AreHome shards self.now.replies.keys.items
             → IsHome shards result }
     {
@@ -175,9 +169,8 @@ impl<'t> Run<'t> {
         base: u128,
     ) -> Result<(), AllocError>
         requires within { last_word class base < 2 ^ 128 }
-        ensures made { OnOk result (Makes number
-            (on_key (λ k. event.Set k (counted_from class base)) key ∷ []) self.old.core
-            (kept_in self.old.replies) self.new.core (kept_in self.new.replies)) }
+        ensures made { OnOk result (MakesAt number
+            (on_key (λ k. event.Set k (counted_from class base)) key ∷ []) self.old self.new) }
         ensures shards { KeepsPlan self.old.core self.new.core }
         ensures plans { self.new.plans ≡ self.old.plans }
         ensures leaving { self.new.leaving ≡ self.old.leaving }
@@ -198,8 +191,8 @@ impl<'t> Run<'t> {
     // Sets a key that was given out to the object of these words, by the core's own call, as a put
     // does.
     fn set_key(&mut self, number: usize, key: Key, words: &[u128]) -> Result<(), AllocError>
-        ensures made { OnOk result (Makes number (Calls (event.Set key words.now) ∷ [])
-            self.old.core (kept_in self.old.replies) self.new.core (kept_in self.new.replies)) }
+        ensures made { OnOk result (MakesAt number (Calls (event.Set key words.now) ∷ []) self.old
+            self.new) }
         ensures shards { KeepsPlan self.old.core self.new.core }
         ensures plans { self.new.plans ≡ self.old.plans }
         ensures leaving { self.new.leaving ≡ self.old.leaving }
@@ -215,8 +208,7 @@ impl<'t> Run<'t> {
     /// memory.
     #[inline(always)]
     fn free(&mut self, number: usize, key: Option<Key>) -> Result<(), AllocError>
-        ensures made { OnOk result (Makes number (on_key event.Free key ∷ []) self.old.core
-            (kept_in self.old.replies) self.new.core (kept_in self.new.replies)) }
+        ensures made { OnOk result (MakesAt number (on_key event.Free key ∷ []) self.old self.new) }
         ensures keys { self.new.replies.keys ≡ self.old.replies.keys }
         ensures shards { KeepsPlan self.old.core self.new.core }
         ensures plans { self.new.plans ≡ self.old.plans }
@@ -231,8 +223,8 @@ impl<'t> Run<'t> {
 
     // The same for a key that was given out, by the core's own call.
     fn free_key(&mut self, number: usize, key: Key) -> Result<(), AllocError>
-        ensures made { OnOk result (Makes number (Calls (event.Free key) ∷ []) self.old.core
-            (kept_in self.old.replies) self.new.core (kept_in self.new.replies)) }
+        ensures made { OnOk result (MakesAt number (Calls (event.Free key) ∷ []) self.old
+            self.new) }
         ensures keys { self.new.replies.keys ≡ self.old.replies.keys }
         ensures shards { KeepsPlan self.old.core self.new.core }
         ensures plans { self.new.plans ≡ self.old.plans }
@@ -246,8 +238,7 @@ impl<'t> Run<'t> {
 
     /// Looks the key up, where it was given out.
     fn get(&mut self, number: usize, key: Option<Key>) -> Result<(), AllocError>
-        ensures made { OnOk result (Makes number (on_key event.Get key ∷ []) self.old.core
-            (kept_in self.old.replies) self.new.core (kept_in self.new.replies)) }
+        ensures made { OnOk result (MakesAt number (on_key event.Get key ∷ []) self.old self.new) }
         ensures shards { KeepsPlan self.old.core self.new.core }
         ensures plans { self.new.plans ≡ self.old.plans }
         ensures leaving { self.new.leaving ≡ self.old.leaving }
@@ -261,8 +252,7 @@ impl<'t> Run<'t> {
 
     // The same for a key that was given out.
     fn get_key(&mut self, number: usize, key: Key) -> Result<(), AllocError>
-        ensures made { OnOk result (Makes number (Calls (event.Get key) ∷ []) self.old.core
-            (kept_in self.old.replies) self.new.core (kept_in self.new.replies)) }
+        ensures made { OnOk result (MakesAt number (Calls (event.Get key) ∷ []) self.old self.new) }
         ensures shards { KeepsPlan self.old.core self.new.core }
         ensures plans { self.new.plans ≡ self.old.plans }
         ensures leaving { self.new.leaving ≡ self.old.leaving }
@@ -276,15 +266,8 @@ impl<'t> Run<'t> {
     /// Frees the keys of a name from one place up to, and without, another, where its first key has
     /// that place.
     fn sweep(&mut self, number: usize, first: usize, from: u32, to: u32) -> Result<(), AllocError>
-        ensures made { (done : List Did) (name : List ℕ)
-            → ((place : ℕ) → from ≤ place → place < to
-            → FindsOne self.old.trace.now.lines.items done self.old.replies.keys.items
-            first name place)
-            → OnOk result (Makes number (map
-            (λ place. on_key event.Free (key_at self.old.trace.now.lines.items done name place))
-            (range_with_len from (to - from)))
-            self.old.core (kept_in self.old.replies)
-            self.new.core (kept_in self.new.replies)) }
+        ensures made { (done : List Did) (name : List ℕ) → KeepsAll self.old done first name from to
+            → OnOk result (MakesAt number (frees_in self.old done name from to) self.old self.new) }
         ensures shards { KeepsPlan self.old.core self.new.core }
         ensures plans { self.new.plans ≡ self.old.plans }
         ensures leaving { self.new.leaving ≡ self.old.leaving }
@@ -301,8 +284,8 @@ impl<'t> Run<'t> {
     fn later(&mut self, number: usize, thread: u32, key: Option<Key>) -> Result<(), AllocError>
         requires thread { IsOpen self.old.core thread }
         requires home { IsHome self.old.core.limits.shards key }
-        ensures made { OnOk result (Makes number (on_key (event.Later thread) key ∷ [])
-            self.old.core (kept_in self.old.replies) self.new.core (kept_in self.new.replies)) }
+        ensures made { OnOk result (MakesAt number (on_key (event.Later thread) key ∷ []) self.old
+            self.new) }
         ensures shards { KeepsPlan self.old.core self.new.core }
         ensures plans { self.new.plans ≡ self.old.plans }
         ensures leaving { self.new.leaving ≡ self.old.leaving }
@@ -324,9 +307,8 @@ impl<'t> Run<'t> {
     fn tend(&mut self, number: usize, thread: u32) -> Result<(), AllocError>
         requires thread { IsOpen self.old.core thread }
         requires enough { self.old.trace.now.header.shards ≤ self.old.core.limits.shards }
-        ensures made { OnOk result (Makes number (Tends self.old.trace.now.header.shards
-            thread ∷ []) self.old.core (kept_in self.old.replies) self.new.core
-            (kept_in self.new.replies)) }
+        ensures made { OnOk result (MakesAt number
+            (Tends self.old.trace.now.header.shards thread ∷ []) self.old self.new) }
         ensures shards { KeepsPlan self.old.core self.new.core }
         ensures plans { self.new.plans ≡ self.old.plans }
         ensures leaving { self.new.leaving ≡ self.old.leaving }
@@ -344,8 +326,8 @@ impl<'t> Run<'t> {
     #[inline(never)]
     fn trim(&mut self, number: usize, thread: u32) -> Result<(), AllocError>
         requires { IsOpen self.old.core thread }
-        ensures made { OnOk result (Makes number (Calls (event.Trim thread) ∷ []) self.old.core
-            (kept_in self.old.replies) self.new.core (kept_in self.new.replies)) }
+        ensures made { OnOk result (MakesAt number (Calls (event.Trim thread) ∷ []) self.old
+            self.new) }
         ensures shards { KeepsPlan self.old.core self.new.core }
         ensures plans { self.new.plans ≡ self.old.plans }
         ensures leaving { self.new.leaving ≡ self.old.leaving }
@@ -359,8 +341,8 @@ impl<'t> Run<'t> {
     #[inline(never)]
     fn retire(&mut self, number: usize, thread: u32, most: u32) -> Result<(), AllocError>
         requires { IsOpen self.old.core thread }
-        ensures made { OnOk result (Makes number (Calls (event.Retire thread most) ∷ [])
-            self.old.core (kept_in self.old.replies) self.new.core (kept_in self.new.replies)) }
+        ensures made { OnOk result (MakesAt number (Calls (event.Retire thread most) ∷ []) self.old
+            self.new) }
         ensures shards { KeepsPlan self.old.core self.new.core }
         ensures plans { self.new.plans ≡ self.old.plans }
         ensures leaving { self.new.leaving ≡ self.old.leaving }
@@ -380,8 +362,8 @@ impl<'t> Run<'t> {
     #[inline(never)]
     pub(super) fn begin(&mut self, number: usize, thread: u32) -> Result<(), AllocError>
         requires { IsAtRest self.old.core thread }
-        ensures made { OnOk result (Makes number (Calls (event.Begin thread) ∷ [])
-            self.old.core (kept_in self.old.replies) self.new.core (kept_in self.new.replies)) }
+        ensures made { OnOk result (MakesAt number (Calls (event.Begin thread) ∷ []) self.old
+            self.new) }
         ensures shards { Resumes self.old.core (λ number. thread == number) self.new.core }
         ensures plans { self.new.plans ≡ self.old.plans }
         ensures leaving { self.new.leaving ≡ self.old.leaving }
@@ -399,8 +381,7 @@ impl<'t> Run<'t> {
 
     /// Keeps that the thread has ended. Its shard is abandoned at the barrier.
     fn leave(&mut self, number: usize, thread: u32) -> Result<(), AllocError>
-        ensures made { OnOk result (Makes number (Leaves ∷ []) self.old.core
-            (kept_in self.old.replies) self.new.core (kept_in self.new.replies)) }
+        ensures made { OnOk result (MakesAt number (Leaves ∷ []) self.old self.new) }
         ensures shards { KeepsPlan self.old.core self.new.core }
         ensures plans { self.new.plans ≡ self.old.plans }
         ensures leaving { OnOk result ((other : ℕ) → has self.new.leaving other
@@ -429,12 +410,8 @@ impl<'t> Run<'t> {
         requires enough { self.old.trace.now.header.shards ≤ self.old.core.limits.shards }
 
         // What it asks for is made.
-        ensures made { (done : List Did)
-            → Finds self.old.trace.now.lines.items done self.old.replies.keys.items first call.now
-            → OnOk result (Makes number (asked_by_call self.old.trace.now.header.shards
-            self.old.trace.now.lines.items done thread call.now)
-            self.old.core (kept_in self.old.replies)
-            self.new.core (kept_in self.new.replies)) }
+        ensures made { (done : List Did) → KeepsKeysOf self.old done first call.now → OnOk result
+            (MakesAt number (asked_in self.old done thread call.now) self.old self.new) }
 
         // All else stays.
         ensures shards { KeepsPlan self.old.core self.new.core }

@@ -2,7 +2,7 @@
 
 ghost use Rattle.std.specs.Prelude.{◌≡◌, ◌++◌, OnOk};
 ghost use Rattle.std.specs.List.{flat_map};
-ghost use Rattle.trace_runner.specs.Report.{answer_line, answer_text, answers_text, number_word, other_text};
+ghost use Rattle.trace_runner.specs.Report.{answer_text, answers_text, line_of_answer, number_word, other_text};
 
 use crate::report::{Answer, LineAnswer, Other};
 use crate::writing::{push_id, push_key, push_number};
@@ -84,10 +84,7 @@ pub(crate) fn push_answer_line(
     line: usize,
     answer: &Answer,
 ) -> Result<(), AllocError>
-    ensures { OnOk result (out.new.items ≡ out.old.items ++ answer_line (record {
-      line = line;
-      answer = answer.now;
-    })) }
+    ensures { OnOk result (out.new.items ≡ out.old.items ++ line_of_answer line answer.now) }
 {
     push_number(out, line)?;
     out.extend_from_slice(b" ")?;

@@ -13,6 +13,7 @@ line-requires-clause-few g c = c.requires.come.2.marks
 
 pub returns-clause-more : goal.returns-clause-more
 returns-clause-more g c replies start come =
-    HasCome-more c.args.self.now.trace.now.header _ _ _ _ _ _ _ _ come c.args.line.now c.line.new.self.core (kept_in c.line.new.self.replies) _ _ c.requires.here c.requires.fine
+    rw c.line.ensures.trace
+    (HasCome-more c.args.self.now.trace.now.header _ _ _ _ _ _ _ _ come c.args.line.now c.line.new.self.core (kept_in c.line.new.self.replies) _ _ c.requires.here c.requires.fine
     (c.in_ok-line.ensures.made come.done (HasCome-finds c.args.self.now.trace.now.header _ _ _ _ _ _ _ _ come c.args.line.now c.requires.fine))
-    c.in_ok-line.ensures.shards c.in_ok-line.ensures.leaving c.in_ok-line.ensures.knows c.in_ok-line.ensures.marks
+    c.in_ok-line.ensures.shards c.in_ok-line.ensures.leaving c.in_ok-line.ensures.knows c.in_ok-line.ensures.marks)
