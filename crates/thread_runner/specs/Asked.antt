@@ -2,6 +2,7 @@
 use Rattle.std.specs.Prelude.{◌≡◌, ◌≤◌, ℕ, ◌+◌, ◌-◌, ◌==◌, Bool, true, false, List, [], ◌∷◌, map, slice_get, Option, None, Some, unwrap_or, if◌then◌else◌}
 use Rattle.std.specs.List.{AllByRecursion, range_with_len}
 use Rattle.std.specs.Option.{option_map_or}
+use Rattle.span.specs.declared.class.Class.{Class}
 use Rattle.span.specs.declared.key.Key.{Key}
 use Rattle.span.specs.declared.receipt.Call.{Call}
 use Rattle.span.specs.declared.receipt.Call.TheVariants as call
@@ -52,17 +53,26 @@ pub data Asked : Type 0 where
 abbrev pub place_named : List Line → Reference → ℕ
 place_named above reference = first_of above reference.name + unwrap_or reference.index 0
 
+-- the puts of so many objects of the class, which count up from the value, from the next and so on,
+-- and which give the keys of the places from the first on
+abbrev pub puts_from : (first : ℕ) → Class → (count value : ℕ) → List Asked
+puts_from first class count value =
+    map (λ i. Puts (first + i) (counted_from class (value + i))) (range_with_len 0 count)
+
+-- the frees of the keys of a name, whose first has that place, from one index up to, and without,
+-- another
+abbrev pub frees_from : (first from to : ℕ) → List Asked
+frees_from first from to = map (λ i. Frees (first + i)) (range_with_len from (to - from))
+
 -- what a thread's call below those lines asks for, in order; the keys that it binds have the next
 -- places
 abbrev pub asked_by : List Line → LineCall → List Asked
 asked_by above (Put name class value) = Puts (keys_in above) (counted_from class value) ∷ []
-asked_by above (Fill name class count value) = map
-    (λ i. Puts (keys_in above + i) (counted_from class (value + i))) (range_with_len 0 count)
+asked_by above (Fill name class count value) = puts_from (keys_in above) class count value
 asked_by above (Get key) = Gets (place_named above key) ∷ []
 asked_by above (Set key class value) = Sets (place_named above key) (counted_from class value) ∷ []
 asked_by above (Free key) = Frees (place_named above key) ∷ []
-asked_by above (Sweep name from to) = map (λ i. Frees (first_of above name + i))
-    (range_with_len from (to - from))
+asked_by above (Sweep name from to) = frees_from (first_of above name) from to
 asked_by above (Later key) = Leaves (place_named above key) ∷ []
 asked_by above Tend = Tends ∷ []
 asked_by above Trim = Trims ∷ []

@@ -11,12 +11,10 @@ use Rattle.trace_text.specs.Causes.{marks}
 use Rattle.trace_text.specs.declared.line.Line.{Line}
 use Rattle.thread_runner.specs.Asked.{AreAnswers, Asked, GivenKeys, IsFreeBy, Outcome, is_adoption, places_of, replies_on}
 use Rattle.thread_runner.specs.Followed.{Carried, FollowsLines, carried_by, entries_on, is_of_shard, keys_of, receipts_from, sent_by, taken_by}
-use Rattle.thread_runner.specs.Known.{AreKnown}
 use Rattle.thread_runner.specs.Told.{voice_of}
 use Rattle.thread_runner.specs.declared.diary.Diary.{Diary}
 use Rattle.thread_runner.specs.declared.diary.Entry.{Entry}
 use Rattle.thread_runner.specs.declared.diary.Entry.TheVariants as entry
-use Rattle.thread_runner.specs.declared.keys.Given.{Given}
 use Rattle.trace_runner.specs.declared.report.Other.{Other}
 
 -- a diary has these entries, where it keeps them, these receipts and that many replies more
@@ -52,14 +50,6 @@ pub record Tells (section thread number : ℕ) (asked : List Asked) (knew knows 
   pub grows : Grows (flat_map (entries_on number) outcomes) (flat_map receipts_from outcomes)
       (length asked) old new
   pub carries : Carries (flat_map sent_by outcomes) (flat_map taken_by outcomes) before after
-
--- the same from one state of a thread to another: its seat, what its puts gave in the section and
--- its diary, where that is kept of the puts of earlier sections
-abbrev pub TellsFrom : (number : ℕ) → List Asked → (kept : List Given) → SeatState → List Given
-    → Diary → SeatState → List Given → Diary → Type 0
-TellsFrom number asked kept seat fresh diary later_seat later_fresh later =
-    Tells seat.section seat.worker number asked (AreKnown kept fresh) (AreKnown kept later_fresh)
-    diary later (carried_by seat) (carried_by later_seat)
 
 -- a diary goes on by that many frees by the thread in that section, of keys that had come in on the
 -- rings

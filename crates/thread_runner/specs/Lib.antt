@@ -8,4 +8,5 @@ pub mod Known
 pub mod Report
 pub mod Marked
 pub mod Noted
+pub mod Sections
 pub mod Threaded

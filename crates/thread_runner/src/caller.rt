@@ -1,16 +1,14 @@
 // Who makes the calls of a thread, and keeps what they are told.
-ghost use Rattle.std.specs.Prelude.{◌≡◌, ◌+◌, ◌-◌, ◌≤◌, ◌<◌, ◌^◌, ◌∷◌, [], ℕ, IfOk, IfSome, List, OnOk, Option, Some, false, map, slice_get, take, true, unwrap_or};
-ghost use Rattle.std.specs.List.{range_with_len};
+ghost use Rattle.std.specs.Prelude.{◌≡◌, ◌+◌, ◌-◌, ◌≤◌, ◌<◌, ◌^◌, ◌∷◌, [], ℕ, IfOk, IfSome, List, OnOk, Option, Some, false, slice_get, true, unwrap_or};
 ghost use Rattle.arena.specs.Delays.{HasNoneWaiting};
 ghost use Rattle.span.specs.declared.key.Key.{Key};
 ghost use Rattle.span.specs.declared.receipt.Receipt.{Receipt};
 ghost use Rattle.trace_text.specs.declared.line.Line.{Line};
-ghost use Rattle.trace_text.specs.Causes.{is_adopt, is_call_over, keys_in};
+ghost use Rattle.trace_text.specs.Causes.{is_adopt, is_call_over};
 ghost use Rattle.trace_text.specs.Objects.{counted_from, last_word};
-ghost use Rattle.trace_text.specs.Places.{place_by};
-ghost use Rattle.thread_runner.specs.Asked.{Begins, Called, Frees, Gets, GivenKeys, IsRetirement, Leaves, Puts, Retires, Said, Sets, Tends, Trims, asked_at, asked_by, is_adoption};
+ghost use Rattle.thread_runner.specs.Asked.{Begins, Called, Frees, Gets, GivenKeys, IsRetirement, Leaves, Puts, Retires, Said, Sets, Tends, Trims, asked_by, frees_from, is_adoption, puts_from};
 ghost use Rattle.thread_runner.specs.Followed.{carried_by, entries_on};
-ghost use Rattle.thread_runner.specs.Grown.{Grows, IsEmptyDiary, TellsAdoption, TellsFrom, TellsTending, seated};
+ghost use Rattle.thread_runner.specs.Grown.{Grows, IsEmptyDiary, TellsAdoption, seated};
 ghost use Rattle.thread_runner.specs.Known.{AreFresh, AreKnown};
 ghost use Rattle.thread_runner.specs.declared.keys.Given.{Given};
 
@@ -90,6 +88,8 @@ fn retirement(retired: Result<usize, ReceiveError>) -> Result<Other, Halt>
 }
 
 impl<'a, G: Gate> Caller<'a, G> {
+    ghost use Rattle.thread_runner.specs.Sections.{IsSpotOf, TellsFrom, TellsLine, TellsTaken};
+
     /// The thread of this seat, or `None` where the seat is that of an arena of other numbers.
     pub(crate) fn new(
         alloc: Global,
@@ -141,10 +141,7 @@ impl<'a, G: Gate> Caller<'a, G> {
         ensures call { (line : Line) → slice_get text.now.trace.now.lines.items place ≡ Some line
             → OnOk result (is_adopt line ≡ false) }
         ensures told { (line : Line) → slice_get text.now.trace.now.lines.items place ≡ Some line
-            → OnOk result (TellsFrom (place + 6)
-            (asked_at (take place text.now.trace.now.lines.items) line) keys.now.kept.items
-            self.old.seat self.old.fresh.items self.old.diary
-            self.new.seat self.new.fresh.items self.new.diary) }
+            → OnOk result (TellsLine text.now place line keys.now.kept.items self.old self.new) }
         ensures seat { seated self.new.seat ≡ seated self.old.seat }
     {
         let trace = text.trace;
@@ -175,11 +172,8 @@ impl<'a, G: Gate> Caller<'a, G> {
         call: &Call,
     ) -> Result<(), Halt>
         requires { (above : List Line) × (is_call_over above call.now ≡ false) }
-        ensures told { (above : List Line) → spot.binds ≡ keys_in above
-            → spot.reads ≡ place_by above call.now
-            → OnOk result (TellsFrom spot.number (asked_by above call.now) keys.now.kept.items
-            self.old.seat self.old.fresh.items self.old.diary
-            self.new.seat self.new.fresh.items self.new.diary) }
+        ensures told { (above : List Line) → IsSpotOf above call.now spot → OnOk result (TellsFrom
+            spot.number (asked_by above call.now) keys.now.kept.items self.old self.new) }
         ensures seat { seated self.new.seat ≡ seated self.old.seat }
     {
         let Spot {
@@ -239,8 +233,7 @@ impl<'a, G: Gate> Caller<'a, G> {
     // The key that a put gave, by the place of the key among all keys that the lines bind: a put of
     // an earlier section, or of its own. It halts where no such put was made.
     fn key_at(&self, keys: &Keys, place: usize) -> Result<Option<Key>, Halt>
-        ensures { (given : GivenKeys)
-            → AreKnown keys.now.kept.items self.now.fresh.items given
+        ensures { (given : GivenKeys) → AreKnown keys.now.kept.items self.now.fresh.items given
             → IfOk result (λ key. given place ≡ key) }
     {
         if let Some(key) = keys.get(place) {
@@ -263,10 +256,8 @@ impl<'a, G: Gate> Caller<'a, G> {
         base: u128,
     ) -> Result<(), Halt>
         requires { last_word class base < 2 ^ 128 }
-        ensures told { (kept : List Given)
-            → OnOk result (TellsFrom number (Puts place (counted_from class base) ∷ []) kept
-            self.old.seat self.old.fresh.items self.old.diary
-            self.new.seat self.new.fresh.items self.new.diary) }
+        ensures told { (kept : List Given) → OnOk result (TellsFrom number
+            (Puts place (counted_from class base) ∷ []) kept self.old self.new) }
         ensures seat { seated self.new.seat ≡ seated self.old.seat }
     {
         match self.seat.put(rt, self.arena, counting_from(class, base)) {
@@ -297,12 +288,8 @@ impl<'a, G: Gate> Caller<'a, G> {
         value: u128,
     ) -> Result<(), Halt>
         requires { last_word class (value + count - 1) < 2 ^ 128 }
-        ensures told { (kept : List Given)
-            → OnOk result (TellsFrom number
-            (map (λ i. Puts (first + i) (counted_from class (value + i)))
-            (range_with_len 0 count)) kept
-            self.old.seat self.old.fresh.items self.old.diary
-            self.new.seat self.new.fresh.items self.new.diary) }
+        ensures told { (kept : List Given) → OnOk result (TellsFrom number
+            (puts_from first class count value) kept self.old self.new) }
         ensures seat { seated self.new.seat ≡ seated self.old.seat }
     {
         for i in 0..count {
@@ -315,8 +302,7 @@ impl<'a, G: Gate> Caller<'a, G> {
     // Looks the key of that place up, where it was given out.
     fn get<R: Wait>(&mut self, rt: &R, keys: &Keys, number: usize, place: usize) -> Result<(), Halt>
         ensures told { OnOk result (TellsFrom number (Gets place ∷ []) keys.now.kept.items
-            self.old.seat self.old.fresh.items self.old.diary
-            self.new.seat self.new.fresh.items self.new.diary) }
+            self.old self.new) }
         ensures seat { seated self.new.seat ≡ seated self.old.seat }
     {
         let Some(key) = self.key_at(keys, place)? else {
@@ -336,8 +322,7 @@ impl<'a, G: Gate> Caller<'a, G> {
         value: Object,
     ) -> Result<(), Halt>
         ensures told { OnOk result (TellsFrom number (Sets place value ∷ []) keys.now.kept.items
-            self.old.seat self.old.fresh.items self.old.diary
-            self.new.seat self.new.fresh.items self.new.diary) }
+            self.old self.new) }
         ensures seat { seated self.new.seat ≡ seated self.old.seat }
     {
         let Some(key) = self.key_at(keys, place)? else {
@@ -356,8 +341,7 @@ impl<'a, G: Gate> Caller<'a, G> {
         place: usize,
     ) -> Result<(), Halt>
         ensures told { OnOk result (TellsFrom number (Frees place ∷ []) keys.now.kept.items
-            self.old.seat self.old.fresh.items self.old.diary
-            self.new.seat self.new.fresh.items self.new.diary) }
+            self.old self.new) }
         ensures seat { seated self.new.seat ≡ seated self.old.seat }
     {
         let Some(key) = self.key_at(keys, place)? else {
@@ -376,10 +360,8 @@ impl<'a, G: Gate> Caller<'a, G> {
         first: usize,
         indices: Range<u32>,
     ) -> Result<(), Halt>
-        ensures told { OnOk result (TellsFrom number (map (λ i. Frees (first + i))
-            (range_with_len indices.start (indices.end - indices.start))) keys.now.kept.items
-            self.old.seat self.old.fresh.items self.old.diary
-            self.new.seat self.new.fresh.items self.new.diary) }
+        ensures told { OnOk result (TellsFrom number
+            (frees_from first indices.start indices.end) keys.now.kept.items self.old self.new) }
         ensures seat { seated self.new.seat ≡ seated self.old.seat }
     {
         for index in indices.start..indices.end {
@@ -392,8 +374,7 @@ impl<'a, G: Gate> Caller<'a, G> {
     // Leaves the key of that place to be freed later, where it was given out.
     fn later(&mut self, keys: &Keys, number: usize, place: usize) -> Result<(), Halt>
         ensures told { OnOk result (TellsFrom number (Leaves place ∷ []) keys.now.kept.items
-            self.old.seat self.old.fresh.items self.old.diary
-            self.new.seat self.new.fresh.items self.new.diary) }
+            self.old self.new) }
         ensures seat { seated self.new.seat ≡ seated self.old.seat }
     {
         let Some(key) = self.key_at(keys, place)? else {
@@ -411,9 +392,7 @@ impl<'a, G: Gate> Caller<'a, G> {
     // Frees the keys that have come in on the rings to its shard.
     fn tend<R: Wait>(&mut self, rt: &R, number: usize) -> Result<(), Halt>
         ensures told { (kept : List Given)
-            → OnOk result (TellsFrom number (Tends ∷ []) kept
-            self.old.seat self.old.fresh.items self.old.diary
-            self.new.seat self.new.fresh.items self.new.diary) }
+            → OnOk result (TellsFrom number (Tends ∷ []) kept self.old self.new) }
         ensures seat { seated self.new.seat ≡ seated self.old.seat }
     {
         let count = self.diary.tend(rt, &mut self.seat, self.arena)?;
@@ -424,9 +403,7 @@ impl<'a, G: Gate> Caller<'a, G> {
     // Gives back the pages of its shard on which nothing is live.
     fn trim<R: Wait>(&mut self, rt: &R, number: usize) -> Result<(), Halt>
         ensures told { (kept : List Given)
-            → OnOk result (TellsFrom number (Trims ∷ []) kept
-            self.old.seat self.old.fresh.items self.old.diary
-            self.new.seat self.new.fresh.items self.new.diary) }
+            → OnOk result (TellsFrom number (Trims ∷ []) kept self.old self.new) }
         ensures seat { seated self.new.seat ≡ seated self.old.seat }
     {
         let count = self.seat.trim(rt, self.arena);
@@ -436,9 +413,7 @@ impl<'a, G: Gate> Caller<'a, G> {
     // Lets up to that many groups of its shard go to the pool.
     fn retire<R: Wait>(&mut self, rt: &R, number: usize, most: u32) -> Result<(), Halt>
         ensures told { (kept : List Given)
-            → OnOk result (TellsFrom number (Retires most ∷ []) kept
-            self.old.seat self.old.fresh.items self.old.diary
-            self.new.seat self.new.fresh.items self.new.diary) }
+            → OnOk result (TellsFrom number (Retires most ∷ []) kept self.old self.new) }
         ensures seat { seated self.new.seat ≡ seated self.old.seat }
     {
         let most = most as usize;
@@ -449,9 +424,7 @@ impl<'a, G: Gate> Caller<'a, G> {
     // Lets its shard, which has ended, run again.
     fn begin<R: Wait>(&mut self, rt: &R, number: usize) -> Result<(), Halt>
         ensures told { (kept : List Given)
-            → OnOk result (TellsFrom number (Begins ∷ []) kept
-            self.old.seat self.old.fresh.items self.old.diary
-            self.new.seat self.new.fresh.items self.new.diary) }
+            → OnOk result (TellsFrom number (Begins ∷ []) kept self.old self.new) }
         ensures seat { seated self.new.seat ≡ seated self.old.seat }
     {
         if !self.seat.begin(rt, self.arena) {
@@ -474,9 +447,7 @@ impl<'a, G: Gate> Caller<'a, G> {
     /// Frees the keys that are on the rings to its shard. Where all threads have come in and sent
     /// off theirs, no key is sent meanwhile, so one look at each ring takes them all.
     pub(crate) fn settle<R: Wait>(&mut self, rt: &R) -> Result<usize, AllocError>
-        ensures told { IfOk result (λ count. TellsTending self.old.seat.section
-            self.old.seat.worker count self.old.diary self.new.diary
-            (carried_by self.old.seat) (carried_by self.new.seat)) }
+        ensures told { IfOk result (λ count. TellsTaken count self.old self.new) }
         ensures fresh { self.new.fresh ≡ self.old.fresh }
         ensures seat { seated self.new.seat ≡ seated self.old.seat }
         ensures none { HasNoneWaiting self.new.seat }

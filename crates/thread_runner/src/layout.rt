@@ -53,8 +53,7 @@ fn empty_lists(alloc: Global, count: usize) -> Result<Vec<Vec<usize>>, AllocErro
 
 // Enters the line at that place, where it is a thread's, or an adoption by its shard.
 fn enter_place(places: &mut [Vec<usize>], place: usize, line: &Line) -> Result<(), AllocError>
-    ensures { (above : List Line) → length above ≡ place
-        → AreLaid above (map vec_items places.old)
+    ensures { (above : List Line) → length above ≡ place → AreLaid above (map vec_items places.old)
         → OnOk result (AreLaid (above ++ line.now ∷ []) (map vec_items places.new)) }
 {
     match line {

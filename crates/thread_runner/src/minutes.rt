@@ -3,7 +3,7 @@ ghost use Rattle.std.specs.Prelude.{◌≡◌, ◌≤◌, ◌+◌, ◌<◌, ◌^
 ghost use Rattle.certificate.specs.Text.{IsWritable, certificate_text};
 ghost use Rattle.thread_runner.specs.Marked.{note_at};
 ghost use Rattle.trace_runner.specs.News.{mark_news};
-ghost use Rattle.trace_runner.specs.declared.report.PlanNews.TheVariants as plan_news;
+ghost use Rattle.trace_runner.specs.declared.report.PlanNews.TheVariants.{Closed, Marked, TooMany};
 
 use crate::body::Note;
 use certificate::{Certificate, write};
@@ -55,7 +55,7 @@ impl Minutes {
         requires { place < 2 ^ 63 }
         ensures marks { OnOk result (self.new.marks ≡ self.old.marks + 1) }
         ensures notes { OnOk result (self.new.notes.items ≡ self.old.notes.items
-            ++ note_at place (plan_news.TooMany (self.old.marks + 1)) ∷ []) }
+            ++ note_at place (TooMany (self.old.marks + 1)) ∷ []) }
         ensures certificate { self.new.certificate ≡ self.old.certificate }
     {
         let mark = self.marks + 1;
@@ -80,9 +80,8 @@ impl Minutes {
         requires writable { IsWritable certificate }
         requires place { place < 2 ^ 63 }
         ensures marks { OnOk result (self.new.marks ≡ self.old.marks + 1) }
-        ensures notes { OnOk result (self.new.notes.items ≡ self.old.notes.items
-            ++ note_at place (plan_news.Marked
-            (mark_news (self.old.marks + 1) certificate pages)) ∷ []) }
+        ensures notes { OnOk result (self.new.notes.items ≡ self.old.notes.items ++ note_at place
+            (Marked (mark_news (self.old.marks + 1) certificate pages)) ∷ []) }
         ensures certificate { OnOk result (self.new.certificate.items
             ≡ certificate_text certificate) }
     {
@@ -104,9 +103,8 @@ impl Minutes {
     ) -> Result<(), AllocError>
         requires { place < 2 ^ 63 }
         ensures marks { self.new.marks ≡ self.old.marks }
-        ensures notes { OnOk result (self.new.notes.items ≡ self.old.notes.items
-            ++ note_at place (plan_news.Closed
-            (record { mark = self.old.marks; steps = steps; pages = pages })) ∷ []) }
+        ensures notes { OnOk result (self.new.notes.items ≡ self.old.notes.items ++ note_at place
+            (Closed (record { mark = self.old.marks; steps = steps; pages = pages })) ∷ []) }
         ensures certificate { self.new.certificate ≡ self.old.certificate }
     {
         self.tell(

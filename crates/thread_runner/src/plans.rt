@@ -3,7 +3,7 @@ ghost use Rattle.std.specs.Prelude.{◌≡◌, ◌+◌, ◌<◌, ◌^◌, ℕ, I
 ghost use Rattle.marks.specs.Plans.{next_pair};
 ghost use Rattle.trace_text.specs.declared.line.Line.{Line};
 ghost use Rattle.thread_runner.specs.Marked.{barrier_from, is_mark_at, taken_pair};
-ghost use Rattle.thread_runner.specs.Noted.{HaveCome, pairs_done, pairs_left, plan_pairs};
+ghost use Rattle.thread_runner.specs.Noted.{pairs_done, pairs_left, plan_pairs};
 
 use crate::body::Note;
 use crate::error::Halt;
@@ -82,12 +82,13 @@ fn take_steps<R: Wait, G: Gate>(
 }
 
 impl<'a, G: Gate> Plans<'a, G> {
+    ghost use Rattle.thread_runner.specs.Sections.{NotesAll, NotesTo};
+
     /// The plans of this steward, which has none open, or `None` if the steward is that of an
     /// arena of other numbers.
     pub(crate) fn new(alloc: Global, arena: &'a Arena<G>, steward: Steward) -> Option<Plans<'a, G>>
         requires { steward.plan ≡ None }
-        ensures { (lines : List Line) → IfSome result (λ plans. HaveCome lines 0
-            (plan_pairs plans.steward.plan) plans.minutes) }
+        ensures { (lines : List Line) → IfSome result (NotesTo lines 0) }
     {
         if !steward.fits(arena) {
             return None;
@@ -141,10 +142,8 @@ impl<'a, G: Gate> Plans<'a, G> {
     ) -> Result<Plans<'a, G>, AllocError>
         requires { barrier < 2 ^ 63 }
         ensures ended { IfOk result (λ plans. plans.steward.plan ≡ None) }
-        ensures minutes { (lines : List Line) (above : ℕ)
-            → HaveCome lines above (plan_pairs self.entry.steward.plan) self.entry.minutes
-            → barrier ≡ barrier_from lines above
-            → IfOk result (λ plans. HaveCome lines above None plans.minutes) }
+        ensures minutes { (lines : List Line) (above : ℕ) → NotesTo lines above self.entry
+            → barrier ≡ barrier_from lines above → IfOk result (NotesAll lines above) }
     {
         let Plans {
             alloc,
@@ -176,10 +175,8 @@ impl<'a, G: Gate> Plans<'a, G> {
     ) -> Result<(), Halt>
         requires unplanned { self.old.steward.plan ≡ None }
         requires place { place < 2 ^ 63 }
-        ensures { (lines : List Line) → HaveCome lines place None self.old.minutes
-            → is_mark_at lines place ≡ true
-            → OnOk result (HaveCome lines (place + 1) (plan_pairs self.new.steward.plan)
-            self.new.minutes) }
+        ensures { (lines : List Line) → NotesAll lines place self.old
+            → is_mark_at lines place ≡ true → OnOk result (NotesTo lines (place + 1) self.new) }
     {
         let runner = ByThreads::new(rt);
         let pieces = self.arena.limits.shards() as usize;

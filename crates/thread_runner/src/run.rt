@@ -10,8 +10,9 @@ ghost use Rattle.thread_runner.specs.Followed.{carried_by};
 ghost use Rattle.thread_runner.specs.Grown.{AreDiaries, HaveNothing, Rests};
 ghost use Rattle.thread_runner.specs.Known.{AreKept, AreKnown};
 ghost use Rattle.thread_runner.specs.declared.keys.Given.{Given};
-ghost use Rattle.thread_runner.specs.Marked.{AreNotesOf, barrier_from, is_mark, is_mark_at, marks_above};
-ghost use Rattle.thread_runner.specs.Noted.{HaveCome, plan_pairs};
+ghost use Rattle.thread_runner.specs.Marked.{AreNotesOf, barrier_from, is_mark};
+ghost use Rattle.thread_runner.specs.Noted.{plan_pairs};
+ghost use Rattle.thread_runner.specs.Sections.{AreResting, IsSection, NotesAll, NotesTo};
 
 use crate::body::Note;
 use crate::diary::Diary;
@@ -93,8 +94,7 @@ fn threads_in<'a, G: Gate, J: Reading>(
     requires seats { AllByRecursion (λ seat. (seat.table ≡ J.table) × (seat.section ≡ 0)
         × HaveNothing (carried_by seat)) seats.items }
     ensures { (kept : List Given) → IfOk result (λ threads.
-        AllByRecursion (λ one. Rests J.lines J.shown J.table (AreKept kept) 0
-        one.caller.seat one.done one.caller.diary) threads.items) }
+        AreResting J.lines J.shown J.table (AreKept kept) 0 threads.items) }
 {
     let mut threads = Vec::with_capacity(alloc, seats.len())?;
     for seat in seats {
@@ -112,8 +112,7 @@ fn begun<'a, G: Gate, J: Reading, K: Known>(
     threads: Vec<Resting<'a, G>>,
 ) -> Result<Vec<Worker<'a, G, J, K>>, AllocError>
     requires lines { text.now.trace.now.lines.items ≡ J.lines }
-    requires rest { AllByRecursion (λ one. Rests J.lines J.shown J.table (AreKept K.kept)
-        K.section one.caller.seat one.done one.caller.diary) threads.items }
+    requires rest { AreResting J.lines J.shown J.table (AreKept K.kept) K.section threads.items }
 {
     let mut workers = Vec::with_capacity(alloc, threads.len())?;
     for one in threads {
@@ -143,9 +142,8 @@ fn each_rested<'a, G: Gate, J: Reading, K: Known>(
     alloc: Global,
     workers: Vec<Settled<'a, G, J, K>>,
 ) -> Result<(Vec<Resting<'a, G>>, Vec<Given>), Halt>
-    ensures { IfOk result (λ both. AllByRecursion (λ one. Rests J.lines J.shown J.table
-        (AreKnown K.kept both.1.items) (K.section + 1)
-        one.caller.seat one.done one.caller.diary) both.0.items) }
+    ensures { IfOk result (λ both. AreResting J.lines J.shown J.table
+        (AreKnown K.kept both.1.items) (K.section + 1) both.0.items) }
 {
     let mut latest = Vec::new(alloc);
     let mut threads = Vec::with_capacity(alloc, workers.len())?;
@@ -162,9 +160,8 @@ fn all_rested<'a, G: Gate, J: Reading, K: Known>(
     keys: Keys,
 ) -> Result<(Vec<Resting<'a, G>>, Keys), Halt>
     requires { keys.kept.items ≡ K.kept }
-    ensures { IfOk result (λ both. AllByRecursion (λ one. Rests J.lines J.shown J.table
-        (AreKept both.1.kept.items) (K.section + 1)
-        one.caller.seat one.done one.caller.diary) both.0.items) }
+    ensures { IfOk result (λ both. AreResting J.lines J.shown J.table
+        (AreKept both.1.kept.items) (K.section + 1) both.0.items) }
 {
     let (threads, latest) = each_rested(alloc, workers)?;
     Ok((threads, keys.with(latest)?))
@@ -329,9 +326,8 @@ fn seats_and_diaries<'a, G: Gate, J: Reading, K: Known>(
     requires { K.section ≡ marks J.lines + 1 }
     ensures seats { IfOk result (λ parts. AllByRecursion (λ seat. seat.table ≡ J.table)
         parts.0.items) }
-    ensures diaries { (given : GivenKeys) → AreKept K.kept given
-        → IfOk result (λ parts. AreDiaries J.lines J.shown given threads parts.0.items
-        parts.1.items) }
+    ensures diaries { (given : GivenKeys) → AreKept K.kept given → IfOk result (λ parts.
+        AreDiaries J.lines J.shown given threads parts.0.items parts.1.items) }
 {
     let mut workers = workers;
     let mut seats = Vec::with_capacity(alloc, workers.len())?;
@@ -479,13 +475,8 @@ impl<'a, G: Gate + Sync, J: Reading> BetweenSections<'a, G, J> {
         requires section { self.sections_run ≡ K.section }
         requires one { (place : ℕ) → from ≤ place → place < end
             → marks (take place J.lines) ≡ K.section }
-        ensures notes { (lines : List Line)
-            → HaveCome lines from (plan_pairs plans.entry.steward.plan) plans.entry.minutes
-            → barrier ≡ barrier_from lines from
-            → marks_above lines end ≡ marks_above lines from
-            → is_mark_at lines end ≡ true
-            → IfOk result (λ both. HaveCome lines (end + 1) (plan_pairs both.1.steward.plan)
-            both.1.minutes) }
+        ensures notes { (lines : List Line) → IsSection lines from barrier end
+            → NotesTo lines from plans.entry → IfOk result (λ ran. NotesTo lines (end + 1) ran.1) }
         ensures sections { IfOk result (λ both. both.0.sections_run ≡ self.entry.sections_run + 1) }
     {
         let BetweenSections {
@@ -523,10 +514,8 @@ impl<'a, G: Gate + Sync, J: Reading> BetweenSections<'a, G, J> {
         requires section { self.sections_run ≡ K.section }
         requires one { (place : ℕ) → from ≤ place → place < barrier
             → marks (take place J.lines) ≡ K.section }
-        ensures notes { (lines : List Line)
-            → HaveCome lines from (plan_pairs plans.entry.steward.plan) plans.entry.minutes
-            → barrier ≡ barrier_from lines from
-            → IfOk result (λ both. HaveCome lines from None both.1.minutes) }
+        ensures notes { (lines : List Line) → NotesTo lines from plans.entry
+            → barrier ≡ barrier_from lines from → IfOk result (λ ran. NotesAll lines from ran.1) }
         ensures sections { IfOk result (λ both. both.0.sections_run ≡ self.entry.sections_run + 1) }
     {
         let BetweenSections {
@@ -557,8 +546,7 @@ impl<'a, G: Gate + Sync, J: Reading> BetweenSections<'a, G, J> {
     ) -> Result<(Self, Plans<'a, G>), Halt>
         requires lines { lines.now.items ≡ J.lines }
         requires first { self.sections_run ≡ 0 }
-        requires notes { HaveCome lines.now.items 0 (plan_pairs plans.steward.plan)
-            plans.minutes }
+        requires notes { NotesTo lines.now.items 0 plans }
         ensures notes { IfOk result (λ both. AreNotesOf lines.now.items both.1.minutes.notes.items
             both.1.minutes.certificate.items) }
         ensures sections { IfOk result (λ both. both.0.sections_run ≡ marks lines.now.items + 1) }
@@ -586,9 +574,8 @@ impl<'a, G: Gate + Sync, J: Reading> BetweenSections<'a, G, J> {
         requires all { self.sections_run ≡ marks J.lines + 1 }
         ensures seats { IfOk result (λ parts. AllByRecursion (λ seat. seat.table ≡ J.table)
             parts.0.items) }
-        ensures diaries { (given : GivenKeys) → AreKept K.kept given
-            → IfOk result (λ parts. AreDiaries J.lines J.shown given threads parts.0.items
-            parts.1.items) }
+        ensures diaries { (given : GivenKeys) → AreKept K.kept given → IfOk result (λ parts.
+            AreDiaries J.lines J.shown given threads parts.0.items parts.1.items) }
     {
         let BetweenSections {
             alloc,

@@ -7,7 +7,7 @@ ghost use Rattle.trace_text.specs.Causes.{is_adopt, marks};
 ghost use Rattle.trace_text.specs.declared.line.Line.{Line};
 ghost use Rattle.thread_runner.specs.Asked.{GivenKeys};
 ghost use Rattle.thread_runner.specs.Followed.{carried_by};
-ghost use Rattle.thread_runner.specs.Grown.{HaveNothing, IsDiaryOf, Rests, Tracks};
+ghost use Rattle.thread_runner.specs.Grown.{IsDiaryOf, Tracks};
 ghost use Rattle.thread_runner.specs.Known.{AreFresh, AreKept, AreKnown};
 ghost use Rattle.thread_runner.specs.declared.keys.Given.{Given};
 
@@ -86,6 +86,8 @@ pub(crate) struct Resting<'a, G: Gate> {
 }
 
 impl<'a, G: Gate> Resting<'a, G> {
+    ghost use Rattle.thread_runner.specs.Sections.{IsResting, IsUnused};
+
     /// The thread in this seat before the first section, or `None` where the seat is that of an
     /// arena of other numbers.
     pub(crate) fn new(
@@ -94,9 +96,8 @@ impl<'a, G: Gate> Resting<'a, G> {
         text: &Text<'_>,
         seat: Seat,
     ) -> Option<Resting<'a, G>>
-        ensures { (kept : List Given) → seat.section ≡ 0 → HaveNothing (carried_by seat)
-            → IfSome result (λ resting. Rests text.now.trace.now.lines.items text.now.replies
-            seat.table (AreKept kept) 0 resting.caller.seat resting.done resting.caller.diary) }
+        ensures { (kept : List Given) → IsUnused seat → IfSome result (IsResting
+            text.now.trace.now.lines.items text.now.replies seat.table (AreKept kept) 0) }
     {
         let caller = Caller::new(alloc, arena, text.replies, seat)?;
         Some(Resting { caller, done: 0 })
@@ -172,11 +173,12 @@ impl<'a, G: Gate, J: Reading, K: Known> SentOff<'a, G, J, K> {
 }
 
 impl<'a, G: Gate, J: Reading, K: Known> Worker<'a, G, J, K> {
+    ghost use Rattle.thread_runner.specs.Sections.{IsResting};
+
     /// The thread in a section, where so much is known of it.
     pub(crate) fn new(text: &'a Text<'a>, resting: Resting<'a, G>) -> Worker<'a, G, J, K>
         requires lines { text.now.trace.now.lines.items ≡ J.lines }
-        requires rests { Rests J.lines J.shown J.table (AreKept K.kept) K.section
-            resting.caller.seat resting.done resting.caller.diary }
+        requires rests { IsResting J.lines J.shown J.table (AreKept K.kept) K.section resting }
     {
         let Resting { caller, done } = resting;
         Worker {
@@ -257,9 +259,8 @@ impl<'a, G: Gate, J: Reading, K: Known> Worker<'a, G, J, K> {
     pub(crate) fn taken_apart(self) -> Result<(Seat, Diary), Halt>
         requires { K.section ≡ marks J.lines + 1 }
         ensures seat { IfOk result (λ parts. parts.0.table ≡ J.table) }
-        ensures diary { (given : GivenKeys) → AreKept K.kept given
-            → IfOk result (λ parts. IsDiaryOf J.lines J.shown given
-            self.entry.caller.seat.worker parts.1 (carried_by parts.0)) }
+        ensures diary { (given : GivenKeys) → AreKept K.kept given → IfOk result (λ parts. IsDiaryOf
+            J.lines J.shown given self.entry.caller.seat.worker parts.1 (carried_by parts.0)) }
     {
         let Worker {
             text,
@@ -278,6 +279,8 @@ impl<'a, G: Gate, J: Reading, K: Known> Worker<'a, G, J, K> {
 }
 
 impl<'a, G: Gate, J: Reading, K: Known> Settled<'a, G, J, K> {
+    ghost use Rattle.thread_runner.specs.Sections.{IsResting};
+
     /// Its thread's number.
     pub(crate) fn thread(&self) -> u32
         ensures { result ≡ self.now.caller.seat.worker }
@@ -322,9 +325,8 @@ impl<'a, G: Gate, J: Reading, K: Known> Settled<'a, G, J, K> {
     pub(crate) fn rested(self, latest: &mut Vec<Given>) -> Result<Resting<'a, G>, Halt>
         ensures before { (given : GivenKeys) → AreFresh latest.new.items given
             → OnOk result (AreFresh latest.old.items given) }
-        ensures rests { IfOk result (λ resting. Rests J.lines J.shown J.table
-            (AreKnown K.kept latest.new.items) (K.section + 1)
-            resting.caller.seat resting.done resting.caller.diary) }
+        ensures rests { IfOk result (IsResting J.lines J.shown J.table
+            (AreKnown K.kept latest.new.items) (K.section + 1)) }
     {
         let Settled {
             mut caller,

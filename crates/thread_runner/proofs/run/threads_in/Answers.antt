@@ -16,7 +16,7 @@ loop-seat-preserved-in-Continue-branch-2 g c =
     record {
       left = search rules;
       threads = λ kept.
-          let rests = c.in-Some-new.ensures kept here.1 here.2 in
+          let rests = c.in-Some-new.ensures kept (here.1, here.2) in
           let of_lines = subst (λ ls. Rests ls c.args.text.now.replies c.in-Some.seat.table (AreKept kept) 0 one.caller.seat one.done one.caller.diary) c.requires.lines rests in
           let of_shown = subst (λ b. Rests lines b c.in-Some.seat.table (AreKept kept) 0 one.caller.seat one.done one.caller.diary) c.requires.shown of_lines in
           let of_table = subst (λ t. Rests lines shown t (AreKept kept) 0 one.caller.seat one.done one.caller.diary) here.0 of_shown in

@@ -1,8 +1,6 @@
-use Rattle.std.proofs.Common.{◌≡◌, ◌+◌, OnOk, ap, map, refl, subst, sym}
-use Rattle.std.specs.List.{range_with_len}
+use Rattle.std.proofs.Common.{◌≡◌, OnOk, ap, refl, subst, sym}
 use Rattle.std.proofs.lemmas.Result.{on_ok_weaker}
-use Rattle.trace_text.specs.Objects.{counted_from}
-use Rattle.thread_runner.specs.Asked.{Ends, GivenKeys, Puts, Said, asked_by}
+use Rattle.thread_runner.specs.Asked.{Ends, GivenKeys, Said, asked_by, puts_from}
 use Rattle.thread_runner.specs.Followed.{carried_by}
 use Rattle.thread_runner.specs.Grown.{Tells}
 use Rattle.thread_runner.specs.Known.{AreKnown}
@@ -12,7 +10,7 @@ use Rattle.thread_runner.proofs.Knowing.{Tells-still}
 use Rattle.thread_runner.proofs.caller.Caller.call.Goals as goal
 
 pub returns-in-Fill-clause-told : goal.returns-in-Fill-clause-told
-returns-in-Fill-clause-told g c above binds reads =
+returns-in-Fill-clause-told g c above spot =
     let self = c.args.self.now in
     let later = c.fill.new.self in
     let kept = c.args.keys.now.kept.items in
@@ -22,12 +20,12 @@ returns-in-Fill-clause-told g c above binds reads =
     (carried_by self.seat) (carried_by later.seat))) (sym c.in-Fill.is)
     (subst (λ n. OnOk c.fill.result
     (Tells self.seat.section self.seat.worker c.args.spot.number
-    (map (λ i. Puts (n + i) (counted_from c.in-Fill.class (c.in-Fill.value + i))) (range_with_len 0 c.in-Fill.count)) knew knows self.diary later.diary
-    (carried_by self.seat) (carried_by later.seat))) binds
+    (puts_from n c.in-Fill.class c.in-Fill.count c.in-Fill.value) knew knows self.diary later.diary
+    (carried_by self.seat) (carried_by later.seat))) spot.0
     (c.fill.ensures.told kept))
 
 pub returns-in-End-clause-told : goal.returns-in-End-clause-told
-returns-in-End-clause-told g c above binds reads =
+returns-in-End-clause-told g c above spot =
     let self = c.args.self.now in
     let later = c.other.new.self in
     let kept = c.args.keys.now.kept.items in

@@ -27,4 +27,4 @@ returns-clause-told g c line there =
     let reads = c.place.ensures c.line_at.result.now here in
     subst (λ l. OnOk c.call.result (Tells self.seat.section self.seat.worker (c.args.place + 6) (asked_at above l) (AreKnown kept self.fresh.items)
     (AreKnown kept later.fresh.items) self.diary later.diary (carried_by self.seat) (carried_by later.seat))) (sym c.in-Call.is ∙ same)
-    (c.call.ensures.told above first (rw c.in-Call.is at reads))
+    (c.call.ensures.told above (first, rw c.in-Call.is at reads))

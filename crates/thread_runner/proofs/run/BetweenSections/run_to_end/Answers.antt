@@ -27,7 +27,7 @@ loop-place-preserved g c =
             within = omega (arith, from_is);
             come = HaveCome-same lines (place + 1) c.if-is_mark.from w.in_ok-both.both.1.steward.plan c.if-is_mark.plans.steward.plan w.in_ok-both.both.1.minutes c.if-is_mark.plans.minutes from_is
                 (ap (λ k. plan_pairs k.steward.plan) w.plans-is) (ap (λ k. k.minutes) w.plans-is)
-                (w.in_ok-both.ensures.notes lines so_far.come w.barrier_of-barrier.ensures.barrier so_far.same (is ∙ w.if-is_mark.true));
+                (w.in_ok-both.ensures.notes lines (w.barrier_of-barrier.ensures.barrier, so_far.same, is ∙ w.if-is_mark.true) so_far.come);
             same = ap (marks_above lines) (sym from_is);
             one = subst (λ s. IsOneSection lines c.if-is_mark.from (place + 1) s) (sym sections_is)
                 (subst (λ f. IsOneSection lines f (place + 1) (c.loop-place.between.sections_run + 1)) (sym from_is) next);
