@@ -1,5 +1,5 @@
 -- What the program says of a fault, and its status.
-use Rattle.std.specs.Prelude.{◌≡◌, ℕ, Bool, true, false, List, ◌++◌, Option, Some, None, option_map, codes, if◌then◌else◌, string_bytes, ⊤}
+use Rattle.std.specs.Prelude.{◌≡◌, ◌+◌, ℕ, MatchBool, Bool, true, false, List, ◌++◌, Option, Some, None, option_map, codes, if◌then◌else◌, string_bytes, ⊤}
 use Rattle.std.specs.declared.alloc.Global.{Global}
 use Rattle.std.specs.declared.string.String.{String}
 use Rattle.std.specs.Fmt.{decimal}
@@ -142,3 +142,19 @@ TakesMessage f old new = (text : List ℕ) × IsMessage f text × Appends old ne
 -- a prefix of what is said of it went in
 abbrev pub TakesFront : Fault → Option (List ℕ) → Option (List ℕ) → Type 0
 TakesFront f old new = (text : List ℕ) × IsMessage f text × AppendsFront old new text
+
+-- what is said of it went in, whole, at the first sink where help or the version was asked for, and
+-- else at the second
+abbrev pub TellsMessage : Fault → (out_old out_new err_old err_new : Option (List ℕ)) → Type 0
+TellsMessage f out_old out_new err_old err_new =
+    MatchBool (asks_for_help f) (TakesMessage f out_old out_new) (TakesMessage f err_old err_new)
+
+-- a prefix of it went in, at the same sink
+abbrev pub TellsFront : Fault → (out_old out_new err_old err_new : Option (List ℕ)) → Type 0
+TellsFront f out_old out_new err_old err_new =
+    MatchBool (asks_for_help f) (TakesFront f out_old out_new) (TakesFront f err_old err_new)
+
+-- that sink failed once more
+abbrev pub FailsOnce : Fault → (out_old out_new err_old err_new : ℕ) → Type 0
+FailsOnce f out_old out_new err_old err_new =
+    MatchBool (asks_for_help f) (out_new ≡ out_old + 1) (err_new ≡ err_old + 1)

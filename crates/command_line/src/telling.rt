@@ -1,8 +1,8 @@
 //! Tells what went wrong.
 
-ghost use Rattle.std.specs.Prelude.{◌≡◌, ◌<◌, ◌+◌, ◌++◌, ◌-◌, ◌^◌, true, false, MatchBool, IfOk, OnOk, IsErrOf};
+ghost use Rattle.std.specs.Prelude.{◌≡◌, ◌<◌, ◌+◌, ◌++◌, ◌-◌, ◌^◌, true, false, IfOk, OnOk, IsErrOf};
 ghost use Rattle.command_line.specs.declared.telling.TellError.TheVariants as tell_error;
-ghost use Rattle.command_line.specs.Telling.{IsMessage, TakesFront, TakesMessage, asks_for_help, audit_message, file_message, line_message, status_of, status_if_unreported, text_message};
+ghost use Rattle.command_line.specs.Telling.{FailsOnce, IsMessage, TellsFront, TellsMessage, asks_for_help, audit_message, file_message, line_message, status_of, status_if_unreported, text_message};
 ghost use Rattle.command_line.specs.Job.{bytes_of};
 
 use crate::fault::Fault;
@@ -140,18 +140,15 @@ pub fn tell<O: Sink, E: Sink>(
     requires out_room { O.failures out.old < 2 ^ 64 - 1 }
     requires err_room { E.failures err.old < 2 ^ 64 - 1 }
     ensures status { IfOk result (λ status. status ≡ status_of fault.now) }
-    ensures told { OnOk result (MatchBool (asks_for_help fault.now)
-        (TakesMessage fault.now (O.taken out.old) (O.taken out.new))
-        (TakesMessage fault.now (E.taken err.old) (E.taken err.new))) }
+    ensures told { OnOk result (TellsMessage fault.now (O.taken out.old) (O.taken out.new)
+        (E.taken err.old) (E.taken err.new)) }
     ensures succeeded { OnOk result ((O.failures out.new ≡ O.failures out.old)
         × (E.failures err.new ≡ E.failures err.old)) }
 
-    ensures front { IsErrOf result TellError.SinkFailed → MatchBool (asks_for_help fault.now)
-        (TakesFront fault.now (O.taken out.old) (O.taken out.new))
-        (TakesFront fault.now (E.taken err.old) (E.taken err.new)) }
-    ensures failed { IsErrOf result TellError.SinkFailed → MatchBool (asks_for_help fault.now)
-        (O.failures out.new ≡ O.failures out.old + 1)
-        (E.failures err.new ≡ E.failures err.old + 1) }
+    ensures front { IsErrOf result TellError.SinkFailed → TellsFront fault.now
+        (O.taken out.old) (O.taken out.new) (E.taken err.old) (E.taken err.new) }
+    ensures failed { IsErrOf result TellError.SinkFailed → FailsOnce fault.now
+        (O.failures out.old) (O.failures out.new) (E.failures err.old) (E.failures err.new) }
     ensures memory { IsErrOf result TellError.OutOfMemory → (out.new ≡ out.old)
         × (err.new ≡ err.old) }
 
