@@ -182,3 +182,10 @@ module _ {D : Type 0} (held : D → List ℕ → Option (List ℕ)) (failures : 
       (IsOfWords stop × IsUntouched failures_old failures_new old new before after)
       ⊎ ((words : List Text) × (job : Job) × IsJobOf words job
       × Halts job failures_old failures_new old new before after stop)
+
+module _ {S D : Type 0} (failed : S → ℕ) (taken : S → Option (List ℕ))
+    (held : D → List ℕ → Option (List ℕ)) (failures : D → ℕ) where
+  -- where the job came to a halt, between these states of a sink and of the files
+  abbrev pub HaltsBetween : Job → (old new : S) → (before after : D) → Fault → Type 0
+  HaltsBetween job old new before after stop =
+      Halts held failures job (failed old) (failed new) (taken old) (taken new) before after stop

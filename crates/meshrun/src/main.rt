@@ -13,8 +13,9 @@
 #![tactic(auto)]
 
 ghost use Rattle.std.specs.Prelude.{◌≡◌, ◌<◌, ◌≤◌, ◌+◌, ◌-◌, ◌^◌, ℕ, List, IfErr, IfOk, OnOk};
-ghost use Rattle.meshrun.specs.Done.{DoesJob, Halts, HaltsCheck, HaltsReplay, HaltsRun, IsDone, IsHalted, IsNamed, IsOfFile, IsReplayed, WritesRun, status_of_verdict};
+ghost use Rattle.meshrun.specs.Done.{DoesJob, Halts, HaltsBetween, HaltsCheck, HaltsReplay, IsDone, IsHalted, IsNamed, IsOfFile, IsReplayed, WritesRun, status_of_verdict};
 ghost use Rattle.command_line.specs.Job.{bytes_of};
+ghost use Rattle.command_line.specs.declared.job.Job.TheVariants.{Run};
 ghost use Rattle.trace_runner.specs.Verdict.{WritesVerdict};
 
 use command_line::{Disk, Fault, Job, Store, StoreFailed, save, tell};
@@ -129,9 +130,8 @@ fn run_trace<R: Threads + Wait + Sync + Files + Input + AllocGlobal, S: Sink, D:
     // What became of the files.
     ensures stored { OnOk result (D.failures store.new ≡ D.failures store.old) }
     ensures store_failures { D.failures store.new ≤ D.failures store.old + 1 }
-    ensures err { IfErr result (HaltsRun D.held D.failures (bytes_of path.entry) serial replies
-        (bytes_of certificate.entry) (S.failures out.old) (S.failures out.new) (S.taken out.old)
-        (S.taken out.new) store.old store.new) }
+    ensures err { IfErr result (HaltsBetween S.failures S.taken D.held D.failures
+        (Run path.entry serial replies certificate.entry) out.old out.new store.old store.new) }
 {
     let source = source_of(rt, path)?;
     // What may have to be said of the file for the certificate is kept before anything is written.
