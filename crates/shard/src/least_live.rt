@@ -45,9 +45,8 @@ pub(crate) fn reserve_bytes<L: Log>(
 #[inline(always)]
 pub(crate) fn clear_byte(least: &mut Vec<u8>, index: usize)
     requires { index < vec_len least.old }
-    ensures known { (groups : List GroupState) (group : GroupState)
-        → KnowsLeast groups least.old.items
-        → KnowsLeast (slice_set groups index group) least.new.items }
+    ensures known { (kept : List GroupState) (group : GroupState) → KnowsLeast kept least.old.items
+        → KnowsLeast (slice_set kept index group) least.new.items }
     ensures len { vec_len least.new ≡ vec_len least.old }
 {
     least[index] = 0;
@@ -67,9 +66,8 @@ pub(crate) fn clear_bytes(least: &mut Vec<u8>)
 /// and the last byte, which is of none, goes. It takes no memory.
 pub(crate) fn add_byte(least: &mut Vec<u8>, index: usize)
     requires { index < vec_len least.old }
-    ensures known { (groups : List GroupState) (group : GroupState) → index ≤ length groups
-        → KnowsLeast groups least.old.items
-        → KnowsLeast (insert groups index group) least.new.items }
+    ensures known { (kept : List GroupState) (group : GroupState) → index ≤ length kept
+        → KnowsLeast kept least.old.items → KnowsLeast (insert kept index group) least.new.items }
     ensures len { vec_len least.new ≡ vec_len least.old }
 {
     least.pop();
