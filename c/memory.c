@@ -159,7 +159,7 @@ static void fold(void) {
     }
     size_t before = calls, kept = blocks;
     WANT(teurlaks_close(&core) == TEURLAKS_OK);
-    WANT(calls == before + 1 && blocks == kept - 1);
+    WANT(calls == before + 2 && blocks == kept - 2);
     look_up(0, 2, 0);
     look_up(1, 0, 1);
     WANT_PAGES(PAGES);
@@ -279,7 +279,7 @@ static void little(void) {
     struct teurlaks_key none = {0};
     size_t before = bytes, kept = blocks;
     WANT(teurlaks_new(&many, 64, MANY, 1024, 9) == TEURLAKS_OK);
-    WANT(blocks == kept + 1 && bytes - before <= 512);
+    WANT(blocks == kept + 1 && bytes - before <= 480);
     none.generation = 1;
     QUIETLY(teurlaks_get(&many, none).status == TEURLAKS_NONE);
     QUIETLY(teurlaks_free(&many, none) == TEURLAKS_NONE);
@@ -287,7 +287,7 @@ static void little(void) {
     QUIETLY(teurlaks_retire(&many, 63, 1).status == TEURLAKS_OK);
     QUIETLY(teurlaks_begin(&many, 63) == TEURLAKS_RUNNING);
     WANT(teurlaks_put(&many, 0, (struct teurlaks_word){1, 2}).status == TEURLAKS_OK);
-    WANT(bytes - before <= PAGE + 1040);
+    WANT(bytes - before <= PAGE + 1008);
     teurlaks_drop(&many);
 }
 

@@ -1,26 +1,27 @@
 // The open plan of a core, which has memory only while it is open.
-ghost use Rattle.std.specs.Prelude.{◌≡◌, None, IsSome, is_some, option_map};
+ghost use Rattle.std.specs.Prelude.{◌≡◌, None, IfOk, IsSome, is_some, option_map};
 ghost use Rattle.marks.specs.Plans.{next_pair, with_next_done};
 
 use marks::CurrentPlan;
 use span::names::SpanId;
+use std::alloc::{AllocError, Global};
 use std::marker::Model;
 
 /// The open plan of folds, if there is one. The room of a plan comes with the mark that opens it,
-/// and goes with the close.
+/// and goes with the close. Until then it takes two words of the core.
 #[derive(Drop)]
 pub struct LatePlan {
-    plan: Option<CurrentPlan>,
+    plan: Option<Box<CurrentPlan>>,
 }
 
 impl Model for LatePlan {
-    ghost use Rattle.std.specs.Prelude.{Option};
+    ghost use Rattle.std.specs.Prelude.{Option, option_map};
     ghost use Rattle.marks.specs.Plans.{OpenPlan};
     ghost use Rattle.arena_core.specs.LatePlan.{plan_in};
 
     ghost Value = { Option OpenPlan };
 
-    ghost view = { λ late. plan_in late.plan };
+    ghost view = { λ late. plan_in (option_map (λ plan. plan.value) late.plan) };
 }
 
 impl LatePlan {
@@ -29,6 +30,18 @@ impl LatePlan {
         ensures { result ≡ None }
     {
         LatePlan { plan: None }
+    }
+
+    /// Room for a plan, with none in it.
+    ///
+    /// # Errors
+    ///
+    /// `AllocError` if memory is refused.
+    pub fn room(alloc: Global) -> Result<Box<CurrentPlan>, AllocError>
+        ensures { IfOk result (λ plan. plan.value ≡ None) }
+    {
+        let plan = CurrentPlan::new(alloc)?;
+        Ok(Box::new(alloc, plan)?)
     }
 
     /// Whether a plan is open.
@@ -67,8 +80,8 @@ impl LatePlan {
     }
 
     /// Keeps the plan in the place of the one that there was.
-    pub fn open(&mut self, plan: CurrentPlan)
-        ensures { self.new ≡ plan }
+    pub fn open(&mut self, plan: Box<CurrentPlan>)
+        ensures { self.new ≡ plan.value }
     {
         self.plan = Some(plan);
     }

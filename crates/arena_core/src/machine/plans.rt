@@ -1,5 +1,5 @@
 // Marks, the steps of their plans, and closes.
-ghost use Rattle.std.specs.Prelude.{◌≡◌, ◌<◌, ℕ, IsSome, length};
+ghost use Rattle.std.specs.Prelude.{◌≡◌, ◌<◌, ℕ, IsSome, MatchOption, is_some, length};
 ghost use Rattle.pool.specs.State.{PooledState};
 ghost use Rattle.shard.specs.Group.{GroupState};
 ghost use Rattle.groups.specs.Group.{IsHeadOf, spans_of};
@@ -10,23 +10,53 @@ ghost use Rattle.arena_core.specs.Plan.{IsNext};
 ghost use Rattle.arena_core.specs.Sound.{IsSound};
 ghost use Rattle.marks.specs.Plans.{OpenPlan};
 ghost use Rattle.arena_core.specs.State.{shown};
-ghost use Rattle.arena_core.specs.Step.{CoreStep};
+ghost use Rattle.arena_core.specs.Step.{CoreStep, MayMark};
 ghost use Rattle.arena_core.specs.declared.event.Event.TheVariants as event;
 ghost use Rattle.arena_core.specs.declared.reply.Reply.TheVariants as reply;
 
 use super::Core;
+use crate::late_plan::LatePlan;
 use crate::reply::{Refusal, Reply, mark_refusal};
 use certificate::Certificate;
 use fold::{Step, fold_one};
-use marks::{CurrentPlan, Sight, has_too_many, mark_in, reopen_all};
+use marks::{Sight, has_too_many, mark_in, reopen_all};
 use mesh_graph::Runner;
 use pool::Pool;
 use shard::Shard;
 use span::names::SpanId;
 use span::spans::Log;
-use std::alloc::AllocError;
+use std::alloc::{AllocError, Global};
 
 impl<L: Log> Core<L> {
+    /// Whether a plan of folds is open.
+    pub fn has_plan(&self) -> bool
+        ensures open { result ≡ is_some self.now.plan }
+        ensures sound { IsSound self.now }
+    {
+        self.plan.is_open()
+    }
+
+    /// Why a mark of all groups would be refused now, whatever memory there is, or `None` if it
+    /// would not be. A caller that needs memory of its own for a mark asks that first.
+    pub fn mark_refusal(&self) -> Option<Refusal>
+        ensures why { MatchOption result (MayMark self.now)
+            (λ refusal. CoreStep self.now event.Mark (reply.Refused refusal) self.now) }
+        ensures sound { IsSound self.now }
+    {
+        if self.plan.is_open() {
+            return Some(Refusal::PlanOpen);
+        }
+        if has_too_many(&self.pool, &self.shards) {
+            return Some(Refusal::TooMany);
+        }
+        None
+    }
+
+    /// The allocator of its memory.
+    pub fn alloc(&self) -> Global {
+        self.alloc
+    }
+
     // Makes a plan of as many folds as can be of what stands now, opens it, and closes the groups
     // that it folds onto. The runner fills the rows of its graph.
     pub(super) fn mark<R: Runner>(&mut self, runner: &R) -> Result<Certificate, Refusal>
@@ -55,7 +85,7 @@ impl<L: Log> Core<L> {
         if self.plan.is_open() {
             return Err(Refusal::PlanOpen);
         }
-        let mut plan = CurrentPlan::new(self.alloc)?;
+        let mut plan = LatePlan::room(self.alloc)?;
         let certificate = match mark_in(
             runner,
             self.alloc,
