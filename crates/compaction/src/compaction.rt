@@ -1,5 +1,5 @@
 // A compaction of a core, in steps.
-ghost use Rattle.std.specs.Prelude.{◌≡◌, ◌+◌, ◌<◌, ◌≤◌, max, not};
+ghost use Rattle.std.specs.Prelude.{◌≡◌, ◌+◌, ◌<◌, ◌≤◌, None, OnErr, max, not};
 ghost use Rattle.arena_core.specs.declared.event.Event.TheVariants as event;
 ghost use Rattle.arena_core.specs.Sound.{IsSound};
 ghost use Rattle.arena_core.specs.State.{pages, shown};
@@ -9,15 +9,14 @@ ghost use Rattle.compaction.specs.Told.{standing_of};
 
 use crate::advanced::{Advanced, advanced_by};
 use crate::compacted::{Compacted, Standing};
-use crate::occupancy::{MOST_GROUPS, Occupancy};
 use crate::progress::{Phase, Progress};
-use crate::round::Round;
-use crate::rounds::Rounds;
-use crate::turn::Turn;
+use crate::work::{
+    Stage, Work, note_adoption, note_mark, note_retirement, shard_of, share_of, stage_of,
+};
 use arena_core::{Core, Event, Refusal, Reply};
 use certificate::Certificate;
-use mesh_graph::Snapshot;
 use span::spans::Counted;
+use std::alloc::AllocError;
 use std::marker::Model;
 
 /// A plan or a round that folds one of so many groups of its smaller side is worth another one.
@@ -27,26 +26,8 @@ const WORTH: usize = 16;
 #[derive(Drop)]
 pub struct Compaction {
     progress: Progress,
-    // What comes next where the progress leaves a choice.
-    stage: Stage,
-    // How many slots a page has, of the class with the most that a mark saw.
-    slots: usize,
-    turn: Turn,
-    rounds: Rounds,
-    round: Round,
-}
-
-// What comes next while no plan of the compaction is open.
-#[derive(Clone, Copy)]
-enum Stage {
-    Retire,
-    // The adoptions of those that are kept.
-    Keep,
-    Mark,
-    // The adoptions of what is left.
-    Adopt,
-    // The spans that can never be live again, now that others are empty.
-    End,
+    // What comes next where the progress leaves a choice, from the first mark on.
+    work: Option<Box<Work>>,
 }
 
 impl Model for Compaction {
@@ -80,11 +61,7 @@ impl Compaction {
     {
         Compaction {
             progress,
-            stage: Stage::Mark,
-            slots: 1,
-            turn: Turn::first(),
-            rounds: Rounds::none(),
-            round: Round::of_pool(),
+            work: None,
         }
     }
 
@@ -161,7 +138,7 @@ impl Compaction {
         ensures sound { IsSound core.new }
     {
         let is_choosing = matches!(self.progress.phase, Phase::Choosing);
-        if is_choosing && matches!(self.stage, Stage::Retire) {
+        if is_choosing && matches!(stage_of(&self.work), Stage::Retire) {
             return self.retire(core, left);
         }
         Taken {
@@ -195,7 +172,7 @@ impl Compaction {
         ensures stands { Leaves (standing_of result) core.new }
         ensures sound { IsSound core.new }
     {
-        match self.stage {
+        match stage_of(&self.work) {
             Stage::Keep | Stage::Adopt => self.adopt(core, budget),
             Stage::End if self.progress.is_spent => self.end(core),
             // A retirement is no such step.
@@ -243,9 +220,28 @@ impl Compaction {
         ensures stands { Leaves (standing_of result) core.new }
         ensures sound { IsSound core.new }
     {
+        let made = self.make_work(core);
+        if let Err(_) = made {
+            return Advanced::Refused(Refusal::OutOfMemory);
+        }
         let reply = core.step(Event::MarkSome);
         self.note_marked(&reply);
         advanced_by(&reply)
+    }
+
+    // Makes the room for what a first mark is noted in. If a plan is open, that refuses the mark.
+    fn make_work(&mut self, core: &Core<Counted>) -> Result<(), AllocError>
+        ensures same { self.new ≡ self.old }
+        ensures no_plan { OnErr result (core.now.plan ≡ None) }
+        ensures sound { IsSound core.now }
+    {
+        let is_planned = core.has_plan();
+        if self.work.is_some() || is_planned {
+            return Ok(());
+        }
+        let work = Box::new(core.alloc(), Work::new())?;
+        self.work = Some(work);
+        Ok(())
     }
 
     // Notes what the mark planned, of which side, and what the pages are.
@@ -258,14 +254,7 @@ impl Compaction {
         let is_worth = is_worth(certificate);
         self.progress.phase = Phase::Folding;
         self.progress.is_spent = !is_worth;
-        self.round = self.round.with_mark(is_worth, leaves_some(certificate));
-        self.slots = self.slots.max(slots_of(&certificate.snapshot));
-        self.turn = Turn::first();
-        self.stage = if self.round.is_again {
-            Stage::Mark
-        } else {
-            Stage::Adopt
-        };
+        note_mark(&mut self.work, is_worth, certificate);
     }
 
     // Folds the next pair of the plan, if one is left.
@@ -319,26 +308,14 @@ impl Compaction {
         ensures stands { Leaves (standing_of result.advanced) core.new }
         ensures sound { IsSound core.new }
     {
-        let share = self.share();
+        let shard = shard_of(&self.work);
+        let share = share_of(&self.work, self.progress.trimmed);
         let most = share.min(left).max(1);
-        let reply = core.step(Event::Retire {
-            shard: self.turn.shard,
-            most,
-        });
+        let reply = core.step(Event::Retire { shard, most });
         self.note_retired(&reply, share, most);
         Taken {
             cost: most,
             advanced: advanced_by(&reply),
-        }
-    }
-
-    // What the next shard retires of what is wanted, if others have as many.
-    fn share(&self) -> usize {
-        if self.turn.due > 0 {
-            self.turn.due
-        } else {
-            let shards = self.turn.shards_left(self.progress.trimmed);
-            self.round.wanted().div_ceil(shards.max(1))
         }
     }
 
@@ -347,28 +324,7 @@ impl Compaction {
     fn note_retired(&mut self, reply: &Reply, share: usize, most: usize)
         ensures { self.new ≡ self.old }
     {
-        let count = match reply {
-            Reply::Retired(count) => *count,
-            Reply::Refused(Refusal::OutOfMemory | Refusal::PlanOpen) => return,
-            _ => 0,
-        };
-        let shards = self.progress.trimmed;
-        self.round = self.round.with_retired(count);
-        self.turn = if count < most {
-            self.turn.without_this().next(shards)
-        } else if share > most {
-            self.turn.with_due(share - most)
-        } else {
-            self.turn.next(shards)
-        };
-        if self.round.wanted() == 0 || self.turn.is_over(shards) {
-            self.turn = Turn::first();
-            self.stage = if self.round.to_keep() > 0 {
-                Stage::Keep
-            } else {
-                Stage::Mark
-            };
-        }
+        note_retirement(&mut self.work, reply, self.progress.trimmed, share, most);
     }
 
     // Has a shard adopt the next group of the pool, until enough are kept, or there is none, or no
@@ -380,9 +336,8 @@ impl Compaction {
         ensures stands { Leaves (standing_of result) core.new }
         ensures sound { IsSound core.new }
     {
-        let reply = core.step(Event::Adopt {
-            shard: self.turn.shard,
-        });
+        let shard = shard_of(&self.work);
+        let reply = core.step(Event::Adopt { shard });
         self.after_adoption(&reply, core, budget);
         advanced_by(&reply)
     }
@@ -391,56 +346,7 @@ impl Compaction {
     fn after_adoption(&mut self, reply: &Reply, core: &Core<Counted>, budget: usize)
         ensures { self.new ≡ self.old }
     {
-        if self.note_adopted(reply) {
-            self.end_adoptions(core, budget);
-        }
-    }
-
-    // Notes who adopted the group, and answers whether no further one is to be adopted. Groups come
-    // by ascending heads, so that a shard adopts what follows on its own.
-    fn note_adopted(&mut self, reply: &Reply) -> bool
-        ensures { self.new ≡ self.old }
-    {
-        let shards = self.progress.trimmed;
-        match reply {
-            Reply::Adopted(head) => {
-                self.turn = Turn::first().at(head.shard);
-                self.round = self.round.with_kept();
-                matches!(self.stage, Stage::Keep) && self.round.to_keep() == 0
-            }
-            Reply::Refused(Refusal::OutOfMemory | Refusal::PlanOpen) => false,
-            Reply::Refused(Refusal::NothingToAdopt) => true,
-            _ => {
-                let turn = self.turn.without_this();
-                self.turn = turn.next(shards);
-                turn.is_over(shards)
-            }
-        }
-    }
-
-    // Goes on with the mark, or with the next round, if there is one.
-    fn end_adoptions(&mut self, core: &Core<Counted>, budget: usize)
-        ensures { self.new ≡ self.old }
-    {
-        self.turn = Turn::first();
-        if matches!(self.stage, Stage::Keep) {
-            self.stage = Stage::Mark;
-            return;
-        }
-        if self.round.has_division() {
-            self.rounds.note(self.round.is_worth);
-        }
-        let pages = Occupancy::new(core.totals(), self.slots);
-        match self.rounds.next(pages, budget) {
-            Some(division) => {
-                self.round = Round::of(division);
-                self.stage = Stage::Retire;
-            }
-            None => {
-                self.round = Round::of_pool();
-                self.stage = Stage::End;
-            }
-        }
+        note_adoption(&mut self.work, reply, self.progress.trimmed, core, budget);
     }
 
     // Forgets once more, and then all is done.
@@ -482,19 +388,4 @@ fn is_worth(certificate: &Certificate) -> bool
     let smaller = snapshot.abandoned().len().min(snapshot.owned().len());
     let folds = certificate.plan.pairs().len();
     folds > 0 && folds.saturating_mul(WORTH) >= smaller
-}
-
-// Whether the plan leaves groups in the pool, or may not have seen all.
-fn leaves_some(certificate: &Certificate) -> bool {
-    let abandoned = certificate.snapshot.abandoned().len();
-    certificate.plan.pairs().len() < abandoned || abandoned >= MOST_GROUPS
-}
-
-// How many slots a page has, of the class with the most that a mark saw in shards.
-fn slots_of(snapshot: &Snapshot) -> usize {
-    let mut slots = 1usize;
-    for entry in snapshot.owned() {
-        slots = slots.max(usize::from(entry.class.slots()));
-    }
-    slots
 }

@@ -55,6 +55,7 @@ mod progress;
 mod round;
 mod rounds;
 mod turn;
+mod work;
 
 pub use advanced::Advanced;
 pub use compacted::{Compacted, Standing};

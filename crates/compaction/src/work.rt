@@ -1,0 +1,212 @@
+// What a compaction keeps beside what it has gone through, from its first mark on.
+
+use crate::occupancy::{MOST_GROUPS, Occupancy};
+use crate::round::Round;
+use crate::rounds::Rounds;
+use crate::turn::Turn;
+use arena_core::{Core, Refusal, Reply};
+use certificate::Certificate;
+use mesh_graph::Snapshot;
+use span::spans::Counted;
+
+/// What comes next while no plan of the compaction is open.
+#[derive(Clone, Copy)]
+pub(crate) enum Stage {
+    Retire,
+    // The adoptions of those that are kept.
+    Keep,
+    Mark,
+    // The adoptions of what is left.
+    Adopt,
+    // The spans that can never be live again, now that others are empty.
+    End,
+}
+
+/// Which round of a compaction it is, and what comes next in it. It stands in a box that comes with
+/// the first mark and goes with the end, so that a core that is not compacted has no room for it.
+#[derive(Drop)]
+pub(crate) struct Work {
+    stage: Stage,
+    // How many slots a page has, of the class with the most that a mark saw.
+    slots: usize,
+    turn: Turn,
+    rounds: Rounds,
+    round: Round,
+}
+
+impl Work {
+    /// That of a compaction which has made no mark.
+    pub(crate) fn new() -> Work {
+        Work {
+            stage: Stage::Mark,
+            slots: 1,
+            turn: Turn::first(),
+            rounds: Rounds::none(),
+            round: Round::of_pool(),
+        }
+    }
+
+    // What the next shard retires of what is wanted, if others of so many have as many.
+    fn share(&self, shards: u32) -> usize {
+        if self.turn.due > 0 {
+            self.turn.due
+        } else {
+            let left = self.turn.shards_left(shards);
+            self.round.wanted().div_ceil(left.max(1))
+        }
+    }
+
+    // Notes what the mark planned, of which side, and what the pages are.
+    fn note_marked(&mut self, is_worth: bool, certificate: &Certificate) {
+        self.round = self.round.with_mark(is_worth, leaves_some(certificate));
+        self.slots = self.slots.max(slots_of(&certificate.snapshot));
+        self.turn = Turn::first();
+        self.stage = if self.round.is_again {
+            Stage::Mark
+        } else {
+            Stage::Adopt
+        };
+    }
+
+    // Notes how many groups the shard retired of those that it was asked for.
+    fn note_retired(&mut self, shards: u32, count: usize, share: usize, most: usize) {
+        self.round = self.round.with_retired(count);
+        self.turn = if count < most {
+            self.turn.without_this().next(shards)
+        } else if share > most {
+            self.turn.with_due(share - most)
+        } else {
+            self.turn.next(shards)
+        };
+        if self.round.wanted() == 0 || self.turn.is_over(shards) {
+            self.turn = Turn::first();
+            self.stage = if self.round.to_keep() > 0 {
+                Stage::Keep
+            } else {
+                Stage::Mark
+            };
+        }
+    }
+
+    // Notes who adopted the group, and answers whether no further one is to be adopted. Groups come
+    // by ascending heads, so that a shard adopts what follows on its own.
+    fn note_adopted(&mut self, reply: &Reply, shards: u32) -> bool {
+        match reply {
+            Reply::Adopted(head) => {
+                self.turn = Turn::first().at(head.shard);
+                self.round = self.round.with_kept();
+                matches!(self.stage, Stage::Keep) && self.round.to_keep() == 0
+            }
+            Reply::Refused(Refusal::OutOfMemory | Refusal::PlanOpen) => false,
+            Reply::Refused(Refusal::NothingToAdopt) => true,
+            _ => {
+                let turn = self.turn.without_this();
+                self.turn = turn.next(shards);
+                turn.is_over(shards)
+            }
+        }
+    }
+
+    // Goes on with the mark, or with the next round, if there is one.
+    fn end_adoptions(&mut self, core: &Core<Counted>, budget: usize) {
+        self.turn = Turn::first();
+        if matches!(self.stage, Stage::Keep) {
+            self.stage = Stage::Mark;
+            return;
+        }
+        if self.round.has_division() {
+            self.rounds.note(self.round.is_worth);
+        }
+        let pages = Occupancy::new(core.totals(), self.slots);
+        match self.rounds.next(pages, budget) {
+            Some(division) => {
+                self.round = Round::of(division);
+                self.stage = Stage::Retire;
+            }
+            None => {
+                self.round = Round::of_pool();
+                self.stage = Stage::End;
+            }
+        }
+    }
+}
+
+/// What comes next: the mark, if none was made.
+pub(crate) fn stage_of(work: &Option<Box<Work>>) -> Stage {
+    match work {
+        Some(work) => work.stage,
+        None => Stage::Mark,
+    }
+}
+
+/// The shard that is asked next.
+pub(crate) fn shard_of(work: &Option<Box<Work>>) -> u32 {
+    match work {
+        Some(work) => work.turn.shard,
+        None => 0,
+    }
+}
+
+/// What the next of so many shards retires of what is wanted, if others have as many.
+pub(crate) fn share_of(work: &Option<Box<Work>>, shards: u32) -> usize {
+    match work {
+        Some(work) => work.share(shards),
+        None => 0,
+    }
+}
+
+/// Notes what a mark planned, and whether that is worth another one.
+pub(crate) fn note_mark(work: &mut Option<Box<Work>>, is_worth: bool, certificate: &Certificate) {
+    if let Some(work) = work {
+        work.note_marked(is_worth, certificate);
+    }
+}
+
+/// Notes how many groups one of so many shards retired of those that it was asked for. One that has
+/// ended has none.
+pub(crate) fn note_retirement(
+    work: &mut Option<Box<Work>>,
+    reply: &Reply,
+    shards: u32,
+    share: usize,
+    most: usize,
+) {
+    let count = match reply {
+        Reply::Retired(count) => *count,
+        Reply::Refused(Refusal::OutOfMemory | Refusal::PlanOpen) => return,
+        _ => 0,
+    };
+    if let Some(work) = work {
+        work.note_retired(shards, count, share, most);
+    }
+}
+
+/// Notes the adoption by one of so many shards, and goes on if it was the last one.
+pub(crate) fn note_adoption(
+    work: &mut Option<Box<Work>>,
+    reply: &Reply,
+    shards: u32,
+    core: &Core<Counted>,
+    budget: usize,
+) {
+    if let Some(work) = work {
+        if work.note_adopted(reply, shards) {
+            work.end_adoptions(core, budget);
+        }
+    }
+}
+
+// Whether the plan leaves groups in the pool, or may not have seen all.
+fn leaves_some(certificate: &Certificate) -> bool {
+    let abandoned = certificate.snapshot.abandoned().len();
+    certificate.plan.pairs().len() < abandoned || abandoned >= MOST_GROUPS
+}
+
+// How many slots a page has, of the class with the most that a mark saw in shards.
+fn slots_of(snapshot: &Snapshot) -> usize {
+    let mut slots = 1usize;
+    for entry in snapshot.owned() {
+        slots = slots.max(usize::from(entry.class.slots()));
+    }
+    slots
+}
