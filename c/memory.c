@@ -279,7 +279,7 @@ static void little(void) {
     struct teurlaks_key none = {0};
     size_t before = bytes, kept = blocks;
     WANT(teurlaks_new(&many, 64, MANY, 1024, 9) == TEURLAKS_OK);
-    WANT(blocks == kept + 1 && bytes - before <= 376);
+    WANT(blocks == kept + 1 && bytes - before <= 304);
     none.generation = 1;
     QUIETLY(teurlaks_get(&many, none).status == TEURLAKS_NONE);
     QUIETLY(teurlaks_free(&many, none) == TEURLAKS_NONE);
@@ -287,7 +287,7 @@ static void little(void) {
     QUIETLY(teurlaks_retire(&many, 63, 1).status == TEURLAKS_OK);
     QUIETLY(teurlaks_begin(&many, 63) == TEURLAKS_RUNNING);
     WANT(teurlaks_put(&many, 0, (struct teurlaks_word){1, 2}).status == TEURLAKS_OK);
-    WANT(bytes - before <= PAGE + 904);
+    WANT(bytes - before <= PAGE + 832);
     teurlaks_drop(&many);
 }
 

@@ -1,5 +1,5 @@
 // What a handle holds.
-ghost use Rattle.std.specs.Prelude.{◌≡◌, None};
+ghost use Rattle.std.specs.Prelude.{◌≡◌, IfOk, MatchOption, None, OnErr};
 ghost use Rattle.certificate.specs.Text.{IsWritable};
 ghost use Rattle.compaction.specs.Progress.{fresh};
 
@@ -7,6 +7,9 @@ use arena_core::Core;
 use certificate::Certificate;
 use compaction::Compaction;
 use span::spans::Counted;
+use std::alloc::{AllocError, Global};
+use std::marker::Model;
+use std::mem::replace;
 
 /// A core whose changes are only counted, and what its last mark answered, so that a caller can ask
 /// for the text of it afterwards.
@@ -15,7 +18,7 @@ pub struct Held {
     /// The shards, the pool and the open plan.
     pub core: Core<Counted>,
     /// The certificate of the last mark that was asked for and not refused.
-    pub last: Option<Witness>,
+    pub last: LateWitness,
     /// Where the compaction of the core stands.
     pub compaction: Compaction,
 }
@@ -29,7 +32,7 @@ impl Held {
     {
         Held {
             core,
-            last: None,
+            last: LateWitness::new(),
             compaction: Compaction::new(),
         }
     }
@@ -41,4 +44,66 @@ pub struct Witness {
     /// What the mark saw, its plan, and its short set.
     pub certificate: Certificate,
     pub ghost writable: { IsWritable certificate },
+}
+
+/// The certificate that is kept, if there is one. Its room comes with the first mark, and stays:
+/// until then it takes two words.
+#[derive(Drop)]
+pub struct LateWitness {
+    room: Option<Box<Option<Witness>>>,
+}
+
+impl Model for LateWitness {
+    ghost use Rattle.std.specs.Prelude.{Option, option_map};
+    ghost use Rattle.teurlaks_c.specs.declared.held.Witness.{Witness};
+    ghost use Rattle.teurlaks_c.specs.LateWitness.{witness_in};
+    ghost use Rattle.std.specs.Coded.{codes};
+    ghost use Rattle.teurlaks_c.specs.contracts.held.Witness as witness;
+
+    ghost Value = { Option Witness };
+
+    ghost coded = { Prim.hlevel (codes, witness.the_row.coded) };
+
+    ghost view = { λ late. witness_in (option_map (λ room. room.value) late.room) };
+}
+
+impl LateWitness {
+    /// No certificate. It takes no memory.
+    pub(crate) fn new() -> LateWitness
+        ensures { result ≡ None }
+    {
+        LateWitness { room: None }
+    }
+
+    /// The certificate, in its room, if there is any.
+    pub(crate) fn room(&self) -> Option<&Option<Witness>>
+        ensures { MatchOption result (self.now ≡ None) (λ last. self.now ≡ last.now) }
+    {
+        match &self.room {
+            Some(room) => Some(&**room),
+            None => None,
+        }
+    }
+
+    /// Hands out the room with the certificate that is in it, and makes it first if there is none.
+    ///
+    /// # Errors
+    ///
+    /// `AllocError` if memory is refused. Nothing has changed then.
+    pub(crate) fn take_room(&mut self, alloc: Global) -> Result<Box<Option<Witness>>, AllocError>
+        ensures ok { IfOk result (λ room. room.value ≡ self.old) }
+        ensures err { OnErr result (self.new ≡ self.old) }
+    {
+        match replace(&mut self.room, None) {
+            Some(room) => Ok(room),
+            None => Ok(Box::new(alloc, None)?),
+        }
+    }
+
+    /// Keeps what is in the room.
+    pub(crate) fn put_back(&mut self, room: Box<Option<Witness>>)
+        ensures { self.new ≡ room.value }
+    {
+        self.room = Some(room);
+    }
 }

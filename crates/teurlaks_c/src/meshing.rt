@@ -1,6 +1,9 @@
 // Shards that end, begin again, retire groups or give pages back, groups that are adopted, and
 // plans of folds.
 ghost use Rattle.std.specs.Prelude.{◌≡◌, IsSome, MatchOption, None};
+ghost use Rattle.arena_core.specs.Sound.{IsSound};
+ghost use Rattle.arena_core.specs.Step.{CoreStep};
+ghost use Rattle.arena_core.specs.declared.reply.Reply.TheVariants as reply;
 ghost use Rattle.arena_core.specs.declared.event.Event.TheVariants as event;
 ghost use Rattle.teurlaks_c.specs.Calls.{Adopts, Begins, Closes, CountsOf, Ends, Forgets, IsOfMark, Keeps, Marks, Retires, SaysForgotten, SaysMarked, Steps, TakesStep, Tells, Trims, Writes};
 ghost use Rattle.teurlaks_c.specs.Keys.{IsIdOf};
@@ -16,10 +19,11 @@ use crate::replies::{
 use crate::status::{
     EMPTIED, NO_CORE, NO_PAIR_LEFT, NO_PLAN, NONE, OK, OUT_OF_MEMORY, TOO_SMALL, status_of,
 };
-use arena_core::{Event, Refusal, Reply};
+use arena_core::{Core, Event, Refusal, Reply};
 use certificate::{Certificate, write};
 use fold::Step;
 use span::names::SpanId;
+use span::spans::Counted;
 use std::alloc::Global;
 use std::mem::replace;
 
@@ -170,8 +174,12 @@ pub extern "C" fn teurlaks_mark(handle: &mut Handle) -> MarkReply
     let Some(held) = handle.held() else {
         return unmarked(NO_CORE);
     };
+    let room = match held.last.take_room(held.core.alloc()) {
+        Ok(room) => room,
+        Err(_) => return unmarked(status_of(refused_mark(&held.core))),
+    };
     let reply = held.core.step(Event::Mark);
-    keep(held, reply)
+    keep(held, room, reply)
 }
 
 /// Does as [`teurlaks_mark`] does with the 4,096 groups of each side that have the fewest live
@@ -186,8 +194,12 @@ pub extern "C" fn teurlaks_mark_some(handle: &mut Handle) -> MarkReply
     let Some(held) = handle.held() else {
         return unmarked(NO_CORE);
     };
+    let room = match held.last.take_room(held.core.alloc()) {
+        Ok(room) => room,
+        Err(_) => return unmarked(status_of(refused_mark_some(&held.core))),
+    };
     let reply = held.core.step(Event::MarkSome);
-    keep(held, reply)
+    keep(held, room, reply)
 }
 
 /// Carries out the next pair of the open plan: `OK`, or `EMPTIED` where the pair's abandoned group
@@ -244,7 +256,13 @@ pub extern "C" fn teurlaks_certificate(
             len: 0,
         };
     };
-    write_last(alloc, &held.last, text)
+    let Some(last) = held.last.room() else {
+        return CertificateReply {
+            status: NONE,
+            len: 0,
+        };
+    };
+    write_last(alloc, last, text)
 }
 
 // What C reads of what was forgotten.
@@ -299,18 +317,54 @@ pub(crate) fn write_last(alloc: Global, last: &Option<Witness>, room: &mut [u8])
     CertificateReply { status: OK, len }
 }
 
-// Keeps the certificate of the mark for `teurlaks_certificate`, and makes the reply for C.
-fn keep(held: &mut Held, reply: Reply) -> MarkReply
+// Why a mark of all groups is refused for whose certificate no memory is left.
+fn refused_mark(core: &Core<Counted>) -> Refusal
+    ensures exact { CoreStep core.now event.Mark (reply.Refused result) core.now }
+    ensures sound { IsSound core.now }
+{
+    match core.mark_refusal() {
+        Some(refusal) => refusal,
+        None => Refusal::OutOfMemory,
+    }
+}
+
+// The same of a mark of the sparsest.
+fn refused_mark_some(core: &Core<Counted>) -> Refusal
+    ensures exact { CoreStep core.now event.MarkSome (reply.Refused result) core.now }
+    ensures sound { IsSound core.now }
+{
+    if core.has_plan() {
+        Refusal::PlanOpen
+    } else {
+        Refusal::OutOfMemory
+    }
+}
+
+// Keeps the certificate of the mark in the room for `teurlaks_certificate`, or the one that is in
+// it, and makes the reply for C.
+fn keep(held: &mut Held, room: Box<Option<Witness>>, reply: Reply) -> MarkReply
     requires { IsOfMark reply }
     ensures core { held.new.core ≡ held.old.core }
     ensures told { SaysMarked result reply }
-    ensures keeps { Keeps held.old.last reply held.new.last }
+    ensures keeps { Keeps room.value reply held.new.last }
     ensures compaction { held.new.compaction ≡ held.old.compaction }
+{
+    let mut room = room;
+    let says = keep_in(&mut *room, reply);
+    held.last.put_back(room);
+    says
+}
+
+// The same, of what is in the room.
+fn keep_in(last: &mut Option<Witness>, reply: Reply) -> MarkReply
+    requires { IsOfMark reply }
+    ensures told { SaysMarked result reply }
+    ensures keeps { Keeps last.old reply last.new }
 {
     match reply {
         Reply::Marked(certificate) => {
             let says = marked(&certificate);
-            drop(replace(&mut held.last, Some(Witness { certificate })));
+            drop(replace(last, Some(Witness { certificate })));
             says
         }
         Reply::Refused(refusal) => unmarked(status_of(refusal)),
