@@ -10,7 +10,7 @@ use Rattle.arena_core.specs.declared.machine.Core.TheInside.{Inside}
 use Rattle.arena_core.specs.declared.reply.Refusal.TheVariants.{Running}
 use Rattle.arena_core.specs.declared.reply.Reply.TheVariants.{Refused, ShardBegun}
 use Rattle.arena_core.proofs.Changes.{HasSoundGroups-with_shard, at_most_once}
-use Rattle.arena_core.proofs.FieldSteps.{state_of-same}
+use Rattle.arena_core.proofs.FieldSteps.{state_of-same, at_same}
 use Rattle.arena_core.proofs.Fields.{IsRead, shard-read, state_of-with_shard_at, with_shard_at}
 use Rattle.arena_core.proofs.FieldsKept.{IsKept-with_shard_at}
 use Rattle.arena_core.proofs.Groups.{IsCall}
@@ -54,9 +54,8 @@ IsSoundStep-begun old number before sound here ended sound_after =
 module _ {L : Type 0} (c : Inside L) (kept : IsKept c) (number : ℕ) (before after : ShardState) (read : IsRead c number before) (after_is : after ≡ begun before) where
   pub IsSoundStep-begin_fields : before.ended ≡ true → IsSoundShard after → IsSoundStep (state_of c) (Begin number) ShardBegun (state_of (with_shard_at c number after))
   IsSoundStep-begin_fields ended sound_after =
-      subst (IsSoundStep (state_of c) (Begin number) ShardBegun) (sym (state_of-with_shard_at c number before after read))
-      (subst (λ (s : ShardState). IsSoundStep (state_of c) (Begin number) ShardBegun (with_shard (state_of c) number s)) (sym after_is)
-      (IsSoundStep-begun (state_of c) number before kept.sound (shard-read c number before read) ended (subst IsSoundShard after_is sound_after)))
+      at_same (λ old new. IsSoundStep old (Begin number) ShardBegun new) refl (state_of-with_shard_at c number before after read ∙ ap (with_shard (state_of c) number) after_is)
+      (IsSoundStep-begun (state_of c) number before kept.sound (shard-read c number before read) ended (subst IsSoundShard after_is sound_after))
 
   pub IsSoundStep-begin_refused_fields : before.ended ≡ false → IsSoundStep (state_of c) (Begin number) (Refused Running) (state_of (with_shard_at c number after))
   IsSoundStep-begin_refused_fields running =

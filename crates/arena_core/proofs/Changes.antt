@@ -1,7 +1,7 @@
 -- What a change of one shard, of the pool or of both does to the soundness of the core.
-use Rattle.std.proofs.Common.{◌≡◌, ◌≢◌, Bool, List, Option, ℕ, ◌<◌, ◌≤◌, true, false, cond, eqb, ltb, ◌⊎◌, inl, inr, refl, sym, ap, subst, ◌∙◌, arith, Some, slice_get, eq-eqb}
+use Rattle.std.proofs.Common.{◌≡◌, ◌≢◌, Bool, List, Option, ℕ, ◌<◌, ◌≤◌, true, false, cond, eqb, ltb, ◌⊎◌, inl, inr, refl, sym, ap, subst, ◌∙◌, arith, Some, slice_get, eq-eqb, suc}
 use Rattle.std.proofs.Math.ListN.{length-set}
-use Rattle.std.proofs.lemmas.Bool.{cases_eq, cases_lt, ne_eqb}
+use Rattle.std.proofs.lemmas.Bool.{cases_eq, ne_eqb}
 use Rattle.std.proofs.lemmas.Bool.Decides.{nat_tests}
 use Rattle.span.specs.declared.id.SpanId.{SpanId}
 use Rattle.span.specs.State.{SpanState}
@@ -15,7 +15,7 @@ use Rattle.arena_core.specs.Rings.{RingState}
 use Rattle.arena_core.specs.Sound.{HasSoundGroups, IsSoundAt}
 use Rattle.arena_core.specs.State.{CoreState, all_spans, opened_by, opened_of, with_pool, with_shard}
 use Rattle.arena_core.proofs.Groups.{IsCall, IsMove, IsPoolCall, IsSoundAt-same, own, same_number, strays, strays-each, strays-none}
-use Rattle.arena_core.proofs.Lists.{cond-le_one, each-set}
+use Rattle.arena_core.proofs.Lists.{cond-le_one, each-set, not_below}
 use Rattle.marks.proofs.Lists.{slice_get-set_other, slice_get-set_same}
 use Rattle.arena_core.proofs.Spans.{named, sum_all, sum_all-with_pool, sum_all-with_shard, sum_in, times}
 
@@ -31,11 +31,8 @@ at_most_once core sound id = subst (λ n. n ≤ 1) (sym (sound.once id)) (cond-l
 
 -- a span that stands anywhere was opened
 pub opened-somewhere : (core : CoreState) → HasSoundGroups core → (id : SpanId) → 1 ≤ times id core → id.serial < opened_by core.shards id.shard
-opened-somewhere core sound id some = by_order (cases_lt id.serial (opened_by core.shards id.shard))
-  where
-    by_order : (id.serial < opened_by core.shards id.shard) ⊎ (opened_by core.shards id.shard ≤ id.serial) → id.serial < opened_by core.shards id.shard
-    by_order (inl below) = below
-    by_order (inr past) = absurd (omega (arith, sound.once id, past-indicator id.serial (opened_by core.shards id.shard) past))
+opened-somewhere core sound id some =
+    not_below (opened_by core.shards id.shard) (suc id.serial) (λ past. omega (arith, sound.once id, past-indicator id.serial (opened_by core.shards id.shard) (omega arith)))
 
 pub no_strays : (core : CoreState) → HasSoundGroups core → sum_all (strays core.limits.gens) core ≡ 0
 no_strays core sound = strays-none core.limits.gens (all_spans core) sound.gens

@@ -1,5 +1,5 @@
 -- Where no span stands twice in a core, no group stands twice on its side of a mark.
-use Rattle.std.proofs.Common.{◌≡◌, ◌≤◌, Bool, true, false, cond, List, [], ◌∷◌, refl, ap, ◌∙◌, arith, is_some, map, nat_lt}
+use Rattle.std.proofs.Common.{◌≡◌, ◌≤◌, Bool, true, false, cond, List, [], ◌∷◌, ap, ◌∙◌, arith, is_some, map, nat_lt}
 use Rattle.std.specs.Prelude.{count_by}
 use Rattle.std.specs.List.{AllByRecursion, IsDistinct}
 use Rattle.std.proofs.lemmas.List.{map-append}
@@ -16,6 +16,7 @@ use Rattle.arena_core.specs.Sound.{IsSound}
 use Rattle.arena_core.specs.State.{CoreState, opened_by}
 use Rattle.arena_core.proofs.Lists.{cond-le_one}
 use Rattle.arena_core.proofs.Spans.{is_named, same_span-self, times, times-parts, times_owned, times_owned-cons}
+use Rattle.std.proofs.lemmas.Bool.{false_from_ne_true}
 
 -- ids that stand once
 
@@ -26,13 +27,9 @@ is_id id other = same_span other id
 apart-from_none : (id : SpanId) (others : List SpanId) → count_by (is_id id) others ≡ 0 → AllByRecursion (λ other. same_span id other ≡ false) others
 apart-from_none id [] none = tt
 apart-from_none id (other ∷ others) none = (
-  same_span-flip id other ∙ by_test (same_span other id) refl,
+  same_span-flip id other ∙ false_from_ne_true (same_span other id) (λ e. omega (arith, count-cons (is_id id) other others, one_where (same_span other id) e)),
   apart-from_none id others (omega (arith, count-cons (is_id id) other others)),
 )
-  where
-    by_test : (b : Bool) → same_span other id ≡ b → same_span other id ≡ false
-    by_test true e = absurd (omega (arith, count-cons (is_id id) other others, one_where (same_span other id) e))
-    by_test false e = e
 
 pub IsDistinct-once : (all : List SpanId) → ((id : SpanId) → count_by (is_id id) all ≤ 1) → IsDistinct same_span all
 unfolding IsDistinct

@@ -1,5 +1,5 @@
 -- The entries of the whereabouts, before and after a change of their table.
-use Rattle.std.proofs.Common.{◌≡◌, ◌≢◌, ◌⊎◌, ℕ, Bool, true, false, cond, List, Option, None, Some, ap, sym, subst, ◌∙◌, refl, inl, inr, eq-eqb, eqb, nat_cmp}
+use Rattle.std.proofs.Common.{◌≡◌, ◌≢◌, ◌⊎◌, ℕ, Bool, true, false, cond, List, None, Some, ap, sym, subst, ◌∙◌, refl, inl, inr, eq-eqb, eqb, nat_cmp}
 use Rattle.std.specs.FinMap as map
 use Rattle.std.proofs.lemmas.Bool.{cases_eq, ne_eqb}
 use Rattle.std.proofs.lemmas.Option.{none-some}

@@ -1,7 +1,6 @@
 -- The steps of a core whose shards and pool stand in its fields.
-use Rattle.std.proofs.Common.{◌≡◌, ℕ, ◌<◌, true, false, ◌⊎◌, inl, inr, arith, List, Some, ◌≤◌, Bor, get_or, ap, ◌∙◌, length, refl, set, slice_get, sym}
+use Rattle.std.proofs.Common.{◌≡◌, ℕ, ◌<◌, true, false, arith, List, Some, ◌≤◌, Bor, get_or, ap, ◌∙◌, length, refl, set, slice_get, sym}
 use Rattle.std.specs.Prelude.{vec_len}
-use Rattle.std.proofs.lemmas.Bool.{cases_lt}
 use Rattle.std.proofs.lemmas.Option.{slice_get_read, slice_get_within}
 use Rattle.std.specs.Slice.{IsItemAt}
 use Rattle.std.specs.Vec.{with_item}
@@ -15,7 +14,7 @@ use Rattle.arena_core.specs.Moved.{WhereaboutsState}
 use Rattle.arena_core.specs.Sound.{HasSoundGroups, IsSoundAt}
 use Rattle.arena_core.specs.State.{with_pool, with_shard}
 use Rattle.arena_core.proofs.Made.{made-get, made-set}
-use Rattle.span.specs.declared.limits.TheConstants.{MOST_PAGES, MOST_SHARDS}
+use Rattle.arena_core.proofs.FilledLists.{no_item}
 
 -- the fields with another shard at this number
 abbrev pub with_shard_at : {L : Type 0} → Inside L → ℕ → ShardState → Inside L
@@ -42,25 +41,11 @@ set-read c number before after read = made-set c.limits c.shards.items number af
 
 pub state_of-with_shard_at : {L : Type 0} (c : Inside L) (number : ℕ) (before after : ShardState) → IsRead c number before
     → state_of (with_shard_at c number after) ≡ with_shard (state_of c) number after
-state_of-with_shard_at c number before after read = λ i. record {
-  limits = c.limits;
-  shards = set-read c number before after read i;
-  pool = c.pool;
-  plan = c.plan;
-  rings = c.rings;
-  forgotten = c.forgotten.items;
-}
+state_of-with_shard_at c number before after read = ap (λ shards. record (state_of c) { shards = shards }) (set-read c number before after read)
 
 pub state_of-with_both_at : {L : Type 0} (c : Inside L) (number : ℕ) (before after : ShardState) (pool : PoolState) (whereabouts : WhereaboutsState) → IsRead c number before
     → state_of (with_both_at c number after pool whereabouts) ≡ with_pool (with_shard (state_of c) number after) pool
-state_of-with_both_at c number before after pool whereabouts read = λ i. record {
-  limits = c.limits;
-  shards = set-read c number before after read i;
-  pool = pool;
-  plan = c.plan;
-  rings = c.rings;
-  forgotten = c.forgotten.items;
-}
+state_of-with_both_at c number before after pool whereabouts read = ap (λ shards. record (state_of c) { shards = shards; pool = pool }) (set-read c number before after read)
 
 -- fields that show as they did
 pub state_of-unchanged : {L : Type 0} (c now : Inside L) → now.limits ≡ c.limits → now.plan ≡ c.plan → now.rings ≡ c.rings → now.forgotten.items ≡ c.forgotten.items
@@ -88,11 +73,7 @@ shard-past c made number are past = omega (arith, ap length are)
 
 -- a look-up that gave no shard
 pub no_read : {L : Type 0} (c : Inside L) (number : ℕ) → (number < vec_len c.shards → false ≡ true) → length c.shards.items ≤ number
-no_read c number none = by_order (cases_lt number (vec_len c.shards))
-  where
-    by_order : (number < vec_len c.shards) ⊎ (vec_len c.shards ≤ number) → length c.shards.items ≤ number
-    by_order (inl below) = absurd (let e = none below in cc)
-    by_order (inr past) = omega (arith, c.shards.ok.0)
+no_read c number none = no_item c.shards.items (vec_len c.shards) number c.shards.ok.0 none
 
 -- as many pages as a shard has at most, and as many shards as come at most
 pub record IsFew (index : ℕ) (shard : ShardState) : Type 0 where

@@ -1,7 +1,8 @@
 -- Lists that show a filling in each place behind their end.
-use Rattle.std.proofs.Common.{◌≡◌, ◌⊎◌, inl, inr, ℕ, zero, suc, ◌<◌, ◌≤◌, ◌++◌, List, [], ◌∷◌, length, replicate, refl, ap, arith, true, false, None, Some, set, slice_get}
-use Rattle.std.proofs.lemmas.Bool.{cases_lt}
+use Rattle.std.proofs.Common.{◌≡◌, ℕ, zero, suc, ◌<◌, ◌≤◌, ◌++◌, List, [], ◌∷◌, length, replicate, refl, ap, arith, true, false, None, Some, set, slice_get, sym}
 use Rattle.arena_core.specs.Filled.{filled}
+use Rattle.arena_core.proofs.Lists.{not_below}
+use Rattle.std.proofs.lemmas.Bool.{true≢false}
 
 pub filled-get : {T : Type 0} (n : ℕ) (filling : T) (items : List T) (i : ℕ) (item : T) → slice_get items i ≡ Some item → i < n → slice_get (filled n filling items) i ≡ Some item
 filled-get zero filling items i item here within = absurd (omega arith)
@@ -39,8 +40,4 @@ filled-empty (suc n) filling = ap (◌∷◌ filling) (filled-empty n filling)
 
 -- a look-up that gave no item
 pub no_item : {X : Type 0} (items : List X) (count place : ℕ) → count ≡ length items → (place < count → false ≡ true) → length items ≤ place
-no_item items count place counted none = by_order (cases_lt place count)
-  where
-    by_order : (place < count) ⊎ (count ≤ place) → length items ≤ place
-    by_order (inl below) = absurd (let e = none below in cc)
-    by_order (inr past) = omega (arith, counted)
+no_item items count place counted none = let past = not_below place count (λ below. true≢false (sym (none below))) in omega (arith, counted)

@@ -1,5 +1,5 @@
 -- A core that forgets spans which can never be live again stays sound, and shows the same.
-use Rattle.std.proofs.Common.{zero, suc, ◌≡◌, ℕ, ◌+◌, length, Bool, true, false, not, cond, List, [], ◌∷◌, ◌++◌, None, Some, Option, map, slice_get, is_some, refl, sym, ap, subst, ◌∙◌, arith, inl, inr}
+use Rattle.std.proofs.Common.{zero, suc, ◌≡◌, ℕ, ◌+◌, Bool, true, false, not, cond, List, [], ◌∷◌, ◌++◌, None, Some, Option, map, slice_get, is_some, refl, sym, ap, subst, ◌∙◌, arith, inl, inr}
 use Rattle.std.specs.FinSet.{empty}
 use Rattle.std.specs.Prelude.{MatchOption, sum_by}
 use Rattle.std.proofs.lemmas.List.{length-map}
@@ -36,6 +36,7 @@ use Rattle.arena_core.proofs.MarkSteps.{AreOpen-none}
 use Rattle.arena_core.proofs.PlanSteps.{HasSoundPlan-none}
 use Rattle.arena_core.proofs.Standing.{KnowsMoved-standing}
 use Rattle.arena_core.proofs.Spans.{has_span-counted, named, sum_all, sum_all-parts, sum_in, sum_pooled, times_in-found}
+use Rattle.std.proofs.lemmas.Bool.{not-true}
 
 -- sums over what is left and what went
 
@@ -98,13 +99,9 @@ forgotten-guests [] sound place span here = absurd cc
 forgotten-guests (group ∷ groups) sound place span here = elim (in_either (dead_among group.guests) (dead_guests groups) place span here) [
   | inl first ↦
       let was = before-filter is_dead group.guests place span first in
-      record { legal = (sound 0 group refl).legal (suc was.0) span was.1; none_live = live_slots-dead span (not_true (is_live span) was.2) }
+      record { legal = (sound 0 group refl).legal (suc was.0) span was.1; none_live = live_slots-dead span (not-true (is_live span) was.2) }
   | inr later ↦ forgotten-guests groups (λ index g at. sound (suc index) g at) later.0 span later.1
 ]
-  where
-    not_true : (b : Bool) → not b ≡ true → b ≡ false
-    not_true true e = absurd cc
-    not_true false e = refl
 
 forgotten-owned : (shards : List ShardState) → ((number : ℕ) (shard : ShardState) → slice_get shards number ≡ Some shard → AreSoundGroups shard.groups)
     → (place : ℕ) (span : SpanState) → slice_get (dead_owned shards) place ≡ Some span → IsForgotten span
@@ -133,12 +130,8 @@ forgotten-pooled groups sound place span here = elim (in_either (dead_guests (pa
   | inl guest ↦ forgotten-guests (paged_in groups) (λ index g at. let was = before-filter (λ (g : PooledState). is_some g.page) groups index g at in sound was.0 g was.1) place span guest
   | inr other ↦
       forgotten-unpaged (unpaged_in groups) (λ index g at. let was = before-filter (λ (g : PooledState). not (is_some g.page)) groups index g at in sound was.0 g was.1)
-      (λ index g at. let was = before-filter (λ (g : PooledState). not (is_some g.page)) groups index g at in not_true (is_some g.page) was.2) other.0 span other.1
+      (λ index g at. let was = before-filter (λ (g : PooledState). not (is_some g.page)) groups index g at in not-true (is_some g.page) was.2) other.0 span other.1
 ]
-  where
-    not_true : (b : Bool) → not b ≡ true → b ≡ false
-    not_true true e = absurd cc
-    not_true false e = refl
 
 -- the core
 

@@ -1,5 +1,5 @@
 -- What a call of a shard or of the pool does to the sums over its spans.
-use Rattle.std.proofs.Common.{Option, ◌≡◌, ℕ, zero, suc, ◌+◌, ◌≤◌, Bool, true, false, cond, eqb, ltb, ◌&&◌, List, [], ◌∷◌, inl, inr, refl, sym, ap, ◌∙◌, arith, Some, set, slice_get, eq-eqb, eqb-true, map, length, None}
+use Rattle.std.proofs.Common.{Option, ◌≡◌, ℕ, zero, suc, ◌+◌, ◌≤◌, true, false, cond, eqb, ltb, ◌&&◌, List, [], ◌∷◌, inl, inr, refl, sym, ap, ◌∙◌, arith, Some, set, slice_get, eq-eqb, eqb-true, map, length, None}
 use Rattle.std.specs.Prelude.{sum_by}
 use Rattle.std.specs.List.{flat_map}
 use Rattle.std.proofs.lemmas.Bool.Decides.{nat_tests}
@@ -29,6 +29,7 @@ use Rattle.arena_core.specs.Sound.{IsSoundAt}
 use Rattle.arena_core.proofs.Lists.{flat-insert, flat-set, sum_by-set_at}
 use Rattle.arena_core.proofs.OneSpan.{ChangesPooled, ChangesSpan}
 use Rattle.arena_core.proofs.Spans.{named, sum_in, sum_pooled, times_in, times_pooled}
+use Rattle.std.proofs.lemmas.Bool.{true_from_ne_false}
 
 -- whether the shard has opened the span, as a count
 abbrev pub own : SpanId → ShardState → ℕ
@@ -48,11 +49,8 @@ pub strays-each : (gens : ℕ) (spans : List SpanState) → sum_by (strays gens)
 strays-each gens [] none place span here = absurd cc
 strays-each gens (first ∷ spans) none zero span here =
     let same : first ≡ span = cc in
-    ap (λ (s : SpanState). s.gens) (sym same) ∙ by_test (eqb first.gens gens) refl
-  where
-    by_test : (b : Bool) → eqb first.gens gens ≡ b → first.gens ≡ gens
-    by_test true e = eqb-true first.gens gens e
-    by_test false e = absurd (omega (arith, sum_by-cons (strays gens) first spans, ap (λ b. cond {A = ℕ} b 0 1) e))
+    ap (λ (s : SpanState). s.gens) (sym same)
+    ∙ eqb-true first.gens gens (true_from_ne_false (eqb first.gens gens) (λ e. omega (arith, sum_by-cons (strays gens) first spans, ap (λ b. cond {A = ℕ} b 0 1) e)))
 strays-each gens (first ∷ spans) none (suc place) span here = strays-each gens spans (omega (arith, sum_by-cons (strays gens) first spans)) place span here
 
 -- the numbers of a shard, which stay for its life
@@ -139,21 +137,17 @@ own-more : (a s n o : ℕ) → cond {A = ℕ} (eqb a n && ltb s (o + 1)) 1 0 ≡
 own-more a s n o = grind (arith, nat_tests)
 
 pub IsCall-Puts : (before after : ShardState) (value : Value) (key : Key) (at : ℕ) → Puts before (class_of value) value key at after → IsCall before after
-IsCall-Puts before after value key at (running, inl (index, group, room, span_is, generation_is, at_is, after_is)) = record {
-  numbers_are = ap numbers_of after_is;
-  opened_more = omega (arith, ap (λ (s : ShardState). s.opened) after_is);
-  spans = λ id.
-      let same = sum_in-with_head (named id) before after index group (with_put group.head key.slot value)
-      (with_object group.page (class_of value) key.slot value) room.here refl (ap (λ (s : ShardState). s.groups) after_is) in
-      omega (arith, ap (own id) after_is, same);
-  strays_are = sum_in-with_head (strays before.gens) before after index group (with_put group.head key.slot value)
-      (with_object group.page (class_of value) key.slot value) room.here refl (ap (λ (s : ShardState). s.groups) after_is);
-  none_lost = λ id. omega (
-    arith,
-    sum_in-with_head (named id) before after index group (with_put group.head key.slot value)
-        (with_object group.page (class_of value) key.slot value) room.here refl (ap (λ (s : ShardState). s.groups) after_is),
-  );
-}
+IsCall-Puts before after value key at (running, inl (index, group, room, span_is, generation_is, at_is, after_is)) =
+    let kept : (w : SpanState → ℕ) → w (with_put group.head key.slot value) ≡ w group.head → sum_in w after ≡ sum_in w before =
+    λ w same. sum_in-with_head w before after index group (with_put group.head key.slot value) (with_object group.page (class_of value) key.slot value)
+    room.here same (ap (λ (s : ShardState). s.groups) after_is) in
+    record {
+      numbers_are = ap numbers_of after_is;
+      opened_more = omega (arith, ap (λ (s : ShardState). s.opened) after_is);
+      spans = λ id. omega (arith, ap (own id) after_is, kept (named id) refl);
+      strays_are = kept (strays before.gens) refl;
+      none_lost = λ id. omega (arith, kept (named id) refl);
+    }
 IsCall-Puts before after value key at (running, inr (full, pages, spans, (shard_is, serial_is, slot_is, generation_is, at_is, (index, place, after_is)))) = record {
   numbers_are = ap numbers_of after_is;
   opened_more = omega (arith, ap (λ (s : ShardState). s.opened) after_is);

@@ -1,11 +1,12 @@
 -- Counts, sums and searches in lists.
-use Rattle.std.proofs.Common.{◌≡◌, ℕ, zero, suc, ◌+◌, ◌≤◌, Bool, true, false, cond, List, [], ◌∷◌, ◌++◌, refl, sym, ap, subst, ◌∙◌, arith, Option, Some, None, set, map, slice_get, length, is_some}
+use Rattle.std.proofs.Common.{◌≡◌, ℕ, zero, suc, ◌+◌, ◌≤◌, Bool, true, false, cond, List, [], ◌∷◌, ◌++◌, refl, sym, ap, subst, ◌∙◌, arith, Option, Some, None, set, map, slice_get, length, is_some, inl, inr, ◌<◌}
 use Rattle.std.specs.Prelude.{find, filter, count_by, sum_by, insert}
 use Rattle.std.specs.List.{AllByRecursion, flat_map}
 use Rattle.std.proofs.lemmas.List.Sums.{count_by-le-length, length-filter, sum_by-append, sum_by-cons, sum_by-insert, sum_by-set}
 use Rattle.std.proofs.lemmas.Option.{get_or_from_slice_get, slice_get_within}
 use Rattle.std.proofs.option.Match.{None-if_not_some}
 use Rattle.groups.proofs.Lists.{count-cons, find-none, none_where, one_where}
+use Rattle.std.proofs.lemmas.Bool.{cases_lt, true≢false, true_from_ne_false}
 
 pub cond-le_one : (b : Bool) → cond {A = ℕ} b 1 0 ≤ 1
 cond-le_one true = omega arith
@@ -42,6 +43,10 @@ each-set P (a ∷ xs) zero y here others (suc j) z at = others (suc j) z at
 each-set P (a ∷ xs) (suc i) y here others zero z at = others 0 z at
 each-set P (a ∷ xs) (suc i) y here others (suc j) z at = each-set (λ k. P (suc k)) xs i y here (λ k w. others (suc k) w) j z at
 
+-- what is not below the other is as much or more
+pub not_below : (a b : ℕ) → (a < b → ⊥) → b ≤ a
+not_below a b never = elim (cases_lt a b) [ inl below ↦ absurd (never below) | inr past ↦ past ]
+
 -- a search that finds nothing, and a count of nothing
 pub count_by-missed : {X : Type 0} (p : X → Bool) (xs : List X) → find p xs ≡ None → count_by p xs ≡ 0
 count_by-missed p [] missed = refl
@@ -52,18 +57,10 @@ count_by-missed p (x ∷ xs) missed = by_test (p x) refl missed (count_by-missed
     by_test false fails missed rest = omega (arith, count-cons p x xs, none_where (p x) fails, rest missed)
 
 pub count_by-found : {X : Type 0} (p : X → Bool) (xs : List X) → is_some (find p xs) ≡ true → 1 ≤ count_by p xs
-count_by-found p xs found = by_count (count_by p xs) refl
-  where
-    by_count : (n : ℕ) → count_by p xs ≡ n → 1 ≤ n
-    by_count zero none = absurd (let missed : is_some (find p xs) ≡ false = ap is_some (find-none p xs none) in cc)
-    by_count (suc n) some = omega arith
+count_by-found p xs found = not_below (count_by p xs) 1 (λ none. true≢false (sym found ∙ ap is_some (find-none p xs (omega arith))))
 
 pub find-counted : {X : Type 0} (p : X → Bool) (xs : List X) → 1 ≤ count_by p xs → is_some (find p xs) ≡ true
-find-counted p xs some = by_test (is_some (find p xs)) refl
-  where
-    by_test : (b : Bool) → is_some (find p xs) ≡ b → b ≡ true
-    by_test true e = refl
-    by_test false e = absurd (omega (arith, count_by-missed p xs (None-if_not_some _ e)))
+find-counted p xs some = true_from_ne_false (is_some (find p xs)) (λ e. omega (arith, count_by-missed p xs (None-if_not_some _ e)))
 
 -- facts of each element of lists in a row
 

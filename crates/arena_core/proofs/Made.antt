@@ -1,9 +1,8 @@
 -- Lists that show a filling in each place behind their end, and the shards that a core has made.
-use Rattle.std.proofs.Common.{◌≡◌, ◌⊎◌, inl, inr, ℕ, zero, suc, ◌+◌, ◌<◌, ◌≤◌, ◌++◌, List, [], ◌∷◌, false, true, length, map, refl, ap, arith, None, Some, get_or, set, slice_get, sym, subst, ◌∙◌}
+use Rattle.std.proofs.Common.{◌≡◌, ℕ, zero, suc, ◌+◌, ◌<◌, ◌≤◌, ◌++◌, List, [], ◌∷◌, false, true, length, map, refl, ap, arith, Some, get_or, set, slice_get, sym, ◌∙◌}
 use Rattle.std.specs.Prelude.{sum_by}
 use Rattle.std.specs.List.{AllByRecursion, Contains, flat_map, range_with_len}
 use Rattle.std.proofs.lemmas.List.Sums.{sum_by-cons}
-use Rattle.std.proofs.lemmas.Bool.{cases_lt}
 use Rattle.std.proofs.lemmas.Option.{get_or_from_slice_get, slice_get-get_or, slice_get_within}
 use Rattle.span.specs.declared.id.SpanId.{SpanId}
 use Rattle.groups.specs.Group.{paged_in}
@@ -15,6 +14,7 @@ use Rattle.marks.specs.Numbers.{AreWithin, Limits}
 use Rattle.arena_core.specs.Made.{all_shards, completed, new_shard_of}
 use Rattle.arena_core.specs.Moved.{StandsIn}
 use Rattle.arena_core.specs.State.{has_span, shard_keys}
+use Rattle.arena_core.proofs.Lists.{not_below}
 
 -- an item that was made
 pub completed-get : {T : Type 0} (from n : ℕ) (filling : ℕ → T) (items : List T) (i : ℕ) (item : T) → slice_get items i ≡ Some item → slice_get (completed from n filling items) i ≡ Some item
@@ -121,11 +121,7 @@ module _ (limits : Limits) (made : List ShardState) where
 
   -- so the shard in which a span stands was made
   pub standing-made : (id : SpanId) (number : ℕ) → StandsIn (all_shards limits made) id number → number < length made
-  standing-made id number stands = by_order (cases_lt number (length made))
-    where
-      by_order : (number < length made) ⊎ (length made ≤ number) → number < length made
-      by_order (inl below) = below
-      by_order (inr past) = absurd (unmade-standing id number past stands)
+  standing-made id number stands = not_below (length made) (suc number) (λ past. unmade-standing id number (omega arith) stands)
 
   -- and it stands among those
   pub standing-in_made : (id : SpanId) (number : ℕ) → StandsIn (all_shards limits made) id number → StandsIn made id number

@@ -4,12 +4,10 @@ use Rattle.std.proofs.lemmas.Bool.{cases_lt}
 use Rattle.std.proofs.lemmas.Option.{slice_get_past}
 use Rattle.groups.proofs.Lists.{same_some}
 use Rattle.pool.specs.Calls.{HasNothingToAdopt}
-use Rattle.span.specs.Classes.{class_of}
 use Rattle.span.specs.Log.{Value}
 use Rattle.span.specs.PlainMap.{PlainMap}
 use Rattle.arena_core.specs.Plain.{PlainStep}
 use Rattle.marks.specs.Numbers.{AreWithin, Limits}
-use Rattle.pool.specs.Retires.{HasRetired, Retires}
 use Rattle.pool.specs.Sound.{IsSound as IsSoundPool}
 use Rattle.pool.proofs.Arrived.{IsPooled-here}
 use Rattle.shard.specs.State.{ShardState}
@@ -43,41 +41,20 @@ CoreStep-put_unreached core number value refusal.OutOfMemory within unused (ther
   ),
   refl,
 )
-CoreStep-put_unreached core number value refusal.PagesSpent within unused never = absurd never
-CoreStep-put_unreached core number value refusal.Ended within unused never = absurd never
-CoreStep-put_unreached core number value refusal.Running within unused never = absurd never
-CoreStep-put_unreached core number value refusal.PlanOpen within unused never = absurd never
-CoreStep-put_unreached core number value refusal.TooMany within unused never = absurd never
-CoreStep-put_unreached core number value refusal.NothingToAdopt within unused never = absurd never
-CoreStep-put_unreached core number value refusal.RingFull within unused never = absurd never
+CoreStep-put_unreached core number value cause within unused never = absurd never
 
 pub PlainStep-put_unreached : (limits : Limits) (old new : PlainMap) (number shards : ℕ) (value : Value) (cause : Refusal) → CannotReach cause shards number number → new ≡ old
     → PlainStep limits old (Put number value) (reply.Refused cause) new
 PlainStep-put_unreached limits old new number shards value refusal.Config cannot same = same
 PlainStep-put_unreached limits old new number shards value refusal.OutOfMemory cannot same = same
-PlainStep-put_unreached limits old new number shards value refusal.PagesSpent never same = absurd never
-PlainStep-put_unreached limits old new number shards value refusal.Ended never same = absurd never
-PlainStep-put_unreached limits old new number shards value refusal.Running never same = absurd never
-PlainStep-put_unreached limits old new number shards value refusal.PlanOpen never same = absurd never
-PlainStep-put_unreached limits old new number shards value refusal.TooMany never same = absurd never
-PlainStep-put_unreached limits old new number shards value refusal.NothingToAdopt never same = absurd never
-PlainStep-put_unreached limits old new number shards value refusal.RingFull never same = absurd never
+PlainStep-put_unreached limits old new number shards value cause never same = absurd never
 
 pub CoreStep-end_unreached : (core : CoreState) (number : ℕ) (cause : Refusal) → IsUnused core number → CannotReach cause core.limits.shards number number
     → CoreStep core (End number) (reply.Refused cause) core
 CoreStep-end_unreached core number refusal.Config unused (inl past) = (past, refl)
 CoreStep-end_unreached core number refusal.Config unused (inr past) = (past, refl)
-CoreStep-end_unreached core number refusal.OutOfMemory unused (there, _) = (
-  (new_shard_of core.limits number, record { here = unused there; running = refl }, λ closed. absurd cc),
-  refl,
-)
-CoreStep-end_unreached core number refusal.PagesSpent unused never = absurd never
-CoreStep-end_unreached core number refusal.Ended unused never = absurd never
-CoreStep-end_unreached core number refusal.Running unused never = absurd never
-CoreStep-end_unreached core number refusal.PlanOpen unused never = absurd never
-CoreStep-end_unreached core number refusal.TooMany unused never = absurd never
-CoreStep-end_unreached core number refusal.NothingToAdopt unused never = absurd never
-CoreStep-end_unreached core number refusal.RingFull unused never = absurd never
+CoreStep-end_unreached core number refusal.OutOfMemory unused (there, _) = ((new_shard_of core.limits number, record { here = unused there; running = refl }, λ closed. absurd cc), refl)
+CoreStep-end_unreached core number cause unused never = absurd never
 
 -- what an unused shard answers
 
@@ -155,10 +132,4 @@ pub CoreStep-adopt_unreached : (core : CoreState) → IsSound core → (number :
 CoreStep-adopt_unreached core sound number refusal.Config unused (inl past) no_plan some = (past, no_plan, some, refl)
 CoreStep-adopt_unreached core sound number refusal.Config unused (inr past) no_plan some = (past, no_plan, some, refl)
 CoreStep-adopt_unreached core sound number refusal.OutOfMemory unused (there, _) no_plan some = (may_adopt-unused core sound number unused there no_plan some, refl)
-CoreStep-adopt_unreached core sound number refusal.PagesSpent unused never no_plan some = absurd never
-CoreStep-adopt_unreached core sound number refusal.Ended unused never no_plan some = absurd never
-CoreStep-adopt_unreached core sound number refusal.Running unused never no_plan some = absurd never
-CoreStep-adopt_unreached core sound number refusal.PlanOpen unused never no_plan some = absurd never
-CoreStep-adopt_unreached core sound number refusal.TooMany unused never no_plan some = absurd never
-CoreStep-adopt_unreached core sound number refusal.NothingToAdopt unused never no_plan some = absurd never
-CoreStep-adopt_unreached core sound number refusal.RingFull unused never no_plan some = absurd never
+CoreStep-adopt_unreached core sound number cause unused never no_plan some = absurd never

@@ -1,5 +1,5 @@
 -- What a mark and a close leave: a sound core, which shows the same map.
-use Rattle.std.proofs.Common.{◌≡◌, ℕ, ◌<◌, ◌≤◌, ◌&&◌, is_some, Bool, true, false, refl, sym, ap, subst, ◌∙◌, arith, Option, Some, None, slice_get, set, length, map, get_or}
+use Rattle.std.proofs.Common.{◌≡◌, ℕ, ◌<◌, ◌≤◌, ◌&&◌, is_some, Bool, true, false, refl, sym, ap, subst, ◌∙◌, arith, Option, Some, None, slice_get, length, map, get_or}
 use Rattle.std.proofs.lemmas.Option.{slice_get_within}
 use Rattle.std.specs.Prelude.{option_map}
 use Rattle.std.proofs.lemmas.Bool.{true≢false}
@@ -12,7 +12,7 @@ use Rattle.groups.specs.Group.{IsHeadOf, occupied}
 use Rattle.shard.proofs.HeadsHere.{same_group}
 use Rattle.shard.specs.Sound.{IsSound as IsSoundShard}
 use Rattle.shard.specs.State.{ShardState}
-use Rattle.groups.proofs.Lists.{same_some, set-same}
+use Rattle.groups.proofs.Lists.{same_some}
 use Rattle.pool.specs.Sound.{IsSound as IsSoundPool}
 use Rattle.pool.specs.State.{PoolState}
 use Rattle.fold.specs.Folds.{Steps}
@@ -43,6 +43,7 @@ use Rattle.arena_core.proofs.PlanSteps.{AreAllClosedAsPlanned, IsSoundStep, HasS
 use Rattle.arena_core.proofs.Spans.{shard_with-here, times-parts, times_owned}
 use Rattle.arena_core.proofs.Stepping.{IsSoundStep-Steps, waits}
 use Rattle.arena_core.proofs.Steps.{has_span-here}
+use Rattle.arena_core.proofs.FieldSteps.{state_of-both_same}
 
 -- the core with another flag of its pool and another plan
 -- no plan is open, so no group is closed
@@ -200,14 +201,8 @@ with_step_at c number after pool plan whereabouts = record c { shards = with_ite
 state_of-with_step_at : {L : Type 0} (c : Inside L) (number : ℕ) (after : ShardState) (pool : PoolState) (plan : Option OpenPlan)
     (whereabouts : WhereaboutsState) → number < length c.shards.items
     → state_of (with_step_at c number after pool plan whereabouts) ≡ with_plan (with_pool (with_shard (state_of c) number after) pool) plan
-state_of-with_step_at c number after pool plan whereabouts within = λ i. record {
-  limits = c.limits;
-  shards = made-set c.limits c.shards.items number after within i;
-  pool = pool;
-  plan = plan;
-  rings = c.rings;
-  forgotten = c.forgotten.items;
-}
+state_of-with_step_at c number after pool plan whereabouts within =
+    ap (λ shards. record (state_of c) { shards = shards; pool = pool; plan = plan }) (made-set c.limits c.shards.items number after within)
 
 -- the shard of this number, which was made, has the span
 pub made-named : {L : Type 0} (c : Inside L) (id : SpanId) (number : ℕ) (shard : ShardState) → StandsIn (shards_of c) id number → shard ≡ get_or c.shards.items number shard
@@ -236,13 +231,4 @@ pub state_of-refused : {L : Type 0} (c : Inside L) (id : SpanId) (number : ℕ) 
     → StandsIn (shards_of c) id number → before ≡ get_or c.shards.items number before → after ≡ before → pool ≡ c.pool
     → state_of (with_step_at c number after pool c.plan whereabouts) ≡ state_of c
 state_of-refused c id number before after pool whereabouts there read same pool_is =
-    let named = made-named c id number before there read in
-    let made : set c.shards.items number after ≡ c.shards.items = ap (set c.shards.items number) same ∙ set-same c.shards.items number before (made-read c number before named.0) in
-    λ i. record {
-      limits = c.limits;
-      shards = all_shards c.limits (made i);
-      pool = pool_is i;
-      plan = c.plan;
-      rings = c.rings;
-      forgotten = c.forgotten.items;
-    }
+    state_of-both_same c number before after pool whereabouts (made-named c id number before there read).0 same pool_is

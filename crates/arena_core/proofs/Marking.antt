@@ -8,7 +8,7 @@ use Rattle.arena_core.specs.State.{CoreState}
 use Rattle.arena_core.specs.Step.{CoreStep, HasTooMany}
 use Rattle.arena_core.specs.declared.event.Event.TheVariants.{Mark, MarkSome}
 use Rattle.arena_core.specs.declared.reply.Refusal.{Refusal}
-use Rattle.arena_core.specs.declared.reply.Refusal.TheVariants.{OutOfMemory, PagesSpent, Ended, Running, PlanOpen, TooMany, NothingToAdopt, RingFull, Config}
+use Rattle.arena_core.specs.declared.reply.Refusal.TheVariants.{OutOfMemory, PlanOpen}
 use Rattle.arena_core.specs.declared.reply.Reply.TheVariants.{Marked, Refused}
 
 -- where no side has too many groups
@@ -18,10 +18,4 @@ pub Mark-from_some : (old new : CoreState) (result : Result Certificate Refusal)
 Mark-from_some old new (Ok certificate) few step = record { no_plan = step.no_plan; largest = IsLargest-few All old.pool old.shards certificate few step.largest; after = step.after }
 Mark-from_some old new (Err PlanOpen) few step = step
 Mark-from_some old new (Err OutOfMemory) few (no_plan, same) = ((no_plan, few), same)
-Mark-from_some old new (Err PagesSpent) few step = absurd step
-Mark-from_some old new (Err Ended) few step = absurd step
-Mark-from_some old new (Err Running) few step = absurd step
-Mark-from_some old new (Err TooMany) few step = absurd step
-Mark-from_some old new (Err NothingToAdopt) few step = absurd step
-Mark-from_some old new (Err RingFull) few step = absurd step
-Mark-from_some old new (Err Config) few step = absurd step
+Mark-from_some old new (Err refusal) few step = absurd step

@@ -1,6 +1,6 @@
 -- Where spans stand that left the shard which opened them.
-use Rattle.std.proofs.Common.{◌≡◌, ◌≢◌, ◌⊎◌, ℕ, Bool, true, false, List, None, Some, inl, inr, refl, sym, ap, subst, ◌∙◌, slice_get}
-use Rattle.std.proofs.lemmas.Bool.{cases_eq}
+use Rattle.std.proofs.Common.{◌≡◌, ◌≢◌, ◌⊎◌, ℕ, true, false, None, Some, inl, inr, refl, sym, ap, subst, ◌∙◌, slice_get, length, ◌≤◌}
+use Rattle.std.proofs.lemmas.Bool.{cases_eq, false_from_ne_true}
 use Rattle.std.proofs.lemmas.Option.{none-some}
 use Rattle.span.specs.declared.id.SpanId.{SpanId}
 use Rattle.span.specs.declared.key.Key.{Key}
@@ -18,10 +18,13 @@ use Rattle.shard.specs.declared.shard.replacing.Replaced.{Replaced}
 use Rattle.shard.specs.declared.shard.replacing.Replaced.TheVariants as replaced
 use Rattle.groups.proofs.Lists.{count-none, find-none, same_some}
 use Rattle.pool.specs.Shown.{shown as shown_by_pool}
-use Rattle.arena_core.specs.Moved.{Entries, KnowsMoved, StandsIn, StandsInNoOther, named}
+use Rattle.arena_core.specs.Moved.{StandsIn, StandsInNoOther, named}
 use Rattle.arena_core.specs.Sound.{HasSoundGroups}
 use Rattle.arena_core.specs.State.{CoreState, has_span, shard_with, shown, shown_at}
 use Rattle.arena_core.proofs.Steps.{has_span-elsewhere, has_span-here, has_span-not, value-shard}
+use Rattle.arena_core.specs.declared.machine.Core.TheInside.{Inside}
+use Rattle.arena_core.specs.Kept.{IsKept, shards_of, state_of}
+use Rattle.arena_core.proofs.Made.{unmade-standing}
 
 -- a look-up, a set or a free that finds the span
 
@@ -64,26 +67,31 @@ standing core sound id number shard here some = (shard, here, has_span-elsewhere
 
 module _ (core : CoreState) (key : Key) (not_home : StandsIn core.shards key.span key.span.shard → ⊥) (no_other : StandsInNoOther core.shards key.span) where
   shard_with-no_other : shard_with core.shards key.span ≡ None
-  shard_with-no_other = find-none (has_span key.span) core.shards (count-none (has_span key.span) core.shards (λ number shard here. by_test number shard here (has_span key.span shard) refl))
+  shard_with-no_other = find-none (has_span key.span) core.shards (count-none (has_span key.span) core.shards (λ number shard here. false_from_ne_true (has_span key.span shard) (λ has. by_home number shard here has (cases_eq number key.span.shard))))
     where
       by_home : (number : ℕ) (shard : ShardState) → slice_get core.shards number ≡ Some shard → has_span key.span shard ≡ true → (number ≡ key.span.shard) ⊎ (number ≢ key.span.shard) → ⊥
       by_home number shard here has (inl same) = not_home (shard, ap (slice_get core.shards) (sym same) ∙ here, has)
       by_home number shard here has (inr other) = no_other number other (shard, here, has)
-
-      by_test : (number : ℕ) (shard : ShardState) → slice_get core.shards number ≡ Some shard → (b : Bool) → has_span key.span shard ≡ b → b ≡ false
-      by_test number shard here true has = absurd (by_home number shard here has (cases_eq number key.span.shard))
-      by_test number shard here false has = refl
 
   pub value-no_other : (shown core).value_of key ≡ (shown_by_pool core.pool).value_of key
   value-no_other = ap (λ o. (shown_at core.pool o).value_of key) shard_with-no_other
 
 -- what the entries say of a span
 
-module _ (shards : List ShardState) (entries : Entries) (knows : KnowsMoved shards entries) (id : SpanId) where
-  pub no_other-unnamed : named entries id ≡ None → StandsInNoOther shards id
-  no_other-unnamed none number foreign stands = none-some _ (sym none ∙ knows id number foreign stands)
+module _ {L : Type 0} (c : Inside L) (kept : IsKept c) {now : CoreState} (now_is : state_of c ≡ now) (id : SpanId) where
+  pub no_other-unnamed : named c.whereabouts.entries id ≡ None → StandsInNoOther now.shards id
+  no_other-unnamed none = subst (λ (s : CoreState). StandsInNoOther s.shards id) now_is (λ number foreign stands. none-some _ (sym none ∙ kept.moved id number foreign stands))
 
-  pub no_other-named : (number : ℕ) → named entries id ≡ Some number → (StandsIn shards id number → ⊥) → StandsInNoOther shards id
-  no_other-named number is never other foreign stands =
-      let same : other ≡ number = same_some (sym (knows id other foreign stands) ∙ is) in
-      never (subst (StandsIn shards id) same stands)
+  pub no_other-named : (number : ℕ) → named c.whereabouts.entries id ≡ Some number → (StandsIn (shards_of c) id number → ⊥) → StandsInNoOther now.shards id
+  no_other-named number is never = subst (λ (s : CoreState). StandsInNoOther s.shards id) now_is (λ other foreign stands.
+      let same : other ≡ number = same_some (sym (kept.moved id other foreign stands) ∙ is) in
+      never (subst (StandsIn (shards_of c) id) same stands))
+
+  -- the shard that is named is not made
+  pub no_other-unmade : (number : ℕ) → named c.whereabouts.entries id ≡ Some number → length c.shards.items ≤ number → StandsInNoOther now.shards id
+  no_other-unmade number is past = no_other-named number is (unmade-standing c.limits c.shards.items id number past)
+
+  -- the shard that is named was asked, and does not have the span
+  pub no_other-away : (number : ℕ) (shard : ShardState) → named c.whereabouts.entries id ≡ Some number → slice_get (shards_of c) number ≡ Some shard → IsElsewhere shard.groups id
+      → StandsInNoOther now.shards id
+  no_other-away number shard is here away = no_other-named number is (not-standing (state_of c) kept.sound.groups id number shard here away)

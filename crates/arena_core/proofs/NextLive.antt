@@ -1,10 +1,10 @@
 -- The live key that comes next, from what spans, shards and the pool have.
-use Rattle.std.proofs.Common.{◌≡◌, ◌≢◌, ◌⊎◌, ◌<◌, ◌≤◌, ◌+◌, ◌++◌, ◌∷◌, [], ℕ, zero, suc, Bool, true, false, List, Option, None, Some, inl, inr, refl, sym, ap, subst, ◌∙◌, arith, slice_get, is_some}
+use Rattle.std.proofs.Common.{◌≡◌, ◌≢◌, ◌⊎◌, ◌<◌, ◌≤◌, ◌++◌, ◌∷◌, [], ℕ, Bool, true, false, List, Option, None, Some, inl, inr, refl, sym, ap, subst, ◌∙◌, arith, slice_get, is_some}
 use Rattle.std.specs.Prelude.{IfSome, MatchOption}
 use Rattle.std.specs.List.{All, Contains}
 use Rattle.std.proofs.lemmas.List.Elements.{All-contains, All-nil, All-push, All-weaker, Contains-append_left, Contains-push}
 use Rattle.std.proofs.lemmas.Option.{get_or_from_slice_get, slice_get-get_or, slice_get_within}
-use Rattle.std.proofs.lemmas.Bool.{cases_eq}
+use Rattle.std.proofs.lemmas.Bool.{cases_eq, false_from_ne_true, true_from_ne_false}
 use Rattle.std.proofs.lemmas.Option.{none-some}
 use Rattle.span.specs.declared.id.SpanId.{SpanId}
 use Rattle.span.specs.declared.key.Key.{Key}
@@ -30,13 +30,14 @@ use Rattle.arena_core.proofs.Owners.{value-missed, value-unpooled}
 use Rattle.arena_core.proofs.Spans.{shard_with-nowhere, times-parts, times_in-missed, times_pooled}
 use Rattle.arena_core.proofs.Steps.{value-shard}
 use Rattle.span.specs.declared.limits.TheConstants.{ALL_IDS}
+use Rattle.std.proofs.option.Match.{None-if_not_some}
+use Rattle.arena_core.proofs.Lists.{not_below}
 
 abbrev has_value : PlainMap → Key → Bool
 has_value map key = is_some (map.value_of key)
 
 none-unless : (o : Option Value) → (is_some o ≡ true → ⊥) → o ≡ None
-none-unless None never = refl
-none-unless (Some value) never = absurd (never refl)
+none-unless o never = None-if_not_some o (false_from_ne_true (is_some o) never)
 
 -- maps that show the same of a span have the same key there
 pub IsFirstFrom-same : (a b : PlainMap) (id : SpanId) (slot : ℕ) (key : Key) → ((other : Key) → other.span ≡ id → b.value_of other ≡ a.value_of other)
@@ -54,25 +55,21 @@ module _ (core : CoreState) (sound : HasSoundGroups core) where
       → MatchOption o (HasNoneFrom (shown_by shard) id slot) (IsFirstFrom (shown_by shard) id slot) → MatchOption o (HasNoneIn core.shards number id slot) (IsFirstFrom (shown core) id slot)
   first-shard number shard id slot None here none = λ other there. subst (λ (s : ShardState). HasNoneFrom (shown_by s) id slot) (same_some (sym here ∙ there)) none
   first-shard number shard id slot (Some key) here its =
-      let has : has_span id shard ≡ true = by_test (has_span key.span shard) refl in
+      let has : has_span id shard ≡ true = ap (λ i. has_span i shard) (sym its.span_is)
+      ∙ true_from_ne_false (has_span key.span shard) (λ e. has-none (shown_by shard) key its.live (value-missed shard key (times_in-missed key.span shard e))) in
       IsFirstFrom-same (shown_by shard) (shown core) id slot key (λ other of. value-shard core sound other number shard here (ap (λ i. has_span i shard) of ∙ has)) its
-    where
-      by_test : (b : Bool) → has_span key.span shard ≡ b → has_span id shard ≡ true
-      by_test true e = ap (λ i. has_span i shard) (sym its.span_is) ∙ e
-      by_test false e = absurd (has-none (shown_by shard) key its.live (value-missed shard key (times_in-missed key.span shard e)))
 
   -- so is what the pool answers, where it answers a key
   pub IsFirstFrom-pool : (id : SpanId) (slot : ℕ) (key : Key) → IsFirstFrom (shown_by_pool core.pool) id slot key → IsFirstFrom (shown core) id slot key
   IsFirstFrom-pool id slot key its =
       IsFirstFrom-same (shown_by_pool core.pool) (shown core) id slot key (λ other of. ap (λ o. (shown_at core.pool o).value_of other) (ap (shard_with core.shards) of ∙ nowhere)) its
     where
-      pooled : (n : ℕ) → times_pooled key.span core.pool ≡ n → 1 ≤ n
-      pooled zero e = absurd (has-none (shown_by_pool core.pool) key its.live (value-unpooled core.pool key e))
-      pooled (suc n) e = omega arith
+      pooled : 1 ≤ times_pooled key.span core.pool
+      pooled = not_below (times_pooled key.span core.pool) 1 (λ none. has-none (shown_by_pool core.pool) key its.live (value-unpooled core.pool key (omega arith)))
 
       nowhere : shard_with core.shards id ≡ None
       nowhere = ap (shard_with core.shards) (sym its.span_is)
-          ∙ shard_with-nowhere key.span core.shards (omega (arith, pooled (times_pooled key.span core.pool) refl, times-parts key.span core, at_most_once core sound key.span))
+          ∙ shard_with-nowhere key.span core.shards (omega (arith, pooled, times-parts key.span core, at_most_once core sound key.span))
 
   -- where no shard has such a key, and the pool has none, there is none
   pub HasNoneFrom-pool : (id : SpanId) (slot : ℕ) → ((number : ℕ) → HasNoneIn core.shards number id slot) → HasNoneFrom (shown_by_pool core.pool) id slot → HasNoneFrom (shown core) id slot

@@ -31,7 +31,7 @@ use Rattle.marks.proofs.Flagged.{map_back, spans_in-flagged, with_flags}
 use Rattle.marks.specs.Numbers.{Limits}
 use Rattle.arena_core.proofs.Made.{unmade-new}
 use Rattle.arena_core.proofs.Groups.{IsCall, own, same_number, sum_in-TakesIn}
-use Rattle.arena_core.proofs.Lists.{find-counted}
+use Rattle.arena_core.proofs.Lists.{find-counted, not_below}
 use Rattle.marks.proofs.Lists.{slice_get-set_other, slice_get-set_same}
 use Rattle.arena_core.proofs.Entries.{named-with_taken, named-with_taken_here, taken_by-abroad}
 use Rattle.arena_core.proofs.Spans.{has_span-counted, is_named, named as count_named, shard_with-here, times-parts, times_in, times_in-found, times_in-le, times_owned}
@@ -282,7 +282,8 @@ Comes-Steps pool before a b pool_after after first Folded steps count id has = C
 -- a span that stands in a shard was opened by one of the core's that was made
 pub home-made : (limits : Limits) (made : List ShardState) (core : CoreState) → HasSoundGroups core → core.shards ≡ all_shards limits made → (id : SpanId) (number : ℕ)
     → StandsIn core.shards id number → id.shard < length made
-home-made limits made core sound are id number (shard, at, has) = by_order (cases_lt id.shard (length made))
+home-made limits made core sound are id number (shard, at, has) = not_below (length made) (suc id.shard) (λ past.
+    omega (arith, opened, ap (λ xs. opened_by xs id.shard) are, none_opened (slice_get (all_shards limits made) id.shard) refl (omega arith)))
   where
     opened : id.serial < opened_by core.shards id.shard
     opened = opened-somewhere core sound id (omega (arith, times_in-found id shard has, times_in-le id core.shards number shard at, times-parts id core))
@@ -291,10 +292,6 @@ home-made limits made core sound are id number (shard, at, has) = by_order (case
     none_opened : (o : Option ShardState) → slice_get (all_shards limits made) id.shard ≡ o → length made ≤ id.shard → opened_of o ≡ 0
     none_opened None is past = refl
     none_opened (Some home) is past = ap (λ (s : ShardState). s.opened) (sym (unmade-new limits made id.shard home past is))
-
-    by_order : (id.shard < length made) ⊎ (length made ≤ id.shard) → id.shard < length made
-    by_order (inl within) = within
-    by_order (inr past) = absurd (omega (arith, opened, ap (λ xs. opened_by xs id.shard) are, none_opened (slice_get (all_shards limits made) id.shard) refl past))
 
 module _ (core : CoreState) (sound : HasSoundGroups core) where
   -- a span stands in one shard

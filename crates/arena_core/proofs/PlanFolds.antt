@@ -1,5 +1,5 @@
 -- What a step does to the open plan: the next pair is carried out, and the others are as they were.
-use Rattle.std.proofs.Common.{◌≡◌, ◌≢◌, ℕ, suc, ◌+◌, ◌<◌, ◌≤◌, List, [], ◌∷◌, ◌++◌, ◌⊎◌, inl, inr, refl, sym, ap, subst, ◌∙◌, arith, Option, Some, set, slice_get, length}
+use Rattle.std.proofs.Common.{◌≡◌, ◌≢◌, ℕ, suc, ◌+◌, List, [], ◌∷◌, ◌++◌, ◌⊎◌, inl, inr, refl, sym, ap, subst, ◌∙◌, arith, Option, Some, set, slice_get, length}
 use Rattle.std.specs.Prelude.{remove}
 use Rattle.std.proofs.lemmas.Bool.{cases_eq}
 use Rattle.std.proofs.lemmas.Option.{slice_get_within}
@@ -12,7 +12,7 @@ use Rattle.shard.specs.State.{ShardState}
 use Rattle.groups.proofs.Lists.{cases-set, same_some}
 use Rattle.pool.specs.State.{PoolState, PooledState}
 use Rattle.groups.proofs.Removed.{after-remove}
-use Rattle.arena_core.specs.Plan.{IsCarriedOut, IsEmptyInPool, IsGuest, IsOwned, IsAbandoned, IsUnderWay, IsWaiting}
+use Rattle.arena_core.specs.Plan.{IsCarriedOut, IsEmptyInPool, IsGuest, IsOwned, IsAbandoned, IsUnderWay}
 use Rattle.marks.specs.Plans.{is_planned, with_next_done, OpenPlan}
 use Rattle.arena_core.specs.State.{CoreState, with_plan, with_pool, with_shard}
 use Rattle.marks.proofs.Lists.{slice_get-set_other, slice_get-set_same}
@@ -21,6 +21,62 @@ use Rattle.arena_core.proofs.PlanSteps.{AreAllClosedAsPlanned, AreAllClosedAsPla
 get-append : {X : Type 0} (xs ys : List X) (at : ℕ) (x : X) → slice_get ys at ≡ Some x → slice_get (xs ++ ys) (length xs + at) ≡ Some x
 get-append {X = X} [] ys at x here = subst (λ n. slice_get ys n ≡ Some x) (let e : at ≡ length {A = X} [] + at = omega arith in e) here
 get-append (z ∷ xs) ys at x here = subst (λ n. slice_get (z ∷ (xs ++ ys)) n ≡ Some x) (let e : suc (length xs + at) ≡ length (z ∷ xs) + at = omega arith in e) (get-append xs ys at x here)
+
+-- the next pair is carried out, and the groups of the others are as they were
+module _ (old new : CoreState) (plan : OpenPlan) (pair : SpanId × SpanId) (under : IsUnderWay old plan) (next : slice_get plan.pairs plan.done ≡ Some pair)
+    (abandoned : (head : SpanId) (group : PooledState) → (head ≡ pair.0 → ⊥) → IsAbandoned old head group → IsAbandoned new head group)
+    (owned : (head : SpanId) (group : GroupState) → (head ≡ pair.1 → ⊥) → IsOwned old head group → IsOwned new head group)
+    (its : (group : GroupState) × IsOwned new pair.1 group) (now : IsCarriedOut new pair) where
+  is_next : (k : ℕ) (p : SpanId × SpanId) → slice_get plan.pairs k ≡ Some p → k ≡ plan.done → pair ≡ p
+  is_next k p at same = same_some (sym next ∙ ap (slice_get plan.pairs) (sym same) ∙ at)
+
+  other_abandoned : (k : ℕ) (p : SpanId × SpanId) → slice_get plan.pairs k ≡ Some p → (k ≡ plan.done → ⊥) → p.0 ≡ pair.0 → ⊥
+  other_abandoned k p at differ same = differ (under.abandoned_once k plan.done p pair at next same)
+
+  other_owned : (k : ℕ) (p : SpanId × SpanId) → slice_get plan.pairs k ≡ Some p → (k ≡ plan.done → ⊥) → p.1 ≡ pair.1 → ⊥
+  other_owned k p at differ same = differ (under.owned_once k plan.done p pair at next same)
+
+  carried_still : (k : ℕ) (p : SpanId × SpanId) → slice_get plan.pairs k ≡ Some p → (k ≡ plan.done → ⊥) → IsCarriedOut old p → IsCarriedOut new p
+  carried_still k p at differ (inl guest) = inl
+      (record {
+        owned = guest.owned;
+        place = guest.place;
+        is_owned = owned p.1 guest.owned (other_owned k p at differ) guest.is_owned;
+        guest = guest.guest;
+      })
+  carried_still k p at differ (inr emptied) = inr
+      (record {
+        abandoned = emptied.abandoned;
+        is_abandoned = abandoned p.0 emptied.abandoned (other_abandoned k p at differ) emptied.is_abandoned;
+        no_page = emptied.no_page;
+      })
+
+  IsUnderWay-next : IsUnderWay new (with_next_done plan)
+  IsUnderWay-next = record {
+    within = let inside = slice_get_within plan.pairs plan.done pair next in omega arith;
+    abandoned_once = under.abandoned_once;
+    owned_once = under.owned_once;
+    stands = λ k p at. elim (cases_eq k plan.done) [
+      | inl same ↦ subst (λ (q : SpanId × SpanId). (group : GroupState) × IsOwned new q.1 group) (is_next k p at same) its
+      | inr differ ↦ let (group, is) = under.stands k p at in (group, owned p.1 group (other_owned k p at differ) is)
+    ];
+    carried_out = λ k p below at. elim (cases_eq k plan.done) [
+      | inl same ↦ subst (IsCarriedOut new) (is_next k p at same) now
+      | inr differ ↦ carried_still k p at differ (under.carried_out k p (omega arith) at)
+    ];
+    waiting = λ k p past at.
+        let differ : k ≡ plan.done → ⊥ = (λ e. omega arith) in
+        let waits = under.waiting k p (omega arith) at in
+        record {
+          abandoned = waits.abandoned;
+          owned = waits.owned;
+          is_abandoned = abandoned p.0 waits.abandoned (other_abandoned k p at differ) waits.is_abandoned;
+          is_owned = owned p.1 waits.owned (other_owned k p at differ) waits.is_owned;
+          paged = waits.paged;
+          class_is = waits.class_is;
+          apart = waits.apart;
+        };
+  }
 
 -- the pair's abandoned group leaves the pool, and its spans are the last guests of the owned one
 pub record IsFold (old : CoreState) (pair : SpanId × SpanId) (number : ℕ) (after : ShardState) (pool : PoolState) : Type 0 where
@@ -104,59 +160,8 @@ module _ (old : CoreState) (plan : OpenPlan) (pair : SpanId × SpanId) (number :
 
   -- the plan goes on
   module _ (under : IsUnderWay old plan) (next : slice_get plan.pairs plan.done ≡ Some pair) where
-    other_abandoned : (k : ℕ) (p : SpanId × SpanId) → slice_get plan.pairs k ≡ Some p → (k ≡ plan.done → ⊥) → p.0 ≡ pair.0 → ⊥
-    other_abandoned k p at differ same = differ (under.abandoned_once k plan.done p pair at next same)
-
-    other_owned : (k : ℕ) (p : SpanId × SpanId) → slice_get plan.pairs k ≡ Some p → (k ≡ plan.done → ⊥) → p.1 ≡ pair.1 → ⊥
-    other_owned k p at differ same = differ (under.owned_once k plan.done p pair at next same)
-
-    stands_still : (k : ℕ) (p : SpanId × SpanId) → slice_get plan.pairs k ≡ Some p → (k ≡ plan.done) ⊎ (k ≢ plan.done) → (group : GroupState) × IsOwned new p.1 group
-    stands_still k p at (inl same) = let one : pair ≡ p = same_some (sym next ∙ ap (slice_get plan.pairs) (sym same) ∙ at) in
-        (joined, subst (λ (q : SpanId × SpanId). IsOwned new q.1 joined) one IsOwned-joined)
-    stands_still k p at (inr differ) = let (group, is) = under.stands k p at in (group, IsOwned-other p.1 group (other_owned k p at differ) is)
-
-    carried_still : (k : ℕ) (p : SpanId × SpanId) → slice_get plan.pairs k ≡ Some p → (k ≡ plan.done → ⊥) → IsCarriedOut old p → IsCarriedOut new p
-    carried_still k p at differ (inl guest) = inl
-        (record {
-          owned = guest.owned;
-          place = guest.place;
-          is_owned = IsOwned-other p.1 guest.owned (other_owned k p at differ) guest.is_owned;
-          guest = guest.guest;
-        })
-    carried_still k p at differ (inr emptied) = inr
-        (record {
-          abandoned = emptied.abandoned;
-          is_abandoned = IsAbandoned-other p.0 emptied.abandoned (other_abandoned k p at differ) emptied.is_abandoned;
-          no_page = emptied.no_page;
-        })
-
-    carried_now : (k : ℕ) (p : SpanId × SpanId) → k < plan.done + 1 → slice_get plan.pairs k ≡ Some p → (k ≡ plan.done) ⊎ (k ≢ plan.done) → IsCarriedOut new p
-    carried_now k p below at (inl same) = let one : pair ≡ p = same_some (sym next ∙ ap (slice_get plan.pairs) (sym same) ∙ at) in subst (IsCarriedOut new) one (inl IsGuest-folded)
-    carried_now k p below at (inr differ) = carried_still k p at differ (under.carried_out k p (omega arith) at)
-
-    waiting_still : (k : ℕ) (p : SpanId × SpanId) → plan.done + 1 ≤ k → slice_get plan.pairs k ≡ Some p → IsWaiting new p
-    waiting_still k p past at =
-        let differ : k ≡ plan.done → ⊥ = (λ e. omega arith) in
-        let waits = under.waiting k p (omega arith) at in
-        record {
-          abandoned = waits.abandoned;
-          owned = waits.owned;
-          is_abandoned = IsAbandoned-other p.0 waits.abandoned (other_abandoned k p at differ) waits.is_abandoned;
-          is_owned = IsOwned-other p.1 waits.owned (other_owned k p at differ) waits.is_owned;
-          paged = waits.paged;
-          class_is = waits.class_is;
-          apart = waits.apart;
-        }
-
     pub IsUnderWay-folded : IsUnderWay new (with_next_done plan)
-    IsUnderWay-folded = record {
-      within = let inside = slice_get_within plan.pairs plan.done pair next in omega arith;
-      abandoned_once = under.abandoned_once;
-      owned_once = under.owned_once;
-      stands = λ k p at. stands_still k p at (cases_eq k plan.done);
-      carried_out = λ k p below at. carried_now k p below at (cases_eq k plan.done);
-      waiting = waiting_still;
-    }
+    IsUnderWay-folded = IsUnderWay-next old new plan pair under next IsAbandoned-other IsOwned-other (joined, IsOwned-joined) (inl IsGuest-folded)
 
     pub AreAllClosedAsPlanned-folded : AreAllClosedAsPlanned (Some plan) old.shards → AreAllClosedAsPlanned (Some (with_next_done plan)) new.shards
     AreAllClosedAsPlanned-folded all =
@@ -178,30 +183,8 @@ module _ (old : CoreState) (plan : OpenPlan) (under : IsUnderWay old plan) (pair
   pooled_too : (head : SpanId) (group : PooledState) → IsAbandoned old head group → IsAbandoned passed head group
   pooled_too head group is = record { index = is.index; head_of = is.head_of }
 
-  carried_too : (p : SpanId × SpanId) → IsCarriedOut old p → IsCarriedOut passed p
-  carried_too p (inl guest) = inl (record { owned = guest.owned; place = guest.place; is_owned = owned_too p.1 guest.owned guest.is_owned; guest = guest.guest })
-  carried_too p (inr empty) = inr (record { abandoned = empty.abandoned; is_abandoned = pooled_too p.0 empty.abandoned empty.is_abandoned; no_page = empty.no_page })
-
-  carried_next : (k : ℕ) (p : SpanId × SpanId) → k < plan.done + 1 → slice_get plan.pairs k ≡ Some p → (k ≡ plan.done) ⊎ (k ≢ plan.done) → IsCarriedOut passed p
-  carried_next k p below at (inl same) = let one : pair ≡ p = same_some (sym next ∙ ap (slice_get plan.pairs) (sym same) ∙ at) in carried_too p (subst (IsCarriedOut old) one (inr emptied))
-  carried_next k p below at (inr differ) = carried_too p (under.carried_out k p (omega arith) at)
-
   pub IsUnderWay-passed : IsUnderWay passed (with_next_done plan)
-  IsUnderWay-passed = record {
-    within = let inside = slice_get_within plan.pairs plan.done pair next in omega arith;
-    abandoned_once = under.abandoned_once;
-    owned_once = under.owned_once;
-    stands = λ k p at. let (group, is) = under.stands k p at in (group, owned_too p.1 group is);
-    carried_out = λ k p below at. carried_next k p below at (cases_eq k plan.done);
-    waiting = λ k p past at.
-        let waits = under.waiting k p (omega arith) at in
-        record {
-          abandoned = waits.abandoned;
-          owned = waits.owned;
-          is_abandoned = pooled_too p.0 waits.abandoned waits.is_abandoned;
-          is_owned = owned_too p.1 waits.owned waits.is_owned;
-          class_is = waits.class_is;
-          apart = waits.apart;
-          paged = waits.paged;
-        };
-  }
+  IsUnderWay-passed =
+      let (group, is) = under.stands plan.done pair next in
+      IsUnderWay-next old passed plan pair under next (λ head of other. pooled_too head of) (λ head of other. owned_too head of)
+      (group, owned_too pair.1 group is) (inr (record { abandoned = emptied.abandoned; is_abandoned = pooled_too pair.0 emptied.abandoned emptied.is_abandoned; no_page = emptied.no_page }))

@@ -4,7 +4,7 @@ use Rattle.std.specs.Prelude.{IsSome}
 use Rattle.std.specs.FinSet.{contains, contains-union}
 use Rattle.std.specs.Cmp.{nat_cmp_total}
 use Rattle.std.proofs.Math.Bool.{or-true}
-use Rattle.std.proofs.lemmas.Bool.{cases_eq}
+use Rattle.std.proofs.lemmas.Bool.{cases_eq, or_cases, or_left, or_right}
 use Rattle.bitmap.specs.Slots.{SlotSet, AreDisjoint}
 use Rattle.bitmap.specs.Operations.{AreDisjoint-at, AreDisjoint-by_slot}
 use Rattle.span.specs.declared.id.SpanId.{SpanId}
@@ -37,6 +37,9 @@ use Rattle.arena_core.proofs.Spans.{same_span-self}
 pub AreDisjoint-within : (a a_now b b_now : SlotSet) → IsWithin a_now a → IsWithin b_now b → AreDisjoint a b → AreDisjoint a_now b_now
 AreDisjoint-within a a_now b b_now less_a less_b apart = AreDisjoint-by_slot a_now b_now (λ q in_a in_b. AreDisjoint-at a b apart q (less_a q in_a) (less_b q in_b))
 
+either_still : (a b c d : Bool) → (a ≡ true → b ≡ true) → (c ≡ true → d ≡ true) → (a || c) ≡ true → (b || d) ≡ true
+either_still a b c d first second some = elim (or_cases a c some) [ inl left ↦ or_left b d (first left) | inr right ↦ or_right b d (second right) ]
+
 -- a span that loses slots makes the union lose slots
 union_of-fewer : (spans : List SpanState) (place : ℕ) (span now : SpanState) → slice_get spans place ≡ Some span
     → IsWithin (live_slots now.log) (live_slots span.log) → IsWithin (union_of (set spans place now)) (union_of spans)
@@ -44,23 +47,14 @@ union_of-fewer [] place span now here fewer slot live = absurd cc
 union_of-fewer (first ∷ spans) zero span now here fewer slot live =
     let same : first ≡ span = same_some here in
     contains-union nat_cmp_total (live_slots first.log) (union_of spans) slot
-    ∙ first_or (contains (live_slots now.log) slot) (contains (live_slots first.log) slot) (contains (union_of spans) slot)
-    (λ e. ap (λ (s : SpanState). contains (live_slots s.log) slot) same ∙ fewer slot e)
+    ∙ either_still (contains (live_slots now.log) slot) (contains (live_slots first.log) slot) (contains (union_of spans) slot) (contains (union_of spans) slot)
+    (λ e. ap (λ (s : SpanState). contains (live_slots s.log) slot) same ∙ fewer slot e) (λ e. e)
     (sym (contains-union nat_cmp_total (live_slots now.log) (union_of spans) slot) ∙ live)
-  where
-    first_or : (a b c : Bool) → (a ≡ true → b ≡ true) → (a || c) ≡ true → (b || c) ≡ true
-    first_or true true c to e = refl
-    first_or true false c to e = absurd (let never : false ≡ true = to refl in cc)
-    first_or false true c to e = refl
-    first_or false false c to e = e
 union_of-fewer (first ∷ spans) (suc place) span now here fewer slot live =
     contains-union nat_cmp_total (live_slots first.log) (union_of spans) slot
-    ∙ second_or (contains (live_slots first.log) slot) (contains (union_of (set spans place now)) slot) (contains (union_of spans) slot) (union_of-fewer spans place span now here fewer slot)
+    ∙ either_still (contains (live_slots first.log) slot) (contains (live_slots first.log) slot) (contains (union_of (set spans place now)) slot) (contains (union_of spans) slot)
+    (λ e. e) (union_of-fewer spans place span now here fewer slot)
     (sym (contains-union nat_cmp_total (live_slots first.log) (union_of (set spans place now)) slot) ∙ live)
-  where
-    second_or : (a b c : Bool) → (b ≡ true → c ≡ true) → (a || b) ≡ true → (a || c) ≡ true
-    second_or true b c to e = refl
-    second_or false b c to e = to e
 
 -- the groups that a plan names
 

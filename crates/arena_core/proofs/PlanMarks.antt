@@ -1,8 +1,8 @@
 -- A mark's pairs wait: what it sees are groups of the pool and of the shards.
-use Rattle.std.proofs.Common.{◌≡◌, ℕ, suc, ◌<◌, ◌≤◌, Bool, true, false, cond, ◌&&◌, ◌||◌, List, [], ◌∷◌, ◌⊎◌, inl, inr, refl, sym, ap, subst, ◌∙◌, arith, Some, slice_get, map, get_or, is_some, eqb, eqb-true}
-use Rattle.std.specs.Prelude.{IsSome, filter}
+use Rattle.std.proofs.Common.{◌≡◌, ℕ, suc, ◌<◌, ◌≤◌, Bool, true, false, cond, ◌&&◌, List, [], ◌∷◌, ◌⊎◌, inl, inr, refl, sym, ap, subst, ◌∙◌, arith, Some, slice_get, map, get_or, is_some, eqb, eqb-true}
+use Rattle.std.specs.Prelude.{IsSome}
 use Rattle.std.specs.List.{AllByRecursion, IsDistinct, list_any}
-use Rattle.std.proofs.lemmas.Bool.{and_parts, cases_lt}
+use Rattle.std.proofs.lemmas.Bool.{and_parts, cases_lt, or_cases}
 use Rattle.std.proofs.lemmas.List.{length-map}
 use Rattle.std.proofs.lemmas.List.Elements.{All-from_recursion, recursion_from_All}
 use Rattle.std.proofs.lemmas.Option.{get_or_from_slice_get, slice_get_within}
@@ -13,7 +13,7 @@ use Rattle.span.specs.declared.id.SpanId.{SpanId}
 use Rattle.span.specs.Ids.{same_span}
 use Rattle.span.proofs.Ids.{same_id_from_test, test_from_same_id}
 use Rattle.shard.specs.Group.{GroupState}
-use Rattle.groups.specs.Group.{occupied, paged_in, summary}
+use Rattle.groups.specs.Group.{occupied, paged_in, summary, Group}
 use Rattle.shard.specs.State.{ShardState}
 use Rattle.pool.specs.State.{PooledState}
 use Rattle.mesh_graph.specs.Groups.{Groups, any_compatible}
@@ -44,36 +44,22 @@ each-chosen P entries chosen sparsest all = recursion_from_All P chosen (All-spa
 -- the element by which a test of the list passes
 any-which : {X : Type 0} {P : X → Type 0} (test : X → Bool) (xs : List X) → AllByRecursion P xs → list_any test xs ≡ true → (x : X) × (test x ≡ true) × P x
 any-which test [] all some = absurd cc
-any-which {X = X} {P = P} test (x ∷ xs) all some = by_test (test x) refl some (any-which test xs all.1)
-  where
-    by_test : (b : Bool) → test x ≡ b → (b || list_any test xs) ≡ true → (list_any test xs ≡ true → (y : X) × (test y ≡ true) × P y) → (y : X) × (test y ≡ true) × P y
-    by_test true e some rest = (x, e, all.0)
-    by_test false e some rest = rest some
+any-which test (x ∷ xs) all some = elim (or_cases (test x) (list_any test xs) some) [
+  | inl e ↦ (x, e, all.0)
+  | inr rest ↦ any-which test xs all.1 rest
+]
 
 -- what the entries tell
 
--- the entry is that of a group of the pool
-abbrev pub TellsPooled : List PooledState → Entry → Type 0
-TellsPooled groups entry = (index : ℕ) × (group : PooledState) × (slice_get groups index ≡ Some group) × (summary group ≡ entry)
-
-tells_pooled : (groups : List PooledState) → AllByRecursion (TellsPooled groups) (map summary (filter (λ group. is_some group.page) groups))
-tells_pooled [] = tt
-tells_pooled (group ∷ groups) = by_page (is_some group.page) (each-to _ (λ entry tells. (suc tells.0, tells.1, tells.2, tells.3)) (tells_pooled groups))
-  where
-    by_page : (b : Bool) → AllByRecursion (TellsPooled (group ∷ groups)) (map summary (filter (λ g. is_some g.page) groups))
-        → AllByRecursion (TellsPooled (group ∷ groups)) (map summary (cond b (group ∷ filter (λ g. is_some g.page) groups) (filter (λ g. is_some g.page) groups)))
-    by_page true rest = ((0, group, refl, refl), rest)
-    by_page false rest = rest
-
 -- the entry is that of a group of these, which has a page
-abbrev pub TellsGroup : List GroupState → Entry → Type 0
-TellsGroup groups entry = (index : ℕ) × (group : GroupState) × (slice_get groups index ≡ Some group) × (summary group ≡ entry) × IsSome group.page
+abbrev pub TellsGroup : {Closed : Type 0} → List (Group Closed) → Entry → Type 0
+TellsGroup {Closed = Closed} groups entry = (index : ℕ) × (group : Group Closed) × (slice_get groups index ≡ Some group) × (summary group ≡ entry) × IsSome group.page
 
 -- the entry is that of a group of a shard
 abbrev pub TellsOwned : List ShardState → Entry → Type 0
 TellsOwned shards entry = (number : ℕ) × (shard : ShardState) × (slice_get shards number ≡ Some shard) × TellsGroup shard.groups entry
 
-tells_groups : (groups : List GroupState) → AllByRecursion (TellsGroup groups) (map summary (paged_in groups))
+tells_groups : {Closed : Type 0} (groups : List (Group Closed)) → AllByRecursion (TellsGroup groups) (map summary (paged_in groups))
 tells_groups [] = tt
 tells_groups (group ∷ groups) = by_page (is_some group.page) refl (each-to _ (λ entry tells. (suc tells.0, tells.1, tells.2, tells.3, tells.4)) (tells_groups groups))
   where
@@ -105,14 +91,14 @@ apart_from_test x y e =
 pub IsWaiting-seen : (core : CoreState) (groups : Groups) → IsSeenInPart core.pool core.shards groups → (pair : SpanId × SpanId) → any_compatible groups pair.0 pair.1 ≡ true → IsWaiting core pair
 IsWaiting-seen core groups seen pair compatible =
     let left = any-which (λ x. same_span x.id pair.0 && list_any (λ y. same_span y.id pair.1 && are_compatible x y) groups.owned) groups.abandoned
-    (each-chosen (TellsPooled core.pool.groups) (abandoned_entries core.pool) groups.abandoned seen.abandoned (tells_pooled core.pool.groups)) compatible in
+    (each-chosen (TellsGroup core.pool.groups) (abandoned_entries core.pool) groups.abandoned seen.abandoned (tells_groups core.pool.groups)) compatible in
     let x = left.0 in
     let parts = and_parts (same_span x.id pair.0) (list_any (λ y. same_span y.id pair.1 && are_compatible x y) groups.owned) left.1 in
     let right = any-which (λ y. same_span y.id pair.1 && are_compatible x y) groups.owned
     (each-chosen (TellsOwned core.shards) (owned_entries core.shards) groups.owned seen.owned (tells_owned core.shards)) parts.1 in
     let y = right.0 in
     let both = and_parts (same_span y.id pair.1) (are_compatible x y) right.1 in
-    let (i, a, at_a, tells_a) = left.2 in
+    let (i, a, at_a, tells_a, paged_a) = left.2 in
     let (n, shard, at_shard, (j, b, at_b, tells_b, paged_b)) = right.2 in
     record {
       abandoned = a;

@@ -1,5 +1,5 @@
--- What each event does to the open plan.
-use Rattle.std.proofs.Common.{◌≡◌, ℕ, suc, ◌<◌, ◌≤◌, Bool, true, false, cond, ◌||◌, List, [], ◌∷◌, inl, inr, refl, sym, ap, subst, ◌∙◌, arith, Option, Some, None, set, slice_get, is_some}
+-- Each call of a shard or of the pool as a step of the core, exactly, and of the plain map, whatever plan is open.
+use Rattle.std.proofs.Common.{◌≡◌, ℕ, suc, ◌<◌, ◌≤◌, true, false, cond, List, [], ◌∷◌, inl, inr, refl, sym, ap, subst, ◌∙◌, arith, Option, Some, None, set, slice_get, is_some}
 use Rattle.std.specs.Prelude.{MatchOption}
 use Rattle.std.proofs.lemmas.Option.{none-some}
 use Rattle.span.specs.declared.id.SpanId.{SpanId}
@@ -8,7 +8,7 @@ use Rattle.span.specs.Ids.{same_span}
 use Rattle.span.specs.Classes.{class_of}
 use Rattle.groups.specs.Pages.{put_group}
 use Rattle.span.specs.Log.{Value}
-use Rattle.span.specs.PlainMap.{may_set, with_put as with_key, with_value, without}
+use Rattle.span.specs.PlainMap.{may_set, with_put as with_key, with_value, without, has_as_many}
 use Rattle.span.proofs.Ids.{same_id_from_test}
 use Rattle.shard.specs.Calls.{Frees, Puts, Sets, new_group, was_freed, was_replaced}
 use Rattle.shard.specs.Group.{GroupState}
@@ -28,7 +28,7 @@ use Rattle.pool.specs.State.{PoolState}
 use Rattle.marks.specs.Plans.{AreClosedAsPlanned, is_planned, plans_onto, OpenPlan}
 use Rattle.arena_core.specs.Plan.{IsOwned, IsUnderWay, HasSoundPlan}
 use Rattle.arena_core.specs.Plain.{ErasedStep}
-use Rattle.arena_core.specs.Sound.{AreRings, IsSound}
+use Rattle.arena_core.specs.Sound.{IsSound}
 use Rattle.arena_core.specs.State.{CoreState, has_span, opened_by, opened_of, shown, with_pool, with_shard}
 use Rattle.arena_core.specs.Step.{CoreStep}
 use Rattle.arena_core.specs.declared.event.Event.{Event}
@@ -36,27 +36,28 @@ use Rattle.arena_core.specs.declared.event.Event.TheVariants.{Put, Set, Free, En
 use Rattle.arena_core.specs.declared.reply.Refusal.TheVariants.{OutOfMemory}
 use Rattle.arena_core.specs.declared.reply.Reply.{Reply}
 use Rattle.arena_core.specs.declared.reply.Reply.TheVariants as reply
-use Rattle.arena_core.proofs.Changes.{opened-somewhere}
+use Rattle.arena_core.proofs.Changes.{opened-somewhere, HasSoundGroups-moved, HasSoundGroups-with_pool, HasSoundGroups-with_shard, at_most_once, sum_all-moved}
 use Rattle.arena_core.proofs.Lists.{each-set}
 use Rattle.arena_core.proofs.PlanKept.{IsFewer-with_span, IsUnderWay-kept, KeepsAllClosed, KeepsAllClosed-same, KeepsAllClosed-set, KeepsClosed-ChangesSpan, KeepsClosed-Puts, KeepsPooled, KeepsPooled-ChangesPooled, KeepsPooled-Receives, KeepsPooled-same, has_plan-Receives, plans_onto-pair}
 use Rattle.arena_core.proofs.OneSpan.{ChangesPooled, ChangesPooled-Frees, ChangesPooled-Sets, ChangesSpan, ChangesSpan-Frees, ChangesSpan-Sets}
-use Rattle.arena_core.proofs.Moves.{IsStep-Adopts, IsStep-Receives, IsStep-Retires, unclosed}
+use Rattle.arena_core.proofs.Moves.{unclosed}
 use Rattle.pool.specs.Retires.{HasRetired, Retires}
-use Rattle.arena_core.proofs.Retired.{HasGone-Retires}
-use Rattle.arena_core.proofs.Trimmed.{AreClosedAsPlanned-Trims, IsStep-Trims, KeepsClosed-Trims}
+use Rattle.arena_core.proofs.Retired.{HasGone-Retires, IsMove-Retires}
+use Rattle.arena_core.proofs.Trimmed.{AreClosedAsPlanned-Trims, KeepsClosed-Trims, IsCall-Trims}
 use Rattle.shard.specs.Trims.{Trims}
-use Rattle.arena_core.proofs.Spans.{times-parts, times_in-found, times_in-le}
-use Rattle.arena_core.proofs.Steps.{IsStep, IsStep-Frees, IsStep-FreesPooled, IsStep-Puts, IsStep-Sets, IsStep-SetsPooled, has_span-here, with_pool-same, with_shard-same}
+use Rattle.arena_core.proofs.Spans.{times-parts, times_in-found, times_in-le, has_span-counted}
+use Rattle.arena_core.proofs.Steps.{has_span-here, with_pool-same, with_shard-same, may_set-shard, pooled-somewhere, value-shard}
+use Rattle.arena_core.proofs.Groups.{IsCall-ChangesSpan, IsCall-Puts, IsMove-Adopts, IsMove-Receives, IsPoolCall-ChangesPooled}
+use Rattle.arena_core.proofs.Shown.{IsLocal-pool, IsLocal-shard, fresh-put, has_pooled, has_pooled-counted, shown-free, shown-put, shown-set, shown-unchanged, value-before}
+use Rattle.std.proofs.option.Match.{None-if_not_some}
+use Rattle.arena_core.proofs.Logged.{shown-same}
+use Rattle.std.proofs.lemmas.Bool.{false_from_ne_true, or_from}
 
 -- what the core keeps, its own step, and that of the plain map, if the plain map knows the event
 pub record IsSoundStep (old : CoreState) (event : Event) (answer : Reply) (new : CoreState) : Type 0 where
   pub kept : IsSound new
   pub exact : CoreStep old event answer new
   pub plain : ErasedStep old.limits (shown old) event answer (shown new)
-
-with_plan_kept : (old : CoreState) (event : Event) (answer : Reply) (new : CoreState) → IsStep old event answer new → HasSoundPlan new
-    → AreRings new.limits new.rings → IsSoundStep old event answer new
-with_plan_kept old event answer new step keeps rings = record { kept = record { groups = step.kept; plan = keeps; rings = rings }; exact = step.exact; plain = step.plain }
 
 abbrev pub AreAllClosedAsPlanned : Option OpenPlan → List ShardState → Type 0
 AreAllClosedAsPlanned plan shards = (number : ℕ) (shard : ShardState) → slice_get shards number ≡ Some shard → AreClosedAsPlanned plan shard.groups
@@ -96,11 +97,8 @@ HasSoundPlan-none new plan_is told closed = record {
 
 pub plans_onto-none : (pairs : List (SpanId × SpanId)) (id : SpanId) → ((k : ℕ) (pair : SpanId × SpanId) → slice_get pairs k ≡ Some pair → pair.1 ≡ id → ⊥) → plans_onto pairs id ≡ false
 plans_onto-none [] id never = refl
-plans_onto-none (pair ∷ pairs) id never = by_test (same_span pair.1 id) refl (plans_onto-none pairs id (λ k other at. never (suc k) other at))
-  where
-    by_test : (b : Bool) → same_span pair.1 id ≡ b → plans_onto pairs id ≡ false → (b || plans_onto pairs id) ≡ false
-    by_test true e rest = absurd (never 0 pair refl (same_id_from_test pair.1 id e))
-    by_test false e rest = rest
+plans_onto-none (pair ∷ pairs) id never = or_from (same_span pair.1 id) (plans_onto pairs id)
+    (false_from_ne_true (same_span pair.1 id) (λ e. never 0 pair refl (same_id_from_test pair.1 id e))) (plans_onto-none pairs id (λ k other at. never (suc k) other at))
 
 -- an owned group's span was opened
 opened-IsOwned : (core : CoreState) → IsSound core → (head : SpanId) (group : GroupState) → IsOwned core head group → head.serial < opened_by core.shards head.shard
@@ -222,111 +220,187 @@ pub IsSoundStep-Puts : (old : CoreState) (number : ℕ) (value : Value) (key : K
     → (shown_by before).is_issued key ≡ false → shown_by after ≡ with_key (shown_by before) key value → IsSoundShard after
     → IsSoundStep old (Put number value) (reply.Issued key) (with_shard old number after)
 IsSoundStep-Puts old number value key at before after sound here puts fresh plain sound_after =
-    with_plan_kept old (Put number value) (reply.Issued key) (with_shard old number after)
-    (IsStep-Puts old number value key at before after sound.groups here puts fresh plain sound_after)
-    (HasSoundPlan-Puts old sound number value key at before after here puts) sound.rings
+    let new = with_shard old number after in
+    let groups = HasSoundGroups-with_shard old sound.groups number before after here (IsCall-Puts before after value key at puts) sound_after in
+    let local = IsLocal-shard old new (at_most_once old sound.groups) (at_most_once new groups) number before after here refl in
+    record {
+      kept = record { groups = groups; plan = HasSoundPlan-Puts old sound number value key at before after here puts; rings = sound.rings };
+      exact = record { before = before; after = after; at = at; here = here; puts = puts; rest = refl };
+      plain = (
+        fresh-put old new (shown_by before) (shown_by after) (λ id. has_span id after) local key value plain fresh,
+        shown-put old new (shown_by before) (shown_by after) (λ id. has_span id after) local key value plain,
+      );
+    }
 
 -- a set that is refused
 pub IsSoundStep-set_refused : (old : CoreState) (key : Key) (value : Value) → IsSound old → may_set (shown old) key value ≡ true → IsSoundStep old (Set key value) (reply.Refused OutOfMemory) old
 IsSoundStep-set_refused old key value sound may = record { kept = sound; exact = (may, refl); plain = (may, refl) }
 
+-- a key that is not live, or whose object has another class, is not set
+IsSoundStep-unset : (old new : CoreState) (key : Key) (value : Value) → IsSound old → may_set (shown old) key value ≡ false → new ≡ old
+    → IsSoundStep old (Set key value) (reply.Replaced false) new
+IsSoundStep-unset old new key value sound never same =
+    subst (IsSoundStep old (Set key value) (reply.Replaced false)) (sym same) (record { kept = sound; exact = (never, refl); plain = (never, refl) })
+
 pub IsSoundStep-Sets : (old : CoreState) (key : Key) (value : Value) (number : ℕ) (before after : ShardState) (answer : Replaced) → IsSound old
     → slice_get old.shards number ≡ Some before → has_span key.span before ≡ true → Sets before key value answer after
     → was_replaced answer ≡ may_set (shown_by before) key value → shown_by after ≡ cond (was_replaced answer) (with_value (shown_by before) key value) (shown_by before) → IsSoundShard after
     → IsSoundStep old (Set key value) (reply.Replaced (was_replaced answer)) (with_shard old number after)
-IsSoundStep-Sets old key value number before after answer sound here has sets found plain sound_after =
-    with_plan_kept old (Set key value) (reply.Replaced (was_replaced answer)) (with_shard old number after)
-    (IsStep-Sets old key value number before after answer sound.groups here has sets found plain sound_after) (by_answer answer sets) sound.rings
-  where
-    same : after ≡ before → HasSoundPlan (with_shard old number after)
-    same is = subst HasSoundPlan (sym (with_shard-same old number before after here is)) sound.plan
+IsSoundStep-Sets old key value number before after (replaced.Yes at) sound here has sets found plain sound_after =
+    let new = with_shard old number after in
+    let changes = ChangesSpan-Sets before after key value at sets in
+    let groups = HasSoundGroups-with_shard old sound.groups number before after here (IsCall-ChangesSpan before after changes) sound_after in
+    let local = IsLocal-shard old new (at_most_once old sound.groups) (at_most_once new groups) number before after here refl in
+    record {
+      kept = record { groups = groups; plan = HasSoundPlan-ChangesSpan old sound number before after here changes; rings = sound.rings };
+      exact = inl (record { number = number; before = before; after = after; at = at; here = here; sets = sets; rest = refl });
+      plain = (
+        may_set-shard old sound.groups key value number before here has ∙ sym found,
+        shown-set old new (shown_by before) (shown_by after) (λ id. has_span id after) local key value plain,
+      );
+    }
+IsSoundStep-Sets old key value number before after (replaced.No at) sound here has (index, place, group, span, there, unfit, at_is, same) found plain sound_after =
+    IsSoundStep-unset old _ key value sound (may_set-shard old sound.groups key value number before here has ∙ sym found) (with_shard-same old number before after here same)
+IsSoundStep-Sets old key value number before after replaced.NotHere sound here has sets found plain sound_after =
+    IsSoundStep-unset old _ key value sound (may_set-shard old sound.groups key value number before here has ∙ sym found) (with_shard-same old number before after here sets.1)
 
-    by_answer : (a : Replaced) → Sets before key value a after → HasSoundPlan (with_shard old number after)
-    by_answer (replaced.Yes at) s = HasSoundPlan-ChangesSpan old sound number before after here (ChangesSpan-Sets before after key value at s)
-    by_answer (replaced.No at) (index, place, group, span, there, unfit, at_is, is) = same is
-    by_answer replaced.NotHere (elsewhere, is) = same is
-
+-- a set that the pool answers, where the core shows under the key what the pool shows
 pub IsSoundStep-SetsPooled : (old : CoreState) (key : Key) (value : Value) (pool : PoolState) (answer : Replaced) → IsSound old
     → (shown old).value_of key ≡ (shown_by_pool old.pool).value_of key → SetsPooled old.pool key value answer pool
     → was_replaced answer ≡ may_set (shown_by_pool old.pool) key value
     → shown_by_pool pool ≡ cond (was_replaced answer) (with_value (shown_by_pool old.pool) key value) (shown_by_pool old.pool) → IsSoundPool pool
     → IsSoundStep old (Set key value) (reply.Replaced (was_replaced answer)) (with_pool old pool)
-IsSoundStep-SetsPooled old key value pool answer sound pooled sets found plain sound_pool =
-    with_plan_kept old (Set key value) (reply.Replaced (was_replaced answer)) (with_pool old pool)
-    (IsStep-SetsPooled old key value pool answer sound.groups pooled sets found plain sound_pool) (by_answer answer sets) sound.rings
-  where
-    same : pool ≡ old.pool → HasSoundPlan (with_pool old pool)
-    same is = subst HasSoundPlan (sym (with_pool-same old pool is)) sound.plan
+IsSoundStep-SetsPooled old key value pool (replaced.Yes at) sound pooled sets found plain sound_pool =
+    let new = with_pool old pool in
+    let changes = ChangesPooled-Sets old.pool pool key value at sound.groups.pool sets in
+    let groups = HasSoundGroups-with_pool old sound.groups pool (IsPoolCall-ChangesPooled old.pool pool changes) sound_pool in
+    let local = IsLocal-pool old new (at_most_once old sound.groups) (at_most_once new groups) pool refl in
+    record {
+      kept = record { groups = groups; plan = HasSoundPlan-ChangesPooled old sound pool changes; rings = sound.rings };
+      exact = inr (record { after = pool; at = at; sets = sets; rest = refl });
+      plain = (
+        ap (has_as_many value) pooled ∙ sym found,
+        shown-set old new (shown_by_pool old.pool) (shown_by_pool pool) (λ id. has_pooled id pool) local key value plain,
+      );
+    }
+IsSoundStep-SetsPooled old key value pool (replaced.No at) sound pooled (index, place, group, span, there, unfit, at_is, same) found plain sound_pool =
+    IsSoundStep-unset old _ key value sound (ap (has_as_many value) pooled ∙ sym found) (with_pool-same old pool same)
+IsSoundStep-SetsPooled old key value pool replaced.NotHere sound pooled sets found plain sound_pool =
+    IsSoundStep-unset old _ key value sound (ap (has_as_many value) pooled ∙ sym found) (with_pool-same old pool sets.1)
 
-    by_answer : (a : Replaced) → SetsPooled old.pool key value a pool → HasSoundPlan (with_pool old pool)
-    by_answer (replaced.Yes at) s = HasSoundPlan-ChangesPooled old sound pool (ChangesPooled-Sets old.pool pool key value at sound.groups.pool s)
-    by_answer (replaced.No at) (index, place, group, span, there, unfit, at_is, is) = same is
-    by_answer replaced.NotHere (elsewhere, is) = same is
+-- a key that is not live is not freed
+IsSoundStep-dead : (old new : CoreState) (key : Key) → IsSound old → (shown old).value_of key ≡ None → new ≡ old → IsSoundStep old (Free key) (reply.Freed false) new
+IsSoundStep-dead old new key sound none same =
+    subst (IsSoundStep old (Free key) (reply.Freed false)) (sym same) (record { kept = sound; exact = (none, refl); plain = (none, refl) })
 
 pub IsSoundStep-Frees : (old : CoreState) (key : Key) (number : ℕ) (before after : ShardState) (answer : Freed) → IsSound old
     → slice_get old.shards number ≡ Some before → has_span key.span before ≡ true → Frees before key answer after
     → was_freed answer ≡ is_some ((shown_by before).value_of key) → shown_by after ≡ cond (was_freed answer) (without (shown_by before) key) (shown_by before) → IsSoundShard after
     → IsSoundStep old (Free key) (reply.Freed (was_freed answer)) (with_shard old number after)
-IsSoundStep-Frees old key number before after answer sound here has frees found plain sound_after =
-    with_plan_kept old (Free key) (reply.Freed (was_freed answer)) (with_shard old number after)
-    (IsStep-Frees old key number before after answer sound.groups here has frees found plain sound_after) (by_answer answer frees) sound.rings
-  where
-    same : after ≡ before → HasSoundPlan (with_shard old number after)
-    same is = subst HasSoundPlan (sym (with_shard-same old number before after here is)) sound.plan
+IsSoundStep-Frees old key number before after (freed.Yes at) sound here has frees found plain sound_after =
+    let new = with_shard old number after in
+    let changes = ChangesSpan-Frees before after key at frees in
+    let call = IsCall-ChangesSpan before after changes in
+    let groups = HasSoundGroups-with_shard old sound.groups number before after here call sound_after in
+    let local = IsLocal-shard old new (at_most_once old sound.groups) (at_most_once new groups) number before after here refl in
+    let still : has_span key.span after ≡ true = has_span-counted key.span after (omega (arith, times_in-found key.span before has, call.none_lost key.span)) in
+    record {
+      kept = record { groups = groups; plan = HasSoundPlan-ChangesSpan old sound number before after here changes; rings = sound.rings };
+      exact = inl (record { number = number; before = before; after = after; at = at; here = here; frees = frees; rest = refl });
+      plain = (
+        ap is_some (value-before old new (shown_by before) (shown_by after) (λ id. has_span id after) local key still plain) ∙ sym found,
+        shown-free old new (shown_by before) (shown_by after) (λ id. has_span id after) local key still plain,
+      );
+    }
+IsSoundStep-Frees old key number before after (freed.No at) sound here has (index, place, group, span, there, dead, at_is, same) found plain sound_after =
+    IsSoundStep-dead old _ key sound (value-shard old sound.groups key number before here has ∙ None-if_not_some _ (sym found)) (with_shard-same old number before after here same)
+IsSoundStep-Frees old key number before after freed.NotHere sound here has frees found plain sound_after =
+    IsSoundStep-dead old _ key sound (value-shard old sound.groups key number before here has ∙ None-if_not_some _ (sym found)) (with_shard-same old number before after here frees.1)
 
-    by_answer : (a : Freed) → Frees before key a after → HasSoundPlan (with_shard old number after)
-    by_answer (freed.Yes at) f = HasSoundPlan-ChangesSpan old sound number before after here (ChangesSpan-Frees before after key at f)
-    by_answer (freed.No at) (index, place, group, span, there, dead, at_is, is) = same is
-    by_answer freed.NotHere (elsewhere, is) = same is
-
+-- a free that the pool answers, where the core shows under the key what the pool shows
 pub IsSoundStep-FreesPooled : (old : CoreState) (key : Key) (pool : PoolState) (answer : Freed) → IsSound old
     → (shown old).value_of key ≡ (shown_by_pool old.pool).value_of key → FreesPooled old.pool key answer pool
     → was_freed answer ≡ is_some ((shown_by_pool old.pool).value_of key)
     → shown_by_pool pool ≡ cond (was_freed answer) (without (shown_by_pool old.pool) key) (shown_by_pool old.pool) → IsSoundPool pool
     → IsSoundStep old (Free key) (reply.Freed (was_freed answer)) (with_pool old pool)
-IsSoundStep-FreesPooled old key pool answer sound pooled frees found plain sound_pool =
-    with_plan_kept old (Free key) (reply.Freed (was_freed answer)) (with_pool old pool)
-    (IsStep-FreesPooled old key pool answer sound.groups pooled frees found plain sound_pool) (by_answer answer frees) sound.rings
-  where
-    same : pool ≡ old.pool → HasSoundPlan (with_pool old pool)
-    same is = subst HasSoundPlan (sym (with_pool-same old pool is)) sound.plan
-
-    by_answer : (a : Freed) → FreesPooled old.pool key a pool → HasSoundPlan (with_pool old pool)
-    by_answer (freed.Yes at) f = HasSoundPlan-ChangesPooled old sound pool (ChangesPooled-Frees old.pool pool key at sound.groups.pool f)
-    by_answer (freed.No at) (index, place, group, span, there, dead, at_is, is) = same is
-    by_answer freed.NotHere (elsewhere, is) = same is
+IsSoundStep-FreesPooled old key pool (freed.Yes at) sound pooled frees found plain sound_pool =
+    let new = with_pool old pool in
+    let (index, place, group, span, there, holds, at_is, leaves) = frees in
+    let some = pooled-somewhere old.pool key.span (λ away. away index group there.group_is place (span, there.span_is, there.id_is)) in
+    let changes = ChangesPooled-Frees old.pool pool key at sound.groups.pool frees in
+    let call = IsPoolCall-ChangesPooled old.pool pool changes in
+    let groups = HasSoundGroups-with_pool old sound.groups pool call sound_pool in
+    let local = IsLocal-pool old new (at_most_once old sound.groups) (at_most_once new groups) pool refl in
+    let still : has_pooled key.span pool ≡ true = has_pooled-counted key.span pool (omega (arith, call.spans key.span)) in
+    record {
+      kept = record { groups = groups; plan = HasSoundPlan-ChangesPooled old sound pool changes; rings = sound.rings };
+      exact = inr (record { after = pool; at = at; frees = frees; rest = refl });
+      plain = (
+        ap is_some (value-before old new (shown_by_pool old.pool) (shown_by_pool pool) (λ id. has_pooled id pool) local key still plain) ∙ sym found,
+        shown-free old new (shown_by_pool old.pool) (shown_by_pool pool) (λ id. has_pooled id pool) local key still plain,
+      );
+    }
+IsSoundStep-FreesPooled old key pool (freed.No at) sound pooled (index, place, group, span, there, dead, at_is, same) found plain sound_pool =
+    IsSoundStep-dead old _ key sound (pooled ∙ None-if_not_some _ (sym found)) (with_pool-same old pool same)
+IsSoundStep-FreesPooled old key pool freed.NotHere sound pooled frees found plain sound_pool =
+    IsSoundStep-dead old _ key sound (pooled ∙ None-if_not_some _ (sym found)) (with_pool-same old pool frees.1)
 
 pub IsSoundStep-Receives : (old : CoreState) (number : ℕ) (before after : ShardState) (pool : PoolState) → IsSound old → slice_get old.shards number ≡ Some before → (HasClosed before.groups → ⊥)
     → Receives old.pool before pool after → IsSoundShard after → IsSoundPool pool
     → IsSoundStep old (End number) reply.ShardEnded (with_pool (with_shard old number after) pool)
 IsSoundStep-Receives old number before after pool sound here none_closed receives sound_after sound_pool =
-    with_plan_kept old (End number) reply.ShardEnded (with_pool (with_shard old number after) pool)
-    (IsStep-Receives old number before after pool sound.groups here none_closed receives sound_after sound_pool)
-    (HasSoundPlan-Receives old sound number before after pool here (unclosed before.groups none_closed) receives) sound.rings
+    let move = IsMove-Receives before after old.pool pool receives in
+    let groups = HasSoundGroups-moved old sound.groups number before after pool here move sound_after sound_pool in
+    record {
+      kept = record { groups = groups; plan = HasSoundPlan-Receives old sound number before after pool here (unclosed before.groups none_closed) receives; rings = sound.rings };
+      exact = record { before = before; after = after; pool = pool; here = here; unclosed = none_closed; receives = receives; rest = refl };
+      plain = shown-same old (with_pool (with_shard old number after) pool) sound.groups groups refl (sum_all-moved old sound.groups number before after pool here move);
+    }
 
 pub IsSoundStep-Retires : (old : CoreState) (number most count : ℕ) (before after : ShardState) (pool : PoolState) → IsSound old
     → slice_get old.shards number ≡ Some before → (HasClosed before.groups → ⊥)
     → Retires old.pool before most count pool after → HasRetired old.pool before count pool after → IsSoundShard after → IsSoundPool pool
     → IsSoundStep old (Retire number most) (reply.Retired count) (with_pool (with_shard old number after) pool)
 IsSoundStep-Retires old number most count before after pool sound here none_closed retires whole sound_after sound_pool =
-    with_plan_kept old (Retire number most) (reply.Retired count) (with_pool (with_shard old number after) pool)
-    (IsStep-Retires old number most count before after pool sound.groups here none_closed retires whole sound_after sound_pool)
-    (HasSoundPlan-Retires old sound number most count before after pool here (unclosed before.groups none_closed) retires) sound.rings
+    let move = IsMove-Retires before after old.pool pool most count retires in
+    let groups = HasSoundGroups-moved old sound.groups number before after pool here move sound_after sound_pool in
+    record {
+      kept = record {
+        groups = groups;
+        plan = HasSoundPlan-Retires old sound number most count before after pool here (unclosed before.groups none_closed) retires;
+        rings = sound.rings;
+      };
+      exact = record { before = before; after = after; pool = pool; here = here; unclosed = none_closed; retires = retires; whole = whole; rest = refl };
+      plain = shown-same old (with_pool (with_shard old number after) pool) sound.groups groups refl (sum_all-moved old sound.groups number before after pool here move);
+    }
 
 pub IsSoundStep-Trims : (old : CoreState) (number count : ℕ) (before after : ShardState) → IsSound old → slice_get old.shards number ≡ Some before
     → Trims before count after → shown_by after ≡ shown_by before → IsSoundShard after
     → IsSoundStep old (Trim number) (reply.Trimmed count) (with_shard old number after)
 IsSoundStep-Trims old number count before after sound here trims plain sound_after =
-    with_plan_kept old (Trim number) (reply.Trimmed count) (with_shard old number after) (IsStep-Trims old number count before after sound.groups here trims plain sound_after)
-    (HasSoundPlan-kept old (with_shard old number after) sound.plan refl refl (KeepsPooled-same old.pool.groups)
-    (KeepsAllClosed-set old.shards number before after here (KeepsClosed-Trims before after count trims))
-    (AreAllClosedAsPlanned-set old.plan old.shards number after sound.plan.closed (AreClosedAsPlanned-Trims old.plan before after count trims (sound.plan.closed number before here))))
-    sound.rings
+    let new = with_shard old number after in
+    let groups = HasSoundGroups-with_shard old sound.groups number before after here (IsCall-Trims before after count trims) sound_after in
+    let local = IsLocal-shard old new (at_most_once old sound.groups) (at_most_once new groups) number before after here refl in
+    record {
+      kept = record {
+        groups = groups;
+        plan = HasSoundPlan-kept old new sound.plan refl refl (KeepsPooled-same old.pool.groups)
+            (KeepsAllClosed-set old.shards number before after here (KeepsClosed-Trims before after count trims))
+            (AreAllClosedAsPlanned-set old.plan old.shards number after sound.plan.closed (AreClosedAsPlanned-Trims old.plan before after count trims (sound.plan.closed number before here)));
+        rings = sound.rings;
+      };
+      exact = record { before = before; after = after; here = here; trims = trims; rest = refl };
+      plain = shown-unchanged old new (shown_by before) (shown_by after) (λ id. has_span id after) local plain;
+    }
 
 pub IsSoundStep-Adopts : (old : CoreState) (number : ℕ) (head : SpanId) (before after : ShardState) (pool : PoolState) → IsSound old → old.plan ≡ None
     → slice_get old.shards number ≡ Some before → before.ended ≡ false → Adopts old.pool before head pool after → IsSoundShard after → IsSoundPool pool
     → IsSoundStep old (Adopt number) (reply.Adopted head) (with_pool (with_shard old number after) pool)
 IsSoundStep-Adopts old number head before after pool sound no_plan here running adopts sound_after sound_pool =
-    with_plan_kept old (Adopt number) (reply.Adopted head) (with_pool (with_shard old number after) pool)
-    (IsStep-Adopts old number head before after pool sound.groups no_plan here running adopts sound_after sound_pool)
-    (HasSoundPlan-Adopts old sound no_plan number head before after pool here adopts) sound.rings
+    let move = IsMove-Adopts before after old.pool pool head running adopts in
+    let groups = HasSoundGroups-moved old sound.groups number before after pool here move sound_after sound_pool in
+    record {
+      kept = record { groups = groups; plan = HasSoundPlan-Adopts old sound no_plan number head before after pool here adopts; rings = sound.rings };
+      exact = record { before = before; after = after; pool = pool; here = here; running = running; no_plan = no_plan; adopts = adopts; rest = refl };
+      plain = shown-same old (with_pool (with_shard old number after) pool) sound.groups groups refl (sum_all-moved old sound.groups number before after pool here move);
+    }

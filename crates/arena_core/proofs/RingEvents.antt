@@ -9,18 +9,10 @@ use Rattle.arena_core.specs.declared.reply.Refusal.TheVariants.{Config, OutOfMem
 use Rattle.arena_core.specs.declared.reply.Reply.TheVariants as reply
 use Rattle.arena_core.specs.Calls.{CoreCall, ShownCall, ShownStep, TakeCall}
 use Rattle.arena_core.specs.Plain.{Loses}
-use Rattle.arena_core.specs.Rings.{CannotSend, RingState, Sends, Takes, keys_of, pending_at, ring_at, with_keys, with_ring_at}
+use Rattle.arena_core.specs.Rings.{CannotSend, RingState, Sends, Takes, keys_of, ring_at, with_keys, with_ring_at}
 use Rattle.arena_core.specs.Sound.{IsSound}
 use Rattle.arena_core.specs.State.{CoreState, shown, with_rings}
-use Rattle.arena_core.specs.Step.{CoreStep, FreesKey}
 use Rattle.arena_core.proofs.RingsKept.{AreRings-with, IsOutside-none, IsSound-with_rings, shown-with_ring}
-
-pending-here : (rings : List (List RingState)) (worker shard : ℕ) (ring : RingState) → ring_at rings worker shard ≡ Some ring → pending_at rings worker shard ≡ ring.keys
-pending-here rings worker shard ring here = ap keys_of here
-
--- a core whose rings are as they were
-with_rings-same : (old : CoreState) (rings : List (List RingState)) → rings ≡ old.rings → with_rings old rings ≡ old
-with_rings-same old rings same = ap (with_rings old) same
 
 -- what a core keeps that was asked to free a key later, and how this is a step
 pub record IsSent (old : CoreState) (worker : ℕ) (key : Key) (answer : Result (Unit {0}) Refusal) (new : CoreState) : Type 0 where
@@ -41,9 +33,9 @@ module _ (old : CoreState) (sound : IsSound old) (worker : ℕ) (key : Key) wher
             (AreRings-with old.rings worker key.span.shard ring now sends.here old.limits sound.rings refl (omega (arith, room, length_push ring.keys key)));
         exact = record { ring = ring; here = sends.here; room = room; rest = refl };
         plain = (
-          subst (λ keys. length keys < old.limits.ring_capacity) (sym (pending-here old.rings worker key.span.shard ring sends.here)) room,
+          subst (λ keys. length keys < old.limits.ring_capacity) (sym (ap keys_of sends.here)) room,
           shown-with_ring old worker key.span.shard ring now sends.here
-              ∙ ap (λ keys. with_pending (shown old) worker key.span.shard (keys ++ key ∷ [])) (sym (pending-here old.rings worker key.span.shard ring sends.here)),
+              ∙ ap (λ keys. with_pending (shown old) worker key.span.shard (keys ++ key ∷ [])) (sym (ap keys_of sends.here)),
         );
       })
 
@@ -53,14 +45,14 @@ module _ (old : CoreState) (sound : IsSound old) (worker : ℕ) (key : Key) wher
       record {
         kept = sound;
         exact = ((ring, here, full ∙ fine.0), refl);
-        plain = (ap length (pending-here old.rings worker key.span.shard ring here) ∙ full ∙ fine.0, refl);
+        plain = (ap length (ap keys_of here) ∙ full ∙ fine.0, refl);
       }
   unsent OutOfMemory (ring, here, room) =
       let fine = sound.rings.each worker key.span.shard ring here in
       record {
         kept = sound;
         exact = ((ring, here, omega (arith, room, fine.0)), refl);
-        plain = (omega (arith, room, fine.0, ap length (pending-here old.rings worker key.span.shard ring here)), refl);
+        plain = (omega (arith, room, fine.0, ap length (ap keys_of here)), refl);
       }
   unsent Config none =
       let outside = IsOutside-none old.limits old.rings worker key.span.shard sound.rings none in
@@ -71,7 +63,7 @@ module _ (old : CoreState) (sound : IsSound old) (worker : ℕ) (key : Key) wher
       → MatchResult answer (λ done. Sends old.rings worker key rings) (λ refusal. CannotSend refusal old.rings worker key.span.shard × (rings ≡ old.rings))
       → IsSent old worker key answer (with_rings old rings)
   IsSent-later (Ok done) rings sends = sent rings done sends
-  IsSent-later (Err refusal) rings (cannot, same) = subst (IsSent old worker key (Err refusal)) (sym (with_rings-same old rings same)) (unsent refusal cannot)
+  IsSent-later (Err refusal) rings (cannot, same) = subst (IsSent old worker key (Err refusal)) (sym (ap (with_rings old) same)) (unsent refusal cannot)
 
 -- what a core keeps of which the oldest key of a ring was taken
 pub record IsTaken (old : CoreState) (worker shard : ℕ) (answer : Result (Option Key) Refusal) (new : CoreState) : Type 0 where
@@ -80,7 +72,7 @@ pub record IsTaken (old : CoreState) (worker shard : ℕ) (answer : Result (Opti
 
 module _ (old : CoreState) (sound : IsSound old) (worker shard : ℕ) where
   Takes-kept : (found : Option Key) (rings : List (List RingState)) → Takes old.rings worker shard found rings → IsSound (with_rings old rings)
-  Takes-kept None rings (ring, here, empty, same) = subst IsSound (sym (with_rings-same old rings same)) sound
+  Takes-kept None rings (ring, here, empty, same) = subst IsSound (sym (ap (with_rings old) same)) sound
   Takes-kept (Some key) rings (ring, left, here, oldest, after) =
       subst (λ r. IsSound (with_rings old r)) (sym after)
       (IsSound-with_rings old (with_ring_at old.rings worker shard (with_keys ring left)) sound
@@ -92,27 +84,17 @@ module _ (old : CoreState) (sound : IsSound old) (worker shard : ℕ) where
       → IsTaken old worker shard answer (with_rings old rings)
   IsTaken-take (Ok found) rings takes = record { kept = Takes-kept found rings takes; taken = takes }
   IsTaken-take (Err refusal) rings (is, none, same) = record {
-    kept = subst IsSound (sym (with_rings-same old rings same)) sound;
-    taken = (is, IsOutside-none old.limits old.rings worker shard sound.rings none, with_rings-same old rings same);
+    kept = subst IsSound (sym (ap (with_rings old) same)) sound;
+    taken = (is, IsOutside-none old.limits old.rings worker shard sound.rings none, ap (with_rings old) same);
   }
 
--- how a core that was asked to settle a key took a step
-pub record IsSettled (old : CoreState) (worker shard : ℕ) (answer : Result (Option Key) Refusal) (new : CoreState) : Type 0 where
-  pub exact : CoreCall old (Settle worker shard) reply.Settled answer new
-  pub plain : ShownCall old (Settle worker shard) reply.Settled answer new
-
 -- the key that was taken is freed
-pub IsSettled-freed : (old mid new : CoreState) (worker shard : ℕ) (key : Key) (freed : Bool) → Takes old.rings worker shard (Some key) mid.rings
-    → mid ≡ with_rings old mid.rings → CoreStep mid (Free key) (reply.Freed freed) new
-    → ShownStep mid (Free key) (reply.Freed freed) new → IsSettled old worker shard (Ok (Some key)) new
-IsSettled-freed old mid new worker shard key freed (ring, left, here, oldest, after) is exact plain =
-    let mid_is : mid ≡ with_rings old (with_ring_at old.rings worker shard (with_keys ring left)) = is ∙ ap (with_rings old) after in
-    record {
-      exact = record { ring = ring; left = left; here = here; oldest = oldest; freed = freed; frees = subst (λ m. FreesKey m key freed new) mid_is exact };
-      plain = (
-        left,
-        freed,
-        pending-here old.rings worker shard ring here ∙ oldest,
-        subst (λ m. Loses m key freed (shown new)) (ap shown mid_is ∙ shown-with_ring old worker shard ring (with_keys ring left) here) plain,
-      );
-    }
+pub ShownStep-settled : (old mid new : CoreState) (worker shard : ℕ) (key : Key) (freed : Bool) → Takes old.rings worker shard (Some key) mid.rings
+    → mid ≡ with_rings old mid.rings → ShownStep mid (Free key) (reply.Freed freed) new → ShownStep old (Settle worker shard) (reply.Settled (Some key)) new
+ShownStep-settled old mid new worker shard key freed (ring, left, here, oldest, after) is plain =
+    let mid_is : mid ≡ with_rings old (with_ring_at old.rings worker shard (with_keys ring left)) = is ∙ ap (with_rings old) after in (
+      left,
+      freed,
+      ap keys_of here ∙ oldest,
+      subst (λ m. Loses m key freed (shown new)) (ap shown mid_is ∙ shown-with_ring old worker shard ring (with_keys ring left) here) plain,
+    )

@@ -1,8 +1,7 @@
 -- That the room which is made for notes is enough for the spans that come.
-use Rattle.std.proofs.Common.{◌≡◌, ◌≤◌, ◌+◌, ◌++◌, ℕ, Option, None, Some, ap, arith, length, refl, slice_get, sym, ◌∙◌}
+use Rattle.std.proofs.Common.{◌≡◌, ◌≤◌, ◌+◌, ◌++◌, ℕ, ap, arith, length, slice_get, sym, ◌∙◌, is_some}
 use Rattle.std.specs.Prelude.{IsSome}
 use Rattle.std.proofs.lemmas.List.{length-append}
-use Rattle.page.specs.Words.{Words}
 use Rattle.span.specs.declared.id.SpanId.{SpanId}
 use Rattle.groups.specs.Group.{IsHeadOf, spans_of}
 use Rattle.groups.specs.Whole.{WholeState, spans_moved}
@@ -20,6 +19,8 @@ use Rattle.fold.specs.declared.step.Step.{Step as Outcome}
 use Rattle.fold.specs.declared.step.Step.TheVariants.{Absent, Clash, Emptied, Folded}
 use Rattle.arena_core.specs.Moved.{HasAtMost}
 use Rattle.arena_core.proofs.Noted.{adopted, adopted-here, grafted-here}
+use Rattle.std.proofs.option.Match.{None-if_not_some}
+use Rattle.std.proofs.lemmas.Bool.{true_from_ne_false}
 
 -- the group of the head has that many spans, where it has a page
 abbrev pub CountsPaged : PoolState → SpanId → ℕ → Type 0
@@ -45,11 +46,7 @@ module _ (pool : PoolState) (sound : IsSoundPool pool) (before after : ShardStat
       omega (arith, count index group (record { here = ap (λ (s : ShardState). slice_get s.groups index) (sym same) ∙ here.here; head_is = here.head_is }))
 
   paged_if_folded : (a b : SpanId) (index : ℕ) (group : PooledState) → MayFold pool before a b → IsHeadOf pool.groups a index group → IsSome group.page
-  paged_if_folded a b index group may here = by_page group.page refl
-    where
-      by_page : (o : Option Words) → group.page ≡ o → IsSome o
-      by_page None none = absurd (may.paged (may.present, (index, group, here, none)))
-      by_page (Some words) some = refl
+  paged_if_folded a b index group may here = true_from_ne_false (is_some group.page) (λ none. may.paged (may.present, (index, group, here, None-if_not_some _ none)))
 
   HasAtMost-Folds : (a b : SpanId) (pool_after : PoolState) (first : ℕ)
       → ((index : ℕ) (group : GroupState) → IsHeadOf before.groups b index group → first ≡ length (spans_of group)) → CountsPaged pool a spans

@@ -1,5 +1,5 @@
 -- The next pair of the open plan is carried out: it is neither absent nor a clash.
-use Rattle.std.proofs.Common.{◌≡◌, ℕ, ◌+◌, ◌≤◌, length, true, false, inl, inr, refl, sym, ap, subst, ◌∙◌, arith, Some, slice_get, is_some, Bool}
+use Rattle.std.proofs.Common.{◌≡◌, ℕ, ◌+◌, ◌≤◌, length, true, false, inl, inr, refl, sym, ap, subst, ◌∙◌, arith, Some, slice_get, is_some}
 use Rattle.std.specs.Prelude.{MatchOption}
 use Rattle.std.proofs.lemmas.Option.{none-some}
 use Rattle.bitmap.specs.Slots.{SlotSet, AreDisjoint}
@@ -36,6 +36,7 @@ use Rattle.arena_core.proofs.PlanFolds.{AreAllClosedAsPlanned-folded, IsFold, Is
 use Rattle.arena_core.proofs.PlanSteps.{AreAllClosedAsPlanned, IsSoundStep}
 use Rattle.arena_core.proofs.Spans.{shard_with-here, times-parts, times_owned}
 use Rattle.arena_core.proofs.Steps.{has_span-here, not_doubled_in, with_shard-same}
+use Rattle.std.proofs.lemmas.Bool.{false_from_ne_true}
 
 -- a fold as a move of spans from the pool to the shard
 
@@ -106,11 +107,7 @@ module _ (old : CoreState) (sound : IsSound old) (plan : OpenPlan) (pair : SpanI
     sound_before = (sound.groups.shards number before here).sound
 
     running : before.ended ≡ false
-    running = by_end before.ended refl
-      where
-        by_end : (b : Bool) → before.ended ≡ b → b ≡ false
-        by_end true e = absurd (none-some _ (ap (λ gs. slice_get gs waits.is_owned.index) (sym (sound_before.none_left e)) ∙ owned_here.here))
-        by_end false e = refl
+    running = false_from_ne_true before.ended (λ e. none-some _ (ap (λ gs. slice_get gs waits.is_owned.index) (sym (sound_before.none_left e)) ∙ owned_here.here))
 
     present : fold.IsAbsent old.pool before pair.0 pair.1 → ⊥
     present (inl none) = none waits.is_abandoned.index waits.abandoned waits.is_abandoned.head_of

@@ -5,8 +5,6 @@ use Rattle.span.specs.Ids.{same_span}
 use Rattle.span.specs.State.{SpanState}
 use Rattle.span.specs.declared.id.SpanId.{SpanId}
 use Rattle.shard.specs.Group.{GroupState}
-use Rattle.shard.specs.Shown.{shown as shown_by}
-use Rattle.shard.specs.Sound.{IsSound as IsSoundShard}
 use Rattle.shard.specs.State.{ShardState}
 use Rattle.shard.specs.Trims.{Trims, is_idle, trimmed}
 use Rattle.groups.specs.Group.{spans_in, spans_of}
@@ -14,15 +12,8 @@ use Rattle.groups.specs.Spans.{live_count}
 use Rattle.marks.proofs.Flagged.{map_back}
 use Rattle.marks.proofs.Lists.{slice_get-map_at}
 use Rattle.marks.specs.Plans.{AreClosedAsPlanned, OpenPlan, is_planned}
-use Rattle.arena_core.specs.Sound.{HasSoundGroups}
-use Rattle.arena_core.specs.State.{CoreState, has_span, with_shard}
-use Rattle.arena_core.specs.declared.event.Event.TheVariants.{Trim}
-use Rattle.arena_core.specs.declared.reply.Reply.TheVariants as reply
-use Rattle.arena_core.proofs.Changes.{HasSoundGroups-with_shard, at_most_once}
 use Rattle.arena_core.proofs.Groups.{IsCall, numbers_of, own, strays}
 use Rattle.arena_core.proofs.PlanKept.{IsFewer-same, KeepsClosed}
-use Rattle.arena_core.proofs.Shown.{IsLocal-shard, shown-unchanged}
-use Rattle.arena_core.proofs.Steps.{IsStep}
 use Rattle.arena_core.proofs.Spans.{sum_in, times_in}
 
 -- what does not ask for the page stays
@@ -71,17 +62,3 @@ AreClosedAsPlanned-Trims plan before after count trims all index now there =
     let (was, here, is) = map_back trimmed before.groups index now (ap (λ (s : ShardState). slice_get s.groups index) (sym trims.after) ∙ there) in
     ap (λ (g : GroupState). g.closed) (sym is) ∙ trimmed-field (λ (g : GroupState). g.closed) was refl ∙ all index was here
     ∙ ap (is_planned plan) (sym (trimmed-field (λ (g : GroupState). g.head.id) was refl) ∙ ap (λ (g : GroupState). g.head.id) is)
-
--- the step, whatever plan is open
-pub IsStep-Trims : (old : CoreState) (number count : ℕ) (before after : ShardState) → HasSoundGroups old → slice_get old.shards number ≡ Some before
-    → Trims before count after → shown_by after ≡ shown_by before → IsSoundShard after
-    → IsStep old (Trim number) (reply.Trimmed count) (with_shard old number after)
-IsStep-Trims old number count before after sound here trims plain sound_after =
-    let new = with_shard old number after in
-    let sound_new = HasSoundGroups-with_shard old sound number before after here (IsCall-Trims before after count trims) sound_after in
-    let local = IsLocal-shard old new (at_most_once old sound) (at_most_once new sound_new) number before after here refl in
-    record {
-      kept = sound_new;
-      exact = record { before = before; after = after; here = here; trims = trims; rest = refl };
-      plain = shown-unchanged old new (shown_by before) (shown_by after) (λ id. has_span id after) local plain;
-    }

@@ -1,6 +1,7 @@
-use Rattle.std.proofs.Common.{◌≡◌, ◌≢◌, ◌↔◌, ◌∙◌, ◌<◌, true, false, length, slice_get, Some, Err, ap, arith, refl, subst, sym}
+use Rattle.std.proofs.Common.{◌≡◌, ◌≢◌, ◌∙◌, ◌<◌, false, length, slice_get, Some, Err, ap, arith, refl, subst, sym}
+use Rattle.std.proofs.lemmas.Option.{MatchOption-at_some}
 use Rattle.std.proofs.lemmas.Result.{err_from_is_err_and}
-use Rattle.pool.specs.Calls.{Adopts, HasNothingToAdopt, IsDoubled}
+use Rattle.pool.specs.Calls.{Adopts, IsDoubled}
 use Rattle.pool.specs.State.{PoolState}
 use Rattle.pool.specs.declared.error.AdoptError.TheVariants as adopt_error
 use Rattle.span.specs.declared.limits.TheConstants.{MOST_SHARDS}
@@ -14,14 +15,14 @@ use Rattle.arena_core.specs.Moved.{Notes}
 use Rattle.arena_core.specs.State.{CoreState}
 use Rattle.arena_core.specs.State.{shown}
 use Rattle.arena_core.specs.Step.{CoreStep}
-use Rattle.arena_core.proofs.FieldSteps.{CoreStep-adopt_refused_fields, IsStep-adopt_fields, no_plan_if_adopted}
-use Rattle.arena_core.proofs.Fields.{IsRead, shard-read, state_of-unchanged, with_both_at}
+use Rattle.arena_core.proofs.FieldSteps.{no_plan_if_adopted, at_same, state_of-both_same}
+use Rattle.arena_core.proofs.Fields.{IsRead, shard-read, state_of-unchanged, with_both_at, state_of-with_both_at}
 use Rattle.arena_core.proofs.FieldsKept.{IsKept-both_same, IsKept-noted, IsKept-room_made, IsKept-unchanged}
 use Rattle.arena_core.proofs.Made.{made-few}
 use Rattle.arena_core.proofs.MadeFields.{IsUnused-unmade}
 use Rattle.arena_core.proofs.Noted.{Comes-Adopts}
-use Rattle.arena_core.proofs.Moves.{running-adopted}
-use Rattle.arena_core.proofs.PlanSteps.{IsSoundStep}
+use Rattle.arena_core.proofs.Moves.{running-adopted, CoreStep-adopt_refused, IsRefused}
+use Rattle.arena_core.proofs.PlanSteps.{IsSoundStep, IsSoundStep-Adopts}
 use Rattle.arena_core.proofs.Rooms.{CountsPaged, HasAtMost-Adopts}
 use Rattle.arena_core.proofs.Steps.{not_doubled}
 use Rattle.arena_core.proofs.machine.Core.adopt.Goals as goal
@@ -37,12 +38,16 @@ adopt_refusal-requires g c = λ e.
 
 pub returns-in-Err-adoptable-clause-exact : goal.returns-in-Err-adoptable-clause-exact
 returns-in-Err-adoptable-clause-exact g c =
-    subst (λ old. CoreStep old (Adopt c.args.number) (Refused c.adopt_refusal.result)
-    (state_of (with_both_at (record c.self.inside { shards = c.reach.new.shards }) c.args.number c.index_mut-shard.result.now c.adoptable.new.self (record c.self.inside { shards = c.reach.new.shards }).whereabouts))) (state_of-unchanged c.self.inside (record c.self.inside { shards = c.reach.new.shards }) refl refl refl refl (c.in-Ok.ensures {u = tt}).same refl ∙ c.self.view_is)
-    (CoreStep-adopt_refused_fields (record c.self.inside { shards = c.reach.new.shards }) c.args.number c.index_mut-shard.result.now c.index_mut-shard.result.now c.adoptable.new.self (record c.self.inside { shards = c.reach.new.shards }).whereabouts
-    c.in-Err-adoptable.error c.adopt_refusal.result (IsKept-unchanged c.self.inside (record c.self.inside { shards = c.reach.new.shards }) c.self.invariant refl refl refl refl refl (c.in-Ok.ensures {u = tt}).same refl).sound
-    (record { within = (c.in-Ok.ensures {u = tt}).here; value = c.index_mut-shard.ensures.value }) c.adopt_refusal.ensures c.in-Err-adoptable.ensures.spent
-    c.in-Err-adoptable.ensures.ended c.in-Err-adoptable.ensures.plan_open c.in-Err-adoptable.ensures.nothing refl c.adoptable.ensures.same)
+    let read : IsRead (record c.self.inside { shards = c.reach.new.shards }) c.args.number c.index_mut-shard.result.now = record { within = (c.in-Ok.ensures {u = tt}).here; value = c.index_mut-shard.ensures.value } in
+    at_same (λ old new. CoreStep old (Adopt c.args.number) (Refused c.adopt_refusal.result) new) (state_of-unchanged c.self.inside (record c.self.inside { shards = c.reach.new.shards }) refl refl refl refl (c.in-Ok.ensures {u = tt}).same refl ∙ c.self.view_is)
+    (state_of-both_same (record c.self.inside { shards = c.reach.new.shards }) c.args.number c.index_mut-shard.result.now c.index_mut-shard.result.now c.adoptable.new.self (record c.self.inside { shards = c.reach.new.shards }).whereabouts read refl c.adoptable.ensures.same)
+    (MatchOption-at_some _ _ _ c.adopt_refusal.ensures (CoreStep-adopt_refused (state_of (record c.self.inside { shards = c.reach.new.shards })) (IsKept-unchanged c.self.inside (record c.self.inside { shards = c.reach.new.shards }) c.self.invariant refl refl refl refl refl (c.in-Ok.ensures {u = tt}).same refl).sound c.args.number c.index_mut-shard.result.now c.in-Err-adoptable.error
+    (shard-read (record c.self.inside { shards = c.reach.new.shards }) c.args.number c.index_mut-shard.result.now read) (record {
+      spent = c.in-Err-adoptable.ensures.spent;
+      ended = c.in-Err-adoptable.ensures.ended;
+      plan_open = c.in-Err-adoptable.ensures.plan_open;
+      nothing = c.in-Err-adoptable.ensures.nothing;
+    })))
 
 pub invariant_of-self-in-Err-adoptable : goal.invariant_of-self-in-Err-adoptable
 invariant_of-self-in-Err-adoptable g c =
@@ -56,15 +61,15 @@ pub returns-in_err-reserve-clause-exact : goal.returns-in_err-reserve-clause-exa
 returns-in_err-reserve-clause-exact g c =
     let refused = err_from_is_err_and c.from_residual.result c.from_residual.ensures.1 in
     let read : IsRead (record c.self.inside { shards = c.reach.new.shards }) c.args.number c.index_mut-shard.result.now = record { within = (c.in-Ok.ensures {u = tt}).here; value = c.index_mut-shard.ensures.value } in
-    let step : CoreStep c.args.self.now (Adopt c.args.number) (Refused OutOfMemory) (state_of (with_both_at (record c.self.inside { shards = c.reach.new.shards }) c.args.number c.index_mut-shard.result.now c.adoptable.new.self c.reserve.new.self)) =
-    subst (λ old. CoreStep old (Adopt c.args.number) (Refused OutOfMemory)
-    (state_of (with_both_at (record c.self.inside { shards = c.reach.new.shards }) c.args.number c.index_mut-shard.result.now c.adoptable.new.self c.reserve.new.self))) (state_of-unchanged c.self.inside (record c.self.inside { shards = c.reach.new.shards }) refl refl refl refl (c.in-Ok.ensures {u = tt}).same refl ∙ c.self.view_is)
-    (CoreStep-adopt_refused_fields (record c.self.inside { shards = c.reach.new.shards }) c.args.number c.index_mut-shard.result.now c.index_mut-shard.result.now c.adoptable.new.self c.reserve.new.self
-    adopt_error.OutOfMemory OutOfMemory (IsKept-unchanged c.self.inside (record c.self.inside { shards = c.reach.new.shards }) c.self.invariant refl refl refl refl refl (c.in-Ok.ensures {u = tt}).same refl).sound read refl
-    ((λ e. absurd cc), (λ p. let never = c.in-Ok-adoptable.ensures.spent.1 p in absurd cc))
-    ((λ e. absurd cc), (λ p. let never = c.in-Ok-adoptable.ensures.ended.1 p in absurd cc))
-    ((λ e. absurd cc), (λ p. let never = c.in-Ok-adoptable.ensures.plan_open.1 p in absurd cc))
-    ((λ e. absurd cc), (λ p. let never = c.in-Ok-adoptable.ensures.nothing.1 p in absurd cc)) refl c.adoptable.ensures.same) in
+    let step = at_same (λ old new. CoreStep old (Adopt c.args.number) (Refused OutOfMemory) new) (state_of-unchanged c.self.inside (record c.self.inside { shards = c.reach.new.shards }) refl refl refl refl (c.in-Ok.ensures {u = tt}).same refl ∙ c.self.view_is)
+    (state_of-both_same (record c.self.inside { shards = c.reach.new.shards }) c.args.number c.index_mut-shard.result.now c.index_mut-shard.result.now c.adoptable.new.self c.reserve.new.self read refl c.adoptable.ensures.same)
+    (CoreStep-adopt_refused (state_of (record c.self.inside { shards = c.reach.new.shards })) (IsKept-unchanged c.self.inside (record c.self.inside { shards = c.reach.new.shards }) c.self.invariant refl refl refl refl refl (c.in-Ok.ensures {u = tt}).same refl).sound c.args.number c.index_mut-shard.result.now adopt_error.OutOfMemory
+    (shard-read (record c.self.inside { shards = c.reach.new.shards }) c.args.number c.index_mut-shard.result.now read) (record {
+      spent = ((λ e. absurd cc), (λ p. let never = c.in-Ok-adoptable.ensures.spent.1 p in absurd cc));
+      ended = ((λ e. absurd cc), (λ p. let never = c.in-Ok-adoptable.ensures.ended.1 p in absurd cc));
+      plan_open = ((λ e. absurd cc), (λ p. let never = c.in-Ok-adoptable.ensures.plan_open.1 p in absurd cc));
+      nothing = ((λ e. absurd cc), (λ p. let never = c.in-Ok-adoptable.ensures.nothing.1 p in absurd cc));
+    })) in
     rw (refused.1, refused.2) step
 
 pub invariant_of-self-in_err-reserve : goal.invariant_of-self-in_err-reserve
@@ -84,18 +89,17 @@ adopt_refusal-requires-in-Err-adopt g c = λ e.
 
 pub returns-in-Err-adopt-clause-exact : goal.returns-in-Err-adopt-clause-exact
 returns-in-Err-adopt-clause-exact g c =
-    subst (λ old. CoreStep old (Adopt c.args.number) (Refused c.adopt_refusal-in-Err-adopt.result)
-    (state_of (with_both_at (record c.self.inside { shards = c.reach.new.shards }) c.args.number c.adopt.new.shard c.adopt.new.self c.reserve.new.self))) (state_of-unchanged c.self.inside (record c.self.inside { shards = c.reach.new.shards }) refl refl refl refl (c.in-Ok.ensures {u = tt}).same refl ∙ c.self.view_is)
-    (CoreStep-adopt_refused_fields (record c.self.inside { shards = c.reach.new.shards }) c.args.number c.index_mut-shard.result.now c.adopt.new.shard c.adopt.new.self c.reserve.new.self c.in-Err-adopt.error
-    c.adopt_refusal-in-Err-adopt.result (IsKept-unchanged c.self.inside (record c.self.inside { shards = c.reach.new.shards }) c.self.invariant refl refl refl refl refl (c.in-Ok.ensures {u = tt}).same refl).sound
-    (record { within = (c.in-Ok.ensures {u = tt}).here; value = c.index_mut-shard.ensures.value }) c.adopt_refusal-in-Err-adopt.ensures c.in-Err-adopt.ensures.spent c.in-Err-adopt.ensures.ended
-    (subst (λ (pool : PoolState). (Err c.in-Err-adopt.error ≡ Err adopt_error.PlanOpen) ↔
-    ((c.index_mut-shard.result.now.page_limit ≢ length c.index_mut-shard.result.now.groups) × (c.index_mut-shard.result.now.ended ≡ false) × (IsDoubled pool c.index_mut-shard.result.now
-    → ⊥) × (pool.has_plan ≡ true))) c.adoptable.ensures.same c.in-Err-adopt.ensures.plan_open)
-    (subst (λ (pool : PoolState). (Err c.in-Err-adopt.error ≡ Err adopt_error.NothingToAdopt) ↔
-    ((c.index_mut-shard.result.now.page_limit ≢ length c.index_mut-shard.result.now.groups) × (c.index_mut-shard.result.now.ended ≡ false) × (pool.has_plan ≡ false)
-    × HasNothingToAdopt pool)) c.adoptable.ensures.same c.in-Err-adopt.ensures.nothing)
-    c.in-Err-adopt.ensures.err_shard (c.in-Err-adopt.ensures.err ∙ c.adoptable.ensures.same))
+    let read : IsRead (record c.self.inside { shards = c.reach.new.shards }) c.args.number c.index_mut-shard.result.now = record { within = (c.in-Ok.ensures {u = tt}).here; value = c.index_mut-shard.ensures.value } in
+    at_same (λ old new. CoreStep old (Adopt c.args.number) (Refused c.adopt_refusal-in-Err-adopt.result) new) (state_of-unchanged c.self.inside (record c.self.inside { shards = c.reach.new.shards }) refl refl refl refl (c.in-Ok.ensures {u = tt}).same refl ∙ c.self.view_is)
+    (state_of-both_same (record c.self.inside { shards = c.reach.new.shards }) c.args.number c.index_mut-shard.result.now c.adopt.new.shard c.adopt.new.self c.reserve.new.self read c.in-Err-adopt.ensures.err_shard (c.in-Err-adopt.ensures.err ∙ c.adoptable.ensures.same))
+    (MatchOption-at_some _ _ _ c.adopt_refusal-in-Err-adopt.ensures (CoreStep-adopt_refused (state_of (record c.self.inside { shards = c.reach.new.shards })) (IsKept-unchanged c.self.inside (record c.self.inside { shards = c.reach.new.shards }) c.self.invariant refl refl refl refl refl (c.in-Ok.ensures {u = tt}).same refl).sound c.args.number c.index_mut-shard.result.now c.in-Err-adopt.error
+    (shard-read (record c.self.inside { shards = c.reach.new.shards }) c.args.number c.index_mut-shard.result.now read)
+    (subst (λ pool. IsRefused pool c.index_mut-shard.result.now c.in-Err-adopt.error) c.adoptable.ensures.same (record {
+      spent = c.in-Err-adopt.ensures.spent;
+      ended = c.in-Err-adopt.ensures.ended;
+      plan_open = c.in-Err-adopt.ensures.plan_open;
+      nothing = c.in-Err-adopt.ensures.nothing;
+    }))))
 
 pub invariant_of-self-in-Err-adopt : goal.invariant_of-self-in-Err-adopt
 invariant_of-self-in-Err-adopt g c =
@@ -138,13 +142,12 @@ adopted : (g : _) (c : goal.After-self-2-1 g)
     → IsSoundStep c.args.self.now (Adopt c.args.number) (Adopted c.in-Ok-adopt.head)
     (state_of (with_both_at (record c.self.inside { shards = c.reach.new.shards }) c.args.number c.adopt.new.shard c.adopt.new.self c.note.new.self))
 adopted g c =
-    subst (λ old. IsSoundStep old (Adopt c.args.number) (Adopted c.in-Ok-adopt.head)
-    (state_of (with_both_at (record c.self.inside { shards = c.reach.new.shards }) c.args.number c.adopt.new.shard c.adopt.new.self c.note.new.self))) (state_of-unchanged c.self.inside (record c.self.inside { shards = c.reach.new.shards }) refl refl refl refl (c.in-Ok.ensures {u = tt}).same refl ∙ c.self.view_is)
-    (IsStep-adopt_fields (record c.self.inside { shards = c.reach.new.shards }) c.args.number c.in-Ok-adopt.head c.index_mut-shard.result.now c.adopt.new.shard c.adopt.new.self c.note.new.self (IsKept-unchanged c.self.inside (record c.self.inside { shards = c.reach.new.shards }) c.self.invariant refl refl refl refl refl (c.in-Ok.ensures {u = tt}).same refl).sound
+    at_same (λ old new. IsSoundStep old (Adopt c.args.number) (Adopted c.in-Ok-adopt.head) new) (state_of-unchanged c.self.inside (record c.self.inside { shards = c.reach.new.shards }) refl refl refl refl (c.in-Ok.ensures {u = tt}).same refl ∙ c.self.view_is)
+    (state_of-with_both_at (record c.self.inside { shards = c.reach.new.shards }) c.args.number c.index_mut-shard.result.now c.adopt.new.shard c.adopt.new.self c.note.new.self (record { within = (c.in-Ok.ensures {u = tt}).here; value = c.index_mut-shard.ensures.value }))
+    (IsSoundStep-Adopts (state_of (record c.self.inside { shards = c.reach.new.shards })) c.args.number c.in-Ok-adopt.head c.index_mut-shard.result.now c.adopt.new.shard c.adopt.new.self (IsKept-unchanged c.self.inside (record c.self.inside { shards = c.reach.new.shards }) c.self.invariant refl refl refl refl refl (c.in-Ok.ensures {u = tt}).same refl).sound
     (no_plan_if_adopted (record c.self.inside { shards = c.reach.new.shards }) (IsKept-unchanged c.self.inside (record c.self.inside { shards = c.reach.new.shards }) c.self.invariant refl refl refl refl refl (c.in-Ok.ensures {u = tt}).same refl).sound
     (λ told. let never = c.in-Ok-adoptable.ensures.plan_open.1 (not_full g c, still_running g c, not_doubled (state_of (record c.self.inside { shards = c.reach.new.shards })) (IsKept-unchanged c.self.inside (record c.self.inside { shards = c.reach.new.shards }) c.self.invariant refl refl refl refl refl (c.in-Ok.ensures {u = tt}).same refl).sound.groups c.args.number c.index_mut-shard.result.now (read_shard g c) (still_running g c), told) in cc))
-    (record { within = (c.in-Ok.ensures {u = tt}).here; value = c.index_mut-shard.ensures.value })
-    (still_running g c) (adopts_here g c) c.adopt.ensures.sound_shard c.adopt.ensures.sound)
+    (read_shard g c) (still_running g c) (adopts_here g c) c.adopt.ensures.sound_shard c.adopt.ensures.sound)
 
 pub invariant_of-self-2 : goal.invariant_of-self-2
 invariant_of-self-2 g c =

@@ -1,34 +1,25 @@
-use Rattle.std.proofs.Common.{◌≡◌, ◌≢◌, refl, subst, sym, ◌∙◌}
+use Rattle.std.proofs.Common.{◌≢◌, refl, subst, sym, ◌∙◌}
 use Rattle.shard.specs.Calls.{Frees, was_freed}
 use Rattle.shard.specs.declared.shard.Freed.TheVariants.{NotHere}
 use Rattle.arena_core.specs.declared.event.Event.TheVariants.{Free}
 use Rattle.arena_core.specs.declared.reply.Reply.TheVariants.{Freed}
-use Rattle.arena_core.specs.Kept.{shards_of, state_of}
-use Rattle.arena_core.specs.Moved.{StandsInNoOther}
-use Rattle.arena_core.specs.State.{CoreState}
+use Rattle.arena_core.specs.Kept.{state_of}
 use Rattle.arena_core.proofs.FieldSteps.{IsStep-free_home, state_of-same}
 use Rattle.arena_core.proofs.Fields.{IsRead, no_read, shard-read, with_shard_at}
 use Rattle.arena_core.proofs.FieldsKept.{IsKept-free}
-use Rattle.arena_core.proofs.Made.{unmade-standing}
-use Rattle.arena_core.proofs.Moved.{no_other-named, no_other-unnamed, not-standing}
+use Rattle.arena_core.proofs.Moved.{no_other-unnamed, no_other-away, no_other-unmade}
 use Rattle.arena_core.proofs.PlanSteps.{IsSoundStep}
 use Rattle.arena_core.proofs.machine.Core.free_taken_in.Goals as goal
 
 pub returns-in_default-clause-not_here : goal.returns-in_default-clause-not_here
-returns-in_default-clause-not_here g c = λ e. (
-  subst (λ (s : CoreState). StandsInNoOther s.shards c.args.key.now.span) c.self.view_is
-      (no_other-unnamed (shards_of c.self.inside) c.self.inside.whereabouts.entries c.self.invariant.moved c.args.key.now.span (sym c.shard_of.ensures ∙ c.in_default.is)),
-  refl,
-)
+returns-in_default-clause-not_here g c = λ e. (no_other-unnamed c.self.inside c.self.invariant c.self.view_is c.args.key.now.span (sym c.shard_of.ensures ∙ c.in_default.is), refl)
 
 pub returns-in_default-get_mut-clause-not_here : goal.returns-in_default-get_mut-clause-not_here
-returns-in_default-get_mut-clause-not_here g c = λ e.
-    let past = no_read c.self.inside c.in-Some.number c.in_default-get_mut.ensures.variant.1 in (
-      subst (λ (s : CoreState). StandsInNoOther s.shards c.args.key.now.span) c.self.view_is
-          (no_other-named (shards_of c.self.inside) c.self.inside.whereabouts.entries c.self.invariant.moved c.args.key.now.span c.in-Some.number
-          (sym c.shard_of.ensures ∙ c.in-Some.is) (unmade-standing c.self.inside.limits c.self.inside.shards.items c.args.key.now.span c.in-Some.number past)),
-      c.self.view_is,
-    )
+returns-in_default-get_mut-clause-not_here g c = λ e. (
+  no_other-unmade c.self.inside c.self.invariant c.self.view_is c.args.key.now.span c.in-Some.number
+      (sym c.shard_of.ensures ∙ c.in-Some.is) (no_read c.self.inside c.in-Some.number c.in_default-get_mut.ensures.variant.1),
+  c.self.view_is,
+)
 
 pub invariant_of-self-2 : goal.invariant_of-self-2
 invariant_of-self-2 g c =
@@ -57,9 +48,7 @@ returns-clause-not_here g c = λ e.
     let away : Frees c.in-Some-get_mut.shard.now c.args.key.now NotHere c.free.new.self = subst
     (λ answer. Frees c.in-Some-get_mut.shard.now c.args.key.now answer c.free.new.self) e c.free.ensures.step in
     let read : IsRead c.self.inside c.in-Some.number c.in-Some-get_mut.shard.now = record { within = c.in-Some-get_mut.ensures.variant.0 refl; value = c.in-Some-get_mut.ensures.value } in (
-      subst (λ (s : CoreState). StandsInNoOther s.shards c.args.key.now.span) c.self.view_is
-          (no_other-named (shards_of c.self.inside) c.self.inside.whereabouts.entries c.self.invariant.moved c.args.key.now.span c.in-Some.number (sym c.shard_of.ensures ∙ c.in-Some.is)
-          (not-standing (state_of c.self.inside) c.self.invariant.sound.groups c.args.key.now.span c.in-Some.number c.in-Some-get_mut.shard.now
-          (shard-read c.self.inside c.in-Some.number c.in-Some-get_mut.shard.now read) away.0)),
+      no_other-away c.self.inside c.self.invariant c.self.view_is c.args.key.now.span c.in-Some.number c.in-Some-get_mut.shard.now
+          (sym c.shard_of.ensures ∙ c.in-Some.is) (shard-read c.self.inside c.in-Some.number c.in-Some-get_mut.shard.now read) away.0,
       state_of-same c.self.inside c.in-Some.number c.in-Some-get_mut.shard.now c.free.new.self read away.1 ∙ c.self.view_is,
     )

@@ -1,4 +1,4 @@
-use Rattle.std.proofs.Common.{◌≤◌, ◌<◌, arith, refl, ap}
+use Rattle.std.proofs.Common.{arith, refl, ap}
 use Rattle.arena_core.specs.State.{CoreState}
 use Rattle.arena_core.proofs.MadeFields.{CoreStep-begin_unused}
 use Rattle.arena_core.proofs.machine.Core.no_begin.Goals as goal

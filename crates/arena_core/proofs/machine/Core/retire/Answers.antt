@@ -1,15 +1,17 @@
-use Rattle.std.proofs.Common.{◌≡◌, Some, slice_get, Err, ap, refl, subst}
+use Rattle.std.proofs.Common.{◌≡◌, Some, slice_get, Err, ap, refl}
+use Rattle.std.proofs.lemmas.Option.{MatchOption-at_some}
 use Rattle.arena_core.specs.declared.event.Event.TheVariants.{Retire}
 use Rattle.arena_core.specs.declared.reply.Reply.TheVariants.{Refused, Retired}
 use Rattle.arena_core.specs.Kept.{shards_of, state_of}
 use Rattle.arena_core.specs.Step.{CoreStep}
-use Rattle.arena_core.proofs.FieldSteps.{CoreStep-retire_refused_fields, IsStep-retire_fields}
-use Rattle.arena_core.proofs.Fields.{IsRead, no_read, shard-read, with_both_at}
+use Rattle.arena_core.proofs.Fields.{IsRead, no_read, shard-read, with_both_at, state_of-with_both_at}
 use Rattle.arena_core.proofs.FieldsKept.{GetsNone-Retires, IsKept-both_same, IsKept-with_both_at}
-use Rattle.arena_core.proofs.PlanSteps.{IsSoundStep}
+use Rattle.arena_core.proofs.PlanSteps.{IsSoundStep, IsSoundStep-Retires}
 use Rattle.arena_core.proofs.Steps.{not_in_pool}
 use Rattle.arena_core.proofs.MadeFields.{IsUnused-unmade}
 use Rattle.arena_core.proofs.machine.Core.retire.Goals as goal
+use Rattle.arena_core.proofs.Moves.{CoreStep-end_refused}
+use Rattle.arena_core.proofs.FieldSteps.{at_same, state_of-both_same}
 
 pub end_refusal-requires : goal.end_refusal-requires
 end_refusal-requires g c = λ e.
@@ -19,12 +21,11 @@ end_refusal-requires g c = λ e.
 
 pub returns-in-Err-clause-exact : goal.returns-in-Err-clause-exact
 returns-in-Err-clause-exact g c =
-    subst (λ old. CoreStep old (Retire c.args.number c.args.most) (Refused c.end_refusal.result)
-    (state_of (with_both_at c.self.inside c.args.number c.retire.new.shard c.retire.new.self c.self.inside.whereabouts))) c.self.view_is
-    (CoreStep-retire_refused_fields c.self.inside c.args.number c.args.most c.in-Some.shard.now c.retire.new.shard c.retire.new.self c.self.inside.whereabouts
-    c.in-Err.error c.end_refusal.result c.self.invariant.sound
-    (record { within = c.in-Some.ensures.variant.0 refl; value = c.in-Some.ensures.value }) c.end_refusal.ensures c.in-Err.ensures.ended
-    c.in-Err.ensures.plan_open c.in-Err.ensures.err_shard c.in-Err.ensures.err)
+    let read : IsRead c.self.inside c.args.number c.in-Some.shard.now = record { within = c.in-Some.ensures.variant.0 refl; value = c.in-Some.ensures.value } in
+    at_same (λ old new. CoreStep old (Retire c.args.number c.args.most) (Refused c.end_refusal.result) new) c.self.view_is
+    (state_of-both_same c.self.inside c.args.number c.in-Some.shard.now c.retire.new.shard c.retire.new.self c.self.inside.whereabouts read c.in-Err.ensures.err_shard c.in-Err.ensures.err)
+    (MatchOption-at_some _ _ _ c.end_refusal.ensures (CoreStep-end_refused (state_of c.self.inside) c.self.invariant.sound c.args.number c.args.most c.in-Some.shard.now c.in-Err.error
+    (shard-read c.self.inside c.args.number c.in-Some.shard.now read) c.in-Err.ensures.ended c.in-Err.ensures.plan_open)).1
 
 read_shard : (g : _) (c : goal.In-Ok g) → slice_get (shards_of c.self.inside) c.args.number ≡ Some c.in-Some.shard.now
 read_shard g c = shard-read c.self.inside c.args.number c.in-Some.shard.now (record { within = c.in-Some.ensures.variant.0 refl; value = c.in-Some.ensures.value })
@@ -33,10 +34,9 @@ retired : (g : _) (c : goal.In-Ok g)
     → IsSoundStep c.args.self.now (Retire c.args.number c.args.most) (Retired c.in-Ok.count)
     (state_of (with_both_at c.self.inside c.args.number c.retire.new.shard c.retire.new.self c.self.inside.whereabouts))
 retired g c =
-    subst (λ old. IsSoundStep old (Retire c.args.number c.args.most) (Retired c.in-Ok.count)
-    (state_of (with_both_at c.self.inside c.args.number c.retire.new.shard c.retire.new.self c.self.inside.whereabouts))) c.self.view_is
-    (IsStep-retire_fields c.self.inside c.args.number c.args.most c.in-Ok.count c.in-Some.shard.now c.retire.new.shard c.retire.new.self c.self.inside.whereabouts c.self.invariant.sound
-    (record { within = c.in-Some.ensures.variant.0 refl; value = c.in-Some.ensures.value })
+    at_same (λ old new. IsSoundStep old (Retire c.args.number c.args.most) (Retired c.in-Ok.count) new) c.self.view_is
+    (state_of-with_both_at c.self.inside c.args.number c.in-Some.shard.now c.retire.new.shard c.retire.new.self c.self.inside.whereabouts (record { within = c.in-Some.ensures.variant.0 refl; value = c.in-Some.ensures.value }))
+    (IsSoundStep-Retires (state_of c.self.inside) c.args.number c.args.most c.in-Ok.count c.in-Some.shard.now c.retire.new.shard c.retire.new.self c.self.invariant.sound (read_shard g c)
     (λ closed. let never = c.in-Ok.ensures.plan_open.1 (c.in-Ok.ensures.ok.running, not_in_pool (state_of c.self.inside) c.self.invariant.sound.groups c.args.number c.in-Some.shard.now (read_shard g c), closed) in cc)
     c.in-Ok.ensures.ok c.in-Ok.ensures.whole c.retire.ensures.sound_shard c.retire.ensures.sound)
 

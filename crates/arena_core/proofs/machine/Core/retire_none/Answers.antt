@@ -1,4 +1,4 @@
-use Rattle.std.proofs.Common.{◌≤◌, ◌<◌, arith, refl, ap, subst}
+use Rattle.std.proofs.Common.{arith, refl, ap, subst}
 use Rattle.pool.specs.Sound.{IsSound as IsSoundPool}
 use Rattle.arena_core.specs.State.{CoreState}
 use Rattle.arena_core.proofs.MadeFields.{CoreStep-retire_unused}

@@ -12,7 +12,7 @@ use Rattle.arena_core.specs.declared.event.Event.TheVariants.{Set}
 use Rattle.arena_core.specs.declared.machine.Core.TheInside.{Inside}
 use Rattle.arena_core.specs.declared.reply.Refusal.{Refusal}
 use Rattle.arena_core.specs.declared.reply.Refusal.TheVariants.{OutOfMemory}
-use Rattle.arena_core.specs.declared.reply.Reply.TheVariants.{Refused, Replaced}
+use Rattle.arena_core.specs.declared.reply.Reply.TheVariants.{Replaced}
 use Rattle.arena_core.specs.Calls.{CoreCall, ShownCall}
 use Rattle.arena_core.specs.Kept.{IsKept, state_of}
 use Rattle.arena_core.specs.Sound.{IsSound}
@@ -20,26 +20,13 @@ use Rattle.arena_core.specs.State.{CoreState}
 use Rattle.arena_core.proofs.FieldSteps.{IsStep-set_home, IsStep-set_refused_home, state_of-same}
 use Rattle.arena_core.proofs.Fields.{IsRead, with_shard_at}
 use Rattle.arena_core.proofs.FieldsKept.{IsKept-same, IsKept-set}
-use Rattle.arena_core.proofs.PlanSteps.{IsSoundStep}
 use Rattle.arena_core.proofs.machine.Core.set.Goals as goal
 
 -- a step with what was answered
-abbrev IsReply : CoreState → Key → Value → CoreState → Result Bool Refusal → Type 0
-IsReply old key value new reply = MatchResult reply (λ done. IsSoundStep old (Set key value) (Replaced done) new) (λ refusal. IsSoundStep old (Set key value) (Refused refusal) new)
-
-exact_of : (old : CoreState) (key : Key) (value : Value) (new : CoreState) (reply : Result Bool Refusal) → IsReply old key value new reply
-    → CoreCall old (Set key value) Replaced reply new
-exact_of old key value new (Ok done) step = step.exact
-exact_of old key value new (Err refusal) step = step.exact
-
-plain_of : (old : CoreState) (key : Key) (value : Value) (new : CoreState) (reply : Result Bool Refusal) → IsReply old key value new reply
-    → ShownCall old (Set key value) Replaced reply new
-plain_of old key value new (Ok done) step = step.plain
-plain_of old key value new (Err refusal) step = step.plain
-
-sound_of : (old : CoreState) (key : Key) (value : Value) (new : CoreState) (reply : Result Bool Refusal) → IsReply old key value new reply → IsSound new
-sound_of old key value new (Ok done) step = step.kept
-sound_of old key value new (Err refusal) step = step.kept
+record IsReply (old : CoreState) (key : Key) (value : Value) (new : CoreState) (reply : Result Bool Refusal) : Type 0 where
+  pub exact : CoreCall old (Set key value) Replaced reply new
+  pub plain : ShownCall old (Set key value) Replaced reply new
+  pub kept : IsSound new
 
 -- what the shard answers to the set, or refuses
 module _ {L E : Type 0} (c : Inside L) (kept : IsKept c) (number : ℕ) (key : Key) (value : Value) (before after : ShardState) (read : IsRead c number before) where
@@ -54,10 +41,12 @@ module _ {L E : Type 0} (c : Inside L) (kept : IsKept c) (number : ℕ) (key : K
       → IfOk result (λ answer. answer ≢ NotHere) → IfOk result (λ answer. Sets before key value answer after) → IfOk result (λ answer. was_replaced answer ≡ may_set (shown_by before) key value)
       → IfOk result (λ answer. shown_by after ≡ cond (was_replaced answer) (with_value (shown_by before) key value) (shown_by before)) → IsSoundShard after
       → OnErr result (may_set (shown_by before) key value ≡ true) → OnErr result (after ≡ before) → IsReply now key value (state_of (with_shard_at c number after)) reply
-  step_set now is (Ok answer) reply told here sets found plain sound may same = rw told
-      (IsStep-set_home c now number key value before after answer is kept.sound read here sets found plain sound)
-  step_set now is (Err error) reply told here sets found plain sound may same = rw told
-      (IsStep-set_refused_home c now number key value before after is kept.sound read may same)
+  step_set now is (Ok answer) reply told here sets found plain sound may same =
+      let step = IsStep-set_home c now number key value before after answer is kept.sound read here sets found plain sound in
+      rw told (record { exact = step.exact; plain = step.plain; kept = step.kept })
+  step_set now is (Err error) reply told here sets found plain sound may same =
+      let step = IsStep-set_refused_home c now number key value before after is kept.sound read may same in
+      rw told (record { exact = step.exact; plain = step.plain; kept = step.kept })
 
 pub invariant_of-self-2 : goal.invariant_of-self-2
 invariant_of-self-2 g c =
@@ -75,13 +64,13 @@ replied g c =
     c.set_first.result c.set_reply.result c.set_reply.ensures first.here first.step first.found first.plain first.sound first.refused first.err
 
 pub returns-clause-exact : goal.returns-clause-exact
-returns-clause-exact g c = exact_of _ _ _ _ c.set_reply.result (replied g c)
+returns-clause-exact g c = (replied g c).exact
 
 pub returns-clause-plain : goal.returns-clause-plain
-returns-clause-plain g c = plain_of _ _ _ _ c.set_reply.result (replied g c)
+returns-clause-plain g c = (replied g c).plain
 
 pub returns-clause-sound : goal.returns-clause-sound
-returns-clause-sound g c = sound_of _ _ _ _ c.set_reply.result (replied g c)
+returns-clause-sound g c = (replied g c).kept
 
 pub set_first-requires : goal.set_first-requires
 set_first-requires g c = c.stands_first.ensures.0 c.if-not-stands_first.false

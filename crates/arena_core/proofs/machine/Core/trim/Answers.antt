@@ -1,19 +1,20 @@
-use Rattle.std.proofs.Common.{refl, subst}
+use Rattle.std.proofs.Common.{refl}
 use Rattle.arena_core.specs.declared.event.Event.TheVariants.{Trim}
 use Rattle.arena_core.specs.declared.reply.Reply.TheVariants.{Trimmed}
 use Rattle.arena_core.specs.Kept.{state_of}
-use Rattle.arena_core.proofs.FieldSteps.{IsStep-trim_fields}
-use Rattle.arena_core.proofs.Fields.{IsRead, no_read, with_shard_at}
+use Rattle.arena_core.proofs.Fields.{IsRead, no_read, with_shard_at, shard-read, state_of-with_shard_at}
 use Rattle.arena_core.proofs.FieldsKept.{GetsNone-Trims, IsKept-with_shard_at}
-use Rattle.arena_core.proofs.PlanSteps.{IsSoundStep}
+use Rattle.arena_core.proofs.PlanSteps.{IsSoundStep, IsSoundStep-Trims}
 use Rattle.arena_core.proofs.MadeFields.{IsUnused-unmade}
 use Rattle.arena_core.proofs.machine.Core.trim.Goals as goal
+use Rattle.arena_core.proofs.FieldSteps.{at_same}
 
 trimmed : (g : _) (c : goal.After-self-2-1 g) → IsSoundStep c.args.self.now (Trim c.args.number) (Trimmed c.trim.result) (state_of (with_shard_at c.self.inside c.args.number c.trim.new.self))
 trimmed g c =
-    subst (λ old. IsSoundStep old (Trim c.args.number) (Trimmed c.trim.result) (state_of (with_shard_at c.self.inside c.args.number c.trim.new.self))) c.self.view_is
-    (IsStep-trim_fields c.self.inside c.args.number c.trim.result c.in-Some.shard.now c.trim.new.self c.self.invariant.sound
-    (record { within = c.in-Some.ensures.variant.0 refl; value = c.in-Some.ensures.value }) c.trim.ensures.trims c.trim.ensures.plain c.trim.ensures.sound)
+    let read : IsRead c.self.inside c.args.number c.in-Some.shard.now = record { within = c.in-Some.ensures.variant.0 refl; value = c.in-Some.ensures.value } in
+    at_same (λ old new. IsSoundStep old (Trim c.args.number) (Trimmed c.trim.result) new) c.self.view_is (state_of-with_shard_at c.self.inside c.args.number c.in-Some.shard.now c.trim.new.self read)
+    (IsSoundStep-Trims (state_of c.self.inside) c.args.number c.trim.result c.in-Some.shard.now c.trim.new.self c.self.invariant.sound
+    (shard-read c.self.inside c.args.number c.in-Some.shard.now read) c.trim.ensures.trims c.trim.ensures.plain c.trim.ensures.sound)
 
 pub invariant_of-self-2 : goal.invariant_of-self-2
 invariant_of-self-2 g c =

@@ -1,4 +1,4 @@
-use Rattle.std.proofs.Common.{◌≤◌, ◌<◌, arith, refl, ap}
+use Rattle.std.proofs.Common.{arith, refl, ap}
 use Rattle.arena_core.specs.State.{CoreState}
 use Rattle.arena_core.proofs.MadeFields.{CoreStep-trim_unused}
 use Rattle.arena_core.proofs.machine.Core.trim_none.Goals as goal

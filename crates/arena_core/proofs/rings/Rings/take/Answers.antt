@@ -1,4 +1,4 @@
-use Rattle.std.proofs.Common.{◌≡◌, ◌<◌, List, MatchResult, None, arith, refl, replicate, set, slice_get, subst, sym, ap}
+use Rattle.std.proofs.Common.{◌≡◌, ◌<◌, List, MatchResult, None, arith, refl, replicate, set, subst, sym}
 use Rattle.std.proofs.lemmas.Option.{slice_get_read}
 use Rattle.std.specs.Prelude.{vec_len}
 use Rattle.arena_core.specs.declared.reply.Refusal.TheVariants.{Config}
