@@ -18,15 +18,17 @@ use Rattle.marks.proofs.Flagged.{with_flags, spans_in-flagged, map_back, IsSound
 abbrev pub with_all_flags : (GroupState → Bool) → CoreState → CoreState
 with_all_flags closed core = record core { shards = map (with_flags closed) core.shards }
 
+-- a change of shards that leaves how many spans each has opened
+pub opened_of-map : (change : ShardState → ShardState) → ((shard : ShardState) → (change shard).opened ≡ shard.opened) → (shards : List ShardState) (number : ℕ)
+    → opened_of (slice_get (map change shards) number) ≡ opened_of (slice_get shards number)
+opened_of-map change same [] number = refl
+opened_of-map change same (shard ∷ shards) zero = same shard
+opened_of-map change same (shard ∷ shards) (suc number) = opened_of-map change same shards number
+
 module _ (closed : GroupState → Bool) where
   shard_spans-flagged : (shards : List ShardState) → shard_spans (map (with_flags closed) shards) ≡ shard_spans shards
   shard_spans-flagged [] = refl
   shard_spans-flagged (shard ∷ shards) = λ i. spans_in-flagged closed shard.groups i ++ shard_spans-flagged shards i
-
-  opened_of-flagged : (shards : List ShardState) (number : ℕ) → opened_of (slice_get (map (with_flags closed) shards) number) ≡ opened_of (slice_get shards number)
-  opened_of-flagged [] number = refl
-  opened_of-flagged (shard ∷ shards) zero = refl
-  opened_of-flagged (shard ∷ shards) (suc number) = opened_of-flagged shards number
 
   module _ (core : CoreState) (sound : HasSoundGroups core) where
     all_spans-flagged : all_spans (with_all_flags closed core) ≡ all_spans core
@@ -45,7 +47,7 @@ module _ (closed : GroupState → Bool) where
       once = λ id.
           ap (count_by (λ (s : SpanState). same_span s.id id)) all_spans-flagged
           ∙ sound.once id
-          ∙ ap (indicator id.serial) (sym (opened_of-flagged core.shards id.shard));
+          ∙ ap (indicator id.serial) (sym (opened_of-map (with_flags closed) (λ shard. refl) core.shards id.shard));
       forgotten = sound.forgotten;
     }
 

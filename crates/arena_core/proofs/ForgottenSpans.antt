@@ -1,5 +1,5 @@
 -- A core that forgets spans which can never be live again stays sound, and shows the same.
-use Rattle.std.proofs.Common.{zero, suc, ◌≡◌, ℕ, ◌+◌, Bool, true, false, not, cond, List, [], ◌∷◌, ◌++◌, None, Some, Option, map, slice_get, is_some, refl, sym, ap, subst, ◌∙◌, arith, inl, inr}
+use Rattle.std.proofs.Common.{suc, ◌≡◌, ℕ, ◌+◌, Bool, true, false, not, cond, List, [], ◌∷◌, ◌++◌, None, Some, Option, map, slice_get, is_some, refl, sym, ap, subst, ◌∙◌, arith, inl, inr}
 use Rattle.std.specs.FinSet.{empty}
 use Rattle.std.specs.Prelude.{MatchOption, sum_by}
 use Rattle.std.proofs.lemmas.List.{length-map}
@@ -25,9 +25,9 @@ use Rattle.arena_core.specs.Forgets.{dead_owned, dead_spans, with_forgotten, wit
 use Rattle.arena_core.specs.Kept.{IsKept, shards_of, state_of}
 use Rattle.arena_core.specs.Made.{all_shards, new_shard_of}
 use Rattle.arena_core.specs.declared.machine.Core.TheInside.{Inside}
-use Rattle.arena_core.specs.Moved.{Entries, KeepsStanding, KnowsMoved, StandsIn}
+use Rattle.arena_core.specs.Moved.{KeepsStanding, KnowsMoved, StandsIn}
 use Rattle.arena_core.specs.Sound.{HasSoundGroups, IsForgotten, IsSound, IsSoundAt}
-use Rattle.arena_core.specs.State.{CoreState, all_spans, has_span, opened_of, shown}
+use Rattle.arena_core.specs.State.{CoreState, all_spans, has_span, shown}
 use Rattle.arena_core.proofs.Changes.{indicator, no_strays}
 use Rattle.arena_core.proofs.Groups.{IsSoundAt-same, strays, strays-each}
 use Rattle.arena_core.proofs.Logged.{shown-same}
@@ -37,6 +37,8 @@ use Rattle.arena_core.proofs.PlanSteps.{HasSoundPlan-none}
 use Rattle.arena_core.proofs.Standing.{KnowsMoved-standing}
 use Rattle.arena_core.proofs.Spans.{has_span-counted, named, sum_all, sum_all-parts, sum_in, sum_pooled, times_in-found}
 use Rattle.std.proofs.lemmas.Bool.{not-true}
+use Rattle.arena_core.proofs.Noted.{KnowsMoved-map}
+use Rattle.arena_core.proofs.Flagged.{opened_of-map}
 
 -- sums over what is left and what went
 
@@ -135,11 +137,6 @@ forgotten-pooled groups sound place span here = elim (in_either (dead_guests (pa
 
 -- the core
 
-opened_of-forgotten : (shards : List ShardState) (number : ℕ) → opened_of (slice_get (map without_dead_guests shards) number) ≡ opened_of (slice_get shards number)
-opened_of-forgotten [] number = refl
-opened_of-forgotten (shard ∷ shards) zero = refl
-opened_of-forgotten (shard ∷ shards) (suc number) = opened_of-forgotten shards number
-
 module _ (core : CoreState) (sound : IsSound core) where
   HasSoundGroups-forgotten : HasSoundGroups (with_forgotten core)
   HasSoundGroups-forgotten = record {
@@ -152,7 +149,7 @@ module _ (core : CoreState) (sound : IsSound core) where
         (IsSoundAt-same core.limits number was (without_dead_guests was) refl fine (IsSound-without_dead was fine.sound));
     pool = IsSound-left core.pool sound.groups.pool;
     gens = strays-each core.limits.gens (all_spans (with_forgotten core)) (sum_all-forgotten (strays core.limits.gens) core ∙ no_strays core sound.groups);
-    once = λ id. sum_all-forgotten (named id) core ∙ sound.groups.once id ∙ ap (indicator id.serial) (sym (opened_of-forgotten core.shards id.shard));
+    once = λ id. sum_all-forgotten (named id) core ∙ sound.groups.once id ∙ ap (indicator id.serial) (sym (opened_of-map without_dead_guests (λ shard. refl) core.shards id.shard));
     forgotten = λ place span here. elim (in_either core.forgotten (dead_spans core.shards core.pool) place span here) [
       | inl before ↦ sound.groups.forgotten place span before
       | inr now ↦ elim (in_either (dead_owned core.shards) (gone_from core.pool.groups) now.0 span now.1) [
@@ -179,11 +176,6 @@ module _ (core : CoreState) (sound : IsSound core) where
 -- a span that stands in a shard stood there before
 has_span-forgotten : (shard : ShardState) (id : SpanId) → has_span id (without_dead_guests shard) ≡ true → has_span id shard ≡ true
 has_span-forgotten shard id has = has_span-counted id shard (omega (arith, times_in-found id (without_dead_guests shard) has, sum-without_dead (named id) shard.groups))
-
-pub KnowsMoved-forgotten : (shards : List ShardState) (entries : Entries) → KnowsMoved shards entries → KnowsMoved (map without_dead_guests shards) entries
-KnowsMoved-forgotten shards entries knows id number foreign (shard, at, has) =
-    let (was, there, is) = map_back without_dead_guests shards number shard at in
-    knows id number foreign (was, there, has_span-forgotten was id (ap (has_span id) is ∙ has))
 
 -- a new shard has no guest
 pub dead_owned-all : {L : Type 0} (c : Inside L) → dead_owned (shards_of c) ≡ dead_owned c.shards.items
@@ -227,5 +219,5 @@ module _ {L : Type 0} (c now : Inside L) (kept : IsKept c) (limits : now.limits 
     sound = subst IsSound (sym state_of-forgotten) (IsSound-forgotten (state_of c) kept.sound none);
     moved =
         KnowsMoved-standing (shards_of now) c.whereabouts.entries now.whereabouts.entries keeps_all
-        (subst (λ shards. KnowsMoved shards c.whereabouts.entries) (sym all_are) (KnowsMoved-forgotten (shards_of c) c.whereabouts.entries kept.moved));
+        (subst (λ shards. KnowsMoved shards c.whereabouts.entries) (sym all_are) (KnowsMoved-map (shards_of c) c.whereabouts.entries kept.moved without_dead_guests has_span-forgotten));
   }

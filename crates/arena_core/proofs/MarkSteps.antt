@@ -43,7 +43,7 @@ use Rattle.arena_core.proofs.PlanSteps.{AreAllClosedAsPlanned, IsSoundStep, HasS
 use Rattle.arena_core.proofs.Spans.{shard_with-here, times-parts, times_owned}
 use Rattle.arena_core.proofs.Stepping.{IsSoundStep-Steps, waits}
 use Rattle.arena_core.proofs.Steps.{has_span-here}
-use Rattle.arena_core.proofs.FieldSteps.{state_of-both_same}
+use Rattle.arena_core.proofs.FieldSteps.{state_of-both_same, at_same}
 
 -- the core with another flag of its pool and another plan
 -- no plan is open, so no group is closed
@@ -205,30 +205,31 @@ state_of-with_step_at c number after pool plan whereabouts within =
     ap (λ shards. record (state_of c) { shards = shards; pool = pool; plan = plan }) (made-set c.limits c.shards.items number after within)
 
 -- the shard of this number, which was made, has the span
-pub made-named : {L : Type 0} (c : Inside L) (id : SpanId) (number : ℕ) (shard : ShardState) → StandsIn (shards_of c) id number → shard ≡ get_or c.shards.items number shard
-    → IsRead c number shard × (has_span id shard ≡ true)
-made-named c id number shard (other, here, has) read =
-    let within = standing-made c.limits c.shards.items id number (other, here, has) in
+pub made-named : {L : Type 0} (c : Inside L) {now : CoreState} → state_of c ≡ now → (id : SpanId) (number : ℕ) (shard : ShardState) → StandsIn now.shards id number
+    → shard ≡ get_or c.shards.items number shard → IsRead c number shard × (has_span id shard ≡ true)
+made-named c now_is id number shard stands read =
+    let there : StandsIn (shards_of c) id number = subst (λ (s : CoreState). StandsIn s.shards id number) (sym now_is) stands in
+    let within = standing-made c.limits c.shards.items id number there in
     let is_read : IsRead c number shard = record { within = omega (arith, within, c.shards.ok.0); value = read } in
-    let same : other ≡ shard = same_some (sym here ∙ shard-read c number shard is_read) in
-    (is_read, ap (has_span id) (sym same) ∙ has)
+    let same : there.0 ≡ shard = same_some (sym there.1 ∙ shard-read c number shard is_read) in
+    (is_read, ap (has_span id) (sym same) ∙ there.2)
 
-pub IsSoundStep-fold_fields : {L : Type 0} (c : Inside L) (plan : OpenPlan) (pair : SpanId × SpanId) (number : ℕ) (before after : ShardState) (pool : PoolState)
-    (current : Option OpenPlan) (whereabouts : WhereaboutsState) (step : Outcome) → IsSound (state_of c) → IsNext (state_of c) plan pair
-    → StandsIn (shards_of c) pair.1 number → before ≡ get_or c.shards.items number before → Steps c.pool before pair.0 pair.1 step pool after
+pub IsSoundStep-fold_fields : {L : Type 0} (c : Inside L) {now : CoreState} → state_of c ≡ now → (plan : OpenPlan) (pair : SpanId × SpanId) (number : ℕ) (before after : ShardState) (pool : PoolState)
+    (current : Option OpenPlan) (whereabouts : WhereaboutsState) (step : Outcome) → IsSound (state_of c) → IsNext now plan pair
+    → StandsIn now.shards pair.1 number → before ≡ get_or c.shards.items number before → Steps c.pool before pair.0 pair.1 step pool after
     → IsSoundShard after → IsSoundPool pool → current ≡ option_map with_next_done c.plan
-    → IsSoundStep (state_of c) Step (Stepped pair.0 pair.1 step) (state_of (with_step_at c number after pool current whereabouts))
-IsSoundStep-fold_fields c plan pair number before after pool current whereabouts step sound next there read steps sound_after sound_pool current_is =
-    let named = made-named c pair.1 number before there read in
-    subst (IsSoundStep (state_of c) Step (Stepped pair.0 pair.1 step))
-    (sym (state_of-with_step_at c number after pool current whereabouts (slice_get_within c.shards.items number before (made-read c number before named.0))))
-    (subst (λ p. IsSoundStep (state_of c) Step (Stepped pair.0 pair.1 step) (with_plan (with_pool (with_shard (state_of c) number after) pool) p))
-    (sym (current_is ∙ ap (option_map with_next_done) next.plan_is))
-    (IsSoundStep-Steps (state_of c) sound plan pair next number before (shard-read c number before named.0) named.1 step after pool steps sound_after sound_pool))
+    → IsSoundStep now Step (Stepped pair.0 pair.1 step) (state_of (with_step_at c number after pool current whereabouts))
+IsSoundStep-fold_fields c now_is plan pair number before after pool current whereabouts step sound is_next there read steps sound_after sound_pool current_is =
+    let named = made-named c now_is pair.1 number before there read in
+    let next : IsNext (state_of c) plan pair = subst (λ s. IsNext s plan pair) (sym now_is) is_next in
+    at_same (λ old new. IsSoundStep old Step (Stepped pair.0 pair.1 step) new) now_is
+    (state_of-with_step_at c number after pool current whereabouts (slice_get_within c.shards.items number before (made-read c number before named.0))
+    ∙ ap (with_plan (with_pool (with_shard (state_of c) number after) pool)) (current_is ∙ ap (option_map with_next_done) next.plan_is))
+    (IsSoundStep-Steps (state_of c) sound plan pair next number before (shard-read c number before named.0) named.1 step after pool steps sound_after sound_pool)
 
 -- a step that wants memory leaves the fields as they were
-pub state_of-refused : {L : Type 0} (c : Inside L) (id : SpanId) (number : ℕ) (before after : ShardState) (pool : PoolState) (whereabouts : WhereaboutsState)
-    → StandsIn (shards_of c) id number → before ≡ get_or c.shards.items number before → after ≡ before → pool ≡ c.pool
-    → state_of (with_step_at c number after pool c.plan whereabouts) ≡ state_of c
-state_of-refused c id number before after pool whereabouts there read same pool_is =
-    state_of-both_same c number before after pool whereabouts (made-named c id number before there read).0 same pool_is
+pub state_of-refused : {L : Type 0} (c : Inside L) {now : CoreState} → state_of c ≡ now → (id : SpanId) (number : ℕ) (before after : ShardState) (pool : PoolState) (whereabouts : WhereaboutsState)
+    → StandsIn now.shards id number → before ≡ get_or c.shards.items number before → after ≡ before → pool ≡ c.pool
+    → state_of (with_step_at c number after pool c.plan whereabouts) ≡ now
+state_of-refused c now_is id number before after pool whereabouts there read same pool_is =
+    state_of-both_same c number before after pool whereabouts (made-named c now_is id number before there read).0 same pool_is ∙ now_is

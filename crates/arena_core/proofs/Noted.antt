@@ -155,14 +155,14 @@ module _ (shards : List ShardState) (entries : Entries) (knows : KnowsMoved shar
     | inr old ↦ knows id k foreign (shard, old.1, has)
   ]
 
-  -- each shard has the spans that it had
-  pub KnowsMoved-map : (change : ShardState → ShardState) → ((shard : ShardState) (id : SpanId) → has_span id (change shard) ≡ has_span id shard) → KnowsMoved (map change shards) entries
-  KnowsMoved-map change same id k foreign (shard, at, has) =
+  -- each shard has spans that it had
+  pub KnowsMoved-map : (change : ShardState → ShardState) → ((shard : ShardState) (id : SpanId) → has_span id (change shard) ≡ true → has_span id shard ≡ true) → KnowsMoved (map change shards) entries
+  KnowsMoved-map change kept id k foreign (shard, at, has) =
       let (was, there, is) = map_back change shards k shard at in
-      knows id k foreign (was, there, sym (same was id) ∙ ap (has_span id) is ∙ has)
+      knows id k foreign (was, there, kept was id (ap (has_span id) is ∙ has))
 
-pub has_span-flagged : (closed : GroupState → Bool) (shard : ShardState) (id : SpanId) → has_span id (with_flags closed shard) ≡ has_span id shard
-has_span-flagged closed shard id = ap (λ spans. is_some (span_named spans id)) (spans_in-flagged closed shard.groups)
+pub has_span-flagged : (closed : GroupState → Bool) (shard : ShardState) (id : SpanId) → has_span id (with_flags closed shard) ≡ true → has_span id shard ≡ true
+has_span-flagged closed shard id has = ap (λ spans. is_some (span_named spans id)) (sym (spans_in-flagged closed shard.groups)) ∙ has
 
 -- a put or a free
 

@@ -1,5 +1,5 @@
 -- What an event that is no fold does to the groups that an open plan names: each stays, and none grows.
-use Rattle.std.proofs.Common.{◌≡◌, ◌≢◌, ℕ, zero, suc, Bool, true, false, ◌||◌, List, [], ◌∷◌, ◌⊎◌, inl, inr, refl, sym, ap, subst, ◌∙◌, Option, Some, None, is_some, set, slice_get}
+use Rattle.std.proofs.Common.{◌≡◌, ◌≢◌, ℕ, zero, suc, Bool, true, false, ◌||◌, List, [], ◌∷◌, ◌⊎◌, inl, inr, refl, sym, ap, ◌∙◌, Option, Some, None, is_some, set, slice_get}
 use Rattle.std.specs.Prelude.{IsSome}
 use Rattle.std.specs.FinSet.{contains, contains-union}
 use Rattle.std.specs.Cmp.{nat_cmp_total}
@@ -28,7 +28,7 @@ use Rattle.pool.specs.State.{PoolState, PooledState}
 use Rattle.arena_core.specs.Plan.{IsCarriedOut, IsOwned, IsAbandoned, IsUnderWay, IsWaiting}
 use Rattle.marks.specs.Plans.{plans_onto, OpenPlan}
 use Rattle.arena_core.specs.State.{CoreState}
-use Rattle.marks.proofs.Lists.{slice_get-set_other, slice_get-set_same}
+use Rattle.marks.proofs.Lists.{slice_get-set_other}
 use Rattle.arena_core.proofs.OneSpan.{ChangesPooled, ChangesSpan, IsSame, IsWithin}
 use Rattle.arena_core.proofs.Spans.{same_span-self}
 
@@ -58,11 +58,16 @@ union_of-fewer (first ∷ spans) (suc place) span now here fewer slot live =
 
 -- the groups that a plan names
 
+-- the group of the pool is of its class still, and has no more slots, and no page if it had none
+abbrev pub IsLess : PooledState → PooledState → Type 0
+IsLess group now = (now.head.id ≡ group.head.id) × (now.head.class ≡ group.head.class) × IsWithin (union_of (spans_of now)) (union_of (spans_of group)) × (group.page ≡ None → now.page ≡ None)
+
+pub IsLess-same : (group : PooledState) → IsLess group group
+IsLess-same group = (refl, refl, (λ slot e. e), λ none. none)
+
 -- every group of the pool stays, of its class, none grows, and none without a page gets one
 abbrev pub KeepsPooled : List PooledState → List PooledState → Type 0
-KeepsPooled old new = (index : ℕ) (group : PooledState) → slice_get old index ≡ Some group
-    → (place : ℕ) × (now : PooledState) × (slice_get new place ≡ Some now) × (now.head.id ≡ group.head.id) × (now.head.class ≡ group.head.class)
-    × IsWithin (union_of (spans_of now)) (union_of (spans_of group)) × (group.page ≡ None → now.page ≡ None)
+KeepsPooled old new = (index : ℕ) (group : PooledState) → slice_get old index ≡ Some group → (place : ℕ) × (now : PooledState) × (slice_get new place ≡ Some now) × IsLess group now
 
 -- the group is as it was, save that it may have lost slots
 pub record IsFewer (group now : GroupState) : Type 0 where
@@ -93,16 +98,11 @@ KeepsAllClosed-same shards number shard here = (shard, here, KeepsClosed-same sh
 
 pub KeepsAllClosed-set : (shards : List ShardState) (number : ℕ) (before after : ShardState) → slice_get shards number ≡ Some before
     → KeepsClosed before.groups after.groups → KeepsAllClosed shards (set shards number after)
-KeepsAllClosed-set shards number before after here keeps other shard there = by_place (cases_eq other number)
-  where
-    by_place : (other ≡ number) ⊎ (other ≢ number) → (now : ShardState) × (slice_get (set shards number after) other ≡ Some now) × KeepsClosed shard.groups now.groups
-    by_place (inl same) =
-        let is : before ≡ shard = same_some (sym here ∙ ap (slice_get shards) (sym same) ∙ there) in
-        (after, ap (slice_get (set shards number after)) same ∙ slice_get-set_same shards number before after here, subst (λ (s : ShardState). KeepsClosed s.groups after.groups) is keeps)
-    by_place (inr differ) = (shard, slice_get-set_other shards number other after differ ∙ there, KeepsClosed-same shard.groups)
+KeepsAllClosed-set shards number before after here keeps other shard there =
+    after-set (λ (a b : ShardState). KeepsClosed a.groups b.groups) (λ s. KeepsClosed-same s.groups) shards number before after here keeps other shard there
 
 pub KeepsPooled-same : (groups : List PooledState) → KeepsPooled groups groups
-KeepsPooled-same groups index group here = (index, group, here, refl, refl, (λ slot e. e), λ none. none)
+KeepsPooled-same groups index group here = (index, group, here, IsLess-same group)
 
 -- a pair of the plan folds onto its owned group
 pub plans_onto-pair : (pairs : List (SpanId × SpanId)) (k : ℕ) (pair : SpanId × SpanId) → slice_get pairs k ≡ Some pair → plans_onto pairs pair.1 ≡ true
@@ -118,7 +118,7 @@ module _ (old new : CoreState) (pooled : KeepsPooled old.pool.groups new.pool.gr
       → (now : PooledState) × IsAbandoned new head now × (now.head.class ≡ group.head.class) × IsWithin (union_of (spans_of now)) (union_of (spans_of group))
       × (group.page ≡ None → now.page ≡ None)
   IsAbandoned-kept head group is =
-      let (place, now, there, head_is, class_is, fewer, no_page) = pooled is.index group is.head_of.here in
+      let (place, now, there, (head_is, class_is, fewer, no_page)) = pooled is.index group is.head_of.here in
       (now, record { index = place; head_of = record { here = there; head_is = head_is ∙ is.head_of.head_is } }, class_is, fewer, no_page)
 
   IsOwned-kept : (head : SpanId) (group : GroupState) → IsOwned old head group → group.closed ≡ true → (now : GroupState) × IsOwned new head now × IsFewer group now
@@ -229,32 +229,16 @@ pooled_part part now group zero span after here same is =
 pooled_part part now group (suc place) span after here same is = let head : now.head ≡ group.head = same_some (ap (λ spans. slice_get spans 0) is) in ap part head
 
 pub KeepsPooled-ChangesPooled : (before after : PoolState) → ChangesPooled before after → KeepsPooled before.groups after.groups
-KeepsPooled-ChangesPooled before after changes other there at_other = by_place (cases_eq other changes.index)
-  where
-    by_place : (other ≡ changes.index) ⊎ (other ≢ changes.index)
-        → (place : ℕ) × (now : PooledState) × (slice_get after.groups place ≡ Some now) × (now.head.id ≡ there.head.id) × (now.head.class ≡ there.head.class)
-        × IsWithin (union_of (spans_of now)) (union_of (spans_of there)) × (there.page ≡ None → now.page ≡ None)
-    by_place (inl same) =
-        let is : changes.group ≡ there = same_some (sym changes.group_is ∙ ap (slice_get before.groups) (sym same) ∙ at_other) in (
-          changes.index,
-          changes.group_now,
-          ap (λ gs. slice_get gs changes.index) changes.groups_are ∙ slice_get-set_same before.groups changes.index changes.group changes.group_now changes.group_is,
-          pooled_part (λ (s : SpanState). s.id) changes.group_now changes.group changes.place changes.span changes.now changes.span_is changes.same.id_is changes.spans_are ∙ ap (λ (g : PooledState). g.head.id) is,
-          pooled_part (λ (s : SpanState). s.class) changes.group_now changes.group changes.place changes.span changes.now changes.span_is changes.same.class_is changes.spans_are ∙ ap (λ (g : PooledState). g.head.class) is,
-          (λ slot live. ap (λ (g : PooledState). contains (union_of (spans_of g)) slot) (sym is)
-              ∙ union_of-fewer (spans_of changes.group) changes.place changes.span changes.now changes.span_is changes.same.slots slot
-              (ap (λ spans. contains (union_of spans) slot) (sym changes.spans_are) ∙ live)),
-          (λ none. changes.no_page (ap (λ (g : PooledState). g.page) is ∙ none)),
-        )
-    by_place (inr differ) = (
-      other,
-      there,
-      ap (λ gs. slice_get gs other) changes.groups_are ∙ slice_get-set_other before.groups changes.index other changes.group_now differ ∙ at_other,
-      refl,
-      refl,
-      (λ slot e. e),
-      λ none. none,
-    )
+KeepsPooled-ChangesPooled before after changes other there at_other =
+    let less : IsLess changes.group changes.group_now = (
+      pooled_part (λ (s : SpanState). s.id) changes.group_now changes.group changes.place changes.span changes.now changes.span_is changes.same.id_is changes.spans_are,
+      pooled_part (λ (s : SpanState). s.class) changes.group_now changes.group changes.place changes.span changes.now changes.span_is changes.same.class_is changes.spans_are,
+      (λ slot live. union_of-fewer (spans_of changes.group) changes.place changes.span changes.now changes.span_is changes.same.slots slot
+          (ap (λ spans. contains (union_of spans) slot) (sym changes.spans_are) ∙ live)),
+      changes.no_page,
+    ) in
+    let (now, there_now, is) = after-set IsLess IsLess-same before.groups changes.index changes.group changes.group_now changes.group_is less other there at_other in
+    (other, now, ap (λ gs. slice_get gs other) changes.groups_are ∙ there_now, is)
 
 -- the groups of before are there still
 abbrev pub HasStill : List PooledState → List PooledState → Type 0
@@ -274,7 +258,7 @@ HasStill-TakesAll (whole ∷ wholes) old new (mid, rest, takes) index group here
 pub KeepsPooled-Receives : (old new : PoolState) (before after : ShardState) → Receives old before new after → KeepsPooled old.groups new.groups
 KeepsPooled-Receives old new before after receives index group here =
     let (place, there) = HasStill-TakesAll _ (with_rooms old receives.group_room receives.span_room) new receives.moved index group here in
-    (place, group, there, refl, refl, (λ slot e. e), λ none. none)
+    (place, group, there, IsLess-same group)
 
 pub has_plan-TakesIn : (old new : PoolState) (whole : WholeState) → TakesIn old whole new → new.has_plan ≡ old.has_plan
 has_plan-TakesIn old new whole takes = ap (λ (p : PoolState). p.has_plan) takes.after

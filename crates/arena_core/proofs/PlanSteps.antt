@@ -38,7 +38,7 @@ use Rattle.arena_core.specs.declared.reply.Reply.{Reply}
 use Rattle.arena_core.specs.declared.reply.Reply.TheVariants as reply
 use Rattle.arena_core.proofs.Changes.{opened-somewhere, HasSoundGroups-moved, HasSoundGroups-with_pool, HasSoundGroups-with_shard, at_most_once, sum_all-moved}
 use Rattle.arena_core.proofs.Lists.{each-set}
-use Rattle.arena_core.proofs.PlanKept.{IsFewer-with_span, IsUnderWay-kept, KeepsAllClosed, KeepsAllClosed-same, KeepsAllClosed-set, KeepsClosed-ChangesSpan, KeepsClosed-Puts, KeepsPooled, KeepsPooled-ChangesPooled, KeepsPooled-Receives, KeepsPooled-same, has_plan-Receives, plans_onto-pair}
+use Rattle.arena_core.proofs.PlanKept.{IsLess-same, IsFewer-with_span, IsUnderWay-kept, KeepsAllClosed, KeepsAllClosed-same, KeepsAllClosed-set, KeepsClosed-ChangesSpan, KeepsClosed-Puts, KeepsPooled, KeepsPooled-ChangesPooled, KeepsPooled-Receives, KeepsPooled-same, has_plan-Receives, plans_onto-pair}
 use Rattle.arena_core.proofs.OneSpan.{ChangesPooled, ChangesPooled-Frees, ChangesPooled-Sets, ChangesSpan, ChangesSpan-Frees, ChangesSpan-Sets}
 use Rattle.arena_core.proofs.Moves.{unclosed}
 use Rattle.pool.specs.Retires.{HasRetired, Retires}
@@ -187,7 +187,7 @@ pub HasSoundPlan-Retires : (old : CoreState) → IsSound old → (number most co
 HasSoundPlan-Retires old sound number most count before after pool here unclosed retires =
     let gone = HasGone-Retires old.pool before most count pool after retires in
     HasSoundPlan-kept old (with_pool (with_shard old number after) pool) sound.plan refl gone.has_plan_is
-    (λ index group at. let (place, there) = gone.still index group at in (place, group, there, refl, refl, (λ slot e. e), λ none. none))
+    (λ index group at. let (place, there) = gone.still index group at in (place, group, there, IsLess-same group))
     (KeepsAllClosed-set old.shards number before after here (λ index group at closed. absurd (let both : true ≡ false = sym closed ∙ unclosed index group at in cc)))
     (AreAllClosedAsPlanned-set old.plan old.shards number after sound.plan.closed (λ index group at. let (was, there) = gone.part index group at in
     sound.plan.closed number before here was group there))

@@ -17,6 +17,7 @@ use Rattle.arena_core.proofs.Lists.{each-set}
 use Rattle.marks.proofs.Lists.{slice_get-set_other, slice_get-set_same}
 use Rattle.arena_core.proofs.PlanKept.{KeepsAllClosed-same, KeepsPooled-same}
 use Rattle.arena_core.proofs.PlanSteps.{HasSoundPlan-kept}
+use Rattle.std.proofs.Math.Bool.{and-true, and-false}
 
 -- new rings
 
@@ -82,26 +83,18 @@ module _ (rings : List (List RingState)) (worker shard : ℕ) (ring now : RingSt
       ≡ cond ((other_worker == worker) && (other_shard == shard)) (Some now) (ring_at rings other_worker other_shard)
   ring_at-with other_worker other_shard = ap (λ r. ring_at r other_worker other_shard) with_ring_at-row ∙ by_shard (cases_eq other_shard shard)
     where
-      by_same : (b : Bool) → cond b (Some now) (slice_get row other_worker) ≡ cond (b && true) (Some now) (ring_in (Some row) other_worker)
-      by_same true = refl
-      by_same false = refl
-
-      by_other : (b : Bool) (o : Option RingState) → o ≡ cond (b && false) (Some now) o
-      by_other true o = refl
-      by_other false o = refl
-
       by_shard : (other_shard ≡ shard) ⊎ (other_shard ≢ shard)
           → ring_at (set rings shard (set row worker now)) other_worker other_shard
           ≡ cond ((other_worker == worker) && (other_shard == shard)) (Some now) (ring_at rings other_worker other_shard)
       by_shard (inl same) =
           rw (same, eq-eqb shard shard refl)
           (ap (λ o. ring_in o other_worker) (slice_get-set_same rings shard row (set row worker now) row_is)
-          ∙ in_row other_worker ∙ by_same (other_worker == worker)
+          ∙ in_row other_worker ∙ ap (λ b. cond b (Some now) (slice_get row other_worker)) (sym (and-true (other_worker == worker)))
           ∙ ap (λ o. cond ((other_worker == worker) && true) (Some now) (ring_in o other_worker)) (sym row_is))
       by_shard (inr differ) =
           rw (ne_eqb other_shard shard differ)
           (ap (λ o. ring_in o other_worker) (slice_get-set_other rings shard other_shard (set row worker now) differ)
-          ∙ by_other (other_worker == worker) (ring_at rings other_worker other_shard))
+          ∙ ap (λ b. cond b (Some now) (ring_at rings other_worker other_shard)) (sym (and-false (other_worker == worker))))
 
   pub pending_at-with : (other_worker other_shard : ℕ)
       → pending_at (with_ring_at rings worker shard now) other_worker other_shard

@@ -1,9 +1,8 @@
-use Rattle.std.proofs.Common.{◌<◌, arith, subst, sym, ◌∙◌}
+use Rattle.std.proofs.Common.{◌<◌, arith, subst, sym}
 use Rattle.std.proofs.lemmas.Result.{err_from_is_err_and}
 use Rattle.span.specs.declared.limits.TheConstants.{MOST_SHARDS}
 use Rattle.arena_core.specs.Kept.{shards_of, state_of}
 use Rattle.arena_core.specs.Moved.{Notes, StandsIn}
-use Rattle.arena_core.specs.Plan.{IsNext}
 use Rattle.arena_core.specs.State.{CoreState}
 use Rattle.arena_core.specs.declared.event.Event.TheVariants.{Step}
 use Rattle.arena_core.specs.declared.reply.Refusal.TheVariants.{OutOfMemory}
@@ -24,10 +23,8 @@ returns-in_err-step-clause-exact g c =
     let step : CoreStep c.args.self.now Step (Refused OutOfMemory)
     (state_of (with_step_at c.self.inside c.args.number c.fold_one.new.shard c.fold_one.new.pool c.self.inside.plan c.reserve.new.self)) = (
       (c.requires.next.0, (c.args.abandoned, c.args.owned), c.requires.next.1),
-      state_of-refused c.self.inside c.args.owned c.args.number c.index_mut-shard.result.now c.fold_one.new.shard c.fold_one.new.pool c.reserve.new.self
-          (subst (λ (s : CoreState). StandsIn s.shards c.args.owned c.args.number) (sym c.self.view_is) c.requires.there) c.index_mut-shard.ensures.value
-          c.in_err-step.ensures.err_shard c.in_err-step.ensures.err
-          ∙ c.self.view_is,
+      state_of-refused c.self.inside c.self.view_is c.args.owned c.args.number c.index_mut-shard.result.now c.fold_one.new.shard c.fold_one.new.pool c.reserve.new.self
+          c.requires.there c.index_mut-shard.ensures.value c.in_err-step.ensures.err_shard c.in_err-step.ensures.err,
     ) in
     rw refused.1 step
 
@@ -53,36 +50,29 @@ stepped : (g : _) (c : goal.After-advance g)
     → IsSoundStep c.args.self.now Step (Stepped c.args.abandoned c.args.owned c.in_ok-step.step)
     (state_of (with_step_at c.self.inside c.args.number c.fold_one.new.shard c.fold_one.new.pool c.advance.new.self c.note.new.self))
 stepped g c =
-    subst (λ old. IsSoundStep old Step (Stepped c.args.abandoned c.args.owned c.in_ok-step.step)
-    (state_of (with_step_at c.self.inside c.args.number c.fold_one.new.shard c.fold_one.new.pool c.advance.new.self c.note.new.self))) c.self.view_is
-    (IsSoundStep-fold_fields c.self.inside c.requires.next.0
+    IsSoundStep-fold_fields c.self.inside c.self.view_is c.requires.next.0
     (c.args.abandoned, c.args.owned) c.args.number c.index_mut-shard.result.now c.fold_one.new.shard c.fold_one.new.pool c.advance.new.self c.note.new.self
-    c.in_ok-step.step c.self.invariant.sound
-    (subst (λ (s : CoreState). IsNext s c.requires.next.0 (c.args.abandoned, c.args.owned)) (sym c.self.view_is) c.requires.next.1)
-    (subst (λ (s : CoreState). StandsIn s.shards c.args.owned c.args.number) (sym c.self.view_is) c.requires.there)
-    c.index_mut-shard.ensures.value c.in_ok-step.ensures.ok c.fold_one.ensures.sound_shard c.fold_one.ensures.sound c.advance.ensures)
+    c.in_ok-step.step c.self.invariant.sound c.requires.next.1 c.requires.there
+    c.index_mut-shard.ensures.value c.in_ok-step.ensures.ok c.fold_one.ensures.sound_shard c.fold_one.ensures.sound c.advance.ensures
 
 pub invariant_of-self : goal.invariant_of-self
 invariant_of-self g c = IsKept-roomy c.self.inside c.reserve.new.self c.self.invariant c.reserve.ensures.entries
 
 pub invariant_of-self-in_err-step : goal.invariant_of-self-in_err-step
 invariant_of-self-in_err-step g c =
-    let there = made-named c.self.inside c.args.owned c.args.number c.index_mut-shard.result.now
-    (subst (λ (s : CoreState). StandsIn s.shards c.args.owned c.args.number) (sym c.self.view_is) c.requires.there) c.index_mut-shard.ensures.value in
+    let there = made-named c.self.inside c.self.view_is c.args.owned c.args.number c.index_mut-shard.result.now c.requires.there c.index_mut-shard.ensures.value in
     IsKept-room_made c.self.inside c.self.invariant c.args.number c.index_mut-shard.result.now
     there.0 c.fold_one.new.shard c.fold_one.new.pool c.reserve.new.self
     c.in_err-step.ensures.err_shard c.in_err-step.ensures.err c.reserve.ensures.entries
 
 pub span_count-before-requires : goal.span_count-before-requires
 span_count-before-requires g c =
-    let there = made-named c.self.inside c.args.owned c.args.number c.index_mut-shard.result.now
-    (subst (λ (s : CoreState). StandsIn s.shards c.args.owned c.args.number) (sym c.self.view_is) c.requires.there) c.index_mut-shard.ensures.value in
+    let there = made-named c.self.inside c.self.view_is c.args.owned c.args.number c.index_mut-shard.result.now c.requires.there c.index_mut-shard.ensures.value in
     (c.self.invariant.sound.groups.shards c.args.number c.index_mut-shard.result.now (shard-read c.self.inside c.args.number c.index_mut-shard.result.now there.0)).sound
 
 pub invariant_of-self-2 : goal.invariant_of-self-2
 invariant_of-self-2 g c =
-    let there = made-named c.self.inside c.args.owned c.args.number c.index_mut-shard.result.now
-    (subst (λ (s : CoreState). StandsIn s.shards c.args.owned c.args.number) (sym c.self.view_is) c.requires.there) c.index_mut-shard.ensures.value in
+    let there = made-named c.self.inside c.self.view_is c.args.owned c.args.number c.index_mut-shard.result.now c.requires.there c.index_mut-shard.ensures.value in
     IsKept-noted c.self.inside c.self.invariant c.args.number c.index_mut-shard.result.now there.0
     c.fold_one.new.shard c.fold_one.new.pool c.advance.new.self c.note.new.self c.args.owned c.span_count-before.result
     (Comes-Steps c.self.inside.pool c.index_mut-shard.result.now c.args.abandoned c.args.owned c.fold_one.new.pool c.fold_one.new.shard
