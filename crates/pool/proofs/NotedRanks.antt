@@ -1,5 +1,5 @@
 -- Ranks that are noted, and the least of them.
-use Rattle.std.proofs.Common.{true, zero, suc, ◌≡◌, ℕ, ◌+◌, ◌<◌, ◌≤◌, false, List, [], ◌∷◌, ◌++◌, length, map, set, Some, None, take, get_or, slice_get, ap, sym, subst, ◌∙◌, refl, inl, inr, ◌⊎◌, arith, rules}
+use Rattle.std.proofs.Common.{zero, suc, ◌≡◌, ℕ, ◌+◌, ◌<◌, ◌≤◌, false, List, [], ◌∷◌, ◌++◌, length, map, set, Some, None, take, get_or, slice_get, ap, sym, subst, ◌∙◌, refl, inl, inr, ◌⊎◌, arith, rules}
 use Rattle.std.specs.Prelude.{IfNone, IfSome, IsSome, Option, is_some}
 use Rattle.std.specs.BinaryHeap.{IsHeap, IsUpperBound, PopsGreatest}
 use Rattle.std.specs.List.{All, Contains}
@@ -14,7 +14,6 @@ use Rattle.page.specs.Words.{Words}
 use Rattle.span.specs.declared.id.SpanId.{SpanId}
 use Rattle.groups.proofs.Lists.{cases-set, same_some}
 use Rattle.pool.specs.Calls.{HasNoPage}
-use Rattle.span.specs.Ids.{rank}
 use Rattle.pool.specs.Noted.{AreNoted, HasNoPageAt, IsHeadOfFirstPaged, IsLeastOf, IsPagedHead}
 use Rattle.pool.specs.Ranked.{HasRankAt, head_rank, in_order}
 use Rattle.pool.specs.State.{PooledState}

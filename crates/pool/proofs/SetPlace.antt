@@ -18,7 +18,7 @@ use Rattle.groups.proofs.ReplacedGroups.{AreAlike-with_span, head-alike}
 use Rattle.groups.proofs.StoredObjects.{paged_if_held}
 use Rattle.shard.proofs.ZeroPages.{page_written, zeros_alone}
 use Rattle.pool.specs.State.{PooledState, group_of}
-use Rattle.pool.proofs.Cases.{where_true}
+use Rattle.std.proofs.lemmas.Bool.{OnTrue_at}
 
 -- where a set is done, the group has a page, and the object fits it
 module _ (spans : SpansState) (page : Option Words) (sound : IsSoundGroup (group_of spans page)) (place : ℕ) (within : place < length (all_spans spans))
@@ -35,7 +35,7 @@ module _ (spans : SpansState) (page : Option Words) (sound : IsSoundGroup (group
   settable = (found span_there.0 span_there.1).0 is_done
 
   class_now : new.head.class ≡ span_there.0.class
-  class_now = ap (λ (s : SpansState). s.head.class) (where_true done is_done (sets span_there.0 span_there.1)) ∙ at_place place
+  class_now = ap (λ (s : SpansState). s.head.class) (OnTrue_at is_done (sets span_there.0 span_there.1)) ∙ at_place place
     where
       at_place : (place : ℕ) → (with_span_at spans place (with_set_at span_there.0 slot generation value)).head.class ≡ span_there.0.class
       at_place zero = refl

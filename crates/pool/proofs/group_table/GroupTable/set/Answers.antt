@@ -8,7 +8,8 @@ use Rattle.groups.proofs.Lists.{set-same, there_at}
 use Rattle.pool.specs.Groups.{GroupsState, HasHeadAt}
 use Rattle.pool.specs.Ranked.{in_order}
 use Rattle.pool.specs.State.{PooledState}
-use Rattle.pool.proofs.Cases.{on_err, on_false, on_ok, on_true}
+use Rattle.std.proofs.lemmas.Result.{IfOk-weaker, on_err_weaker}
+use Rattle.pool.proofs.Cases.{on_false, on_true}
 use Rattle.pool.proofs.KeptTable.{AreKept-set}
 use Rattle.pool.proofs.RankedGroups.{found_within, has_place}
 use Rattle.pool.proofs.ReadGroup.{IsRead, IsRead-found}
@@ -68,7 +69,7 @@ returns-clause-set g c index group span is here =
     let sets = c.set.ensures.set span at_read in
     let head = head-set c.index_mut.result.now c.args.place span at_read c.args.slot c.args.generation c.args.words.now c.set.result c.set.new.self
     sets c.set.ensures.unknown c.set.ensures.err in
-    on_ok c.set.result (λ done. on_true done (λ is_set.
+    IfOk-weaker c.set.result _ _ (λ done. on_true done (λ is_set.
     (its g (goal.at.returns-clause-set g c).After-index_mut).changed index group c.set.new.self is head
     ∙ ap (λ (x : PooledState). record c.args.self.now { groups = set c.args.self.now.groups index x })
     (is_set ∙ ap (λ (x : PooledState). set_group x c.args.place span c.args.slot c.args.generation c.args.words.now) (sym same))))
@@ -83,7 +84,7 @@ stays g c here same =
     ∙ c.self.view_is
 
 pub returns-clause-unknown : goal.returns-clause-unknown
-returns-clause-unknown g c = on_ok c.set.result (λ done. on_false done (stays g (goal.at.returns-clause-unknown g c).After-set (its g (goal.at.returns-clause-unknown g c).After-index_mut).there)) c.set.ensures.unknown
+returns-clause-unknown g c = IfOk-weaker c.set.result _ _ (λ done. on_false done (stays g (goal.at.returns-clause-unknown g c).After-set (its g (goal.at.returns-clause-unknown g c).After-index_mut).there)) c.set.ensures.unknown
 
 pub returns-clause-err : goal.returns-clause-err
-returns-clause-err g c = on_err c.set.result (stays g (goal.at.returns-clause-err g c).After-set (its g (goal.at.returns-clause-err g c).After-index_mut).there) c.set.ensures.err
+returns-clause-err g c = on_err_weaker c.set.result (stays g (goal.at.returns-clause-err g c).After-set (its g (goal.at.returns-clause-err g c).After-index_mut).there) c.set.ensures.err

@@ -8,7 +8,7 @@ use Rattle.shard.specs.State.{ShardState}
 use Rattle.pool.specs.Handover.{AreReady}
 use Rattle.pool.specs.Retires.{HasRetired, MovesSparse}
 use Rattle.pool.specs.Shown.{shown, together}
-use Rattle.pool.proofs.Retiring.{AreReady-all_gone, AreReady-at, IsRetiring-alone}
+use Rattle.pool.proofs.Retiring.{AreReady-all_gone, AreReady-at, IsRetiring, IsRetiring-alone}
 use Rattle.pool.proofs.pool.Pool.move_going.Goals as goal
 
 -- one goes alone
@@ -22,59 +22,33 @@ take_alone-requires g c =
       AreReady-at c.args.self.now c.args.shard.now going c.requires.ready.0 0 c.index-going-0.result here c.requires.ready.1,
     )
 
-pub returns-then-going-eq1-clause-moved : goal.returns-then-going-eq1-clause-moved
-returns-then-going-eq1-clause-moved g c =
+gone : (g : _) (c : goal.After-take_alone g)
+    → IsRetiring c.args.self.now c.args.shard.now c.args.going.now (length c.args.going.now) c.take_alone.new.self c.take_alone.new.shard
+gone g c =
     let going = c.args.going.now in
     let count : length going ≡ 1 = omega (arith, c.if-going-eq1.true) in
     let here : slice_get going 0 ≡ Some c.index-going-0.result = slice_get_read going (length going) 0 c.index-going-0.result refl (omega (arith, count)) c.index-going-0.is in
-    let gone = IsRetiring-alone c.args.self.now c.args.shard.now going c.requires.ready.0 c.take_alone.new.self c.take_alone.new.shard c.index-going-0.result count here c.requires.ready.1
-    c.take_alone.ensures.moves c.take_alone.ensures.ready c.take_alone.ensures.kept in
-    gone.moved
+    IsRetiring-alone c.args.self.now c.args.shard.now going c.requires.ready.0 c.take_alone.new.self c.take_alone.new.shard c.index-going-0.result count here c.requires.ready.1
+    c.take_alone.ensures.moves c.take_alone.ensures.ready c.take_alone.ensures.kept
+
+pub returns-then-going-eq1-clause-moved : goal.returns-then-going-eq1-clause-moved
+returns-then-going-eq1-clause-moved g c = (gone g c).moved
 
 pub returns-then-going-eq1-clause-whole : goal.returns-then-going-eq1-clause-whole
-returns-then-going-eq1-clause-whole g c =
-    let going = c.args.going.now in
-    let count : length going ≡ 1 = omega (arith, c.if-going-eq1.true) in
-    let here : slice_get going 0 ≡ Some c.index-going-0.result = slice_get_read going (length going) 0 c.index-going-0.result refl (omega (arith, count)) c.index-going-0.is in
-    let gone = IsRetiring-alone c.args.self.now c.args.shard.now going c.requires.ready.0 c.take_alone.new.self c.take_alone.new.shard c.index-going-0.result count here c.requires.ready.1
-    c.take_alone.ensures.moves c.take_alone.ensures.ready c.take_alone.ensures.kept in
-    gone.whole
+returns-then-going-eq1-clause-whole g c = (gone g c).whole
 
 pub returns-then-going-eq1-clause-left : goal.returns-then-going-eq1-clause-left
-returns-then-going-eq1-clause-left g c =
-    let going = c.args.going.now in
-    let count : length going ≡ 1 = omega (arith, c.if-going-eq1.true) in
-    let here : slice_get going 0 ≡ Some c.index-going-0.result = slice_get_read going (length going) 0 c.index-going-0.result refl (omega (arith, count)) c.index-going-0.is in
-    let gone = IsRetiring-alone c.args.self.now c.args.shard.now going c.requires.ready.0 c.take_alone.new.self c.take_alone.new.shard c.index-going-0.result count here c.requires.ready.1
-    c.take_alone.ensures.moves c.take_alone.ensures.ready c.take_alone.ensures.kept in
-    λ rest ready. AreReady-all_gone c.take_alone.new.self c.take_alone.new.shard going rest (gone.ready rest ready)
+returns-then-going-eq1-clause-left g c = λ rest ready.
+    AreReady-all_gone c.take_alone.new.self c.take_alone.new.shard c.args.going.now rest ((gone g c).ready rest ready)
 
 pub returns-then-going-eq1-clause-kept : goal.returns-then-going-eq1-clause-kept
-returns-then-going-eq1-clause-kept g c =
-    let going = c.args.going.now in
-    let count : length going ≡ 1 = omega (arith, c.if-going-eq1.true) in
-    let here : slice_get going 0 ≡ Some c.index-going-0.result = slice_get_read going (length going) 0 c.index-going-0.result refl (omega (arith, count)) c.index-going-0.is in
-    let gone = IsRetiring-alone c.args.self.now c.args.shard.now going c.requires.ready.0 c.take_alone.new.self c.take_alone.new.shard c.index-going-0.result count here c.requires.ready.1
-    c.take_alone.ensures.moves c.take_alone.ensures.ready c.take_alone.ensures.kept in
-    gone.kept
+returns-then-going-eq1-clause-kept g c = (gone g c).kept
 
 pub returns-then-going-eq1-clause-sound : goal.returns-then-going-eq1-clause-sound
-returns-then-going-eq1-clause-sound g c =
-    let going = c.args.going.now in
-    let count : length going ≡ 1 = omega (arith, c.if-going-eq1.true) in
-    let here : slice_get going 0 ≡ Some c.index-going-0.result = slice_get_read going (length going) 0 c.index-going-0.result refl (omega (arith, count)) c.index-going-0.is in
-    let gone = IsRetiring-alone c.args.self.now c.args.shard.now going c.requires.ready.0 c.take_alone.new.self c.take_alone.new.shard c.index-going-0.result count here c.requires.ready.1
-    c.take_alone.ensures.moves c.take_alone.ensures.ready c.take_alone.ensures.kept in
-    (gone.ready c.requires.ready.0 c.requires.ready.1).sound
+returns-then-going-eq1-clause-sound g c = ((gone g c).ready c.requires.ready.0 c.requires.ready.1).sound
 
 pub returns-then-going-eq1-clause-sound_shard : goal.returns-then-going-eq1-clause-sound_shard
-returns-then-going-eq1-clause-sound_shard g c =
-    let going = c.args.going.now in
-    let count : length going ≡ 1 = omega (arith, c.if-going-eq1.true) in
-    let here : slice_get going 0 ≡ Some c.index-going-0.result = slice_get_read going (length going) 0 c.index-going-0.result refl (omega (arith, count)) c.index-going-0.is in
-    let gone = IsRetiring-alone c.args.self.now c.args.shard.now going c.requires.ready.0 c.take_alone.new.self c.take_alone.new.shard c.index-going-0.result count here c.requires.ready.1
-    c.take_alone.ensures.moves c.take_alone.ensures.ready c.take_alone.ensures.kept in
-    (gone.ready c.requires.ready.0 c.requires.ready.1).sound_shard
+returns-then-going-eq1-clause-sound_shard g c = ((gone g c).ready c.requires.ready.0 c.requires.ready.1).sound_shard
 
 -- several go
 

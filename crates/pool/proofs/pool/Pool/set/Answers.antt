@@ -1,10 +1,10 @@
 use Rattle.std.proofs.Common.{◌∙◌, ap, refl, sym}
-use Rattle.std.proofs.lemmas.Bool.{true≢false}
+use Rattle.std.proofs.lemmas.Bool.{OnFalse_at, OnTrue_at, true≢false}
 use Rattle.shard.specs.declared.shard.replacing.Replaced.TheVariants.{No, NotHere, Yes}
 use Rattle.pool.specs.Groups.{GroupsState}
 use Rattle.pool.specs.Kept.{state_of}
 use Rattle.pool.specs.State.{PoolState}
-use Rattle.pool.proofs.Cases.{where_err, where_false, where_true}
+use Rattle.groups.proofs.Maps.{at_err}
 use Rattle.pool.proofs.Here.{IsHeadOf-here, IsHere-read, place_within}
 use Rattle.groups.specs.Pages.{set_group}
 use Rattle.groups.specs.Spans.{with_set}
@@ -35,7 +35,7 @@ returns-in_err-set-clause-refused g c =
     let at = c.in-Some.ensures.place in
     let here = IsHere-read _ _ _ _ _ _ at.2 c.span_at-span.result.now c.span_at-span.ensures in
     let head = IsHeadOf-here _ _ _ _ _ _ at.2 c.self.inside.groups.groups c.head_id-head.result (ap (λ (p : PoolState). p.groups) c.self.view_is) c.head_id-head.ensures in
-    where_err c.from_residual.result
+    at_err c.from_residual.result
     (may_set-settable c.args.self.now.groups c.find.ensures.sound.groups c.find.ensures.sound.once c.args.key.now at.0 c.in-Some.place c.in-Some.group.now
     c.span_at-span.result.now here c.args.words.now
     (c.in_err-set.ensures.refused at.0 c.in-Some.group.now c.span_at-span.result.now head c.span_at-span.ensures))
@@ -45,7 +45,7 @@ returns-then-not-branch-clause-step g c =
     let at = c.in-Some.ensures.place in
     let here = IsHere-read _ _ _ _ _ _ at.2 c.span_at-span.result.now c.span_at-span.ensures in
     let head = IsHeadOf-here _ _ _ _ _ _ at.2 c.self.inside.groups.groups c.head_id-head.result (ap (λ (p : PoolState). p.groups) c.self.view_is) c.head_id-head.ensures in
-    let same = where_false c.in_ok-set.field-0 c.if-not-branch.true c.in_ok-set.ensures.unknown in (
+    let same = OnFalse_at c.if-not-branch.true c.in_ok-set.ensures.unknown in (
       at.0,
       c.in-Some.place,
       c.in-Some.group.now,
@@ -66,7 +66,7 @@ invariant_of-self-2 g c =
     let span = c.span_at-span.result.now in
     let head = IsHeadOf-here _ _ _ _ _ _ at.2 c.self.inside.groups.groups c.head_id-head.result (ap (λ (p : PoolState). p.groups) c.self.view_is) c.head_id-head.ensures in
     let settable = (c.in_ok-set.ensures.found at.0 group span head c.span_at-span.ensures).0 c.if-not-branch.false in
-    let groups_now = where_true c.in_ok-set.field-0 c.if-not-branch.false (c.in_ok-set.ensures.set at.0 group span head c.span_at-span.ensures) in
+    let groups_now = OnTrue_at c.if-not-branch.false (c.in_ok-set.ensures.set at.0 group span head c.span_at-span.ensures) in
     rw groups_now (record {
       sound = IsSound-set (state_of c.self.inside) c.self.invariant.sound at.0 group head.here c.in-Some.place span c.span_at-span.ensures c.args.key.now.slot
           c.args.key.now.generation c.args.words.now settable;
@@ -84,7 +84,7 @@ returns-clause-step g c =
     let span = c.span_at-span.result.now in
     let head = IsHeadOf-here _ _ _ _ _ _ at.2 c.self.inside.groups.groups c.head_id-head.result (ap (λ (p : PoolState). p.groups) c.self.view_is) c.head_id-head.ensures in
     let settable = (c.in_ok-set.ensures.found at.0 group span head c.span_at-span.ensures).0 c.if-not-branch.false in
-    let groups_now = where_true c.in_ok-set.field-0 c.if-not-branch.false (c.in_ok-set.ensures.set at.0 group span head c.span_at-span.ensures) in (
+    let groups_now = OnTrue_at c.if-not-branch.false (c.in_ok-set.ensures.set at.0 group span head c.span_at-span.ensures) in (
       at.0,
       c.in-Some.place,
       group,

@@ -8,7 +8,7 @@ use Rattle.groups.specs.Spans.{SpansState, all_spans, with_set_at, with_span_at}
 use Rattle.groups.proofs.Lists.{there_at}
 use Rattle.shard.proofs.ZeroPages.{none_told, some_told}
 use Rattle.pool.specs.State.{PooledState, group_of}
-use Rattle.pool.proofs.Cases.{where_true}
+use Rattle.std.proofs.lemmas.Bool.{OnTrue_at}
 use Rattle.pool.proofs.SetPlace.{fits_page, page_to_set, set_in_place, set_on_new_page}
 use Rattle.pool.proofs.pooled.Pooled.set.Goals as goal
 
@@ -41,7 +41,7 @@ returns-clause-set g c =
     c.self.view_is
     (λ span here. set_in_place c.self.inside.spans c.set.new.self c.self.inside.words c.set_on.new.words c.self.inside.blank sound c.args.place span here
     c.args.slot c.args.generation c.args.words.now c.class-class.result c.class-class.ensures
-    (where_true c.in_ok-set.field-0 c.if-not-branch.false (done.set span here)) c.set_on.ensures.words c.set_on.ensures.same paged)
+    (OnTrue_at c.if-not-branch.false (done.set span here)) c.set_on.ensures.words c.set_on.ensures.same paged)
 
 pub returns-in_default-clause-unknown : goal.returns-in_default-clause-unknown
 returns-in_default-clause-unknown g c =
