@@ -1,5 +1,5 @@
 -- The steps of a core whose shards and pool stand in its fields.
-use Rattle.std.proofs.Common.{◌≡◌, ℕ, ◌<◌, true, false, arith, List, Some, ◌≤◌, Bor, get_or, ap, ◌∙◌, length, refl, set, slice_get, sym}
+use Rattle.std.proofs.Common.{◌≡◌, ℕ, ◌<◌, true, false, arith, List, Some, ◌≤◌, Bor, get_or, ap, ◌∙◌, length, refl, set, slice_get, sym, Option}
 use Rattle.std.specs.Prelude.{vec_len}
 use Rattle.std.proofs.lemmas.Option.{slice_get_read, slice_get_within}
 use Rattle.std.specs.Slice.{IsItemAt}
@@ -12,9 +12,24 @@ use Rattle.arena_core.specs.Kept.{shards_of, state_of}
 use Rattle.arena_core.specs.Made.{all_shards}
 use Rattle.arena_core.specs.Moved.{WhereaboutsState}
 use Rattle.arena_core.specs.Sound.{HasSoundGroups, IsSoundAt}
-use Rattle.arena_core.specs.State.{with_pool, with_shard}
+use Rattle.arena_core.specs.State.{with_pool, with_shard, CoreState}
 use Rattle.arena_core.proofs.Made.{made-get, made-set}
 use Rattle.arena_core.proofs.FilledLists.{no_item}
+use Rattle.marks.specs.Numbers.{Limits}
+use Rattle.marks.specs.Plans.{OpenPlan}
+use Rattle.arena_core.specs.Rings.{RingState}
+use Rattle.span.specs.State.{SpanState}
+
+-- the core of these parts
+abbrev pub core_of : Limits → List ShardState → PoolState → Option OpenPlan → List (List RingState) → List SpanState → CoreState
+core_of limits shards pool plan rings forgotten = record {
+  limits = limits;
+  shards = shards;
+  pool = pool;
+  plan = plan;
+  rings = rings;
+  forgotten = forgotten;
+}
 
 -- the fields with another shard at this number
 abbrev pub with_shard_at : {L : Type 0} → Inside L → ℕ → ShardState → Inside L
@@ -36,7 +51,7 @@ made-read c number shard read = slice_get_read c.shards.items (vec_len c.shards)
 pub shard-read : {L : Type 0} (c : Inside L) (number : ℕ) (shard : ShardState) → IsRead c number shard → slice_get (shards_of c) number ≡ Some shard
 shard-read c number shard read = made-get c.limits c.shards.items number shard (made-read c number shard read)
 
-set-read : {L : Type 0} (c : Inside L) (number : ℕ) (before after : ShardState) → IsRead c number before → all_shards c.limits (set c.shards.items number after) ≡ set (shards_of c) number after
+pub set-read : {L : Type 0} (c : Inside L) (number : ℕ) (before after : ShardState) → IsRead c number before → all_shards c.limits (set c.shards.items number after) ≡ set (shards_of c) number after
 set-read c number before after read = made-set c.limits c.shards.items number after (omega (arith, read.within, c.shards.ok.0))
 
 pub state_of-with_shard_at : {L : Type 0} (c : Inside L) (number : ℕ) (before after : ShardState) → IsRead c number before
@@ -50,14 +65,7 @@ state_of-with_both_at c number before after pool whereabouts read = ap (λ shard
 -- fields that show as they did
 pub state_of-unchanged : {L : Type 0} (c now : Inside L) → now.limits ≡ c.limits → now.plan ≡ c.plan → now.rings ≡ c.rings → now.forgotten.items ≡ c.forgotten.items
     → shards_of now ≡ shards_of c → now.pool ≡ c.pool → state_of now ≡ state_of c
-state_of-unchanged c now limits plan rings gone shards pool = λ i. record {
-  limits = limits i;
-  shards = shards i;
-  pool = pool i;
-  plan = plan i;
-  rings = rings i;
-  forgotten = gone i;
-}
+state_of-unchanged c now limits plan rings gone shards pool = λ i. core_of (limits i) (shards i) (pool i) (plan i) (rings i) (gone i)
 
 -- the shard that a look-up gave, where there is one
 pub shard-found : (shards : List ShardState) (number : ℕ) (shard : Bor ShardState) → IsItemAt shards number (Some shard) → slice_get shards number ≡ Some shard.now

@@ -1,7 +1,6 @@
 -- What the fields of a core keep, where a shard, the pool and the whereabouts change.
 use Rattle.std.proofs.Common.{◌≡◌, ◌≢◌, ℕ, Bool, Option, Result, Ok, Err, IfOk, OnErr, true, false, cond, ap, is_some, map, refl, set, subst, sym, ◌∙◌}
 use Rattle.std.specs.declared.alloc.AllocError.{AllocError}
-use Rattle.std.proofs.lemmas.Option.{slice_get_within}
 use Rattle.span.specs.declared.id.SpanId.{SpanId}
 use Rattle.span.specs.declared.key.Key.{Key}
 use Rattle.span.specs.Classes.{class_of}
@@ -27,8 +26,8 @@ use Rattle.marks.specs.Numbers.{Limits}
 use Rattle.marks.specs.Plans.{OpenPlan}
 use Rattle.arena_core.specs.State.{has_span, new_core}
 use Rattle.arena_core.proofs.FieldSteps.{IsStep-free_home, IsStep-set_home, state_of-both_same, state_of-same}
-use Rattle.arena_core.proofs.Fields.{IsRead, made-read, shard-read, state_of-unchanged, with_both_at, with_shard_at}
-use Rattle.arena_core.proofs.Made.{completed-map, made-set}
+use Rattle.arena_core.proofs.Fields.{IsRead, shard-read, state_of-unchanged, with_both_at, with_shard_at, set-read}
+use Rattle.arena_core.proofs.Made.{completed-map}
 use Rattle.marks.proofs.Flagged.{with_flags}
 use Rattle.arena_core.proofs.Groups.{IsCall-ChangesSpan, IsCall-Puts}
 use Rattle.arena_core.proofs.MarkSteps.{with_step_at}
@@ -48,12 +47,8 @@ module _ {L : Type 0} (c : Inside L) (kept : IsKept c) (number : ℕ) (before : 
   number_is : before.number ≡ number
   number_is = (kept.sound.groups.shards number before (shard-read c number before read)).number_is
 
-  -- the shards with another one at this number
-  set_shards : (after : ShardState) → all_shards c.limits (set c.shards.items number after) ≡ set (shards_of c) number after
-  set_shards after = made-set c.limits c.shards.items number after (slice_get_within c.shards.items number before (made-read c number before read))
-
   moved_set : (after : ShardState) → GetsNone number before after → KnowsMoved (all_shards c.limits (set c.shards.items number after)) c.whereabouts.entries
-  moved_set after none = subst (λ shards. KnowsMoved shards c.whereabouts.entries) (sym (set_shards after))
+  moved_set after none = subst (λ shards. KnowsMoved shards c.whereabouts.entries) (sym (set-read c number before after read))
       (KnowsMoved-set (shards_of c) c.whereabouts.entries kept.moved number before after (shard-read c number before read) none)
 
   pub GetsNone-Puts : (value : Value) (key : Key) (at : ℕ) (after : ShardState) → Puts before (class_of value) value key at after → GetsNone number before after
@@ -86,16 +81,10 @@ module _ {L : Type 0} (c : Inside L) (kept : IsKept c) (number : ℕ) (before : 
 
   pub IsKept-with_both_at : (after : ShardState) (pool : PoolState) → GetsNone number before after
       → IsSound (state_of (with_both_at c number after pool c.whereabouts)) → IsKept (with_both_at c number after pool c.whereabouts)
-  IsKept-with_both_at after pool none sound = record {
-    sound = sound;
-    moved = moved_set after none;
-  }
+  IsKept-with_both_at after pool none sound = record { sound = sound; moved = moved_set after none }
 
   pub IsKept-with_shard_at : (after : ShardState) → GetsNone number before after → IsSound (state_of (with_shard_at c number after)) → IsKept (with_shard_at c number after)
-  IsKept-with_shard_at after none sound = record {
-    sound = sound;
-    moved = moved_set after none;
-  }
+  IsKept-with_shard_at after none sound = record { sound = sound; moved = moved_set after none }
 
   -- a shard and a pool that are as they were
   pub IsKept-both_same : (after : ShardState) (pool : PoolState) → after ≡ before → pool ≡ c.pool → IsKept (with_both_at c number after pool c.whereabouts)
@@ -154,7 +143,7 @@ module _ {L : Type 0} (c : Inside L) (kept : IsKept c) (number : ℕ) (before : 
   IsKept-noted after pool plan noted head first comes notes sound = record {
     sound = sound;
     moved = KnowsMoved-noted (state_of c) (state_of (with_step_at c number after pool plan noted)) sound.groups number before after
-        (shard-read c number before read) (set_shards after) c.whereabouts.entries noted.entries head first kept.moved comes notes;
+        (shard-read c number before read) (set-read c number before after read) c.whereabouts.entries noted.entries head first kept.moved comes notes;
   }
 
 -- only the room of the whereabouts is another

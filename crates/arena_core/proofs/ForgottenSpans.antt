@@ -39,6 +39,7 @@ use Rattle.arena_core.proofs.Spans.{has_span-counted, named, sum_all, sum_all-pa
 use Rattle.std.proofs.lemmas.Bool.{not-true}
 use Rattle.arena_core.proofs.Noted.{KnowsMoved-map}
 use Rattle.arena_core.proofs.Flagged.{opened_of-map}
+use Rattle.arena_core.proofs.Fields.{core_of}
 
 -- sums over what is left and what went
 
@@ -192,14 +193,7 @@ module _ {L : Type 0} (c now : Inside L) (kept : IsKept c) (limits : now.limits 
   gone_all = gone ∙ ap (λ spans. c.forgotten.items ++ (spans ++ gone_from c.pool.groups)) (sym (dead_owned-all c))
 
   pub state_of-forgotten : state_of now ≡ with_forgotten (state_of c)
-  state_of-forgotten = λ i. record {
-    limits = limits i;
-    shards = all_are i;
-    pool = pool i;
-    plan = plan i;
-    rings = rings i;
-    forgotten = gone_all i;
-  }
+  state_of-forgotten = λ i. core_of (limits i) (all_are i) (pool i) (plan i) (rings i) (gone_all i)
 
   -- what is named stands in a shard that was made
   keeps_all : KeepsStanding (shards_of now) c.whereabouts.entries now.whereabouts.entries

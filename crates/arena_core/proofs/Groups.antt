@@ -99,14 +99,11 @@ module _ (w : SpanState → ℕ) where
   sum_in-with_head before after index group head page here same is =
       omega (
         arith,
-        ap (λ gs. sum_by w (flat_spans gs)) is,
+        ap (λ gs. sum_by w (flat_map spans_of gs)) is,
         flat-set w spans_of before.groups index group (record group { head = head; page = page }) here,
         sum_by-cons w head group.guests,
         sum_by-cons w group.head group.guests,
       )
-    where
-      flat_spans : List GroupState → List SpanState
-      flat_spans groups = flat_map spans_of groups
 
   -- a span of a group gives way to one of the same weight
   sum_in-with_span : (before after : ShardState) (index place : ℕ) (group : GroupState) (span changed : SpanState) (page : Option Words)

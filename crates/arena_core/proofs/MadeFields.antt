@@ -11,7 +11,6 @@ use Rattle.marks.specs.Numbers.{AreWithin, Limits}
 use Rattle.pool.specs.Sound.{IsSound as IsSoundPool}
 use Rattle.pool.proofs.Arrived.{IsPooled-here}
 use Rattle.shard.specs.State.{ShardState}
-use Rattle.shard.specs.Trims.{Trims}
 use Rattle.arena_core.specs.Filled.{CannotReach}
 use Rattle.arena_core.specs.Made.{IsUnused, all_shards, new_shard_of}
 use Rattle.arena_core.specs.Sound.{IsSound}
@@ -61,15 +60,12 @@ CoreStep-end_unreached core number cause unused never = absurd never
 pub CoreStep-begin_unused : (core : CoreState) (number : ℕ) → IsUnused core number → number < core.limits.shards → CoreStep core (Begin number) (reply.Refused refusal.Running) core
 CoreStep-begin_unused core number unused there = ((new_shard_of core.limits number, record { here = unused there; running = refl }), refl)
 
-Trims-new : (limits : Limits) (number : ℕ) → Trims (new_shard_of limits number) 0 (new_shard_of limits number)
-Trims-new limits number = record { after = refl; count_is = refl }
-
 pub CoreStep-trim_unused : (core : CoreState) (number : ℕ) → IsUnused core number → number < core.limits.shards → CoreStep core (Trim number) (reply.Trimmed 0) core
 CoreStep-trim_unused core number unused there = record {
   before = new_shard_of core.limits number;
   after = new_shard_of core.limits number;
   here = unused there;
-  trims = Trims-new core.limits number;
+  trims = record { after = refl; count_is = refl };
   rest = sym (with_shard-same core number (new_shard_of core.limits number) (new_shard_of core.limits number) (unused there) refl);
 }
 

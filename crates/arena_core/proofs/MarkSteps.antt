@@ -1,5 +1,5 @@
 -- What a mark and a close leave: a sound core, which shows the same map.
-use Rattle.std.proofs.Common.{◌≡◌, ℕ, ◌<◌, ◌≤◌, ◌&&◌, is_some, Bool, true, false, refl, sym, ap, subst, ◌∙◌, arith, Option, Some, None, slice_get, length, map, get_or}
+use Rattle.std.proofs.Common.{◌≡◌, ℕ, ◌<◌, ◌&&◌, is_some, Bool, true, false, refl, sym, ap, subst, ◌∙◌, arith, Option, Some, None, slice_get, length, map, get_or}
 use Rattle.std.proofs.lemmas.Option.{slice_get_within}
 use Rattle.std.specs.Prelude.{option_map}
 use Rattle.std.proofs.lemmas.Bool.{true≢false}
@@ -32,20 +32,19 @@ use Rattle.arena_core.specs.Step.{with_plan_closed, with_plan_opened}
 use Rattle.arena_core.specs.declared.event.Event.TheVariants.{Step}
 use Rattle.arena_core.specs.declared.machine.Core.TheInside.{Inside}
 use Rattle.arena_core.specs.declared.reply.Reply.TheVariants.{Stepped}
-use Rattle.arena_core.proofs.Fields.{IsRead, made-read, shard-read}
+use Rattle.arena_core.proofs.Fields.{IsRead, made-read, shard-read, core_of}
 use Rattle.arena_core.proofs.Made.{completed-map, made-set, standing-made}
 use Rattle.arena_core.proofs.Flagged.{HasSoundGroups-flagged, shown-flagged, with_all_flags}
 use Rattle.marks.proofs.Flagged.{map_back}
 use Rattle.marks.proofs.Lists.{slice_get-map_at}
 use Rattle.arena_core.proofs.PlanMarks.{IsUnderWay-marked}
-use Rattle.arena_core.proofs.Changes.{HasSoundGroups-retold, at_most_once}
+use Rattle.arena_core.proofs.Changes.{HasSoundGroups-retold}
 use Rattle.arena_core.proofs.PlanSteps.{AreAllClosedAsPlanned, IsSoundStep, HasSoundPlan-none, plans_onto-none}
-use Rattle.arena_core.proofs.Spans.{shard_with-here, times-parts, times_owned}
+use Rattle.arena_core.proofs.Spans.{shard_with-here}
 use Rattle.arena_core.proofs.Stepping.{IsSoundStep-Steps, waits}
-use Rattle.arena_core.proofs.Steps.{has_span-here}
 use Rattle.arena_core.proofs.FieldSteps.{state_of-both_same, at_same}
+use Rattle.arena_core.proofs.Steps.{has_span-head, owned-once}
 
--- the core with another flag of its pool and another plan
 -- no plan is open, so no group is closed
 pub AreOpen-none : (core : CoreState) → IsSound core → core.plan ≡ None → AreOpen core.shards
 AreOpen-none core sound none = subst (λ plan. AreAllClosedAsPlanned plan core.shards) none sound.plan.closed
@@ -54,14 +53,10 @@ AreOpen-none core sound none = subst (λ plan. AreAllClosedAsPlanned plan core.s
 one_owned : (core : CoreState) → HasSoundGroups core → (head : SpanId) (a b : GroupState) → IsOwned core head a → IsOwned core head b → a ≡ b
 one_owned core sound head a b is_a is_b =
     let sound_b = (sound.shards is_b.number is_b.shard is_b.shard_is).sound in
-    let once : times_owned head core.shards ≤ 1 = omega (arith, times-parts head core, at_most_once core sound head) in
-    let found_a = shard_with-here head core.shards is_a.number is_a.shard is_a.shard_is (has_head is_a.number is_a.shard is_a.shard_is is_a.index a is_a.head_of) once in
-    let found_b = shard_with-here head core.shards is_b.number is_b.shard is_b.shard_is (has_head is_b.number is_b.shard is_b.shard_is is_b.index b is_b.head_of) once in
+    let found_a = shard_with-here head core.shards is_a.number is_a.shard is_a.shard_is (has_span-head core sound head a is_a) (owned-once core sound head) in
+    let found_b = shard_with-here head core.shards is_b.number is_b.shard is_b.shard_is (has_span-head core sound head b is_b) (owned-once core sound head) in
     let same : is_a.shard ≡ is_b.shard = same_some (sym found_a ∙ found_b) in
     same_group is_b.shard.groups sound_b.ascending head is_a.index is_b.index a b (subst (λ (s : ShardState). IsHeadOf s.groups head is_a.index a) same is_a.head_of) is_b.head_of
-  where
-    has_head : (number : ℕ) (shard : ShardState) → slice_get core.shards number ≡ Some shard → (index : ℕ) (group : GroupState) → IsHeadOf shard.groups head index group → has_span head shard ≡ true
-    has_head number shard at index group is = has_span-here shard head index 0 group group.head (sound.shards number shard at).sound (record { group_is = is.here; span_is = refl; id_is = is.head_is })
 
 -- a mark
 
@@ -157,14 +152,7 @@ pub state_of-mapped : {L : Type 0} (c now : Inside L) (change : ShardState → S
 state_of-mapped c now change same limits rings gone items =
     let all : shards_of now ≡ map change (shards_of c) =
     (λ i. all_shards (limits i) (items i)) ∙ completed-map 0 c.limits.shards (new_shard_of c.limits) change same c.shards.items in
-    λ i. record {
-      limits = limits i;
-      shards = all i;
-      pool = now.pool;
-      plan = now.plan;
-      rings = rings i;
-      forgotten = gone i;
-    }
+    λ i. core_of (limits i) (all i) now.pool now.plan (rings i) (gone i)
 
 -- the pair that comes next
 pub next-IsNext : (core : CoreState) (pair : SpanId × SpanId) → next_pair core.plan ≡ Some pair → (plan : OpenPlan) × IsNext core plan pair
@@ -184,15 +172,7 @@ number-named core id number sound (other, here, has) = let within = slice_get_wi
 pub owned-stands : (core : CoreState) (sound : IsSound core) (plan : OpenPlan) (pair : SpanId × SpanId) → IsNext core plan pair → (number : ℕ) × StandsIn core.shards pair.1 number
 owned-stands core sound plan pair next =
     let there = (waits core sound plan pair next).is_owned in
-    let fine = sound.groups.shards there.number there.shard there.shard_is in (
-      there.number,
-      (
-        there.shard,
-        there.shard_is,
-        has_span-here there.shard pair.1 there.index 0 (waits core sound plan pair next).owned (waits core sound plan pair next).owned.head fine.sound
-            (record { group_is = there.head_of.here; span_is = refl; id_is = there.head_of.head_is }),
-      ),
-    )
+    (there.number, (there.shard, there.shard_is, has_span-head core sound.groups pair.1 (waits core sound plan pair next).owned there))
 
 -- the fields after a step
 abbrev pub with_step_at : {L : Type 0} → Inside L → ℕ → ShardState → PoolState → Option OpenPlan → WhereaboutsState → Inside L

@@ -1,8 +1,8 @@
 -- Why an end, a retirement or an adoption is refused.
-use Rattle.std.proofs.Common.{◌≡◌, ◌≢◌, ℕ, suc, ◌<◌, ◌⊎◌, inl, inr, true, false, cond, List, [], ◌∷◌, length, refl, sym, ap, subst, ◌∙◌, arith, Option, Some, None, slice_get, is_some, Err, Result}
+use Rattle.std.proofs.Common.{◌≡◌, ◌≢◌, ℕ, suc, ◌<◌, true, false, cond, List, [], ◌∷◌, length, refl, sym, ap, subst, ◌∙◌, arith, Option, Some, None, slice_get, is_some, Err, Result}
 use Rattle.std.specs.Prelude.{◌↔◌, filter, IfSome}
 use Rattle.std.specs.List.{list_any}
-use Rattle.std.proofs.lemmas.Bool.{cases_eq, false_from_ne_true}
+use Rattle.std.proofs.lemmas.Bool.{false_from_ne_true}
 use Rattle.std.proofs.option.Match.{None-if_not_some}
 use Rattle.span.specs.declared.id.SpanId.{SpanId}
 use Rattle.shard.specs.Group.{GroupState}
@@ -60,11 +60,7 @@ pub record IsRefused (pool : PoolState) (shard : ShardState) (error : AdoptError
   pub nothing : ◌≡◌ {A = Result SpanId AdoptError} (Err error) (Err adopt_error.NothingToAdopt) ↔ ((shard.page_limit ≢ length shard.groups) × (shard.ended ≡ false) × (pool.has_plan ≡ false) × HasNothingToAdopt pool)
 
 below_limit : (shard : ShardState) → IsSoundShard shard → (shard.page_limit ≢ length shard.groups) → length shard.groups < shard.page_limit
-below_limit shard sound room = by_case (cases_eq shard.page_limit (length shard.groups))
-  where
-    by_case : (shard.page_limit ≡ length shard.groups) ⊎ (shard.page_limit ≢ length shard.groups) → length shard.groups < shard.page_limit
-    by_case (inl full) = absurd (room full)
-    by_case (inr differ) = omega (arith, sound.limit)
+below_limit shard sound room = omega (arith, sound.limit, room)
 
 -- the shard of this number, which has not ended, may have another page
 may_take-here : (old : CoreState) (number : ℕ) (shard : ShardState) → IsSoundShard shard → slice_get old.shards number ≡ Some shard

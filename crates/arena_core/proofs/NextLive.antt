@@ -3,9 +3,8 @@ use Rattle.std.proofs.Common.{◌≡◌, ◌≢◌, ◌⊎◌, ◌<◌, ◌≤�
 use Rattle.std.specs.Prelude.{IfSome, MatchOption}
 use Rattle.std.specs.List.{All, Contains}
 use Rattle.std.proofs.lemmas.List.Elements.{All-contains, All-nil, All-push, All-weaker, Contains-append_left, Contains-push}
-use Rattle.std.proofs.lemmas.Option.{get_or_from_slice_get, slice_get-get_or, slice_get_within}
+use Rattle.std.proofs.lemmas.Option.{get_or_from_slice_get, slice_get-get_or, slice_get_within, none-some}
 use Rattle.std.proofs.lemmas.Bool.{cases_eq, false_from_ne_true, true_from_ne_false}
-use Rattle.std.proofs.lemmas.Option.{none-some}
 use Rattle.span.specs.declared.id.SpanId.{SpanId}
 use Rattle.span.specs.declared.key.Key.{Key}
 use Rattle.span.specs.declared.limits.TheConstants.{ALL_IDS}
@@ -29,7 +28,6 @@ use Rattle.arena_core.proofs.Changes.{at_most_once}
 use Rattle.arena_core.proofs.Owners.{value-missed, value-unpooled}
 use Rattle.arena_core.proofs.Spans.{shard_with-nowhere, times-parts, times_in-missed, times_pooled}
 use Rattle.arena_core.proofs.Steps.{value-shard}
-use Rattle.span.specs.declared.limits.TheConstants.{ALL_IDS}
 use Rattle.std.proofs.option.Match.{None-if_not_some}
 use Rattle.arena_core.proofs.Lists.{not_below}
 

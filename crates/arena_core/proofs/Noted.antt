@@ -26,7 +26,7 @@ use Rattle.arena_core.specs.Made.{all_shards}
 use Rattle.arena_core.specs.Moved.{Entries, HasAtMost, KnowsMoved, Notes, StandsIn, WhereaboutsState, named, taken_by, with_taken}
 use Rattle.arena_core.specs.Sound.{HasSoundGroups}
 use Rattle.arena_core.specs.State.{CoreState, has_span, opened_by, opened_of}
-use Rattle.arena_core.proofs.Changes.{at_most_once, opened-somewhere}
+use Rattle.arena_core.proofs.Changes.{opened-somewhere}
 use Rattle.marks.proofs.Flagged.{map_back, spans_in-flagged, with_flags}
 use Rattle.marks.specs.Numbers.{Limits}
 use Rattle.arena_core.proofs.Made.{unmade-new}
@@ -34,10 +34,10 @@ use Rattle.arena_core.proofs.Groups.{IsCall, own, same_number, sum_in-TakesIn}
 use Rattle.arena_core.proofs.Lists.{find-counted, not_below}
 use Rattle.marks.proofs.Lists.{slice_get-set_other, slice_get-set_same}
 use Rattle.arena_core.proofs.Entries.{named-with_taken, named-with_taken_here, taken_by-abroad}
-use Rattle.arena_core.proofs.Spans.{has_span-counted, is_named, named as count_named, shard_with-here, times-parts, times_in, times_in-found, times_in-le, times_owned}
+use Rattle.arena_core.proofs.Spans.{has_span-counted, is_named, named as count_named, shard_with-here, times-parts, times_in, times_in-found, times_in-le}
 use Rattle.arena_core.proofs.Retired.{IsPartOf}
 use Rattle.shard.specs.Sound.{IsSound as IsSoundShard}
-use Rattle.arena_core.proofs.Steps.{has_span-elsewhere, has_span-here, has_span-not}
+use Rattle.arena_core.proofs.Steps.{has_span-elsewhere, has_span-here, has_span-not, owned-once}
 
 -- the spans of a group, noted one after another
 
@@ -297,7 +297,7 @@ module _ (core : CoreState) (sound : HasSoundGroups core) where
   -- a span stands in one shard
   one_shard : (id : SpanId) (number other : ℕ) → StandsIn core.shards id number → StandsIn core.shards id other → number ≡ other
   one_shard id number other (shard, at, has) (shard_too, at_too, has_too) =
-      let once : times_owned id core.shards ≤ 1 = omega (arith, times-parts id core, at_most_once core sound id) in
+      let once = owned-once core sound id in
       let same : shard ≡ shard_too = same_some (sym (shard_with-here id core.shards number shard at has once) ∙ shard_with-here id core.shards other shard_too at_too has_too once) in
       sym (sound.shards number shard at).number_is ∙ ap (λ (s : ShardState). s.number) same ∙ (sound.shards other shard_too at_too).number_is
 

@@ -16,7 +16,7 @@ use Rattle.pool.specs.State.{PoolState}
 use Rattle.groups.specs.Group.{spans_in}
 use Rattle.arena_core.proofs.Codes.{code_of_words, code_of_words-injective}
 use Rattle.arena_core.specs.State.{CoreState, has_span, issued_forgotten, shard_with, shown, shown_at}
-use Rattle.arena_core.proofs.Spans.{has_span-uncounted, is_named, span-missed, times, times-parts, times_forgotten, times_in, times_in-found, times_in-missed, times_owned, times_owned-cons, times_pooled}
+use Rattle.arena_core.proofs.Spans.{is_named, times, times-parts, times_forgotten, times_in, times_in-found, times_in-missed, times_owned, times_owned-cons, times_pooled}
 
 -- a value as a number, none being 0
 abbrev pub code : Option Value → ℕ
@@ -75,10 +75,10 @@ module _ (id : SpanId) (read : PlainMap → ℕ)
 -- a shard or a pool that has no span of the key shows nothing of it
 
 pub issued-missed : (shard : ShardState) (key : Key) → times_in key.span shard ≡ 0 → (shown_by shard).is_issued key ≡ false
-issued-missed shard key none = ap (issued_by key) (span-missed key.span shard (has_span-uncounted key.span shard none))
+issued-missed shard key none = ap (issued_by key) (find-none (is_named key.span) (spans_in shard.groups) none)
 
 pub value-missed : (shard : ShardState) (key : Key) → times_in key.span shard ≡ 0 → (shown_by shard).value_of key ≡ None
-value-missed shard key none = ap (value_by shard.groups key) (span-missed key.span shard (has_span-uncounted key.span shard none))
+value-missed shard key none = ap (value_by shard.groups key) (find-none (is_named key.span) (spans_in shard.groups) none)
 
 pub issued-unpooled : (pool : PoolState) (key : Key) → times_pooled key.span pool ≡ 0 → (shown_by_pool pool).is_issued key ≡ false
 issued-unpooled pool key none = ap (issued_by key) (find-none (is_named key.span) (spans_in pool.groups) none)

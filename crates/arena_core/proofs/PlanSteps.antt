@@ -46,7 +46,7 @@ use Rattle.arena_core.proofs.Retired.{HasGone-Retires, IsMove-Retires}
 use Rattle.arena_core.proofs.Trimmed.{AreClosedAsPlanned-Trims, KeepsClosed-Trims, IsCall-Trims}
 use Rattle.shard.specs.Trims.{Trims}
 use Rattle.arena_core.proofs.Spans.{times-parts, times_in-found, times_in-le, has_span-counted}
-use Rattle.arena_core.proofs.Steps.{has_span-here, with_pool-same, with_shard-same, may_set-shard, pooled-somewhere, value-shard}
+use Rattle.arena_core.proofs.Steps.{with_pool-same, with_shard-same, may_set-shard, pooled-somewhere, value-shard, has_span-head}
 use Rattle.arena_core.proofs.Groups.{IsCall-ChangesSpan, IsCall-Puts, IsMove-Adopts, IsMove-Receives, IsPoolCall-ChangesPooled}
 use Rattle.arena_core.proofs.Shown.{IsLocal-pool, IsLocal-shard, fresh-put, has_pooled, has_pooled-counted, shown-free, shown-put, shown-set, shown-unchanged, value-before}
 use Rattle.std.proofs.option.Match.{None-if_not_some}
@@ -103,8 +103,7 @@ plans_onto-none (pair ∷ pairs) id never = or_from (same_span pair.1 id) (plans
 -- an owned group's span was opened
 opened-IsOwned : (core : CoreState) → IsSound core → (head : SpanId) (group : GroupState) → IsOwned core head group → head.serial < opened_by core.shards head.shard
 opened-IsOwned core sound head group is =
-    let has = has_span-here is.shard head is.index 0 group group.head (sound.groups.shards is.number is.shard is.shard_is).sound
-    (record { group_is = is.head_of.here; span_is = refl; id_is = is.head_of.head_is }) in
+    let has = has_span-head core sound.groups head group is in
     opened-somewhere core sound.groups head (omega (arith, times_in-found head is.shard has, times_in-le head core.shards is.number is.shard is.shard_is, times-parts head core))
 
 unplanned-next : (core : CoreState) → IsSound core → (id : SpanId) → opened_by core.shards id.shard ≤ id.serial → is_planned core.plan id ≡ false

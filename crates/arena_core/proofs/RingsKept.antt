@@ -1,5 +1,5 @@
 -- What rings keep, and what a core shows of them, where one of them changes.
-use Rattle.std.proofs.Common.{◌≡◌, ◌≢◌, ℕ, zero, suc, ◌<◌, ◌≤◌, ◌==◌, ◌&&◌, ◌⊎◌, inl, inr, Bool, true, false, cond, List, [], length, replicate, refl, sym, ap, subst, ◌∙◌, arith, Option, None, Some, set, slice_get, get_or, eq-eqb}
+use Rattle.std.proofs.Common.{◌≡◌, ◌≢◌, ℕ, zero, suc, ◌≤◌, ◌==◌, ◌&&◌, ◌⊎◌, inl, inr, Bool, true, false, cond, List, [], length, replicate, refl, sym, ap, subst, ◌∙◌, arith, Option, None, Some, set, slice_get, eq-eqb}
 use Rattle.std.proofs.Math.ListN.{length-set}
 use Rattle.std.proofs.lemmas.Bool.{cases_eq, ne_eqb}
 use Rattle.std.proofs.lemmas.List.{length-replicate}
@@ -26,13 +26,19 @@ slice_get-replicate zero x i y here = absurd cc
 slice_get-replicate (suc n) x zero y here = same_some here
 slice_get-replicate (suc n) x (suc i) y here = slice_get-replicate n x i y here
 
-ring_at-new : (shards capacity worker shard : ℕ) (ring : RingState) → ring_at (new_rings shards capacity) worker shard ≡ Some ring → new_ring capacity ≡ ring
-ring_at-new shards capacity worker shard ring here = by_row (slice_get (new_rings shards capacity) shard) refl here
+-- the row of a ring that is there
+ring_at-row : (rings : List (List RingState)) (worker shard : ℕ) (ring : RingState) → ring_at rings worker shard ≡ Some ring
+    → (row : List RingState) × (slice_get rings shard ≡ Some row) × (slice_get row worker ≡ Some ring)
+ring_at-row rings worker shard ring here = by_row (slice_get rings shard) refl here
   where
-    by_row : (o : Option (List RingState)) → slice_get (new_rings shards capacity) shard ≡ o → ring_in o worker ≡ Some ring → new_ring capacity ≡ ring
+    by_row : (o : Option (List RingState)) → slice_get rings shard ≡ o → ring_in o worker ≡ Some ring → (row : List RingState) × (slice_get rings shard ≡ Some row) × (slice_get row worker ≡ Some ring)
     by_row None is there = absurd cc
-    by_row (Some row) is there = slice_get-replicate shards (new_ring capacity) worker ring
-        (ap (λ r. slice_get r worker) (slice_get-replicate shards (replicate shards (new_ring capacity)) shard row is) ∙ there)
+    by_row (Some row) is there = (row, is, there)
+
+ring_at-new : (shards capacity worker shard : ℕ) (ring : RingState) → ring_at (new_rings shards capacity) worker shard ≡ Some ring → new_ring capacity ≡ ring
+ring_at-new shards capacity worker shard ring here =
+    let (row, is, there) = ring_at-row (new_rings shards capacity) worker shard ring here in
+    slice_get-replicate shards (new_ring capacity) worker ring (ap (λ r. slice_get r worker) (slice_get-replicate shards (replicate shards (new_ring capacity)) shard row is) ∙ there)
 
 pub pending_at-new : (shards capacity worker shard : ℕ) → pending_at (new_rings shards capacity) worker shard ≡ []
 pending_at-new shards capacity worker shard = by_ring (ring_at (new_rings shards capacity) worker shard) refl
@@ -51,15 +57,6 @@ AreRings-new limits = record {
 }
 
 -- another ring
-
--- the row of a ring that is there
-ring_at-row : (rings : List (List RingState)) (worker shard : ℕ) (ring : RingState) → ring_at rings worker shard ≡ Some ring
-    → (row : List RingState) × (slice_get rings shard ≡ Some row) × (slice_get row worker ≡ Some ring)
-ring_at-row rings worker shard ring here = by_row (slice_get rings shard) refl here
-  where
-    by_row : (o : Option (List RingState)) → slice_get rings shard ≡ o → ring_in o worker ≡ Some ring → (row : List RingState) × (slice_get rings shard ≡ Some row) × (slice_get row worker ≡ Some ring)
-    by_row None is there = absurd cc
-    by_row (Some row) is there = (row, is, there)
 
 module _ (rings : List (List RingState)) (worker shard : ℕ) (ring now : RingState) (here : ring_at rings worker shard ≡ Some ring) where
   abbrev row : List RingState
@@ -121,18 +118,13 @@ module _ (rings : List (List RingState)) (worker shard : ℕ) (ring now : RingSt
 
 -- a ring that is not there is outside of the numbers
 pub IsOutside-none : (limits : Limits) (rings : List (List RingState)) (worker shard : ℕ) → AreRings limits rings → ring_at rings worker shard ≡ None → IsOutside limits worker shard
-IsOutside-none limits rings worker shard are none = by_shard (slice_get_cases rings shard).1
-  where
-    by_worker : (row : List RingState) → slice_get rings shard ≡ Some row
-        → ((ring : RingState) × (worker < length row) × (slice_get row worker ≡ Some ring) × (get_or row worker ring ≡ ring))
-        ⊎ ((length row ≤ worker) × (slice_get row worker ≡ None)) → IsOutside limits worker shard
-    by_worker row is (inl (ring, within, there, read)) = absurd (let both : None ≡ Some ring = sym none ∙ ap (λ o. ring_in o worker) is ∙ there in cc)
-    by_worker row is (inr (past, there)) = inl (omega (arith, are.workers shard row is))
-
-    by_shard : ((row : List RingState) × (shard < length rings) × (slice_get rings shard ≡ Some row) × (get_or rings shard row ≡ row))
-        ⊎ ((length rings ≤ shard) × (slice_get rings shard ≡ None)) → IsOutside limits worker shard
-    by_shard (inl (row, within, is, read)) = by_worker row is (slice_get_cases row worker).1
-    by_shard (inr (past, is)) = inr (omega (arith, are.shards))
+IsOutside-none limits rings worker shard are none = elim (slice_get_cases rings shard).1 [
+  | inl row ↦ elim (slice_get_cases row.0 worker).1 [
+    | inl there ↦ absurd (let both : None ≡ Some there.0 = sym none ∙ ap (λ o. ring_in o worker) row.2 ∙ there.2 in cc)
+    | inr past ↦ inl (omega (arith, are.workers shard row.0 row.2, past.0))
+  ]
+  | inr past ↦ inr (omega (arith, are.shards, past.0))
+]
 
 -- a core with other rings
 

@@ -1,7 +1,7 @@
 -- The plain map that a core shows, after a change of one of its owners: a shard or the pool.
 use Rattle.std.proofs.Common.{◌≡◌, ℕ, ◌+◌, ◌≤◌, Bool, true, false, cond, ◌||◌, refl, sym, ap, ◌∙◌, arith, Some, None, slice_get, is_some, eq-eqb}
 use Rattle.std.specs.Prelude.{sum_by}
-use Rattle.std.proofs.lemmas.Bool.{and_parts}
+use Rattle.std.proofs.lemmas.Bool.{and_parts, true_from_ne_false, true≢false}
 use Rattle.std.proofs.option.Match.{None-if_not_some}
 use Rattle.span.specs.declared.id.SpanId.{SpanId}
 use Rattle.span.specs.declared.key.Key.{Key}
@@ -21,6 +21,7 @@ use Rattle.arena_core.proofs.Lists.{count_by-found, count_by-missed, find-counte
 use Rattle.marks.proofs.Lists.{slice_get-set_same}
 use Rattle.arena_core.proofs.Owners.{bit, bit-injective, code, code-injective, issued-missed, issued-sum, issued-unforgotten, issued-unpooled, value-missed, value-sum, value-unpooled}
 use Rattle.arena_core.proofs.Spans.{find-same, is_named, same_span-self, shard_with-here, shard_with-nowhere, times, times-parts, times_forgotten, times_in-found, times_in-le, times_in-missed, times_pooled}
+use Rattle.std.proofs.lemmas.Option.{none-some}
 
 pub same_key-self : (key : Key) → same_key key key ≡ true
 same_key-self key = rw (same_span-self key.span, eq-eqb key.slot key.slot refl, eq-eqb key.generation key.generation refl) refl
@@ -40,14 +41,9 @@ module _ (old new : CoreState) (a b : PlainMap) (has : SpanId → Bool) (local :
   -- the key has the value then, and each other key what it had
   module _ (value : Value) (values : (other : Key) → b.value_of other ≡ cond (same_key key other) (Some value) (a.value_of other)) where
     value_set : (other : Key) (s : Bool) → same_key key other ≡ s → (shown new).value_of other ≡ cond s (Some value) ((shown old).value_of other)
-    value_set other true same = by_has (has other.span) refl
-      where
-        some : b.value_of other ≡ Some value
-        some = values other ∙ ap (λ s. cond s (Some value) (a.value_of other)) same
-
-        by_has : (h : Bool) → has other.span ≡ h → (shown new).value_of other ≡ Some value
-        by_has true here = local.value_here other here ∙ some
-        by_has false none = absurd (let no : None ≡ Some value = sym (local.value_only other none) ∙ some in cc)
+    value_set other true same =
+        let some : b.value_of other ≡ Some value = values other ∙ ap (λ s. cond s (Some value) (a.value_of other)) same in
+        local.value_here other (true_from_ne_false (has other.span) (λ none. none-some _ (sym (local.value_only other none) ∙ some))) ∙ some
     value_set other false differ =
         let kept : b.value_of other ≡ a.value_of other = values other ∙ ap (λ s. cond s (Some value) (a.value_of other)) differ in
         code-injective _ _ (omega (arith, local.value other, ap code kept))
@@ -58,14 +54,9 @@ module _ (old new : CoreState) (a b : PlainMap) (has : SpanId → Bool) (local :
 
   module _ (value : Value) (puts : b ≡ with_put a key value) where
     put_issued : (other : Key) (s : Bool) → same_key key other ≡ s → (shown new).is_issued other ≡ (s || (shown old).is_issued other)
-    put_issued other true same = by_has (has other.span) refl
-      where
-        some : b.is_issued other ≡ true
-        some = ap (λ (m : PlainMap). m.is_issued other) puts ∙ ap (λ s. s || a.is_issued other) same
-
-        by_has : (h : Bool) → has other.span ≡ h → (shown new).is_issued other ≡ true
-        by_has true here = local.issued_here other here ∙ some
-        by_has false none = absurd (let no : false ≡ true = sym (local.issued_only other none) ∙ some in cc)
+    put_issued other true same =
+        let some : b.is_issued other ≡ true = ap (λ (m : PlainMap). m.is_issued other) puts ∙ ap (λ s. s || a.is_issued other) same in
+        local.issued_here other (true_from_ne_false (has other.span) (λ none. true≢false (sym some ∙ local.issued_only other none))) ∙ some
     put_issued other false differ =
         let kept : b.is_issued other ≡ a.is_issued other = ap (λ (m : PlainMap). m.is_issued other) puts ∙ ap (λ s. s || a.is_issued other) differ in
         bit-injective _ _ (omega (arith, local.issued other, ap bit kept))

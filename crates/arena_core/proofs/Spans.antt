@@ -80,11 +80,8 @@ times_owned-cons id shard shards = count-append (is_named id) (spans_in shard.gr
 pub same_span-self : (id : SpanId) → same_span id id ≡ true
 same_span-self id = test_from_same_id id id refl
 
-pub span-missed : (id : SpanId) (shard : ShardState) → has_span id shard ≡ false → find (is_named id) (spans_in shard.groups) ≡ None
-span-missed id shard none = None-if_not_some _ none
-
 pub times_in-missed : (id : SpanId) (shard : ShardState) → has_span id shard ≡ false → times_in id shard ≡ 0
-times_in-missed id shard none = count_by-missed (is_named id) (spans_in shard.groups) (span-missed id shard none)
+times_in-missed id shard none = count_by-missed (is_named id) (spans_in shard.groups) (None-if_not_some _ none)
 
 pub has_span-uncounted : (id : SpanId) (shard : ShardState) → times_in id shard ≡ 0 → has_span id shard ≡ false
 has_span-uncounted id shard none = ap is_some (find-none (is_named id) (spans_in shard.groups) none)

@@ -1,5 +1,5 @@
 -- A core begins sound, and shows the empty map.
-use Rattle.std.proofs.Common.{◌≡◌, ℕ, zero, suc, ◌+◌, ◌<◌, ◌++◌, List, [], ◌∷◌, refl, sym, ap, subst, ◌∙◌, arith, Option, None, Some, map, slice_get, append-nil}
+use Rattle.std.proofs.Common.{◌≡◌, ℕ, zero, suc, ◌+◌, ◌<◌, List, [], ◌∷◌, refl, sym, ap, subst, ◌∙◌, arith, Option, None, Some, map, slice_get, append-nil}
 use Rattle.std.specs.Prelude.{sum_by}
 use Rattle.std.specs.List.{range_with_len}
 use Rattle.std.proofs.lemmas.List.FromFn.{length-map-range_with_len}
@@ -16,24 +16,21 @@ use Rattle.arena_core.specs.Made.{all_shards}
 use Rattle.arena_core.specs.Rings.{RingState}
 use Rattle.arena_core.specs.Sound.{HasSoundGroups, IsSound, IsSoundAt}
 use Rattle.marks.specs.Numbers.{AreWithin, Limits}
-use Rattle.arena_core.specs.State.{CoreState, all_spans, new_core, new_shard, opened_by, shard_spans, shard_with, shown, shown_at}
+use Rattle.arena_core.specs.State.{all_spans, new_core, new_shard, opened_by, shard_spans, shard_with, shown, shown_at}
 use Rattle.marks.specs.Plans.{OpenPlan}
 use Rattle.arena_core.proofs.Changes.{indicator, past-indicator}
 use Rattle.arena_core.proofs.Groups.{strays, strays-each}
-use Rattle.arena_core.proofs.Made.{IsSound-new_shard, all_shards-none}
+use Rattle.arena_core.proofs.Made.{IsSound-new_shard, all_shards-none, completed-empty, completed-new}
 use Rattle.arena_core.proofs.RingsKept.{AreRings-new, pending_at-new}
 use Rattle.arena_core.proofs.Spans.{named, shard_with-nowhere, sum_all}
+use Rattle.arena_core.proofs.Fields.{core_of}
 
 sum-new : (w : SpanState → ℕ) (limits : Limits) (numbers : List ℕ) → sum_by w (shard_spans (map (new_shard limits.page_limit limits.span_limit limits.gens) numbers)) ≡ 0
 sum-new w limits [] = refl
 sum-new w limits (number ∷ numbers) = sum-new w limits numbers
 
 sum_all-new : (w : SpanState → ℕ) (limits : Limits) → sum_all w (new_core limits) ≡ 0
-sum_all-new w limits =
-    sum_all-with_none w (shard_spans (new_core limits).shards) ∙ sum-new w limits (range_with_len 0 limits.shards)
-  where
-    sum_all-with_none : (w : SpanState → ℕ) (spans : List SpanState) → sum_by w (spans ++ []) ≡ sum_by w spans
-    sum_all-with_none w spans = ap (sum_by w) (append-nil spans)
+sum_all-new w limits = ap (sum_by w) (append-nil (shard_spans (new_core limits).shards)) ∙ sum-new w limits (range_with_len 0 limits.shards)
 
 opened_by-new : (limits : Limits) (numbers : List ℕ) (number : ℕ) → opened_by (map (new_shard limits.page_limit limits.span_limit limits.gens) numbers) number ≡ 0
 opened_by-new limits [] number = refl
@@ -43,13 +40,9 @@ opened_by-new limits (first ∷ numbers) (suc number) = opened_by-new limits num
 pub slice_get-range : (limits : Limits) (from count number : ℕ) (shard : ShardState)
     → slice_get (map (new_shard limits.page_limit limits.span_limit limits.gens) (range_with_len from count)) number ≡ Some shard
     → (number < count) × (new_shard limits.page_limit limits.span_limit limits.gens (from + number) ≡ shard)
-slice_get-range limits from zero number shard here = absurd cc
-slice_get-range limits from (suc count) zero shard here =
-    let is : new_shard limits.page_limit limits.span_limit limits.gens from ≡ shard = cc in
-    (omega arith, ap (new_shard limits.page_limit limits.span_limit limits.gens) (omega arith) ∙ is)
-slice_get-range limits from (suc count) (suc number) shard here =
-    let rest : (number < count) × (new_shard limits.page_limit limits.span_limit limits.gens (from + 1 + number) ≡ shard) = slice_get-range limits (from + 1) count number shard here in
-    (omega arith, ap (new_shard limits.page_limit limits.span_limit limits.gens) (omega arith) ∙ rest.1)
+slice_get-range limits from count number shard here =
+    completed-new from count (new_shard limits.page_limit limits.span_limit limits.gens) [] number shard (omega arith)
+    (ap (λ xs. slice_get xs number) (completed-empty from count (new_shard limits.page_limit limits.span_limit limits.gens)) ∙ here)
 
 pub HasSoundGroups-new_core : (limits : Limits) → AreWithin limits → HasSoundGroups (new_core limits)
 HasSoundGroups-new_core limits within = record {
@@ -80,24 +73,10 @@ shown-new_core limits =
 -- the fields of a new core show as the new core
 pub new_core-fields : (limits : Limits) (made : List ShardState) (pool : PoolState) (plan : Option OpenPlan) (rings : List (List RingState)) (gone : List SpanState)
     → made ≡ [] → pool ≡ new_pool → plan ≡ None → rings ≡ (new_core limits).rings → gone ≡ []
-    → ◌≡◌ {A = CoreState} (record {
-      limits = limits;
-      shards = all_shards limits made;
-      pool = pool;
-      plan = plan;
-      rings = rings;
-      forgotten = gone;
-    }) (new_core limits)
+    → core_of limits (all_shards limits made) pool plan rings gone ≡ new_core limits
 new_core-fields limits made pool plan rings gone none_made empty no_plan rings_are none_gone =
     let shards : all_shards limits made ≡ (new_core limits).shards = ap (all_shards limits) none_made ∙ all_shards-none limits in
-    λ i. record {
-      limits = limits;
-      shards = shards i;
-      pool = empty i;
-      plan = no_plan i;
-      rings = rings_are i;
-      forgotten = none_gone i;
-    }
+    λ i. core_of limits (shards i) (empty i) (no_plan i) (rings_are i) (none_gone i)
 
 -- a core begins with no plan
 pub IsSound-new_core : (limits : Limits) → HasSoundGroups (new_core limits) → IsSound (new_core limits)

@@ -1,5 +1,5 @@
 -- The next pair of the open plan is carried out: it is neither absent nor a clash.
-use Rattle.std.proofs.Common.{◌≡◌, ℕ, ◌+◌, ◌≤◌, length, true, false, inl, inr, refl, sym, ap, subst, ◌∙◌, arith, Some, slice_get, is_some}
+use Rattle.std.proofs.Common.{◌≡◌, ℕ, ◌+◌, length, true, false, inl, inr, refl, sym, ap, subst, ◌∙◌, arith, Some, slice_get, is_some}
 use Rattle.std.specs.Prelude.{MatchOption}
 use Rattle.std.proofs.lemmas.Option.{none-some}
 use Rattle.bitmap.specs.Slots.{SlotSet, AreDisjoint}
@@ -28,14 +28,14 @@ use Rattle.arena_core.specs.Sound.{IsSound}
 use Rattle.arena_core.specs.State.{CoreState, has_span, pages, with_plan, with_pool, with_shard}
 use Rattle.arena_core.specs.declared.event.Event.TheVariants.{Step}
 use Rattle.arena_core.specs.declared.reply.Reply.TheVariants.{Stepped}
-use Rattle.arena_core.proofs.Changes.{HasSoundGroups-moved, HasSoundGroups-retold, at_most_once, sum_all-moved}
+use Rattle.arena_core.proofs.Changes.{HasSoundGroups-moved, HasSoundGroups-retold, sum_all-moved}
 use Rattle.arena_core.proofs.Groups.{IsMove}
 use Rattle.arena_core.proofs.Lists.{sum_by-set_at}
 use Rattle.arena_core.proofs.Logged.{shown-same}
 use Rattle.arena_core.proofs.PlanFolds.{AreAllClosedAsPlanned-folded, IsFold, IsUnderWay-folded, IsUnderWay-passed}
 use Rattle.arena_core.proofs.PlanSteps.{AreAllClosedAsPlanned, IsSoundStep}
-use Rattle.arena_core.proofs.Spans.{shard_with-here, times-parts, times_owned}
-use Rattle.arena_core.proofs.Steps.{has_span-here, not_doubled_in, with_shard-same}
+use Rattle.arena_core.proofs.Spans.{shard_with-here}
+use Rattle.arena_core.proofs.Steps.{not_doubled_in, with_shard-same, has_span-head, owned-once}
 use Rattle.std.proofs.lemmas.Bool.{false_from_ne_true}
 
 -- a fold as a move of spans from the pool to the shard
@@ -87,18 +87,13 @@ module _ (old : CoreState) (sound : IsSound old) (plan : OpenPlan) (pair : SpanI
   waits = under_way.waiting plan.done pair (omega arith) next.pair_is
 
   module _ (number : ℕ) (before : ShardState) (here : slice_get old.shards number ≡ Some before) (has : has_span pair.1 before ≡ true) where
-    owned_once_at_most : times_owned pair.1 old.shards ≤ 1
-    owned_once_at_most = omega (arith, times-parts pair.1 old, at_most_once old sound.groups pair.1)
-
     -- the shard that has the owned head is that of its group
     same_shard : waits.is_owned.shard ≡ before
     same_shard =
         let there = waits.is_owned in
-        let fine = sound.groups.shards there.number there.shard there.shard_is in
-        let has_there = has_span-here there.shard pair.1 there.index 0 waits.owned waits.owned.head fine.sound
-        (record { group_is = there.head_of.here; span_is = refl; id_is = there.head_of.head_is }) in
-        same_some (sym (shard_with-here pair.1 old.shards there.number there.shard there.shard_is has_there owned_once_at_most)
-        ∙ shard_with-here pair.1 old.shards number before here has owned_once_at_most)
+        let once = owned-once old sound.groups pair.1 in
+        same_some (sym (shard_with-here pair.1 old.shards there.number there.shard there.shard_is (has_span-head old sound.groups pair.1 waits.owned there) once)
+        ∙ shard_with-here pair.1 old.shards number before here has once)
 
     owned_here : IsHeadOf before.groups pair.1 waits.is_owned.index waits.owned
     owned_here = subst (λ (s : ShardState). IsHeadOf s.groups pair.1 waits.is_owned.index waits.owned) same_shard waits.is_owned.head_of

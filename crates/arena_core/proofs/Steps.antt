@@ -31,6 +31,7 @@ use Rattle.arena_core.proofs.Owners.{value-missed}
 use Rattle.arena_core.proofs.Spans.{shard_with-here, times-parts, times_in, times_in-found, times_in-le, times_in-missed, times_owned, times_pooled}
 use Rattle.std.proofs.lemmas.Bool.{false_from_ne_true, true≢false, true_from_ne_false}
 use Rattle.arena_core.proofs.Lists.{not_below}
+use Rattle.arena_core.specs.Plan.{IsOwned}
 
 -- where a span stands
 
@@ -54,7 +55,12 @@ pub pooled-somewhere : (pool : PoolState) (id : SpanId) → (IsElsewhere pool.gr
 pooled-somewhere pool id some = not_below (times_pooled id pool) 1 (λ none. some (elsewhere-times spans_of pool.groups id (omega arith)))
 
 module _ (core : CoreState) (sound : HasSoundGroups core) where
-  owned-once : (id : SpanId) → times_owned id core.shards ≤ 1
+  -- a shard has the head of its group
+  pub has_span-head : (head : SpanId) (group : GroupState) (is : IsOwned core head group) → has_span head is.shard ≡ true
+  has_span-head head group is = has_span-here is.shard head is.index 0 group group.head (sound.shards is.number is.shard is.shard_is).sound
+      (record { group_is = is.head_of.here; span_is = refl; id_is = is.head_of.head_is })
+
+  pub owned-once : (id : SpanId) → times_owned id core.shards ≤ 1
   owned-once id = omega (arith, times-parts id core, at_most_once core sound id)
 
   -- the shard that has the key's span answers for the key

@@ -12,8 +12,7 @@ use Rattle.arena_core.specs.declared.reply.Reply.TheVariants.{Adopted, Refused}
 use Rattle.arena_core.specs.Kept.{IsKept, shards_of, state_of}
 use Rattle.arena_core.specs.Made.{IsUnused}
 use Rattle.arena_core.specs.Moved.{Notes}
-use Rattle.arena_core.specs.State.{CoreState}
-use Rattle.arena_core.specs.State.{shown}
+use Rattle.arena_core.specs.State.{CoreState, shown}
 use Rattle.arena_core.specs.Step.{CoreStep}
 use Rattle.arena_core.proofs.FieldSteps.{no_plan_if_adopted, at_same, state_of-both_same}
 use Rattle.arena_core.proofs.Fields.{IsRead, shard-read, state_of-unchanged, with_both_at, state_of-with_both_at}

@@ -2,7 +2,6 @@ use Rattle.std.proofs.Common.{◌*◌, ◌+◌}
 use Rattle.span.specs.declared.limits.TheConstants.{MOST_SPANS}
 use Rattle.span.specs.FirstLive.{HasNoneBetween}
 use Rattle.arena_core.specs.State.{shown}
-use Rattle.span.specs.declared.limits.TheConstants.{MOST_SPANS}
 use Rattle.arena_core.proofs.machine.Core.first_in_spans.Given as goal
 
 abbrev pub invariant-loop-serial : goal.invariant-loop-serial

@@ -62,9 +62,4 @@ returns-clause-live g c =
 
 pub returns-clause-shown : goal.returns-clause-shown
 returns-clause-shown g c =
-    let shards = c.deref-shard-items.result.now in
-    let all : take c.loop-shard.shard-index shards ≡ shards = take_all c.loop-shard.shard-index shards (omega arith) in
-    let owned : sum_by shard_keys (take c.loop-shard.shard-index shards) ≡ sum_by shard_keys (shards_of c.self.inside) =
-    ap (sum_by shard_keys) (all ∙ c.deref-shard-items.ensures.value) ∙ sym (keys-all c.self.inside.limits c.self.inside.shards.items) in
-    let live : c.loop-shard.totals.live ≡ live_keys c.args.self.now = omega (arith, c.loop-shard.invariant.live, owned, c.live.ensures.live) ∙ ap live_keys c.self.view_is in
-    subst (HasKeys (shown c.args.self.now)) (sym live) (HasKeys-live_keys c.args.self.now (subst IsSound c.self.view_is c.self.invariant.sound).groups)
+    subst (HasKeys (shown c.args.self.now)) (sym (returns-clause-live g c)) (HasKeys-live_keys c.args.self.now (subst IsSound c.self.view_is c.self.invariant.sound).groups)

@@ -5,7 +5,6 @@ use Rattle.span.specs.declared.limits.TheConstants.{MOST_PAGES}
 use Rattle.groups.specs.Group.{paged_in}
 use Rattle.shard.specs.State.{ShardState}
 use Rattle.arena_core.specs.State.{shard_keys}
-use Rattle.span.specs.declared.limits.TheConstants.{MOST_PAGES}
 use Rattle.arena_core.proofs.machine.Core.totals.Given as goal
 
 abbrev pub invariant-loop-shard : goal.invariant-loop-shard

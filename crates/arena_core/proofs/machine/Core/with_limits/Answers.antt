@@ -8,18 +8,11 @@ use Rattle.arena_core.proofs.FieldsKept.{KnowsMoved-new}
 use Rattle.arena_core.proofs.Start.{HasSoundGroups-new_core, IsSound-new_core, new_core-fields, shown-new_core}
 use Rattle.arena_core.proofs.machine.Core.with_limits.Goals as goal
 use Rattle.arena_core.proofs.machine.Core.with_limits.Goals.{After-new-4}
+use Rattle.arena_core.proofs.Fields.{core_of}
 
 -- the fields show as a new core of these numbers
 made : (g : _) (c : After-new-4 g)
-    → ◌≡◌ {A = CoreState} (record {
-      limits = c.args.limits;
-      shards = all_shards c.args.limits c.new.result.items;
-      pool = c.with_log.result;
-      plan = c.new-2.result;
-      rings = c.new-rings.result;
-      forgotten = c.new-4.result.items;
-    })
-    (new_core c.args.limits)
+    → core_of c.args.limits (all_shards c.args.limits c.new.result.items) c.with_log.result c.new-2.result c.new-rings.result c.new-4.result.items ≡ new_core c.args.limits
 made g c = new_core-fields c.args.limits c.new.result.items c.with_log.result c.new-2.result c.new-rings.result c.new-4.result.items
     c.new.ensures.items c.with_log.ensures.empty c.new-2.ensures
     (c.new-rings.ensures ∙ (λ i. new_rings (c.shards.ensures.shards i) (c.ring_capacity.ensures.ring_capacity i)))
