@@ -1,11 +1,10 @@
 -- The groups of a shard that has ended stand in the pool whole, and so do those that were there before.
-use Rattle.std.proofs.Common.{zero, suc, ◌≡◌, ℕ, ◌+◌, List, [], ◌∷◌, length, Option, Some, None, map, slice_get, ap, sym, subst, ◌∙◌, refl, arith, rules}
-use Rattle.std.specs.Prelude.{IsSome, option_map}
+use Rattle.std.proofs.Common.{zero, suc, ◌≡◌, ℕ, ◌+◌, List, [], ◌∷◌, length, Some, None, map, slice_get, ap, sym, subst, ◌∙◌, refl, arith, rules, is_some}
+use Rattle.std.specs.Prelude.{option_map}
 use Rattle.std.specs.FinSet as set
 use Rattle.std.proofs.lemmas.List.{length-map}
 use Rattle.std.proofs.lemmas.List.Edits.{length-insert}
 use Rattle.std.proofs.lemmas.Option.{slice_get-map}
-use Rattle.page.specs.Words.{Words}
 use Rattle.groups.specs.Group.{spans_of}
 use Rattle.groups.specs.Spans.{union_of}
 use Rattle.groups.specs.Whole.{WholeState, whole_of}
@@ -15,6 +14,8 @@ use Rattle.pool.specs.Calls.{HasReceived, IsPooled, TakesAll, TakesIn, with_room
 use Rattle.pool.specs.Sound.{IsSound}
 use Rattle.pool.specs.State.{PoolState, PooledState}
 use Rattle.pool.proofs.TakenIn.{groups-TakesIn, pooled}
+use Rattle.std.proofs.option.Match.{None-if_not_some}
+use Rattle.std.proofs.lemmas.Bool.{false_from_ne_true}
 
 -- one group more
 
@@ -73,11 +74,7 @@ HaveCome-TakesAll (whole ∷ wholes) old new (mid, rest, takes) =
 
 -- a group of a sound pool has a page exactly where a slot is live
 unpaged-sound : (pool : PoolState) → IsSound pool → (index : ℕ) (group : PooledState) → slice_get pool.groups index ≡ Some group → union_of (spans_of group) ≡ set.empty → group.page ≡ None
-unpaged-sound pool sound index group here none = by_page group.page (λ some. sound.in_use index group here some none)
-  where
-    by_page : (page : Option Words) → (IsSome page → ⊥) → page ≡ None
-    by_page None no_page = refl
-    by_page (Some words) no_page = absurd (no_page refl)
+unpaged-sound pool sound index group here none = None-if_not_some group.page (false_from_ne_true (is_some group.page) (λ some. sound.in_use index group here some none))
 
 -- a group of a sound pool stands there whole
 pub IsPooled-here : (pool : PoolState) → IsSound pool → (index : ℕ) (group : PooledState) → slice_get pool.groups index ≡ Some group → IsPooled pool (whole_of group)

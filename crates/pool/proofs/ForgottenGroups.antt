@@ -2,7 +2,7 @@
 use Rattle.std.proofs.Common.{zero, suc, ◌≡◌, ℕ, ◌+◌, ◌<◌, ◌≤◌, Bool, true, false, cond, List, [], ◌∷◌, length, insert, map, filter, is_some, Option, Some, None, slice_get, ap, sym, subst, ◌∙◌, refl, arith, rules}
 use Rattle.std.specs.FinSet.{empty}
 use Rattle.std.specs.List.{Contains}
-use Rattle.std.specs.Prelude.{IsSome, MatchOption, nat_lt}
+use Rattle.std.specs.Prelude.{IsSome, MatchOption, nat_lt, option_map}
 use Rattle.std.proofs.lemmas.Bool.{cases_lt, false≢true}
 use Rattle.page.specs.Words.{Words}
 use Rattle.span.specs.Ids.{rank}
@@ -24,6 +24,7 @@ use Rattle.pool.proofs.Arranged.{IsIn, arranged-in, in-arranged, same_up}
 use Rattle.pool.proofs.Heads.{Ascend-filter}
 use Rattle.pool.proofs.RankedGroups.{AreApart-found, AreUp-found}
 use Rattle.pool.proofs.Walked.{paged}
+use Rattle.std.proofs.lemmas.Option.{slice_get-map}
 
 -- elements that change and keep their numbers
 
@@ -48,9 +49,7 @@ module _ {X : Type 0} (key : X → ℕ) (f : X → X) (same : (x : X) → key (f
       ∙ sym (map-insert (arranged key xs) (lower key (key x) (arranged key xs)) x)
 
 pub get-map : {X Y : Type 0} (f : X → Y) (xs : List X) (at : ℕ) (x : X) → slice_get xs at ≡ Some x → slice_get (map f xs) at ≡ Some (f x)
-get-map f [] at x there = absurd cc
-get-map f (y ∷ xs) zero x there = ap (λ z. Some (f z)) (same_some there)
-get-map f (y ∷ xs) (suc at) x there = get-map f xs at x there
+get-map f xs at x there = slice_get-map f xs at ∙ ap (option_map f) there
 
 -- groups that forget guests, in a row
 

@@ -1,12 +1,12 @@
 -- Ranks that are noted, and the least of them.
-use Rattle.std.proofs.Common.{zero, suc, ◌≡◌, ℕ, ◌+◌, ◌<◌, ◌≤◌, false, List, [], ◌∷◌, ◌++◌, length, map, set, Some, None, take, get_or, slice_get, ap, sym, subst, ◌∙◌, refl, inl, inr, ◌⊎◌, arith, rules}
+use Rattle.std.proofs.Common.{zero, suc, ◌≡◌, ℕ, ◌+◌, ◌<◌, ◌≤◌, false, List, [], ◌∷◌, ◌++◌, length, map, set, Some, None, take, get_or, slice_get, ap, sym, subst, ◌∙◌, refl, inl, inr, ◌⊎◌, arith, rules, is_some, take_all}
 use Rattle.std.specs.Prelude.{IfNone, IfSome, IsSome, Option, is_some}
 use Rattle.std.specs.BinaryHeap.{IsHeap, IsUpperBound, PopsGreatest}
 use Rattle.std.specs.List.{All, Contains}
 use Rattle.std.specs.List.Sorted.{IsPermutation}
 use Rattle.std.specs.Ordering.{is_lt, nat_cmp}
 use Rattle.std.specs.declared.cmp.Reverse.{Reverse}
-use Rattle.std.proofs.lemmas.Bool.{false≢true}
+use Rattle.std.proofs.lemmas.Bool.{false≢true, false_from_ne_true}
 use Rattle.std.proofs.lemmas.Bool.Decides.{nat_tests}
 use Rattle.std.proofs.lemmas.List.{length-map}
 use Rattle.std.proofs.lemmas.List.Sorted.{Contains-permutation, IsPermutation-map}
@@ -19,7 +19,8 @@ use Rattle.pool.specs.Ranked.{HasRankAt, head_rank, in_order}
 use Rattle.pool.specs.State.{PooledState}
 use Rattle.pool.proofs.Arranged.{AreApart, AreUp, arranged-in}
 use Rattle.pool.proofs.RankedGroups.{get-push}
-use Rattle.pool.proofs.Walked.{before-more, take_all}
+use Rattle.pool.proofs.Walked.{before-more}
+use Rattle.std.proofs.option.Match.{None-if_not_some}
 
 -- the number of a rank in the heap
 abbrev pub number : Reverse ℕ → ℕ
@@ -90,8 +91,7 @@ AreNoted-more groups at group here ranks more grown its noted =
 
 -- a page, or none
 page_none : (page : Option Words) → (IsSome page → ⊥) → page ≡ None
-page_none None none = refl
-page_none (Some words) none = absurd (none refl)
+page_none page none = None-if_not_some page (false_from_ne_true (is_some page) none)
 
 module _ (groups : List PooledState) (ranks : List ℕ) (noted : AreNoted groups ranks) where
   -- a rank of no group with a page is of no account
@@ -130,4 +130,4 @@ HasNoPageAt-unpaged groups apart n group its off other its_too = search (rules, 
 
 -- all of the first
 pub AreNoted-all : (groups : List PooledState) (at : ℕ) → length groups ≤ at → (ranks : List ℕ) → AreNoted (take at groups) ranks → AreNoted groups ranks
-AreNoted-all groups at most ranks noted = subst (λ gs. AreNoted gs ranks) (take_all groups at most) noted
+AreNoted-all groups at most ranks noted = subst (λ gs. AreNoted gs ranks) (take_all at groups most) noted

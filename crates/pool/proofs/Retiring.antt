@@ -1,7 +1,7 @@
 -- Groups of a running shard on their way to the pool, those with the fewest live keys first.
 use Rattle.std.proofs.Common.{zero, suc, ◌≡◌, ℕ, ◌+◌, ◌<◌, ◌≤◌, List, [], ◌∷◌, ◌++◌, length, remove, take, drop, Some, slice_get, ◌∙◌, ap, sym, subst, refl, inl, inr, arith}
 use Rattle.std.proofs.lemmas.Bool.{cases_lt}
-use Rattle.std.proofs.lemmas.List.{drop_all, drop_more, length-append, length-drop, length-take, take-append-drop}
+use Rattle.std.proofs.lemmas.List.{drop_all, drop_more, length-append, length-drop, length-take, take-append-drop, nil_from_length}
 use Rattle.std.proofs.lemmas.List.Edits.{insert_end, length-remove}
 use Rattle.std.proofs.lemmas.List.Sums.{sum_by-cons, sum_by-take-le}
 use Rattle.std.proofs.lemmas.Option.{get_or_from_slice_get, slice_get_within}
@@ -185,11 +185,7 @@ length-going told going most is = omega (arith, ap length is, length-take most t
 -- where fewer go than are asked for, all have gone
 pub HasNoLive-fewer : (groups : List GroupState) (told going : List LiveGroup) (most : ℕ) → going ≡ take most told → AreSparsestFirst groups (drop most told) → length going < most → HasNoLive groups
 HasNoLive-fewer groups told going most is are fewer = HasNoLive-none groups
-    (subst (AreSparsestFirst groups) (none (drop most told) (omega (arith, ap length is, length-take most told, length-drop most told))) are)
-  where
-    none : (xs : List LiveGroup) → length xs ≡ 0 → xs ≡ []
-    none [] e = refl
-    none (x ∷ xs) e = absurd (omega arith)
+    (subst (AreSparsestFirst groups) (nil_from_length (drop most told) (omega (arith, ap length is, length-take most told, length-drop most told))) are)
 
 -- what a reader sees of the moves
 
@@ -228,12 +224,9 @@ IsSparser-sparsest groups ascend index group sparsest at other apart there some 
       let same : live_of group ≡ live_of other = omega (arith, no_fewer, sparsest.fewest at other there some) in
       elim (cases_lt at index) [
         | inl before ↦ absurd (omega (arith, same, sparsest.first at other before there some))
-        | inr not_before ↦ inr (same, ascend index at group other (omega (arith, not_before, above at index not_before apart)) sparsest.here there)
+        | inr not_before ↦ inr (same, ascend index at group other (omega (arith, not_before, apart)) sparsest.here there)
       ]
 ]
-  where
-    above : (at index : ℕ) → index ≤ at → (at ≡ index → ⊥) → suc index ≤ at
-    above at index le apart = elim (cases_lt index at) [ inl less ↦ less | inr not_less ↦ absurd (apart (omega arith)) ]
 
 module _ (pool₀ : PoolState) (shard₀ : ShardState) (count : ℕ) (pool : PoolState) (shard : ShardState) (next : PoolState) (left : ShardState)
     (was : HasRetired pool₀ shard₀ count pool shard) (moves : MovesSparsest pool shard next left) (sound_shard : IsSoundShard shard) where

@@ -1,5 +1,5 @@
 -- What a walk over groups adds up, and that it is the same in whatever order they stand.
-use Rattle.std.proofs.Common.{zero, suc, ◌≡◌, ℕ, ◌+◌, ◌≤◌, Bool, true, false, cond, List, [], ◌∷◌, ◌++◌, length, insert, is_some, Some, slice_get, take, append_assoc, ap, subst, sym, ◌∙◌, refl, arith}
+use Rattle.std.proofs.Common.{zero, suc, ◌≡◌, ℕ, ◌+◌, Bool, true, false, cond, List, [], ◌∷◌, ◌++◌, length, insert, is_some, Some, slice_get, take, append_assoc, ap, subst, sym, ◌∙◌, refl, arith}
 use Rattle.std.specs.Prelude.{filter}
 use Rattle.std.specs.List.{sum_by}
 use Rattle.std.specs.List.Sorted.{IsPermutation}
@@ -17,25 +17,12 @@ use Rattle.groups.proofs.FirstLive.{take-suc}
 use Rattle.pool.specs.Ranked.{arranged, head_rank, in_order, lower}
 use Rattle.pool.specs.State.{PooledState}
 use Rattle.pool.proofs.Arranged.{IsPermutation-arranged}
+use Rattle.std.proofs.lemmas.List.Elements.{filter-append}
 
 abbrev pub paged : PooledState → Bool
 paged group = is_some group.page
 
 -- one more of the first
-
-pub take_all : {X : Type 0} (xs : List X) (n : ℕ) → length xs ≤ n → take n xs ≡ xs
-take_all [] zero most = refl
-take_all [] (suc n) most = refl
-take_all (x ∷ xs) zero most = absurd (omega arith)
-take_all (x ∷ xs) (suc n) most = ap (λ ys. x ∷ ys) (take_all xs n (omega arith))
-
-filter-append : {X : Type 0} (p : X → Bool) (xs ys : List X) → filter p (xs ++ ys) ≡ filter p xs ++ filter p ys
-filter-append p [] ys = refl
-filter-append p (x ∷ xs) ys = by_test (p x) (filter-append p xs ys)
-  where
-    by_test : (b : Bool) → filter p (xs ++ ys) ≡ filter p xs ++ filter p ys → cond b (x ∷ filter p (xs ++ ys)) (filter p (xs ++ ys)) ≡ cond b (x ∷ filter p xs) (filter p xs) ++ filter p ys
-    by_test true rest = ap (λ zs. x ∷ zs) rest
-    by_test false rest = rest
 
 module _ (groups : List PooledState) (at : ℕ) (group : PooledState) (here : slice_get groups at ≡ Some group) where
   next : at + 1 ≡ suc at

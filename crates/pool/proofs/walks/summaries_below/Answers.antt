@@ -1,4 +1,4 @@
-use Rattle.std.proofs.Common.{◌∙◌, ◌++◌, ◌∷◌, [], List, ap, arith, length, map, refl, subst, sym, take}
+use Rattle.std.proofs.Common.{◌∙◌, ◌++◌, ◌∷◌, [], List, ap, arith, length, map, refl, subst, sym, take, take_all}
 use Rattle.std.specs.Prelude.{filter}
 use Rattle.std.proofs.lemmas.Option.{slice_get_read}
 use Rattle.groups.specs.Group.{summary}
@@ -6,7 +6,7 @@ use Rattle.span.specs.declared.entry.Entry.{Entry}
 use Rattle.pool.specs.Sparse.{AreParted}
 use Rattle.pool.specs.State.{PooledState}
 use Rattle.pool.proofs.SparseGroups.{AreParted-start, summaries-as_before, summaries-more}
-use Rattle.pool.proofs.Walked.{paged, take_all}
+use Rattle.pool.proofs.Walked.{paged}
 use Rattle.pool.proofs.walks.summaries_below.Goals as goal
 use Rattle.pool.proofs.walks.summaries_below.Goals.{then-is_paged+in_ok-push_below, else-is_paged}
 
@@ -31,4 +31,4 @@ loop-group-preserved g c =
 
 pub returns : goal.returns
 returns g c = subst (λ (groups : List PooledState). AreParted c.args.bound (map summary (filter paged groups)) c.loop-group.list.items)
-    (take_all c.args.groups.now c.loop-group.group-index (omega (arith, c.loop-group-test.false))) c.loop-group.invariant
+    (take_all c.loop-group.group-index c.args.groups.now (omega (arith, c.loop-group-test.false))) c.loop-group.invariant
