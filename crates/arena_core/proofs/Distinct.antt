@@ -1,6 +1,5 @@
 -- Where no span stands twice in a core, no group stands twice on its side of a mark.
-use Rattle.std.proofs.Common.{◌≡◌, ◌≤◌, Bool, true, false, cond, List, [], ◌∷◌, ap, ◌∙◌, arith, is_some, map, nat_lt}
-use Rattle.std.specs.Prelude.{count_by}
+use Rattle.std.proofs.Common.{◌≡◌, ◌≤◌, Bool, true, false, cond, List, [], ◌∷◌, ap, ◌∙◌, arith, is_some, map, nat_lt, count_by}
 use Rattle.std.specs.List.{AllByRecursion, IsDistinct}
 use Rattle.std.proofs.lemmas.List.{map-append}
 use Rattle.span.specs.declared.id.SpanId.{SpanId}

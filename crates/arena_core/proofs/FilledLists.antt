@@ -1,8 +1,7 @@
 -- Lists that show a filling in each place behind their end.
-use Rattle.std.proofs.Common.{◌≡◌, ℕ, zero, suc, ◌<◌, ◌≤◌, ◌++◌, List, [], ◌∷◌, length, replicate, refl, ap, arith, true, false, None, Some, set, slice_get, sym}
+use Rattle.std.proofs.Common.{◌≡◌, ℕ, zero, suc, ◌<◌, ◌≤◌, ◌++◌, List, [], ◌∷◌, length, replicate, refl, ap, arith, true, false, None, Some, set, slice_get, sym, true≢false}
 use Rattle.arena_core.specs.Filled.{filled}
 use Rattle.arena_core.proofs.Lists.{not_below}
-use Rattle.std.proofs.lemmas.Bool.{true≢false}
 
 pub filled-get : {T : Type 0} (n : ℕ) (filling : T) (items : List T) (i : ℕ) (item : T) → slice_get items i ≡ Some item → i < n → slice_get (filled n filling items) i ≡ Some item
 filled-get zero filling items i item here within = absurd (omega arith)

@@ -1,6 +1,5 @@
 -- Groups of a core that are closed or opened, and nothing else of them changes.
-use Rattle.std.proofs.Common.{◌≡◌, ℕ, zero, suc, Bool, List, [], ◌∷◌, ◌++◌, refl, sym, ap, subst, ◌∙◌, Some, slice_get, map}
-use Rattle.std.specs.Prelude.{count_by, sum_by}
+use Rattle.std.proofs.Common.{◌≡◌, ℕ, zero, suc, Bool, List, [], ◌∷◌, ◌++◌, refl, sym, ap, subst, ◌∙◌, Some, slice_get, map, count_by, sum_by}
 use Rattle.std.proofs.lemmas.List.{length-map}
 use Rattle.span.specs.Ids.{same_span}
 use Rattle.span.specs.State.{SpanState}

@@ -1,7 +1,6 @@
 -- A core that forgets spans which can never be live again stays sound, and shows the same.
-use Rattle.std.proofs.Common.{suc, ◌≡◌, ℕ, ◌+◌, Bool, true, false, not, cond, List, [], ◌∷◌, ◌++◌, None, Some, Option, map, slice_get, is_some, refl, sym, ap, subst, ◌∙◌, arith, inl, inr}
+use Rattle.std.proofs.Common.{suc, ◌≡◌, ℕ, ◌+◌, Bool, true, false, not, cond, List, [], ◌∷◌, ◌++◌, None, Some, Option, map, slice_get, is_some, refl, sym, ap, subst, ◌∙◌, arith, inl, inr, MatchOption, sum_by}
 use Rattle.std.specs.FinSet.{empty}
-use Rattle.std.specs.Prelude.{MatchOption, sum_by}
 use Rattle.std.proofs.lemmas.List.{length-map}
 use Rattle.std.proofs.lemmas.List.Sums.{sum_by-append, sum_by-cons}
 use Rattle.span.specs.declared.id.SpanId.{SpanId}

@@ -1,6 +1,5 @@
 -- The live keys of a sound core are the keys that have a value in the map that it shows.
-use Rattle.std.proofs.Common.{◌≡◌, ℕ, ◌++◌, arith, cond, refl, sym, ap, ◌∙◌, Option, Some, None, is_some}
-use Rattle.std.specs.Prelude.{count_by, find}
+use Rattle.std.proofs.Common.{◌≡◌, ℕ, ◌++◌, arith, cond, refl, sym, ap, ◌∙◌, Option, Some, None, is_some, count_by, find}
 use Rattle.std.specs.FinSet as finset
 use Rattle.std.specs.List.{AllByRecursion}
 use Rattle.std.specs.Ordering.{nat_cmp}

@@ -1,6 +1,5 @@
 -- A sound core shows what the logs of all its spans say, whoever has them.
-use Rattle.std.proofs.Common.{◌≡◌, ℕ, ◌≤◌, Bool, true, false, cond, List, refl, sym, ap, ◌∙◌, arith, Option, Some, None}
-use Rattle.std.specs.Prelude.{count_by, find, sum_by}
+use Rattle.std.proofs.Common.{◌≡◌, ℕ, ◌≤◌, Bool, true, false, cond, List, refl, sym, ap, ◌∙◌, arith, Option, Some, None, count_by, find, sum_by}
 use Rattle.span.specs.declared.key.Key.{Key}
 use Rattle.span.specs.Log.{value_in, was_issued}
 use Rattle.span.specs.PlainMap.{PlainMap}

@@ -1,6 +1,5 @@
 -- What the parts of a call on a key answer.
-use Rattle.std.proofs.Common.{◌≡◌, ◌≤◌, ◌∙◌, ℕ, List, Some, ap, slice_get, sym}
-use Rattle.std.specs.Prelude.{IfSome}
+use Rattle.std.proofs.Common.{◌≡◌, ◌≤◌, ◌∙◌, ℕ, List, Some, ap, slice_get, sym, IfSome}
 use Rattle.span.proofs.Next.{same_key-parts}
 use Rattle.span.specs.Classes.{IsObject}
 use Rattle.span.specs.declared.id.SpanId.{SpanId}

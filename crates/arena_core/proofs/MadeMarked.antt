@@ -1,5 +1,5 @@
 -- A mark of the shards that were made sees what one of all shards would see.
-use Rattle.std.proofs.Common.{◌≡◌, ◌<◌, List, inl, inr, length, refl, subst, sym}
+use Rattle.std.proofs.Common.{◌≡◌, ◌<◌, List, inl, inr, length, refl, subst, sym, map}
 use Rattle.groups.specs.Group.{paged_in, summary}
 use Rattle.shard.specs.State.{ShardState}
 use Rattle.span.specs.declared.entry.Entry.{Entry}
@@ -10,7 +10,6 @@ use Rattle.mesh_graph.specs.Groups.{ids}
 use Rattle.mesh_graph.specs.declared.build.TheConstants.{MOST_GROUPS}
 use Rattle.span.specs.Ids.{same_span}
 use Rattle.std.specs.List.{IsDistinct}
-use Rattle.std.specs.Prelude.{map}
 use Rattle.marks.specs.Closings.{AreOpen}
 use Rattle.marks.specs.Numbers.{Limits}
 use Rattle.marks.specs.Seen.{AreDistinct, AreTooMany, IsLargest, owned_entries}

@@ -1,6 +1,5 @@
 -- A walk over the shards that were made is one over all shards.
-use Rattle.std.proofs.Common.{◌≤◌, ◌⊎◌, ℕ, List, None, Option, Some, inl, inr, length, refl, subst}
-use Rattle.std.specs.Prelude.{IfSome}
+use Rattle.std.proofs.Common.{◌≤◌, ◌⊎◌, ℕ, List, None, Option, Some, inl, inr, length, refl, subst, IfSome}
 use Rattle.std.specs.List.{Contains}
 use Rattle.std.proofs.lemmas.List.Elements.{All-from_recursion, recursion_from_All}
 use Rattle.span.specs.declared.key.Key.{Key}

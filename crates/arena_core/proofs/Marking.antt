@@ -1,6 +1,5 @@
 -- A mark that sees all, by one that sees the sparsest.
-use Rattle.std.proofs.Common.{Ok, Err, Result}
-use Rattle.std.specs.Prelude.{MatchResult}
+use Rattle.std.proofs.Common.{Ok, Err, Result, MatchResult}
 use Rattle.certificate.specs.declared.certificate.Certificate.{Certificate}
 use Rattle.marks.specs.declared.sight.Sight.TheVariants.{All}
 use Rattle.marks.proofs.InPart.{IsLargest-few}

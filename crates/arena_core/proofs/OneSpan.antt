@@ -1,6 +1,5 @@
 -- A set and a free change one span of a group: it keeps its id, its class and its greatest generation, and no slot of it comes to life.
-use Rattle.std.proofs.Common.{zero, suc, ◌≡◌, ℕ, true, refl, sym, ap, ◌∙◌, Option, Some, None, set, slice_get}
-use Rattle.std.specs.Prelude.{IsSome}
+use Rattle.std.proofs.Common.{zero, suc, ◌≡◌, ℕ, true, refl, sym, ap, ◌∙◌, Option, Some, None, set, slice_get, IsSome}
 use Rattle.std.specs.FinSet.{contains, contains-remove}
 use Rattle.std.specs.Cmp.{nat_cmp_total}
 use Rattle.std.proofs.lemmas.Bool.{and_parts}

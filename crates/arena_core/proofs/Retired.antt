@@ -1,6 +1,5 @@
 -- What the groups that a running shard gives to the pool leave: of the shard, of the pool, and of sums over spans.
-use Rattle.std.proofs.Common.{◌≡◌, ℕ, zero, suc, ◌+◌, ◌++◌, List, sym, ap, ◌∙◌, arith, Some, slice_get}
-use Rattle.std.specs.Prelude.{sum_by}
+use Rattle.std.proofs.Common.{◌≡◌, ℕ, zero, suc, ◌+◌, ◌++◌, List, sym, ap, ◌∙◌, arith, Some, slice_get, sum_by}
 use Rattle.std.proofs.lemmas.List.Sums.{sum_by-append}
 use Rattle.span.specs.State.{SpanState}
 use Rattle.groups.specs.Group.{spans_of}

@@ -1,7 +1,5 @@
 -- That the room which is made for notes is enough for the spans that come.
-use Rattle.std.proofs.Common.{◌≡◌, ◌≤◌, ◌+◌, ◌++◌, ℕ, ap, arith, length, slice_get, sym, ◌∙◌, is_some}
-use Rattle.std.specs.Prelude.{IsSome}
-use Rattle.std.proofs.lemmas.List.{length-append}
+use Rattle.std.proofs.Common.{◌≡◌, ◌≤◌, ◌+◌, ◌++◌, ℕ, ap, arith, length, slice_get, sym, ◌∙◌, is_some, IsSome, length-append}
 use Rattle.span.specs.declared.id.SpanId.{SpanId}
 use Rattle.groups.specs.Group.{IsHeadOf, spans_of}
 use Rattle.groups.specs.Whole.{WholeState, spans_moved}

@@ -1,6 +1,5 @@
 -- The plain map that a core shows, after a change of one of its owners: a shard or the pool.
-use Rattle.std.proofs.Common.{◌≡◌, ℕ, ◌+◌, ◌≤◌, Bool, true, false, cond, ◌||◌, refl, sym, ap, ◌∙◌, arith, Some, None, slice_get, is_some, eq-eqb}
-use Rattle.std.specs.Prelude.{sum_by}
+use Rattle.std.proofs.Common.{◌≡◌, ℕ, ◌+◌, ◌≤◌, Bool, true, false, cond, ◌||◌, refl, sym, ap, ◌∙◌, arith, Some, None, slice_get, is_some, eq-eqb, sum_by}
 use Rattle.std.proofs.lemmas.Bool.{and_parts, true_from_ne_false, true≢false}
 use Rattle.std.proofs.option.Match.{None-if_not_some}
 use Rattle.span.specs.declared.id.SpanId.{SpanId}

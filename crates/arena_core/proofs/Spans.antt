@@ -1,6 +1,5 @@
 -- Sums over the spans of a shard, of the pool and of a core, and how often a span stands there.
-use Rattle.std.proofs.Common.{◌≡◌, ℕ, zero, suc, ◌+◌, ◌≤◌, Bool, true, false, cond, List, [], ◌∷◌, ◌++◌, refl, ap, arith, Some, None, slice_get, is_some}
-use Rattle.std.specs.Prelude.{find, count_by, sum_by}
+use Rattle.std.proofs.Common.{◌≡◌, ℕ, zero, suc, ◌+◌, ◌≤◌, Bool, true, false, cond, List, [], ◌∷◌, ◌++◌, refl, ap, arith, Some, None, slice_get, is_some, find, count_by, sum_by}
 use Rattle.std.proofs.lemmas.List.Sums.{sum_by-append}
 use Rattle.std.proofs.option.Match.{None-if_not_some}
 use Rattle.span.specs.declared.id.SpanId.{SpanId}

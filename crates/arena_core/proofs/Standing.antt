@@ -1,8 +1,7 @@
 -- What stays of a table of spans by rank where those go that do not stand in the shard that it names.
-use Rattle.std.proofs.Common.{◌≡◌, ◌<◌, ◌+◌, ◌*◌, ◌/◌, ◌%◌, ℕ, Bool, true, false, cond, eqb-true, nat_eq, List, [], ◌∷◌, None, Some, slice_get, refl, sym, ap, subst, ◌∙◌, arith}
+use Rattle.std.proofs.Common.{◌≡◌, ◌<◌, ◌+◌, ◌*◌, ◌/◌, ◌%◌, ℕ, Bool, true, false, cond, eqb-true, nat_eq, List, [], ◌∷◌, None, Some, slice_get, refl, sym, ap, subst, ◌∙◌, arith, ◌↔◌, IfSome, IsSome, IsTrue, Option}
 use Rattle.std.specs.Map.{lookup}
 use Rattle.std.specs.Map.Calls.{RetainsPairs}
-use Rattle.std.specs.Prelude.{◌↔◌, IfSome, IsSome, IsTrue, Option}
 use Rattle.groups.proofs.Lists.{same_some}
 use Rattle.span.specs.Ids.{rank}
 use Rattle.span.specs.declared.id.SpanId.{SpanId}

@@ -1,6 +1,5 @@
 -- The next pair of the open plan is carried out: it is neither absent nor a clash.
-use Rattle.std.proofs.Common.{◌≡◌, ℕ, ◌+◌, length, true, false, inl, inr, refl, sym, ap, subst, ◌∙◌, arith, Some, slice_get, is_some}
-use Rattle.std.specs.Prelude.{MatchOption}
+use Rattle.std.proofs.Common.{◌≡◌, ℕ, ◌+◌, length, true, false, inl, inr, refl, sym, ap, subst, ◌∙◌, arith, Some, slice_get, is_some, MatchOption}
 use Rattle.std.proofs.lemmas.Option.{none-some}
 use Rattle.bitmap.specs.Slots.{SlotSet, AreDisjoint}
 use Rattle.bitmap.specs.Operations.{AreDisjoint-at, AreDisjoint-by_slot}

@@ -1,6 +1,5 @@
 -- Where a span of a sound core stands, whether its key may be set there, and why a put is refused.
-use Rattle.std.proofs.Common.{◌≡◌, ℕ, ◌≤◌, ◌⊎◌, inl, inr, true, false, refl, sym, ap, ◌∙◌, arith, Some, slice_get, is_some, Err, Result}
-use Rattle.std.specs.Prelude.{◌↔◌}
+use Rattle.std.proofs.Common.{◌≡◌, ℕ, ◌≤◌, ◌⊎◌, inl, inr, true, false, refl, sym, ap, ◌∙◌, arith, Some, slice_get, is_some, Err, Result, ◌↔◌}
 use Rattle.span.specs.declared.id.SpanId.{SpanId}
 use Rattle.span.specs.declared.key.Key.{Key}
 use Rattle.span.specs.Classes.{class_of}

@@ -1,6 +1,5 @@
 -- What a trim of a shard leaves: the same spans, and closed groups as they were.
-use Rattle.std.proofs.Common.{◌≡◌, ℕ, Bool, true, false, not, cond, ◌&&◌, nat_eq, is_some, List, [], ◌∷◌, ◌++◌, Option, None, Some, map, slice_get, ◌∙◌, ap, sym, refl, arith}
-use Rattle.std.specs.Prelude.{sum_by}
+use Rattle.std.proofs.Common.{◌≡◌, ℕ, Bool, true, false, not, cond, ◌&&◌, nat_eq, is_some, List, [], ◌∷◌, ◌++◌, Option, None, Some, map, slice_get, ◌∙◌, ap, sym, refl, arith, sum_by}
 use Rattle.span.specs.Ids.{same_span}
 use Rattle.span.specs.State.{SpanState}
 use Rattle.span.specs.declared.id.SpanId.{SpanId}

@@ -1,6 +1,5 @@
 -- An adoption: the lowest group that has a page, and what the shard asks of it.
-use Rattle.std.proofs.Common.{◌≡◌, ℕ, false, length, Option, Some, None, slice_get, ap, sym, subst, ◌∙◌, refl, inl, inr, arith, rules}
-use Rattle.std.specs.Prelude.{◌≢◌, MatchOption}
+use Rattle.std.proofs.Common.{◌≡◌, ℕ, false, length, Option, Some, None, slice_get, ap, sym, subst, ◌∙◌, refl, inl, inr, arith, rules, ◌≢◌, MatchOption}
 use Rattle.std.specs.Option.{IsSome}
 use Rattle.std.proofs.lemmas.Bool.{cases_eq, cases_lt}
 use Rattle.span.specs.declared.id.SpanId.{SpanId}

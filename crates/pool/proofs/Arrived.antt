@@ -1,6 +1,5 @@
 -- The groups of a shard that has ended stand in the pool whole, and so do those that were there before.
-use Rattle.std.proofs.Common.{zero, suc, ◌≡◌, ℕ, ◌+◌, List, [], ◌∷◌, length, Some, None, map, slice_get, ap, sym, subst, ◌∙◌, refl, arith, rules, is_some}
-use Rattle.std.specs.Prelude.{option_map}
+use Rattle.std.proofs.Common.{zero, suc, ◌≡◌, ℕ, ◌+◌, List, [], ◌∷◌, length, Some, None, map, slice_get, ap, sym, subst, ◌∙◌, refl, arith, rules, is_some, option_map}
 use Rattle.std.specs.FinSet as set
 use Rattle.std.proofs.lemmas.List.{length-map}
 use Rattle.std.proofs.lemmas.List.Edits.{length-insert}

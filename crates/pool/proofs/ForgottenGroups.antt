@@ -1,8 +1,7 @@
 -- A row of groups that forgets what can never be live again.
-use Rattle.std.proofs.Common.{zero, suc, ◌≡◌, ℕ, ◌+◌, ◌<◌, ◌≤◌, Bool, true, false, cond, List, [], ◌∷◌, length, insert, map, filter, is_some, Option, Some, None, slice_get, ap, sym, subst, ◌∙◌, refl, arith, rules}
+use Rattle.std.proofs.Common.{zero, suc, ◌≡◌, ℕ, ◌+◌, ◌<◌, ◌≤◌, Bool, true, false, cond, List, [], ◌∷◌, length, insert, map, filter, is_some, Option, Some, None, slice_get, ap, sym, subst, ◌∙◌, refl, arith, rules, IsSome, MatchOption, nat_lt, option_map}
 use Rattle.std.specs.FinSet.{empty}
 use Rattle.std.specs.List.{Contains}
-use Rattle.std.specs.Prelude.{IsSome, MatchOption, nat_lt, option_map}
 use Rattle.std.proofs.lemmas.Bool.{cases_lt, false≢true}
 use Rattle.page.specs.Words.{Words}
 use Rattle.span.specs.Ids.{rank}

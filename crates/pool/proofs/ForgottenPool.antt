@@ -1,8 +1,6 @@
 -- A pool that forgets what can never be live again stays sound, and shows the same values.
-use Rattle.std.proofs.Common.{suc, ◌≡◌, ℕ, ◌+◌, ◌≤◌, Bool, true, false, not, cond, List, [], ◌∷◌, ◌++◌, length, map, is_some, Option, Some, None, ap, sym, subst, ◌∙◌, refl, arith}
+use Rattle.std.proofs.Common.{suc, ◌≡◌, ℕ, ◌+◌, ◌≤◌, Bool, true, false, not, cond, List, [], ◌∷◌, ◌++◌, length, map, is_some, Option, Some, None, ap, sym, subst, ◌∙◌, refl, arith, MatchOption, sum_by, length-append}
 use Rattle.std.specs.FinSet.{empty}
-use Rattle.std.specs.Prelude.{MatchOption, sum_by}
-use Rattle.std.proofs.lemmas.List.{length-append}
 use Rattle.std.proofs.lemmas.List.Sums.{sum_by-append}
 use Rattle.page.specs.Words.{Words}
 use Rattle.span.specs.Ids.{same_span}

@@ -1,7 +1,6 @@
 -- A group after a free in one of its spans: its head, and its page.
-use Rattle.std.proofs.Common.{zero, suc, ◌≡◌, ℕ, Bool, true, false, Some, slice_get, ap, refl, rules}
+use Rattle.std.proofs.Common.{zero, suc, ◌≡◌, ℕ, Bool, true, false, Some, slice_get, ap, refl, rules, IsSome}
 use Rattle.std.specs.Bool.{OnFalse, OnTrue}
-use Rattle.std.specs.Prelude.{IsSome}
 use Rattle.std.proofs.lemmas.Bool.{false≢true}
 use Rattle.span.specs.State.{SpanState}
 use Rattle.groups.specs.Group.{spans_of, with_span}

@@ -1,6 +1,5 @@
 -- The heads of groups that are left by a test ascend.
-use Rattle.std.proofs.Common.{zero, suc, ◌≡◌, ℕ, ◌<◌, Bool, true, false, cond, List, [], ◌∷◌, slice_get, Some, arith}
-use Rattle.std.specs.Prelude.{filter}
+use Rattle.std.proofs.Common.{zero, suc, ◌≡◌, ℕ, ◌<◌, Bool, true, false, cond, List, [], ◌∷◌, slice_get, Some, arith, filter}
 use Rattle.span.specs.Ids.{rank}
 use Rattle.pool.specs.State.{PooledState}
 use Rattle.groups.specs.Group.{Ascend}

@@ -1,6 +1,5 @@
 -- A span that is in the pool and in a shard, too.
-use Rattle.std.proofs.Common.{zero, suc, ◌≡◌, ℕ, Bool, List, [], ◌∷◌, Some, slice_get, ◌∙◌, ◌⊎◌, ap, sym, refl, inl, inr}
-use Rattle.std.specs.Prelude.{◌↔◌, IsTrue, false}
+use Rattle.std.proofs.Common.{zero, suc, ◌≡◌, ℕ, Bool, List, [], ◌∷◌, Some, slice_get, ◌∙◌, ◌⊎◌, ap, sym, refl, inl, inr, ◌↔◌, IsTrue, false}
 use Rattle.std.proofs.lemmas.Bool.{cases_Bool, true≢false}
 use Rattle.span.specs.Ids.{same_span}
 use Rattle.span.specs.State.{SpanState}

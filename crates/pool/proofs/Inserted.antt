@@ -1,6 +1,5 @@
 -- A pool stays sound where a sound group comes in at the place of its head.
-use Rattle.std.proofs.Common.{◌≡◌, ℕ, ◌<◌, ◌≤◌, Some, slice_get, arith, rules}
-use Rattle.std.specs.Prelude.{◌≢◌, IsSome, insert}
+use Rattle.std.proofs.Common.{◌≡◌, ℕ, ◌<◌, ◌≤◌, Some, slice_get, arith, rules, ◌≢◌, IsSome, insert}
 use Rattle.std.specs.FinSet as set
 use Rattle.span.specs.Ids.{rank, same_span}
 use Rattle.span.specs.State.{SpanState}

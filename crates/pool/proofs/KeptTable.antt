@@ -1,6 +1,5 @@
 -- What the row, the table and the heap keep after a change.
-use Rattle.std.proofs.Common.{◌≡◌, ℕ, ◌+◌, ◌≤◌, List, Option, Some, length, length-set, set, slice_get, rules}
-use Rattle.std.specs.Prelude.{IsSome}
+use Rattle.std.proofs.Common.{◌≡◌, ℕ, ◌+◌, ◌≤◌, List, Option, Some, length, length-set, set, slice_get, rules, IsSome}
 use Rattle.pool.specs.Noted.{RanksState}
 use Rattle.pool.specs.State.{PooledState}
 use Rattle.pool.specs.Tabled.{AreKept}

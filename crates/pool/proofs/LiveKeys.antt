@@ -1,6 +1,5 @@
 -- Keys are live in groups that have a page alone.
-use Rattle.std.proofs.Common.{suc, ◌≡◌, ◌+◌, Bool, true, false, cond, List, [], ◌∷◌, ◌++◌, Option, Some, None, MatchOption, is_some, ap, sym, ◌∙◌, refl, arith}
-use Rattle.std.specs.Prelude.{filter}
+use Rattle.std.proofs.Common.{suc, ◌≡◌, ◌+◌, Bool, true, false, cond, List, [], ◌∷◌, ◌++◌, Option, Some, None, MatchOption, is_some, ap, sym, ◌∙◌, refl, arith, filter}
 use Rattle.std.specs.FinSet as set
 use Rattle.std.specs.Ordering.{nat_cmp}
 use Rattle.page.specs.Words.{Words}

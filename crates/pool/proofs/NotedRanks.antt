@@ -1,6 +1,5 @@
 -- Ranks that are noted, and the least of them.
-use Rattle.std.proofs.Common.{zero, suc, ◌≡◌, ℕ, ◌+◌, ◌<◌, ◌≤◌, false, List, [], ◌∷◌, ◌++◌, length, map, set, Some, None, take, get_or, slice_get, ap, sym, subst, ◌∙◌, refl, inl, inr, ◌⊎◌, arith, rules, is_some, take_all}
-use Rattle.std.specs.Prelude.{IfNone, IfSome, IsSome, Option, is_some}
+use Rattle.std.proofs.Common.{zero, suc, ◌≡◌, ℕ, ◌+◌, ◌<◌, ◌≤◌, false, List, [], ◌∷◌, ◌++◌, length, map, set, Some, None, take, get_or, slice_get, ap, sym, subst, ◌∙◌, refl, inl, inr, ◌⊎◌, arith, rules, is_some, take_all, IfNone, IfSome, IsSome, Option}
 use Rattle.std.specs.BinaryHeap.{IsHeap, IsUpperBound, PopsGreatest}
 use Rattle.std.specs.List.{All, Contains}
 use Rattle.std.specs.List.Sorted.{IsPermutation}

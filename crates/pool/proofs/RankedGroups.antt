@@ -1,6 +1,5 @@
 -- Groups in a row, found by the ranks of their heads: one that comes, one that changes, and one that goes.
-use Rattle.std.proofs.Common.{zero, suc, ◌≡◌, ◌≢◌, ℕ, ◌-◌, ◌<◌, ◌≤◌, List, [], ◌∷◌, ◌++◌, length, length-set, get_or, insert, Option, Some, None, set, slice_get, take, ap, sym, subst, ◌∙◌, refl, inl, inr, ◌⊎◌, arith, rules}
-use Rattle.std.specs.Prelude.{remove, swap_remove}
+use Rattle.std.proofs.Common.{zero, suc, ◌≡◌, ◌≢◌, ℕ, ◌-◌, ◌<◌, ◌≤◌, List, [], ◌∷◌, ◌++◌, length, length-set, get_or, insert, Option, Some, None, set, slice_get, take, ap, sym, subst, ◌∙◌, refl, inl, inr, ◌⊎◌, arith, rules, remove, swap_remove}
 use Rattle.std.proofs.lemmas.Bool.{cases_eq, cases_lt}
 use Rattle.std.proofs.lemmas.List.Sorted.{length_permutation}
 use Rattle.std.proofs.lemmas.Option.{slice_get-get_or, slice_get_within}

@@ -1,6 +1,5 @@
 -- A group that gives its page up where no slot is live, and a group that keeps it since a key of it is live.
-use Rattle.std.proofs.Common.{◌≡◌, ℕ, None, Some, is_some, slice_get, ◌∙◌, ap, subst, sym, inl, inr}
-use Rattle.std.specs.Prelude.{◌≢◌, IsSome}
+use Rattle.std.proofs.Common.{◌≡◌, ℕ, None, Some, is_some, slice_get, ◌∙◌, ap, subst, sym, inl, inr, ◌≢◌, IsSome}
 use Rattle.std.specs.FinSet.{empty}
 use Rattle.std.proofs.lemmas.Bool.{false≢true}
 use Rattle.span.specs.Log.{Holds}

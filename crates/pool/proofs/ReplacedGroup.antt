@@ -1,6 +1,5 @@
 -- A pool stays sound where one of its groups is replaced by a sound group of the same ids: so it is at a set.
-use Rattle.std.proofs.Common.{◌≡◌, ℕ, Some, set, slice_get, ◌∙◌, ap, subst, sym, refl, inl, inr}
-use Rattle.std.specs.Prelude.{◌≢◌, IsSome}
+use Rattle.std.proofs.Common.{◌≡◌, ℕ, Some, set, slice_get, ◌∙◌, ap, subst, sym, refl, inl, inr, ◌≢◌, IsSome}
 use Rattle.std.specs.FinSet.{empty}
 use Rattle.span.specs.Log.{Value}
 use Rattle.span.specs.State.{IsSettable, SpanState}

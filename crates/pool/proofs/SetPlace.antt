@@ -1,7 +1,6 @@
 -- A set in a group: it has a page, which the object fits, and it keeps its head.
-use Rattle.std.proofs.Common.{zero, suc, ◌≡◌, ◌<◌, ◌↔◌, ℕ, Option, Bool, true, false, is_some, length, Some, slice_get, ap, sym, subst, ◌∙◌, refl, rules}
+use Rattle.std.proofs.Common.{zero, suc, ◌≡◌, ◌<◌, ◌↔◌, ℕ, Option, Bool, true, false, is_some, length, Some, slice_get, ap, sym, subst, ◌∙◌, refl, rules, Err, IfOk, IsSome, IsTrue, Ok, OnErr, Result, unwrap_or}
 use Rattle.std.specs.Bool.{OnFalse, OnTrue}
-use Rattle.std.specs.Prelude.{Err, IfOk, IsSome, IsTrue, Ok, OnErr, Result, unwrap_or}
 use Rattle.span.proofs.OfClass.{Holds-on_page}
 use Rattle.span.specs.Classes.{slots_in, width_of}
 use Rattle.span.specs.Log.{IsOfClass, Value}

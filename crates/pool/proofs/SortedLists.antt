@@ -1,6 +1,5 @@
 -- A list that is sorted by numbers of which each stands once is the list in ascending order.
-use Rattle.std.proofs.Common.{◌≡◌, ℕ, Bool, List, map, get_or, Some, ap, sym, subst, ◌∙◌, refl, inl, inr, arith, eq-eqb, nat_eq, rules}
-use Rattle.std.specs.Prelude.{filter}
+use Rattle.std.proofs.Common.{◌≡◌, ℕ, Bool, List, map, get_or, Some, ap, sym, subst, ◌∙◌, refl, inl, inr, arith, eq-eqb, nat_eq, rules, filter}
 use Rattle.std.specs.List.{Contains, IsDistinct}
 use Rattle.std.specs.List.Sorted.{IsNonDecreasingBy, IsPermutation}
 use Rattle.std.proofs.lemmas.Bool.{cases_eq, false≢true, ne_eqb}

@@ -1,6 +1,5 @@
 -- Lists of the groups with few live slots.
-use Rattle.std.proofs.Common.{zero, suc, ℕ, ◌+◌, ◌≤◌, ◌<◌, ◌≡◌, ◌++◌, ◌∷◌, true, false, List, [], Some, length, map, take, slice_get, append_assoc, ap, arith, subst, sym, ◌∙◌}
-use Rattle.std.specs.Prelude.{filter}
+use Rattle.std.proofs.Common.{zero, suc, ℕ, ◌+◌, ◌≤◌, ◌<◌, ◌≡◌, ◌++◌, ◌∷◌, true, false, List, [], Some, length, map, take, slice_get, append_assoc, ap, arith, subst, sym, ◌∙◌, filter}
 use Rattle.std.specs.FinSet as set
 use Rattle.std.specs.List.{All}
 use Rattle.std.specs.List.Sorted.{IsPermutation}

@@ -1,6 +1,5 @@
-use Rattle.std.proofs.Common.{◌≡◌, ◌∙◌, ◌<◌, None, Some, ap, arith, length, refl, slice_get, subst, sym}
+use Rattle.std.proofs.Common.{◌≡◌, ◌∙◌, ◌<◌, None, Some, ap, arith, length, refl, slice_get, subst, sym, IsSome}
 use Rattle.std.specs.FinMap as table
-use Rattle.std.specs.Prelude.{IsSome}
 use Rattle.std.proofs.lemmas.Option.{slice_get_read}
 use Rattle.span.specs.Ids.{rank}
 use Rattle.groups.proofs.Maps.{Sets}

@@ -1,6 +1,5 @@
-use Rattle.std.proofs.Common.{◌≡◌, ◌∙◌, ◌++◌, ap, arith, length, map, sym}
+use Rattle.std.proofs.Common.{◌≡◌, ◌∙◌, ◌++◌, ap, arith, length, map, sym, append_assoc, length-append}
 use Rattle.std.specs.Vec.Iter.{into_iter_items}
-use Rattle.std.proofs.lemmas.List.{append_assoc, length-append}
 use Rattle.span.specs.SpanLogs.{span_of_log}
 use Rattle.groups.specs.Group.{spans_in, spans_of}
 use Rattle.groups.specs.Spans.{SpansState, all_spans}

@@ -1,9 +1,8 @@
-use Rattle.std.proofs.Common.{◌∙◌, ap, arith, length, refl, sym, take}
+use Rattle.std.proofs.Common.{◌∙◌, ap, arith, length, refl, sym, take, filter}
 use Rattle.std.proofs.lemmas.Option.{slice_get_read}
 use Rattle.groups.specs.Group.{spans_in}
 use Rattle.groups.specs.Spans.{live_count}
 use Rattle.pool.proofs.Walked.{live_count-push, paged, paged-as_before, paged-more}
-use Rattle.std.specs.Prelude.{filter}
 use Rattle.pool.proofs.walks.live.Goals as goal
 use Rattle.pool.proofs.walks.live.Goals.{then-is_paged, else-is_paged}
 

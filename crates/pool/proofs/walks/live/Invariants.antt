@@ -1,5 +1,4 @@
-use Rattle.std.proofs.Common.{◌≡◌, ◌*◌, ◌≤◌, take}
-use Rattle.std.specs.Prelude.{filter}
+use Rattle.std.proofs.Common.{◌≡◌, ◌*◌, ◌≤◌, take, filter}
 use Rattle.bitmap.specs.declared.bits.TheConstants.{SLOTS}
 use Rattle.groups.specs.Group.{spans_in}
 use Rattle.groups.specs.Spans.{live_count}

@@ -1,7 +1,5 @@
-use Rattle.std.proofs.Common.{◌∙◌, ◌∷◌, [], List, ap, arith, length, refl, sym, take}
+use Rattle.std.proofs.Common.{◌∙◌, ◌∷◌, [], List, ap, arith, length, refl, sym, take, filter, length-append}
 use Rattle.std.proofs.lemmas.Option.{slice_get_read}
-use Rattle.std.specs.Prelude.{filter}
-use Rattle.std.proofs.lemmas.List.{length-append}
 use Rattle.pool.specs.State.{PooledState}
 use Rattle.pool.proofs.Walked.{paged, paged-as_before, paged-more}
 use Rattle.pool.proofs.walks.pages.Goals as goal

@@ -1,5 +1,4 @@
-use Rattle.std.proofs.Common.{◌≡◌, ◌≤◌, length, take}
-use Rattle.std.specs.Prelude.{filter}
+use Rattle.std.proofs.Common.{◌≡◌, ◌≤◌, length, take, filter}
 use Rattle.pool.proofs.Walked.{paged}
 use Rattle.pool.proofs.walks.pages.Given as goal
 

@@ -1,5 +1,4 @@
-use Rattle.std.proofs.Common.{◌≡◌, map, take}
-use Rattle.std.specs.Prelude.{filter}
+use Rattle.std.proofs.Common.{◌≡◌, map, take, filter}
 use Rattle.groups.specs.Group.{summary}
 use Rattle.pool.proofs.Walked.{paged}
 use Rattle.pool.proofs.walks.summaries.Given as goal

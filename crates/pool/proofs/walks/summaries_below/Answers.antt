@@ -1,5 +1,4 @@
-use Rattle.std.proofs.Common.{◌∙◌, ◌++◌, ◌∷◌, [], List, ap, arith, length, map, refl, subst, sym, take, take_all}
-use Rattle.std.specs.Prelude.{filter}
+use Rattle.std.proofs.Common.{◌∙◌, ◌++◌, ◌∷◌, [], List, ap, arith, length, map, refl, subst, sym, take, take_all, filter}
 use Rattle.std.proofs.lemmas.Option.{slice_get_read}
 use Rattle.groups.specs.Group.{summary}
 use Rattle.span.specs.declared.entry.Entry.{Entry}

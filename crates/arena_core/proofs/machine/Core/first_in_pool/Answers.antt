@@ -1,5 +1,4 @@
-use Rattle.std.proofs.Common.{subst}
-use Rattle.std.specs.Prelude.{MatchOption}
+use Rattle.std.proofs.Common.{subst, MatchOption}
 use Rattle.span.specs.Order.{HasNoneFrom, IsFirstFrom}
 use Rattle.pool.specs.Shown.{shown as shown_by_pool}
 use Rattle.arena_core.specs.Sound.{IsSound}

@@ -1,5 +1,4 @@
-use Rattle.std.proofs.Common.{ap, map-id, refl, subst, sym, ◌∙◌}
-use Rattle.std.proofs.lemmas.Bool.{true≢false}
+use Rattle.std.proofs.Common.{ap, map-id, refl, subst, sym, ◌∙◌, true≢false}
 use Rattle.std.proofs.option.Match.{None-if_not_some}
 use Rattle.marks.specs.Seen.{AreTooMany}
 use Rattle.arena_core.specs.State.{CoreState}

@@ -1,6 +1,5 @@
-use Rattle.std.proofs.Common.{◌≡◌, ◌≢◌, ◌<◌, false, true, arith, refl, subst, sym, ◌∙◌, Some, get_or, ℕ}
+use Rattle.std.proofs.Common.{◌≡◌, ◌≢◌, ◌<◌, false, true, arith, refl, subst, sym, ◌∙◌, Some, get_or, ℕ, vec_len}
 use Rattle.std.proofs.lemmas.Option.{none-some}
-use Rattle.std.specs.Prelude.{vec_len}
 use Rattle.groups.proofs.Lists.{same_some}
 use Rattle.arena_core.specs.Kept.{shards_of, state_of, IsKept}
 use Rattle.arena_core.specs.Moved.{StandsIn, named}

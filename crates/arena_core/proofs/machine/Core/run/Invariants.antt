@@ -1,5 +1,4 @@
-use Rattle.std.proofs.Common.{◌≤◌, ◌+◌, length, take}
-use Rattle.std.specs.Prelude.{vec_len, vec_capacity}
+use Rattle.std.proofs.Common.{◌≤◌, ◌+◌, length, take, vec_len, vec_capacity}
 use Rattle.arena_core.specs.Sound.{IsSound}
 use Rattle.arena_core.specs.Step.{Answers}
 use Rattle.arena_core.proofs.machine.Core.run.Given as goal

@@ -1,6 +1,4 @@
-use Rattle.std.proofs.Common.{◌≡◌, ap, arith, is_some, length, subst, sym, take, ◌∙◌}
-use Rattle.std.specs.Prelude.{sum_by}
-use Rattle.std.proofs.lemmas.List.{take_all}
+use Rattle.std.proofs.Common.{◌≡◌, ap, arith, is_some, length, subst, sym, take, ◌∙◌, sum_by, take_all}
 use Rattle.std.proofs.lemmas.List.Sums.{sum_by_more}
 use Rattle.groups.specs.Group.{paged_in}
 use Rattle.shard.specs.State.{ShardState}

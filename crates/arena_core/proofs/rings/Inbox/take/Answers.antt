@@ -1,6 +1,5 @@
-use Rattle.std.proofs.Common.{◌<◌, List, arith, refl, set, slice_get, subst, sym, ap, ◌∙◌}
+use Rattle.std.proofs.Common.{◌<◌, List, arith, refl, set, slice_get, subst, sym, ap, ◌∙◌, vec_len}
 use Rattle.std.proofs.lemmas.Option.{slice_get_read}
-use Rattle.std.specs.Prelude.{vec_len}
 use Rattle.arena_core.specs.Filled.{TakesIn, filled}
 use Rattle.arena_core.specs.Rings.{RingState, new_ring}
 use Rattle.arena_core.proofs.FilledLists.{filled-get, filled-none, filled-past, filled-set, no_item}

@@ -1,7 +1,6 @@
-use Rattle.std.proofs.Common.{◌≡◌, ◌<◌, List, MatchResult, arith, refl, replicate, set, subst, sym, ◌∙◌}
+use Rattle.std.proofs.Common.{◌≡◌, ◌<◌, List, MatchResult, arith, refl, replicate, set, subst, sym, ◌∙◌, vec_len}
 use Rattle.std.proofs.lemmas.Option.{slice_get_read}
 use Rattle.std.proofs.lemmas.Result.{err_from_is_err_and}
-use Rattle.std.specs.Prelude.{vec_len}
 use Rattle.arena_core.specs.Filled.{filled}
 use Rattle.arena_core.specs.Rings.{CannotSend, RingState, Sends, new_ring}
 use Rattle.arena_core.proofs.FilledLists.{filled-get, filled-set}

@@ -1,6 +1,5 @@
-use Rattle.std.proofs.Common.{◌≡◌, ◌<◌, List, MatchResult, None, arith, refl, replicate, set, subst, sym}
+use Rattle.std.proofs.Common.{◌≡◌, ◌<◌, List, MatchResult, None, arith, refl, replicate, set, subst, sym, vec_len}
 use Rattle.std.proofs.lemmas.Option.{slice_get_read}
-use Rattle.std.specs.Prelude.{vec_len}
 use Rattle.arena_core.specs.declared.reply.Refusal.TheVariants.{Config}
 use Rattle.arena_core.specs.Filled.{filled}
 use Rattle.arena_core.specs.Rings.{RingState, Takes, new_ring, ring_at}

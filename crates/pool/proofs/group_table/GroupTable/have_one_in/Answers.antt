@@ -1,5 +1,4 @@
-use Rattle.std.proofs.Common.{List, subst}
-use Rattle.std.specs.Prelude.{◌↔◌, IsTrue}
+use Rattle.std.proofs.Common.{List, subst, ◌↔◌, IsTrue}
 use Rattle.pool.specs.Groups.{GroupsState}
 use Rattle.pool.specs.Handover.{HaveOneIn}
 use Rattle.pool.specs.State.{PooledState}

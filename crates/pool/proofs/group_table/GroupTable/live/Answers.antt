@@ -1,6 +1,5 @@
-use Rattle.std.proofs.Common.{◌∙◌, List, ap, arith, length, sym}
+use Rattle.std.proofs.Common.{◌∙◌, List, ap, arith, length, sym, filter}
 use Rattle.std.specs.FinMap as table
-use Rattle.std.specs.Prelude.{filter}
 use Rattle.groups.specs.Group.{spans_in}
 use Rattle.groups.specs.Spans.{live_count}
 use Rattle.pool.specs.Groups.{GroupsState}

@@ -1,5 +1,4 @@
-use Rattle.std.proofs.Common.{◌∙◌, List, ap, arith, subst}
-use Rattle.std.specs.Prelude.{MatchOption}
+use Rattle.std.proofs.Common.{◌∙◌, List, ap, arith, subst, MatchOption}
 use Rattle.pool.specs.Calls.{HasNoPage}
 use Rattle.pool.specs.Groups.{GroupsState}
 use Rattle.pool.specs.Noted.{AreNoted, IsHeadOfFirstPaged}

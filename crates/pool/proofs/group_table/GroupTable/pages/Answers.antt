@@ -1,5 +1,4 @@
-use Rattle.std.proofs.Common.{◌∙◌, ap, length, sym}
-use Rattle.std.specs.Prelude.{filter}
+use Rattle.std.proofs.Common.{◌∙◌, ap, length, sym, filter}
 use Rattle.pool.specs.Groups.{GroupsState}
 use Rattle.pool.proofs.Walked.{paged, pages-in_order}
 use Rattle.pool.proofs.group_table.GroupTable.pages.Goals as goal

@@ -1,7 +1,6 @@
-use Rattle.std.proofs.Common.{List, ap, arith, length, refl, ℕ}
+use Rattle.std.proofs.Common.{List, ap, arith, length, refl, ℕ, vec_capacity}
 use Rattle.std.specs.FinMap as table
 use Rattle.std.specs.Ordering.{nat_cmp}
-use Rattle.std.specs.Prelude.{vec_capacity}
 use Rattle.pool.proofs.KeptTable.{AreKept-same}
 use Rattle.pool.proofs.group_table.GroupTable.reserve.Goals as goal
 

@@ -1,5 +1,4 @@
-use Rattle.std.proofs.Common.{Global, List, Vec, map, subst}
-use Rattle.std.specs.Prelude.{IfOk, filter}
+use Rattle.std.proofs.Common.{Global, List, Vec, map, subst, IfOk, filter}
 use Rattle.std.proofs.lemmas.Result.{IfOk-weaker}
 use Rattle.groups.specs.Group.{summary}
 use Rattle.span.specs.declared.entry.Entry.{Entry}

@@ -1,6 +1,5 @@
-use Rattle.std.proofs.Common.{◌∙◌, List, ap, map, rules}
+use Rattle.std.proofs.Common.{◌∙◌, List, ap, map, rules, filter}
 use Rattle.std.specs.FinMap as table
-use Rattle.std.specs.Prelude.{filter}
 use Rattle.std.proofs.lemmas.List.Sorted.{IsNonDecreasingBy-from_sort_by_key}
 use Rattle.span.specs.Ids.{rank}
 use Rattle.span.specs.declared.entry.Entry.{Entry}

@@ -1,5 +1,4 @@
-use Rattle.std.proofs.Common.{◌∙◌, None, ap, refl, subst, sym}
-use Rattle.std.specs.Prelude.{IsSome}
+use Rattle.std.proofs.Common.{◌∙◌, None, ap, refl, subst, sym, IsSome}
 use Rattle.std.proofs.lemmas.Bool.{false≢true}
 use Rattle.page.specs.Words.{Words}
 use Rattle.pool.specs.Calls.{IsDoubled, IsHeadOfLowest}

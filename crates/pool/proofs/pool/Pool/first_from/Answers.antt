@@ -1,5 +1,4 @@
-use Rattle.std.proofs.Common.{◌≡◌, ap, subst, sym, is_some}
-use Rattle.std.specs.Prelude.{IfSome}
+use Rattle.std.proofs.Common.{◌≡◌, ap, subst, sym, is_some, IfSome}
 use Rattle.span.proofs.Next.{first-held}
 use Rattle.pool.specs.Shown.{shown}
 use Rattle.groups.specs.Group.{IsElsewhere, IsHere}

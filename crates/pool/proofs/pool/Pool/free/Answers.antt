@@ -1,5 +1,4 @@
-use Rattle.std.proofs.Common.{◌≡◌, ◌∙◌, ap, arith, refl, set, subst, sym}
-use Rattle.std.proofs.lemmas.Bool.{true≢false}
+use Rattle.std.proofs.Common.{◌≡◌, ◌∙◌, ap, arith, refl, set, subst, sym, true≢false}
 use Rattle.groups.specs.Group.{with_span}
 use Rattle.groups.specs.Spans.{with_free}
 use Rattle.pool.specs.Calls.{Leaves}

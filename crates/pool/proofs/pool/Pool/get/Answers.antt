@@ -1,5 +1,4 @@
-use Rattle.std.proofs.Common.{◌∙◌, ap, refl, sym}
-use Rattle.std.proofs.lemmas.Bool.{true≢false}
+use Rattle.std.proofs.Common.{◌∙◌, ap, refl, sym, true≢false}
 use Rattle.span.proofs.Widths.{IsObject-width}
 use Rattle.page.specs.Words.{object_in}
 use Rattle.groups.specs.Pages.{words_of}

@@ -1,5 +1,4 @@
-use Rattle.std.proofs.Common.{◌≡◌, ℕ, Bool, Bor, true, false, Option, Some, None, MatchOption, is_some, ◌∙◌, List, sym}
-use Rattle.std.specs.Prelude.{◌↔◌, IsTrue}
+use Rattle.std.proofs.Common.{◌≡◌, ℕ, Bool, Bor, true, false, Option, Some, None, MatchOption, is_some, ◌∙◌, List, sym, ◌↔◌, IsTrue}
 use Rattle.span.specs.State.{SpanState}
 use Rattle.span.specs.declared.id.SpanId.{SpanId}
 use Rattle.pool.specs.State.{PooledState}

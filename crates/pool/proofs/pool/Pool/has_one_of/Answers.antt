@@ -1,5 +1,4 @@
-use Rattle.std.proofs.Common.{subst}
-use Rattle.std.specs.Prelude.{◌↔◌, IsTrue}
+use Rattle.std.proofs.Common.{subst, ◌↔◌, IsTrue}
 use Rattle.pool.specs.Calls.{IsInPool}
 use Rattle.pool.specs.Kept.{state_of}
 use Rattle.pool.specs.State.{PoolState}

@@ -1,5 +1,4 @@
-use Rattle.std.proofs.Common.{◌≡◌, ◌∙◌, ap, arith, refl, subst, sym}
-use Rattle.std.specs.Prelude.{remove}
+use Rattle.std.proofs.Common.{◌≡◌, ◌∙◌, ap, arith, refl, subst, sym, remove}
 use Rattle.groups.specs.Directory.{DirectoryState}
 use Rattle.groups.specs.Group.{IsHeadOf}
 use Rattle.groups.specs.Whole.{IsSoundWhole, whole_of}

@@ -1,5 +1,4 @@
-use Rattle.std.proofs.Common.{subst}
-use Rattle.std.specs.Prelude.{MatchOption}
+use Rattle.std.proofs.Common.{subst, MatchOption}
 use Rattle.pool.specs.Calls.{HasNothingToAdopt, IsHeadOfLowest}
 use Rattle.pool.specs.Kept.{state_of}
 use Rattle.pool.specs.State.{PoolState}

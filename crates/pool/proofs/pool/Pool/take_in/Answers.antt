@@ -1,5 +1,4 @@
-use Rattle.std.proofs.Common.{◌≡◌, ◌∙◌, ◌-◌, List, length, ap, arith, refl, subst, sym}
-use Rattle.std.specs.Prelude.{insert}
+use Rattle.std.proofs.Common.{◌≡◌, ◌∙◌, ◌-◌, List, length, ap, arith, refl, subst, sym, insert}
 use Rattle.span.specs.State.{SpanState}
 use Rattle.groups.specs.Directory.{DirectoryState, entered}
 use Rattle.groups.specs.Group.{HasNoHead, IsPlaceFor}

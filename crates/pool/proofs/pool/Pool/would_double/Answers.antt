@@ -1,5 +1,4 @@
-use Rattle.std.proofs.Common.{◌∙◌, ap, slice_get, subst, sym}
-use Rattle.std.specs.Prelude.{◌↔◌, IsTrue}
+use Rattle.std.proofs.Common.{◌∙◌, ap, slice_get, subst, sym, ◌↔◌, IsTrue}
 use Rattle.std.proofs.lemmas.Bool.{false≢true}
 use Rattle.groups.specs.Spans.{SpansState, all_spans}
 use Rattle.pool.specs.Calls.{HasDoubled}

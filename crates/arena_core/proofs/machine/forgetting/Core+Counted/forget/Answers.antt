@@ -1,5 +1,4 @@
-use Rattle.std.proofs.Common.{◌≡◌, ◌∙◌, ◌++◌, None, ap, arith, length, refl, sym}
-use Rattle.std.proofs.lemmas.List.{length-append}
+use Rattle.std.proofs.Common.{◌≡◌, ◌∙◌, ◌++◌, None, ap, arith, length, refl, sym, length-append}
 use Rattle.std.proofs.option.Match.{None-if_not_some}
 use Rattle.span.specs.declared.log.Counted.{Counted}
 use Rattle.pool.specs.Forgets.{gone_from}

@@ -1,5 +1,4 @@
-use Rattle.std.proofs.Common.{◌≡◌, ◌∙◌, List, ap, arith, length, refl, sym}
-use Rattle.std.specs.Prelude.{◌+◌, ◌-◌}
+use Rattle.std.proofs.Common.{◌≡◌, ◌∙◌, List, ap, arith, length, refl, sym, ◌+◌, ◌-◌}
 use Rattle.groups.specs.Directory.{DirectoryState}
 use Rattle.groups.specs.Group.{spans_in}
 use Rattle.pool.specs.Forgets.{gone_from, left_in}
