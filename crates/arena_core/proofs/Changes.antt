@@ -131,9 +131,6 @@ module _ (old : CoreState) (sound : HasSoundGroups old) (number : ℕ) (before a
   abbrev moved : CoreState
   moved = with_pool (with_shard old number after) pool
 
-  abbrev was_there : IsSoundAt old.limits number before
-  was_there = sound.shards number before here
-
   -- no span comes or goes
   pub sum_all-moved : (w : SpanState → ℕ) → sum_all w (with_pool (with_shard old number after) pool) ≡ sum_all w old
   sum_all-moved w = omega (arith, sum_all-with_shard w old number before after here, sum_all-with_pool w (with_shard old number after) pool, move.sums w)
@@ -152,7 +149,7 @@ module _ (old : CoreState) (sound : HasSoundGroups old) (number : ℕ) (before a
     within = sound.within;
     count = length-set old.shards number after ∙ sound.count;
     shards = each-set (IsSoundAt old.limits) old.shards number after
-        (IsSoundAt-same old.limits number before after move.numbers_are was_there sound_after)
+        (IsSoundAt-same old.limits number before after move.numbers_are (sound.shards number before here) sound_after)
         sound.shards;
     pool = sound_pool;
     gens = strays-each old.limits.gens (all_spans moved) (sum_all-moved (strays old.limits.gens) ∙ no_strays old sound);

@@ -24,7 +24,7 @@ use Rattle.arena_core.specs.Forgets.{dead_owned, dead_spans, with_forgotten, wit
 use Rattle.arena_core.specs.Kept.{IsKept, shards_of, state_of}
 use Rattle.arena_core.specs.Made.{all_shards, new_shard_of}
 use Rattle.arena_core.specs.declared.machine.Core.TheInside.{Inside}
-use Rattle.arena_core.specs.Moved.{KeepsStanding, KnowsMoved, StandsIn}
+use Rattle.arena_core.specs.Moved.{KeepsStanding, KnowsMoved}
 use Rattle.arena_core.specs.Sound.{HasSoundGroups, IsForgotten, IsSound, IsSoundAt}
 use Rattle.arena_core.specs.State.{CoreState, all_spans, has_span, shown}
 use Rattle.arena_core.proofs.Changes.{indicator, no_strays}
@@ -33,7 +33,6 @@ use Rattle.arena_core.proofs.Logged.{shown-same}
 use Rattle.arena_core.proofs.Made.{completed-flat_map, completed-map, made-get, standing-in_made}
 use Rattle.arena_core.proofs.MarkSteps.{AreOpen-none}
 use Rattle.arena_core.proofs.PlanSteps.{HasSoundPlan-none}
-use Rattle.arena_core.proofs.Standing.{KnowsMoved-standing}
 use Rattle.arena_core.proofs.Spans.{has_span-counted, named, sum_all, sum_all-parts, sum_in, sum_pooled, times_in-found}
 use Rattle.std.proofs.lemmas.Bool.{not-true}
 use Rattle.arena_core.proofs.Noted.{KnowsMoved-map}
@@ -198,19 +197,17 @@ module _ {L : Type 0} (c now : Inside L) (kept : IsKept c) (limits : now.limits 
   keeps_all : KeepsStanding (shards_of now) c.whereabouts.entries now.whereabouts.entries
   keeps_all = record {
     kept = λ id number named (shard, here, has).
-        keeps.kept id number named (made_standing id number shard here has);
+        keeps.kept id number named (standing-in_made now.limits now.shards.items id number (shard, here, has));
     stands = λ id number named.
         let (shard, here, has) = keeps.stands id number named in
         (shard, made-get now.limits now.shards.items number shard here, has);
   }
-    where
-      made_standing : (id : SpanId) (number : ℕ) (shard : ShardState) → slice_get (shards_of now) number ≡ Some shard → has_span id shard ≡ true → StandsIn now.shards.items id number
-      made_standing id number shard here has = standing-in_made now.limits now.shards.items id number (shard, here, has)
 
   pub IsKept-forgotten : c.plan ≡ None → IsKept now
   IsKept-forgotten none = record {
     sound = subst IsSound (sym state_of-forgotten) (IsSound-forgotten (state_of c) kept.sound none);
-    moved =
-        KnowsMoved-standing (shards_of now) c.whereabouts.entries now.whereabouts.entries keeps_all
-        (subst (λ shards. KnowsMoved shards c.whereabouts.entries) (sym all_are) (KnowsMoved-map (shards_of c) c.whereabouts.entries kept.moved without_dead_guests has_span-forgotten));
+    moved = λ id number foreign stands.
+        let known = subst (λ shards. KnowsMoved shards c.whereabouts.entries) (sym all_are)
+        (KnowsMoved-map (shards_of c) c.whereabouts.entries kept.moved without_dead_guests has_span-forgotten) in
+        keeps_all.kept id number (known id number foreign stands) stands;
   }

@@ -4,7 +4,6 @@ use Rattle.std.specs.List.{AllByRecursion, Contains, flat_map, range_with_len}
 use Rattle.std.proofs.lemmas.List.Sums.{sum_by-cons}
 use Rattle.std.proofs.lemmas.Option.{get_or_from_slice_get, slice_get-get_or, slice_get_within}
 use Rattle.span.specs.declared.id.SpanId.{SpanId}
-use Rattle.groups.specs.Group.{paged_in}
 use Rattle.groups.proofs.Lists.{same_some}
 use Rattle.shard.specs.Sound.{IsSound as IsSoundShard}
 use Rattle.shard.specs.State.{ShardState}
@@ -12,7 +11,7 @@ use Rattle.shard.proofs.Start.{IsSound-new}
 use Rattle.marks.specs.Numbers.{AreWithin, Limits}
 use Rattle.arena_core.specs.Made.{all_shards, completed, new_shard_of}
 use Rattle.arena_core.specs.Moved.{StandsIn}
-use Rattle.arena_core.specs.State.{has_span, shard_keys}
+use Rattle.arena_core.specs.State.{has_span}
 use Rattle.arena_core.proofs.Lists.{not_below}
 
 -- an item that was made
@@ -133,18 +132,6 @@ module _ (limits : Limits) (made : List ShardState) where
   made-Contains shard (at, within, is) =
       let here : slice_get (all_shards limits made) at ≡ Some shard = made-get at shard (slice_get-get_or made at shard within ∙ ap Some is) in
       (at, slice_get_within (all_shards limits made) at shard here, get_or_from_slice_get (all_shards limits made) at shard shard here)
-
--- new shards have no page and no key
-pub pages-all : (limits : Limits) (made : List ShardState)
-    → sum_by (λ (shard : ShardState). length (paged_in shard.groups)) (all_shards limits made) ≡ sum_by (λ (shard : ShardState). length (paged_in shard.groups)) made
-pages-all limits made = completed-sum 0 limits.shards (new_shard_of limits) (λ (shard : ShardState). length (paged_in shard.groups)) (λ k. refl) made
-
-pub keys-all : (limits : Limits) (made : List ShardState) → sum_by shard_keys (all_shards limits made) ≡ sum_by shard_keys made
-keys-all limits made = completed-sum 0 limits.shards (new_shard_of limits) shard_keys (λ k. refl) made
-
--- a core begins with none made
-pub all_shards-none : (limits : Limits) → all_shards limits [] ≡ map (new_shard_of limits) (range_with_len 0 limits.shards)
-all_shards-none limits = completed-empty 0 limits.shards (new_shard_of limits)
 
 pub IsSound-new_shard : (limits : Limits) (number : ℕ) → AreWithin limits → IsSoundShard (new_shard_of limits number)
 IsSound-new_shard limits number within = IsSound-new number limits.page_limit limits.span_limit limits.gens within.span_limit.1 within.gens.0

@@ -7,7 +7,7 @@ use Rattle.span.specs.declared.id.SpanId.{SpanId}
 use Rattle.shard.specs.Group.{GroupState}
 use Rattle.shard.specs.Sound.{IsSound as IsSoundShard}
 use Rattle.shard.specs.State.{ShardState}
-use Rattle.pool.specs.Calls.{HasClosed, HasNothingToAdopt, IsDoubled, IsInPool, Receives}
+use Rattle.pool.specs.Calls.{HasClosed, HasNothingToAdopt, IsDoubled, IsInPool}
 use Rattle.pool.specs.State.{PoolState, PooledState, paged_groups}
 use Rattle.pool.specs.declared.error.AdoptError.{AdoptError}
 use Rattle.pool.specs.declared.error.AdoptError.TheVariants as adopt_error
@@ -100,10 +100,6 @@ CoreStep-adopt_refused old sound number shard adopt_error.NothingToAdopt here wh
       refl,
     )
 
--- a shard that adopts has not ended
-pub running-adopted : (shard : ShardState) → (shard.page_limit ≡ length shard.groups → ⊥) → ((shard.page_limit ≢ length shard.groups) × (shard.ended ≡ true) → ⊥) → shard.ended ≡ false
-running-adopted shard room ended = false_from_ne_true shard.ended (λ e. ended (room, e))
-
 -- no group has a page, where that many have one
 
 pub HasNothingToAdopt-unpaged : (pool : PoolState) → length (paged_groups pool) ≡ 0 → HasNothingToAdopt pool
@@ -111,19 +107,12 @@ HasNothingToAdopt-unpaged pool none index group here = None-if_not_some group.pa
     let (at, there) = after-filter (λ (g : PooledState). is_some g.page) pool.groups index group here paged in
     omega (arith, none, slice_get_within (paged_groups pool) at group there)))
 
-unpaged-nothing : (groups : List PooledState) → ((index : ℕ) (group : PooledState) → slice_get groups index ≡ Some group → group.page ≡ None)
+pub unpaged-nothing : (groups : List PooledState) → ((index : ℕ) (group : PooledState) → slice_get groups index ≡ Some group → group.page ≡ None)
     → length (filter (λ (group : PooledState). is_some group.page) groups) ≡ 0
 unpaged-nothing [] none = refl
 unpaged-nothing (first ∷ groups) none =
     ap (λ o. length (cond (is_some o) (first ∷ filter (λ (group : PooledState). is_some group.page) groups) (filter (λ (group : PooledState). is_some group.page) groups))) (none 0 first refl)
     ∙ unpaged-nothing groups (λ index group here. none (suc index) group here)
-
-pub unpaged-HasNothingToAdopt : (pool : PoolState) → HasNothingToAdopt pool → length (paged_groups pool) ≡ 0
-unpaged-HasNothingToAdopt pool none = unpaged-nothing pool.groups none
-
--- a shard that was received had not ended
-pub running-received : {old new : PoolState} {before after : ShardState} → Receives old before new after → before.ended ≡ false
-running-received receives = receives.running
 
 -- where none of the groups is closed, each is open
 pub unclosed : (groups : List GroupState) → (HasClosed groups → ⊥) → (index : ℕ) (group : GroupState) → slice_get groups index ≡ Some group → group.closed ≡ false

@@ -109,10 +109,6 @@ shown-unchanged old new a b has local same = same_plain_map _ _
 abbrev sum_of : (PlainMap → ℕ) → CoreState → ℕ
 sum_of read core = sum_by (λ shard. read (shown_by shard)) core.shards + read (shown_by_pool core.pool)
 
--- of the map that the core shows as much is read
-abbrev IsSumOf : (PlainMap → ℕ) → CoreState → Type 0
-IsSumOf read core = read (shown core) ≡ sum_of read core
-
 -- the pool has the span
 abbrev pub has_pooled : SpanId → PoolState → Bool
 has_pooled id pool = is_some (span_named (spans_in pool.groups) id)
@@ -126,7 +122,13 @@ module _ (old new : CoreState) (once : (id : SpanId) → times id old ≤ 1) (on
   IsLocal-shard number before after here is = record {
     rings = ap (λ (c : CoreState). c.rings) is;
     alike = λ x y same. ap is_some (find-same x y (spans_in after.groups) same);
-    value = λ key. read_with_shard (λ plain. code (plain.value_of key)) (value-sum old key (once key.span)) (value-sum new key (once_new key.span));
+    value = λ key. omega (
+      arith,
+      value-sum old key (once key.span),
+      value-sum new key (once_new key.span),
+      ap (sum_of (λ plain. code (plain.value_of key))) is,
+      sum_by-set_at (λ shard. code ((shown_by shard).value_of key)) old.shards number before after here,
+    );
     issued = λ key.
         let gone : issued_forgotten new key ≡ issued_forgotten old key = ap (λ (c : CoreState). issued_forgotten c key) is in
         omega (
@@ -145,9 +147,6 @@ module _ (old new : CoreState) (once : (id : SpanId) → times id old ≤ 1) (on
     issued_only = λ key none. issued-missed after key (times_in-missed key.span after none);
   }
     where
-      read_with_shard : (read : PlainMap → ℕ) → IsSumOf read old → IsSumOf read new → read (shown new) + read (shown_by before) ≡ read (shown old) + read (shown_by after)
-      read_with_shard read sum_old sum_new = omega (arith, sum_old, sum_new, ap (sum_of read) is, sum_by-set_at (λ shard. read (shown_by shard)) old.shards number before after here)
-
       here_now : slice_get new.shards number ≡ Some after
       here_now = ap (λ (c : CoreState). slice_get c.shards number) is ∙ slice_get-set_same old.shards number before after here
 
@@ -163,7 +162,7 @@ module _ (old new : CoreState) (once : (id : SpanId) → times id old ≤ 1) (on
   IsLocal-pool pool is = record {
     rings = ap (λ (c : CoreState). c.rings) is;
     alike = λ x y same. ap is_some (find-same x y (spans_in pool.groups) same);
-    value = λ key. read_with_pool (λ plain. code (plain.value_of key)) (value-sum old key (once key.span)) (value-sum new key (once_new key.span));
+    value = λ key. omega (arith, value-sum old key (once key.span), value-sum new key (once_new key.span), ap (sum_of (λ plain. code (plain.value_of key))) is);
     issued = λ key.
         let gone : issued_forgotten new key ≡ issued_forgotten old key = ap (λ (c : CoreState). issued_forgotten c key) is in
         omega (arith, ap bit gone, issued-sum old key (once key.span), issued-sum new key (once_new key.span), ap (sum_of (λ plain. bit (plain.is_issued key))) is);
@@ -177,9 +176,6 @@ module _ (old new : CoreState) (once : (id : SpanId) → times id old ≤ 1) (on
     issued_only = λ key none. issued-unpooled pool key (count_by-missed (is_named key.span) (spans_in pool.groups) (None-if_not_some _ none));
   }
     where
-      read_with_pool : (read : PlainMap → ℕ) → IsSumOf read old → IsSumOf read new → read (shown new) + read (shown_by_pool old.pool) ≡ read (shown old) + read (shown_by_pool pool)
-      read_with_pool read sum_old sum_new = omega (arith, sum_old, sum_new, ap (sum_of read) is)
-
       unforgotten : (id : SpanId) → is_some (span_named (spans_in pool.groups) id) ≡ true → times_forgotten id new ≡ 0
       unforgotten id has =
           omega (arith, times-parts id new, once_new id, ap (λ (c : CoreState). times_pooled id c.pool) is, count_by-found (is_named id) (spans_in pool.groups) has)

@@ -13,7 +13,7 @@ use Rattle.groups.proofs.GroupSpans.{elsewhere-times, times-elsewhere}
 use Rattle.shard.specs.State.{ShardState}
 use Rattle.arena_core.specs.State.{has_span}
 use Rattle.arena_core.proofs.Spans.{has_span-uncounted, times_in-missed}
-use Rattle.arena_core.specs.Moved.{Entries, KeepsStanding, KnowsMoved, StandsIn, TellsStanding}
+use Rattle.arena_core.specs.Moved.{StandsIn, TellsStanding}
 
 module _ {F : Type 0} (T : F → ℕ → ℕ → Bool → ℕ → F → Type 0) (f : F) (shards : List ShardState)
     (says : (key number : ℕ) (b : Bool) (left : ℕ) (f' : F) → T f key number b left f' → TellsStanding shards key number b × (left ≡ number) × (f' ≡ f))
@@ -54,10 +54,6 @@ module _ {F : Type 0} (T : F → ℕ → ℕ → Bool → ℕ → F → Type 0) 
           by_test : (t : Bool) → nat_eq (rank id) key ≡ t → cond t (Some left) (lookup (nat_eq (rank id)) rest) ≡ Some number → StandsIn shards id number
           by_test true here found = subst (StandsIn shards id) (sym same ∙ same_some found) ((tells.stands id (eqb-true (rank id) key here)).0 on)
           by_test false other found = later found
-
--- what is known of moved spans stays
-pub KnowsMoved-standing : (shards : List ShardState) (old new : Entries) → KeepsStanding shards old new → KnowsMoved shards old → KnowsMoved shards new
-KnowsMoved-standing shards old new keeps knows id number foreign stands = keeps.kept id number (knows id number foreign stands) stands
 
 -- the id of a rank
 

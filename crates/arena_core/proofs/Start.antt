@@ -11,7 +11,7 @@ use Rattle.shard.specs.State.{ShardState}
 use Rattle.groups.proofs.Logged.{same_plain_map}
 use Rattle.pool.specs.State.{PoolState, new_pool}
 use Rattle.pool.proofs.Started.{IsSound-new}
-use Rattle.arena_core.specs.Made.{all_shards}
+use Rattle.arena_core.specs.Made.{all_shards, new_shard_of}
 use Rattle.arena_core.specs.Rings.{RingState}
 use Rattle.arena_core.specs.Sound.{HasSoundGroups, IsSound, IsSoundAt}
 use Rattle.marks.specs.Numbers.{AreWithin, Limits}
@@ -19,7 +19,7 @@ use Rattle.arena_core.specs.State.{all_spans, new_core, new_shard, opened_by, sh
 use Rattle.marks.specs.Plans.{OpenPlan}
 use Rattle.arena_core.proofs.Changes.{indicator, past-indicator}
 use Rattle.arena_core.proofs.Groups.{strays, strays-each}
-use Rattle.arena_core.proofs.Made.{IsSound-new_shard, all_shards-none, completed-empty, completed-new}
+use Rattle.arena_core.proofs.Made.{IsSound-new_shard, completed-empty, completed-new}
 use Rattle.arena_core.proofs.RingsKept.{AreRings-new, pending_at-new}
 use Rattle.arena_core.proofs.Spans.{named, shard_with-nowhere, sum_all}
 use Rattle.arena_core.proofs.Fields.{core_of}
@@ -74,7 +74,7 @@ pub new_core-fields : (limits : Limits) (made : List ShardState) (pool : PoolSta
     → made ≡ [] → pool ≡ new_pool → plan ≡ None → rings ≡ (new_core limits).rings → gone ≡ []
     → core_of limits (all_shards limits made) pool plan rings gone ≡ new_core limits
 new_core-fields limits made pool plan rings gone none_made empty no_plan rings_are none_gone =
-    let shards : all_shards limits made ≡ (new_core limits).shards = ap (all_shards limits) none_made ∙ all_shards-none limits in
+    let shards : all_shards limits made ≡ (new_core limits).shards = ap (all_shards limits) none_made ∙ completed-empty 0 limits.shards (new_shard_of limits) in
     λ i. core_of limits (shards i) (empty i) (no_plan i) (rings_are i) (none_gone i)
 
 -- a core begins with no plan

@@ -1,7 +1,7 @@
 -- The next pair of the open plan is carried out: it is neither absent nor a clash.
 use Rattle.std.proofs.Common.{◌≡◌, ℕ, ◌+◌, length, true, false, inl, inr, refl, sym, ap, subst, ◌∙◌, arith, Some, slice_get, is_some, MatchOption}
 use Rattle.std.proofs.lemmas.Option.{none-some}
-use Rattle.bitmap.specs.Slots.{SlotSet, AreDisjoint}
+use Rattle.bitmap.specs.Slots.{AreDisjoint}
 use Rattle.bitmap.specs.Operations.{AreDisjoint-at, AreDisjoint-by_slot}
 use Rattle.span.specs.declared.id.SpanId.{SpanId}
 use Rattle.shard.specs.Group.{GroupState}
@@ -74,9 +74,6 @@ IsFold-Folds old pair number before after pool here folds =
       shard_is = ap (λ (s : ShardState). s.groups) folds.grafts.after;
     }
 
-disjoint_swap : (a b : SlotSet) → AreDisjoint a b → AreDisjoint b a
-disjoint_swap a b apart = AreDisjoint-by_slot b a (λ q in_b in_a. AreDisjoint-at a b apart q in_a in_b)
-
 -- the next pair
 module _ (old : CoreState) (sound : IsSound old) (plan : OpenPlan) (pair : SpanId × SpanId) (next : IsNext old plan pair) where
   pub under_way : IsUnderWay old plan
@@ -117,7 +114,7 @@ module _ (old : CoreState) (sound : IsSound old) (plan : OpenPlan) (pair : SpanI
           | inl two_classes ↦ two_classes (ap (λ (g : GroupState). g.head.class) (sym one_b) ∙ sym waits.class_is ∙ ap (λ (g : PooledState). g.head.class) one_a)
           | inr joined ↦ joined (subst (λ (g : GroupState). AreDisjoint (occupied g) (union_of (spans_of group))) one_b
               (subst (λ (g : PooledState). AreDisjoint (occupied waits.owned) (union_of (spans_of g))) one_a
-              (disjoint_swap (union_of (spans_of waits.abandoned)) (occupied waits.owned) waits.apart)))
+              (AreDisjoint-by_slot _ _ (λ q in_b in_a. AreDisjoint-at (union_of (spans_of waits.abandoned)) (occupied waits.owned) waits.apart q in_a in_b))))
         ]
 
     page_goes : (after : ShardState) (pool : PoolState) → Folds old.pool before pair.0 pair.1 pool after

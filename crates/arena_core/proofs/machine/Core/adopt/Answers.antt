@@ -20,7 +20,8 @@ use Rattle.arena_core.proofs.FieldsKept.{IsKept-both_same, IsKept-noted, IsKept-
 use Rattle.arena_core.proofs.Made.{made-few}
 use Rattle.arena_core.proofs.MadeFields.{IsUnused-unmade}
 use Rattle.arena_core.proofs.Noted.{Comes-Adopts}
-use Rattle.arena_core.proofs.Moves.{running-adopted, CoreStep-adopt_refused, IsRefused}
+use Rattle.std.proofs.lemmas.Bool.{false_from_ne_true}
+use Rattle.arena_core.proofs.Moves.{CoreStep-adopt_refused, IsRefused}
 use Rattle.arena_core.proofs.PlanSteps.{IsSoundStep, IsSoundStep-Adopts}
 use Rattle.arena_core.proofs.Rooms.{CountsPaged, HasAtMost-Adopts}
 use Rattle.arena_core.proofs.Steps.{not_doubled}
@@ -135,7 +136,7 @@ not_full : (g : _) (c : goal.After-self-2-1 g) → c.index_mut-shard.result.now.
 not_full g c full = let never = c.in-Ok-adopt.ensures.spent.1 full in cc
 
 still_running : (g : _) (c : goal.After-self-2-1 g) → c.index_mut-shard.result.now.ended ≡ false
-still_running g c = running-adopted c.index_mut-shard.result.now (not_full g c) (λ both. let never = c.in-Ok-adopt.ensures.ended.1 both in cc)
+still_running g c = false_from_ne_true c.index_mut-shard.result.now.ended (λ e. let never = c.in-Ok-adopt.ensures.ended.1 (not_full g c, e) in cc)
 
 adopted : (g : _) (c : goal.After-self-2-1 g)
     → IsSoundStep c.args.self.now (Adopt c.args.number) (Adopted c.in-Ok-adopt.head)

@@ -9,7 +9,7 @@ use Rattle.arena_core.specs.Step.{CoreStep}
 use Rattle.arena_core.proofs.Fields.{IsRead, shard-read, state_of-unchanged, with_both_at, state_of-with_both_at}
 use Rattle.arena_core.proofs.FieldsKept.{GetsNone-Receives, IsKept-both_same, IsKept-unchanged, IsKept-with_both_at}
 use Rattle.arena_core.proofs.MadeFields.{CoreStep-end_unreached, IsUnused-unmade}
-use Rattle.arena_core.proofs.Moves.{running-received, CoreStep-end_refused}
+use Rattle.arena_core.proofs.Moves.{CoreStep-end_refused}
 use Rattle.arena_core.proofs.PlanSteps.{IsSoundStep, IsSoundStep-Receives}
 use Rattle.arena_core.proofs.Steps.{not_in_pool}
 use Rattle.arena_core.proofs.machine.Core.end.Goals as goal
@@ -39,7 +39,7 @@ ended g c =
     at_same (λ old new. IsSoundStep old (End c.args.number) ShardEnded new) (state_of-unchanged c.self.inside (record c.self.inside { shards = c.reach.new.shards }) refl refl refl refl (c.in_ok-reach.ensures {u = tt}).same refl ∙ c.self.view_is)
     (state_of-with_both_at (record c.self.inside { shards = c.reach.new.shards }) c.args.number c.index_mut-shard.result.now c.receive.new.shard c.receive.new.self (record c.self.inside { shards = c.reach.new.shards }).whereabouts (record { within = (c.in_ok-reach.ensures {u = tt}).here; value = c.index_mut-shard.ensures.value }))
     (IsSoundStep-Receives (state_of (record c.self.inside { shards = c.reach.new.shards })) c.args.number c.index_mut-shard.result.now c.receive.new.shard c.receive.new.self (IsKept-unchanged c.self.inside (record c.self.inside { shards = c.reach.new.shards }) c.self.invariant refl refl refl refl refl (c.in_ok-reach.ensures {u = tt}).same refl).sound (read_shard g c)
-    (λ closed. let never = c.in-Ok.ensures.plan_open.1 (running-received c.in-Ok.ensures.ok, not_in_pool (state_of (record c.self.inside { shards = c.reach.new.shards })) (IsKept-unchanged c.self.inside (record c.self.inside { shards = c.reach.new.shards }) c.self.invariant refl refl refl refl refl (c.in_ok-reach.ensures {u = tt}).same refl).sound.groups c.args.number c.index_mut-shard.result.now (read_shard g c), closed) in cc)
+    (λ closed. let never = c.in-Ok.ensures.plan_open.1 (c.in-Ok.ensures.ok.running, not_in_pool (state_of (record c.self.inside { shards = c.reach.new.shards })) (IsKept-unchanged c.self.inside (record c.self.inside { shards = c.reach.new.shards }) c.self.invariant refl refl refl refl refl (c.in_ok-reach.ensures {u = tt}).same refl).sound.groups c.args.number c.index_mut-shard.result.now (read_shard g c), closed) in cc)
     c.in-Ok.ensures.ok c.receive.ensures.sound_shard c.receive.ensures.sound)
 
 pub invariant_of-self-in-Err : goal.invariant_of-self-in-Err

@@ -4,7 +4,7 @@ use Rattle.pool.specs.Calls.{HasNothingToAdopt}
 use Rattle.arena_core.specs.Sound.{IsSound}
 use Rattle.arena_core.specs.State.{CoreState}
 use Rattle.arena_core.proofs.MadeFields.{CoreStep-adopt_unreached, may_take-unused}
-use Rattle.arena_core.proofs.Moves.{HasNothingToAdopt-unpaged, unpaged-HasNothingToAdopt}
+use Rattle.arena_core.proofs.Moves.{HasNothingToAdopt-unpaged, unpaged-nothing}
 use Rattle.arena_core.proofs.machine.Core.no_adopter.Goals as goal
 
 pub returns-then-is_open : goal.returns-then-is_open
@@ -26,4 +26,4 @@ pub returns : goal.returns
 returns g c =
     CoreStep-adopt_unreached c.args.self.now (subst IsSound c.self.view_is c.self.invariant.sound) c.args.number c.args.cause c.requires.unused c.requires.cause
     (ap (λ (s : CoreState). s.plan) (sym c.self.view_is) ∙ None-if_not_some c.self.inside.plan (sym c.is_open.ensures ∙ c.if-is_open.false))
-    (subst (λ (s : CoreState). HasNothingToAdopt s.pool → ⊥) c.self.view_is (λ nothing. c.if-pages-eq0.false (c.pages.ensures ∙ unpaged-HasNothingToAdopt c.self.inside.pool nothing)))
+    (subst (λ (s : CoreState). HasNothingToAdopt s.pool → ⊥) c.self.view_is (λ nothing. c.if-pages-eq0.false (c.pages.ensures ∙ unpaged-nothing c.self.inside.pool.groups nothing)))

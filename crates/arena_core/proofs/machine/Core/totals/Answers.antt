@@ -1,4 +1,4 @@
-use Rattle.std.proofs.Common.{◌≡◌, ap, arith, is_some, length, subst, sym, take, ◌∙◌, sum_by, take_all}
+use Rattle.std.proofs.Common.{◌≡◌, ap, arith, is_some, length, subst, sym, take, ◌∙◌, sum_by, take_all, refl}
 use Rattle.std.proofs.lemmas.List.Sums.{sum_by_more}
 use Rattle.groups.specs.Group.{paged_in}
 use Rattle.shard.specs.State.{ShardState}
@@ -8,9 +8,10 @@ use Rattle.arena_core.proofs.Lists.{length-filter_most}
 use Rattle.arena_core.specs.Sound.{IsSound}
 use Rattle.arena_core.specs.State.{HasKeys, live_keys, pages, shard_keys, shown}
 use Rattle.arena_core.specs.Kept.{shards_of}
-use Rattle.arena_core.proofs.Made.{keys-all, pages-all}
+use Rattle.arena_core.proofs.Made.{completed-sum}
 use Rattle.arena_core.proofs.LiveKeysShown.{HasKeys-live_keys}
 use Rattle.arena_core.proofs.machine.Core.totals.Goals as goal
+use Rattle.arena_core.specs.Made.{new_shard_of}
 
 pub overflow_add-totals : goal.overflow_add-totals
 overflow_add-totals g c =
@@ -47,7 +48,7 @@ returns-clause-pages g c =
     let shards = c.deref-shard-items.result.now in
     let all : take c.loop-shard.shard-index shards ≡ shards = take_all c.loop-shard.shard-index shards (omega arith) in
     let owned : sum_by (λ (shard : ShardState). length (paged_in shard.groups)) (take c.loop-shard.shard-index shards) ≡ sum_by (λ (shard : ShardState). length (paged_in shard.groups)) (shards_of c.self.inside) =
-    ap (sum_by (λ (shard : ShardState). length (paged_in shard.groups))) (all ∙ c.deref-shard-items.ensures.value) ∙ sym (pages-all c.self.inside.limits c.self.inside.shards.items) in
+    ap (sum_by (λ (shard : ShardState). length (paged_in shard.groups))) (all ∙ c.deref-shard-items.ensures.value) ∙ sym (completed-sum 0 c.self.inside.limits.shards (new_shard_of c.self.inside.limits) (λ (shard : ShardState). length (paged_in shard.groups)) (λ k. refl) c.self.inside.shards.items) in
     omega (arith, c.loop-shard.invariant.pages, owned, c.pages.ensures) ∙ ap pages c.self.view_is
 
 pub returns-clause-live : goal.returns-clause-live
@@ -55,7 +56,7 @@ returns-clause-live g c =
     let shards = c.deref-shard-items.result.now in
     let all : take c.loop-shard.shard-index shards ≡ shards = take_all c.loop-shard.shard-index shards (omega arith) in
     let owned : sum_by shard_keys (take c.loop-shard.shard-index shards) ≡ sum_by shard_keys (shards_of c.self.inside) =
-    ap (sum_by shard_keys) (all ∙ c.deref-shard-items.ensures.value) ∙ sym (keys-all c.self.inside.limits c.self.inside.shards.items) in
+    ap (sum_by shard_keys) (all ∙ c.deref-shard-items.ensures.value) ∙ sym (completed-sum 0 c.self.inside.limits.shards (new_shard_of c.self.inside.limits) shard_keys (λ k. refl) c.self.inside.shards.items) in
     omega (arith, c.loop-shard.invariant.live, owned, c.live.ensures.live) ∙ ap live_keys c.self.view_is
 
 pub returns-clause-shown : goal.returns-clause-shown
