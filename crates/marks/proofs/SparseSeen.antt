@@ -1,5 +1,5 @@
 -- What a mark of some sees, if it makes entries of few groups.
-use Rattle.std.proofs.Common.{◌≡◌, ℕ, ◌≤◌, List, [], ◌∷◌, ◌++◌, length, map, take, sym, subst, arith, get_or, append_assoc}
+use Rattle.std.proofs.Common.{◌≡◌, ℕ, ◌+◌, ◌≤◌, ◌∙◌, Bool, true, false, ap, is_some, refl, slice_get, Some, List, [], ◌∷◌, ◌++◌, length, map, take, sym, subst, arith, get_or, append_assoc}
 use Rattle.std.specs.List.{All, IsDistinct}
 use Rattle.std.specs.List.Sorted.{IsPermutation}
 use Rattle.std.proofs.Math.Seq.{take-append_seam}
@@ -11,9 +11,11 @@ use Rattle.mesh_graph.proofs.Sparsest.{AreSparsest-permuted}
 use Rattle.mesh_graph.specs.Groups.{ids}
 use Rattle.mesh_graph.specs.Sparsest.{AreSparsest, occupied_count}
 use Rattle.mesh_graph.specs.declared.build.TheConstants.{MOST_GROUPS}
-use Rattle.pool.proofs.SparseGroups.{AreParted-none}
+use Rattle.std.specs.FinSet.{len}
+use Rattle.groups.specs.Group.{occupied, summary}
+use Rattle.pool.proofs.SparseGroups.{AreParted-left, AreParted-none}
 use Rattle.pool.specs.Sparse.{AreParted, HaveSparsest}
-use Rattle.shard.proofs.Entries.{entries_in}
+use Rattle.shard.proofs.Entries.{entries-bare, entries-paged, entries_in}
 use Rattle.shard.specs.Group.{GroupState}
 use Rattle.shard.specs.State.{ShardState}
 use Rattle.span.specs.Ids.{same_span}
@@ -71,3 +73,14 @@ parted-none lent bound (shard ∷ shards) = AreParted-none bound
 pub sound-none : {H : Type 0} (lent : H → ShardState) (shards : List H) → AreSound (map lent (take 0 shards))
 sound-none lent [] number shard at = absurd cc
 sound-none lent (first ∷ shards) number shard at = absurd cc
+
+-- one group more that has too many live slots is left out, if it has a page, and has no entry if it has none
+pub parted-left : (bound : ℕ) (before : List Entry) (groups : List GroupState) (at : ℕ) (group : GroupState) → slice_get groups at ≡ Some group → (items : List Entry)
+    → bound ≤ len (occupied group) → AreParted bound (before ++ entries_in (take at groups)) items → AreParted bound (before ++ entries_in (take (at + 1) groups)) items
+parted-left bound before groups at group here items many parted = by_test (is_some group.page) refl
+  where
+    by_test : (b : Bool) → is_some group.page ≡ b → AreParted bound (before ++ entries_in (take (at + 1) groups)) items
+    by_test true paged = subst (λ (entries : List Entry). AreParted bound entries items)
+        (append_assoc before (entries_in (take at groups)) (summary group ∷ []) ∙ ap (λ (xs : List Entry). before ++ xs) (entries-paged groups at group here paged))
+        (AreParted-left bound (before ++ entries_in (take at groups)) items (summary group) parted (omega (arith, many)))
+    by_test false bare = subst (λ (entries : List Entry). AreParted bound entries items) (ap (λ (xs : List Entry). before ++ xs) (entries-bare groups at group here bare)) parted

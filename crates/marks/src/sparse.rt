@@ -158,7 +158,8 @@ fn list_below<H: LendsShard>(
     Ok(entries)
 }
 
-// Appends those of one shard.
+// Appends those of one shard. A group of which the shard knows that too many slots are live is not
+// read.
 fn push_groups_below<H: LendsShard>(
     entries: &mut Vec<Entry>,
     lender: &H,
@@ -173,6 +174,9 @@ fn push_groups_below<H: LendsShard>(
         return Ok(());
     }
     for at in 0..shard.len() {
+        if shard.least_live(at) >= bound {
+            continue;
+        }
         if shard.is_paged(at) {
             push_below(entries, shard.spans_at(at).entry(), bound, MOST_GROUPS)?;
         }

@@ -1,10 +1,12 @@
-// The walk over the live keys, from span to span.
-ghost use Rattle.std.specs.Prelude.{MatchOption};
+// The walk over the live keys, from span to span, and which groups a walk passes by.
+ghost use Rattle.std.specs.Prelude.{◌≡◌, ◌<◌, ◌≤◌, MatchOption, Some, length, slice_get};
+ghost use Rattle.std.specs.FinSet as set;
 ghost use Rattle.span.specs.FirstLive.{HasNoneBetween, IsFirstLive};
 ghost use Rattle.span.specs.Ids.{rank};
 ghost use Rattle.span.specs.declared.limits.TheConstants.{ALL_IDS};
 ghost use Rattle.groups.specs.FirstLive.{IsFirstAmong};
-ghost use Rattle.groups.specs.Group.{spans_in};
+ghost use Rattle.groups.specs.Group.{occupied, spans_in};
+ghost use Rattle.shard.specs.Group.{GroupState};
 ghost use Rattle.shard.specs.Shown.{shown};
 ghost use Rattle.shard.specs.Sound.{IsSound};
 
@@ -23,6 +25,18 @@ impl<L: Log> Shard<L> {
         ensures sound { IsSound self.now }
     {
         first_live(self.groups.as_slice(), from)
+    }
+
+    /// At least so many slots are live in the group at the index, by ascending head. It reads no
+    /// group. It is 0 for a closed group, and for one in which a key was freed since
+    /// [`Shard::reopen`] was called last.
+    #[inline]
+    pub fn least_live(&self, index: usize) -> usize
+        requires { index < length self.now.groups }
+        ensures { (group : GroupState) → slice_get self.now.groups index ≡ Some group
+            → result ≤ set.len (occupied group) }
+    {
+        self.least[index] as usize
     }
 }
 

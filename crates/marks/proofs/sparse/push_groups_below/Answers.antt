@@ -8,7 +8,7 @@ use Rattle.shard.proofs.Entries.{entries-bare, entries-paged, entries_in}
 use Rattle.shard.specs.Group.{GroupState}
 use Rattle.shard.specs.State.{ShardState}
 use Rattle.span.specs.declared.entry.Entry.{Entry}
-use Rattle.marks.proofs.SparseSeen.{parted-empty, parted-start}
+use Rattle.marks.proofs.SparseSeen.{parted-empty, parted-left, parted-start}
 use Rattle.marks.proofs.sparse.push_groups_below.Goals as goal
 use Rattle.marks.proofs.sparse.push_groups_below.Goals.{then-is_paged+in_ok-push_below, else-is_paged}
 
@@ -59,3 +59,14 @@ returns-clause-parted g c = λ before parted.
     let long = ap (λ (shard : ShardState). length shard.groups) c.shard-shard.ensures in
     subst (λ (gs : List GroupState). AreParted c.args.bound (before ++ entries_in gs) c.loop-at.entries.items)
     (take_all c.loop-at.at groups (omega (arith, c.loop-at-test.false, c.len-at-end.ensures, long))) (c.loop-at.invariant before parted)
+
+-- a group in which too many slots are live is left out, if it has a page, and has no entry if it has none
+pub loop-at-preserved-then-least_live-bound : goal.loop-at-preserved-then-least_live-bound
+loop-at-preserved-then-least_live-bound g c = λ before parted.
+    let bound = c.args.bound in
+    let at = c.loop-at.at in
+    let groups = (g.H.LendsShard.lent c.args.lender.now).groups in
+    let same = ap (λ (shard : ShardState). shard.groups) c.shard-shard.ensures in
+    let (group, here) = there_at c.shard-shard.result.now.groups at (omega (arith, c.loop-at-test.true, c.len-at-end.ensures)) in
+    let lent : slice_get groups at ≡ Some group = subst (λ (gs : List GroupState). slice_get gs at ≡ Some group) same here in
+    parted-left bound before groups at group lent c.loop-at.entries.items (omega (arith, c.if-least_live-bound.true, c.least_live.ensures group here)) (c.loop-at.invariant before parted)
