@@ -1,19 +1,5 @@
 -- Keys that are freed from rings, one after another.
-use Rattle.std.proofs.Common.{◌≡◌, ◌∙◌, ◌+◌, ◌++◌, ◌∷◌, [], ℕ, true, false, List, map, length, filter, Some, None, refl, sym, ap, subst, arith, append_assoc, length-append}
-use Rattle.std.specs.List.{fold, range_with_len}
-use Rattle.std.proofs.lemmas.List.{append-nil}
-use Rattle.std.proofs.lemmas.List.Elements.{filter-append}
-use Rattle.span.specs.declared.key.Key.{Key}
-use Rattle.arena_core.specs.Rings.{ring_at, with_keys, with_ring_at}
-use Rattle.arena_core.specs.State.{CoreState, with_rings}
-use Rattle.arena_core.specs.Step.{CoreStep}
-use Rattle.arena_core.specs.declared.event.Event.TheVariants.{Free, Settle}
-use Rattle.arena_core.specs.declared.reply.Reply.TheVariants.{Freed, Settled}
-use Rattle.trace_runner.specs.Kept.{Kept, keeping}
-use Rattle.trace_runner.specs.Made.{AreAsRequested, CalledEvent, Called, Made, Once, Request, Tends, UntilNone, keys_taken, requests_of, takes_key}
-use Rattle.trace_runner.specs.News.{News, with_called}
-use Rattle.trace_runner.specs.Recalls.{Carries, Drains, KeepsPlan, Makes, SettlesNext}
-use Rattle.trace_runner.specs.Runs.{AreSteps, IsAnswered}
+use Rattle.trace_runner.proofs.Names.{◌≡◌, ◌∙◌, ◌+◌, ◌++◌, ◌∷◌, [], ℕ, true, false, List, map, length, filter, Some, None, refl, sym, ap, subst, arith, append_assoc, length-append, fold, range_with_len, append-nil, filter-append, Key, ring_at, with_keys, with_ring_at, CoreState, with_rings, CoreStep, Free, Settle, Freed, Settled, Kept, keeping, AreAsRequested, CalledEvent, Called, Made, Once, Request, Tends, UntilNone, keys_taken, requests_of, takes_key, News, with_called, Carries, Drains, KeepsPlan, Makes, SettlesNext, AreSteps, IsAnswered}
 use Rattle.trace_runner.proofs.Making.{AreSteps-append}
 use Rattle.trace_runner.proofs.Serving.{KeepsPlan-step}
 

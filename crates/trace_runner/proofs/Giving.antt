@@ -1,13 +1,7 @@
 -- What puts gave, with one put more, and how a key is found in it.
-use Rattle.std.proofs.Common.{zero, suc, ◌≡◌, ◌∙◌, ℕ, ◌+◌, ◌-◌, ◌^◌, ◌<◌, ◌≤◌, List, [], ◌∷◌, ◌++◌, Option, Some, None, ap, append_assoc, arith, drop, get_or, length, length-append, map, refl, replicate, slice_get, subst, sym, take}
-use Rattle.std.specs.List.{flat_map}
+use Rattle.trace_runner.proofs.Names.{zero, suc, ◌≡◌, ◌∙◌, ℕ, ◌+◌, ◌-◌, ◌^◌, ◌<◌, ◌≤◌, List, [], ◌∷◌, ◌++◌, Option, Some, None, ap, append_assoc, arith, drop, get_or, length, length-append, map, refl, replicate, slice_get, subst, sym, take, flat_map, drop-length, get_or-append_right, flat_map-append, append-nil, drop-append-le, length-map, length-replicate, length-take-le, map-append, take-append-le, take_all, Key, AreInRow, all_given, given_in, Stretch}
 use Rattle.std.proofs.Math.ListN.{get_or-append, get_or-eq_default}
-use Rattle.std.proofs.Math.Seq.{drop-length, get_or-append_right}
-use Rattle.std.proofs.lemmas.Grind.{flat_map-append}
-use Rattle.std.proofs.lemmas.List.{append-nil, drop-append-le, length-drop, length-map, length-replicate, length-take-le, map-append, take-append-le, take_all}
-use Rattle.span.specs.declared.key.Key.{Key}
-use Rattle.trace_runner.specs.Given.{AreInRow, all_given, given_in}
-use Rattle.trace_runner.specs.declared.key_list.Stretch.{Stretch}
+use Rattle.std.proofs.lemmas.List.{length-drop}
 
 -- ---- the last stretch
 

@@ -1,34 +1,12 @@
 -- The shards that open the spans of the keys which puts give out.
-use Rattle.std.proofs.Common.{◌≡◌, ◌⊎◌, ◌∙◌, ◌<◌, ◌≤◌, ◌++◌, ◌∷◌, [], ℕ, List, Some, length, refl, sym, ap, subst, arith, inl, inr, slice_get}
-use Rattle.std.specs.List.{AllByRecursion}
-use Rattle.std.proofs.lemmas.Bool.{cases_Bool, cases_lt}
-use Rattle.std.proofs.lemmas.Option.{slice_get_past, slice_get_within}
-use Rattle.span.specs.declared.id.SpanId.{SpanId}
-use Rattle.span.specs.Classes.{class_of}
-use Rattle.span.specs.Log.{Value}
-use Rattle.span.specs.declared.class.Class.{Class}
-use Rattle.span.specs.declared.key.Key.{Key}
-use Rattle.shard.specs.Calls.{Puts}
+use Rattle.trace_runner.proofs.Names.{◌≡◌, ◌⊎◌, ◌∙◌, ◌<◌, ◌≤◌, ◌++◌, ◌∷◌, [], ℕ, List, Some, length, refl, sym, ap, subst, arith, inl, inr, slice_get, AllByRecursion, cases_Bool, cases_lt, slice_get_past, slice_get_within, SpanId, class_of, Value, Class, Key, Puts, ShardState, HasSoundGroups, IsSound, CoreState, opened_by, opened_of, Limits, CoreRun, CoreStep, Event, Put, Reply, Issued, limits-CoreStep, AreHome, IsHome, is_put, keys_of, CalledEvent, Called, Made, all_called, events_of, replies_of, IsAnswered, key_given}
 use Rattle.shard.specs.Group.{GroupState}
 use Rattle.groups.specs.Pages.{put_group}
-use Rattle.shard.specs.State.{ShardState}
 use Rattle.arena_core.specs.Moved.{StandsIn}
-use Rattle.arena_core.specs.Sound.{HasSoundGroups, IsSound}
-use Rattle.arena_core.specs.State.{CoreState, opened_by, opened_of}
-use Rattle.marks.specs.Numbers.{Limits}
-use Rattle.arena_core.specs.Step.{CoreRun, CoreStep}
-use Rattle.arena_core.specs.declared.event.Event.{Event}
-use Rattle.arena_core.specs.declared.event.Event.TheVariants.{Put}
-use Rattle.arena_core.specs.declared.reply.Reply.{Reply}
-use Rattle.arena_core.specs.declared.reply.Reply.TheVariants.{Issued}
-use Rattle.arena_core.proofs.Limits.{limits-CoreStep}
 use Rattle.marks.proofs.Lists.{slice_get-set_same}
 use Rattle.arena_core.proofs.Changes.{opened-somewhere}
 use Rattle.arena_core.proofs.Spans.{times-parts, times_in-found, times_in-le}
 use Rattle.arena_core.proofs.Steps.{has_span-here}
-use Rattle.trace_runner.specs.Kept.{AreHome, IsHome, is_put, keys_of}
-use Rattle.trace_runner.specs.Made.{CalledEvent, Called, Made, all_called, events_of, replies_of}
-use Rattle.trace_runner.specs.Runs.{IsAnswered, key_given}
 
 -- a span that stands in a shard was opened by one of the core's
 home-within : (core : CoreState) → HasSoundGroups core → (id : SpanId) (number : ℕ) → StandsIn core.shards id number → id.shard < length core.shards

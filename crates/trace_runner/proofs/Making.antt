@@ -1,29 +1,9 @@
 -- Calls that are made one after another.
-use Rattle.std.proofs.Common.{◌≡◌, ℕ, Bool, true, false, cond, length, arith, List, [], ◌∷◌, ◌++◌, map, refl, sym, ap, subst, ◌∙◌}
-use Rattle.std.proofs.lemmas.Grind.{flat_map-append}
-use Rattle.std.proofs.lemmas.List.{map-append, length-map}
+use Rattle.trace_runner.proofs.Names.{◌≡◌, ℕ, Bool, true, false, cond, length, arith, List, [], ◌∷◌, ◌++◌, map, refl, sym, ap, subst, ◌∙◌, flat_map-append, map-append, length-map, limits-CoreRun, each-append, CoreState, shown, Limits, CoreStep, CoreRun, ErasedStep, PlainRun, erased, is_plain, IsSound, Asked, Calls, Keyless, Leaves, CalledEvent, Called, Made, IsAsAsked, all_called, asked_of, core_called, event_called, events_of, no_call, one_call, replies_of, reply_called, News, with_all_made, with_called, with_made, Kept, keeping, Carries, Makes, MakesLine, news_at, settling_with, AreSteps, Happens, IsAnswered, IsCallTold, IsTold, ends_asked, plan_end_asked, rings_asked, stepping, Plans, Event, Put, Get, Set, Free, Later, Settle, End, Adopt, Mark, ShardEnded, Reply, PlainMap}
 use Rattle.std.proofs.lemmas.List.Sums.{fold-append}
-use Rattle.arena_core.proofs.Limits.{limits-CoreRun}
-use Rattle.arena_core.proofs.Lists.{each-append}
-use Rattle.arena_core.specs.State.{CoreState, shown}
-use Rattle.marks.specs.Numbers.{Limits}
-use Rattle.arena_core.specs.Step.{CoreStep, CoreRun}
-use Rattle.arena_core.specs.Plain.{ErasedStep, PlainRun, erased, is_plain}
-use Rattle.arena_core.specs.Sound.{IsSound}
-use Rattle.trace_runner.specs.Made.{Asked, Calls, Keyless, Leaves, CalledEvent, Called, Made, IsAsAsked, all_called, asked_of, core_called, event_called, events_of, no_call, one_call, replies_of, reply_called}
-use Rattle.trace_runner.specs.News.{News, with_all_made, with_called, with_made}
-use Rattle.trace_runner.specs.Kept.{Kept, keeping}
-use Rattle.trace_runner.specs.Recalls.{Carries, Makes, MakesLine, news_at, settling_with}
 use Rattle.trace_runner.proofs.Recalling.{keeping-append, keeping-none}
-use Rattle.trace_runner.specs.Runs.{AreSteps, Happens, IsAnswered, IsCallTold, IsTold, ends_asked, plan_end_asked, rings_asked, stepping}
-use Rattle.trace_runner.specs.declared.plans.Plans.{Plans}
 use Rattle.trace_text.specs.declared.line.Call.{Call}
 use Rattle.trace_text.specs.declared.line.Line.TheVariants as line
-use Rattle.arena_core.specs.declared.event.Event.{Event}
-use Rattle.arena_core.specs.declared.event.Event.TheVariants.{Put, Get, Set, Free, Later, Settle, End, Adopt, Mark}
-use Rattle.arena_core.specs.declared.reply.Reply.TheVariants.{ShardEnded}
-use Rattle.arena_core.specs.declared.reply.Reply.{Reply}
-use Rattle.span.specs.PlainMap.{PlainMap}
 
 CoreRun-append : (a b c : CoreState) (es fs : List Event) (rs ss : List Reply) → CoreRun a es rs b → CoreRun b fs ss c → CoreRun a (es ++ fs) (rs ++ ss) c
 CoreRun-append a b c [] fs [] ss first second = subst (λ (s : CoreState). CoreRun s fs ss c) first second

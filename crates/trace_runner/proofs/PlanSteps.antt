@@ -1,25 +1,13 @@
 -- Plans that are carried out, closed and made.
-use Rattle.std.proofs.Common.{◌≡◌, ◌+◌, ◌<◌, ℕ, List, [], ◌∷◌, ◌++◌, map, replicate, nat_lt, slice_get, Option, Some, None, option_map, refl, sym, ap, subst, rules}
-use Rattle.std.proofs.lemmas.Bool.Decides.{nat_tests}
-use Rattle.std.proofs.lemmas.Option.{slice_get-map}
-use Rattle.std.proofs.lemmas.Grind.{replicate_next}
-use Rattle.span.specs.declared.id.SpanId.{SpanId}
-use Rattle.shard.specs.State.{ShardState}
-use Rattle.pool.specs.State.{PoolState}
+use Rattle.trace_runner.proofs.Names.{◌≡◌, ◌+◌, ◌<◌, ℕ, List, [], ◌∷◌, ◌++◌, map, replicate, nat_lt, slice_get, Option, Some, None, option_map, refl, sym, ap, subst, rules, nat_tests, slice_get-map, replicate_next, SpanId, ShardState, PoolState, CoreState, CoreStep, Asked, Calls, News, Carries, KeepsShards, plan_end_asked, pairs_left_of, stepping}
 use Rattle.certificate.specs.declared.certificate.Certificate.{Certificate}
 use Rattle.fold.specs.Folds.{Folds}
 use Rattle.fold.specs.declared.step.Step.{Step}
 use Rattle.fold.specs.declared.step.Step.TheVariants.{Emptied, Folded}
 use Rattle.marks.specs.Closings.{closed_onto, reopened}
-use Rattle.arena_core.specs.State.{CoreState}
 use Rattle.marks.specs.Plans.{OpenPlan}
-use Rattle.arena_core.specs.Step.{CoreStep}
 use Rattle.arena_core.specs.declared.event.Event.TheVariants as event
 use Rattle.arena_core.specs.declared.reply.Reply.TheVariants as reply
-use Rattle.trace_runner.specs.Made.{Asked, Calls}
-use Rattle.trace_runner.specs.News.{News}
-use Rattle.trace_runner.specs.Recalls.{Carries, KeepsShards}
-use Rattle.trace_runner.specs.Runs.{plan_end_asked, pairs_left_of, stepping}
 use Rattle.trace_runner.proofs.Making.{Carries-append}
 use Rattle.trace_runner.proofs.Serving.{KeepsShards-with_shard, ended_in}
 

@@ -1,35 +1,11 @@
 -- One more line is run.
-use Rattle.std.proofs.Common.{◌≡◌, ℕ, ◌+◌, ◌<◌, ◌≤◌, ◌==◌, ◌&&◌, ◌||◌, nat_lt, nat_le, not, Bool, true, false, filter, List, [], ◌∷◌, ◌++◌, length, take, Some, None, slice_get, refl, sym, ap, ap₂, subst, ◌∙◌, arith, inl, inr, append_assoc, length-append, add-zero}
-use Rattle.std.proofs.Math.Seq.{take-length}
-use Rattle.std.specs.List.{flat_map, range_with_len}
-use Rattle.std.specs.Option.{option_map, option_map_or}
-use Rattle.std.proofs.lemmas.Bool.{and_parts, cases_Bool, eqb-true, not-true}
-use Rattle.std.proofs.lemmas.Bool.Decides.{nat_tests}
-use Rattle.std.proofs.lemmas.Grind.{flat_map-append}
-use Rattle.std.proofs.lemmas.List.Elements.{filter-append}
-use Rattle.std.proofs.lemmas.List.{append-nil, length-map, length_push}
-use Rattle.std.proofs.Math.Bool.{and-true}
-use Rattle.arena_core.specs.State.{CoreState}
-use Rattle.marks.specs.Numbers.{Limits}
-use Rattle.arena_core.proofs.Limits.{limits-CoreRun}
-use Rattle.arena_core.proofs.Lists.{each-append}
+use Rattle.trace_runner.proofs.Names.{◌≡◌, ℕ, ◌+◌, ◌<◌, ◌≤◌, ◌==◌, ◌&&◌, ◌||◌, nat_lt, nat_le, not, Bool, true, false, filter, List, [], ◌∷◌, ◌++◌, length, take, Some, None, slice_get, refl, sym, ap, ap₂, subst, ◌∙◌, arith, inl, inr, append_assoc, length-append, add-zero, take-length, flat_map, range_with_len, option_map_or, and_parts, cases_Bool, eqb-true, not-true, nat_tests, flat_map-append, filter-append, append-nil, length-map, length_push, and-true, CoreState, Limits, limits-CoreRun, each-append, begins, begins_again, comes_early, ends, has_ended, first_cause, is_abandoned, is_adopt, is_call, is_call_of, reads_early, thread_of, CanLeave, Carries, TurnsBelow, HasCome, IsReady, KnowsPlan, MakesLine, Serves, news_at, settling_with, AreHome, FindsAt, IsHome, Kept, keeping, kept_none, keys_of, place_at, told_of, Did, all_made, asked_of, made_by, News, news_of, no_news, with_all_made, with_answers, with_line, DoLines, Does, IsRun, asked_by, calls_at, calls_in, ends_asked, plan_end_asked, pairs_left_of, planning_at, rings_asked, settling_at, Plans, Header, Line, AllFine, all_fine}
+use Rattle.std.specs.Option.{option_map}
 use Rattle.trace_runner.specs.Barrier.{leavers}
 use Rattle.trace_text.specs.Barrier.{is_barrier, open_lines}
-use Rattle.trace_text.specs.Causes.{begins, begins_again, comes_early, ends, has_ended, first_cause, is_abandoned, is_adopt, is_call, is_call_of, reads_early, thread_of}
-use Rattle.trace_runner.specs.Recalls.{CanLeave, Carries, TurnsBelow, HasCome, IsReady, KnowsPlan, MakesLine, Serves, news_at, settling_with}
-use Rattle.trace_runner.specs.Kept.{AreHome, FindsAt, IsHome, Kept, keeping, kept_none, keys_of}
-use Rattle.trace_text.specs.Places.{place_at}
-use Rattle.trace_runner.specs.Answers.{told_of}
-use Rattle.trace_runner.specs.Made.{Did, all_made, asked_of, made_by}
-use Rattle.trace_runner.specs.News.{News, news_of, no_news, with_all_made, with_answers, with_line}
-use Rattle.trace_runner.specs.Runs.{DoLines, Does, IsRun, asked_by, calls_at, calls_in, ends_asked, plan_end_asked, pairs_left_of, planning_at, rings_asked, settling_at}
-use Rattle.trace_runner.specs.declared.plans.Plans.{Plans}
-use Rattle.trace_text.specs.declared.header.Header.{Header}
 use Rattle.trace_text.specs.declared.line.Call.TheVariants.{End}
-use Rattle.trace_text.specs.declared.line.Line.{Line}
 use Rattle.trace_text.specs.declared.line.Line.TheVariants as line
 use Rattle.trace_text.proofs.Barriers.{begins-ending, has_ended-open, has_ended-open-push, has_ended-push}
-use Rattle.trace_text.proofs.Clips.{AllFine, all_fine}
 use Rattle.trace_text.proofs.Knowing.{keys_in-push}
 use Rattle.trace_runner.proofs.Making.{IsAnswered-append, IsAnswered-none}
 use Rattle.trace_runner.proofs.Homes.{AreHome-answered}

@@ -1,40 +1,16 @@
 -- What a run keeps of its replies, one line more, and how a key is found in it.
-use Rattle.std.proofs.Common.{zero, suc, ◌≡◌, ℕ, ◌+◌, ◌<◌, Bool, true, false, cond, not, List, [], ◌∷◌, ◌++◌, map, length, take, drop, filter, Option, Some, None, slice_get, refl, sym, ap, subst, ◌∙◌, ◌-◌, append_assoc, arith, inl, inr, length-append, add-zero, unwrap_or, option_map, option_and_then, rules}
-use Rattle.std.specs.List.{flat_map, range_with_len}
-use Rattle.std.specs.Option.{option_map_or, option_or}
-use Rattle.std.proofs.lemmas.Bool.Decides.{nat_tests}
-use Rattle.std.proofs.lemmas.Grind.{flat_map-append}
-use Rattle.std.proofs.lemmas.List.{append-nil, length-map, map-append, take-append-drop}
-use Rattle.std.proofs.lemmas.List.Elements.{filter-append}
-use Rattle.std.proofs.lemmas.List.FromFn.{length-range_with_len}
-use Rattle.std.proofs.lemmas.Option.{slice_get-map, slice_get_within}
+use Rattle.trace_runner.proofs.Names.{zero, suc, ◌≡◌, ℕ, ◌+◌, ◌<◌, Bool, true, false, cond, not, List, [], ◌∷◌, ◌++◌, map, length, take, drop, filter, Option, Some, None, slice_get, refl, sym, ap, subst, ◌∙◌, ◌-◌, append_assoc, arith, inl, inr, length-append, add-zero, unwrap_or, option_map, option_and_then, rules, flat_map, range_with_len, option_map_or, option_or, nat_tests, flat_map-append, append-nil, length-map, map-append, take-append-drop, filter-append, length-range_with_len, slice_get-map, slice_get_within, Class, Key, CoreState, Event, Reply, FindsAt, FindsOne, Kept, Recalls, is_put, keeping, kept_none, kept_of, keys_of, Asked, Did, Made, asked_of, one_call, answer_told, on_line, put_told, told_of, news_of, answer_line, asked_by, key_at, key_bound, key_made, on_key, binding_at, binding_from, binding_of, first_cause, has_key, has_range, keys_at, keys_in, marks, marks_at, first_of, place_at, Header, Line, all_fine}
 use Rattle.groups.proofs.Lists.{there_at}
-use Rattle.span.specs.declared.class.Class.{Class}
-use Rattle.span.specs.declared.key.Key.{Key}
-use Rattle.arena_core.specs.State.{CoreState}
-use Rattle.arena_core.specs.declared.event.Event.{Event}
 use Rattle.arena_core.specs.declared.event.Event.TheVariants as event
-use Rattle.arena_core.specs.declared.reply.Reply.{Reply}
-use Rattle.trace_runner.specs.Kept.{FindsAt, FindsOne, Kept, Recalls, is_put, keeping, kept_none, kept_of, keys_of}
-use Rattle.trace_runner.specs.Made.{Asked, Did, Made, asked_of, one_call}
-use Rattle.trace_runner.specs.Answers.{answer_told, on_line, put_told, told_of}
 use Rattle.trace_runner.specs.declared.report.Answer.{Answer}
 use Rattle.trace_runner.specs.declared.report.Answer.TheVariants as answer
-use Rattle.trace_runner.specs.News.{news_of}
-use Rattle.trace_runner.specs.Report.{answer_line}
-use Rattle.trace_runner.specs.Runs.{asked_by, key_at, key_bound, key_made, on_key}
-use Rattle.trace_text.specs.Causes.{binding_at, binding_from, binding_of, first_cause, has_key, has_range, keys_at, keys_in, marks, marks_at}
 use Rattle.trace_text.specs.Earlier.{key_count}
-use Rattle.trace_text.specs.Places.{first_of, place_at}
-use Rattle.trace_text.specs.declared.header.Header.{Header}
 use Rattle.trace_text.specs.declared.line.Binding.{Binding}
 use Rattle.trace_text.specs.declared.line.Call.TheVariants.{Put, Fill, Get, Set, Free, Sweep, Later}
 use Rattle.trace_text.specs.declared.line.Keys.{Keys}
 use Rattle.trace_text.specs.declared.line.Keys.TheVariants.{One, Many}
-use Rattle.trace_text.specs.declared.line.Line.{Line}
 use Rattle.trace_text.specs.declared.line.Line.TheVariants as line
 use Rattle.trace_text.proofs.Bindings.{binding_of-push, of_either}
-use Rattle.trace_text.proofs.Clips.{all_fine}
 use Rattle.trace_text.proofs.Tests.{chosen}
 
 -- one more line

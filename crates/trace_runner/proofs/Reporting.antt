@@ -1,17 +1,5 @@
 -- The start of a run, and the report of one.
-use Rattle.std.proofs.Common.{◌≡◌, ◌++◌, ℕ, Bool, false, List, Option, Some, None, option_map, refl, ap, slice_get, rules}
-use Rattle.std.specs.Option.{option_map_or}
-use Rattle.std.proofs.lemmas.Option.{slice_get-map}
-use Rattle.span.specs.PlainMap.{empty_map}
-use Rattle.shard.specs.State.{ShardState}
-use Rattle.arena_core.specs.State.{CoreState, HasKeys, live_keys, new_shard, pages, shown}
-use Rattle.trace_runner.specs.News.{News}
-use Rattle.trace_runner.specs.Recalls.{Serves}
-use Rattle.trace_runner.specs.Replay.{IsReportOf, start_of}
-use Rattle.trace_runner.specs.Report.{end_line}
-use Rattle.trace_runner.specs.Runs.{IsRun}
-use Rattle.trace_runner.specs.declared.report.Ending.{Ending}
-use Rattle.trace_text.specs.declared.header.Header.{Header}
+use Rattle.trace_runner.proofs.Names.{◌≡◌, ◌++◌, ℕ, Bool, false, List, Option, Some, None, option_map, refl, ap, slice_get, rules, option_map_or, slice_get-map, empty_map, ShardState, CoreState, HasKeys, live_keys, new_shard, pages, shown, News, Serves, IsReportOf, start_of, end_line, IsRun, Ending, Header}
 use Rattle.trace_text.specs.declared.trace.Trace.{Trace}
 
 -- a new shard has not ended, whether or not there is one

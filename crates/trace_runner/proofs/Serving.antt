@@ -1,27 +1,9 @@
 -- Which shards have ended, one step later.
-use Rattle.std.proofs.Common.{◌≡◌, ◌==◌, ℕ, zero, suc, Bool, true, false, cond, List, [], ◌∷◌, Some, refl, sym, ap, subst, ◌∙◌, arith, inl, inr, is_some, slice_get, set, Result, Ok, Err, MatchResult, rules}
-use Rattle.std.specs.Option.{option_map_or}
-use Rattle.std.proofs.lemmas.Bool.Decides.{nat_tests}
-use Rattle.std.proofs.lemmas.Bool.{cases_Bool, eqb-true}
+use Rattle.trace_runner.proofs.Names.{◌≡◌, ◌==◌, ℕ, zero, suc, Bool, true, false, cond, List, [], ◌∷◌, Some, refl, sym, ap, subst, ◌∙◌, arith, inl, inr, is_some, slice_get, set, Result, Ok, Err, MatchResult, rules, option_map_or, nat_tests, cases_Bool, eqb-true, PoolState, ShardState, begun, Puts, Frees, Sets, class_of, Value, Class, Key, CoreState, with_shard, CoreStep, EndsOne, IsOpen, IsPutServed, IsServed, IsSetServed, KeepsPlan, KeepsShards, MayCall, MeetsPlan, Resumes, ended_at, reply_to_put, Event, Put, Get, Set, Free, Later, End, Begin, Retire, Trim, Adopt, Reply, Issued, Found, Replaced, Freed, Sent, ShardEnded, ShardBegun, Retired, Trimmed, Adopted, Refused, Refusal}
 use Rattle.pool.specs.Calls.{with_rooms}
 use Rattle.pool.specs.Retires.{MovesSparse, Retires}
-use Rattle.pool.specs.State.{PoolState}
-use Rattle.shard.specs.State.{ShardState, begun}
-use Rattle.shard.specs.Calls.{Puts, Frees, Sets}
 use Rattle.shard.specs.declared.shard.Freed.TheVariants.{Yes}
 use Rattle.shard.specs.declared.shard.replacing.Replaced.TheVariants as replaced
-use Rattle.span.specs.Classes.{class_of}
-use Rattle.span.specs.Log.{Value}
-use Rattle.span.specs.declared.class.Class.{Class}
-use Rattle.span.specs.declared.key.Key.{Key}
-use Rattle.arena_core.specs.State.{CoreState, with_shard}
-use Rattle.arena_core.specs.Step.{CoreStep}
-use Rattle.trace_runner.specs.Recalls.{EndsOne, IsOpen, IsPutServed, IsServed, IsSetServed, KeepsPlan, KeepsShards, MayCall, MeetsPlan, Resumes, ended_at, reply_to_put}
-use Rattle.arena_core.specs.declared.event.Event.{Event}
-use Rattle.arena_core.specs.declared.event.Event.TheVariants.{Put, Get, Set, Free, Later, End, Begin, Retire, Trim, Adopt}
-use Rattle.arena_core.specs.declared.reply.Reply.{Reply}
-use Rattle.arena_core.specs.declared.reply.Reply.TheVariants.{Issued, Found, Replaced, Freed, Sent, ShardEnded, ShardBegun, Retired, Trimmed, Adopted, Refused}
-use Rattle.arena_core.specs.declared.reply.Refusal.{Refusal}
 use Rattle.arena_core.specs.declared.reply.Refusal.TheVariants.{OutOfMemory, Ended, PlanOpen, RingFull, Config}
 
 -- the shard of this number is there and has ended

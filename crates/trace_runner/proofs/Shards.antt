@@ -1,18 +1,6 @@
 -- Which shards have ended, after several steps.
-use Rattle.std.proofs.Common.{◌≡◌, ◌&&◌, ◌||◌, ◌+◌, ℕ, Bool, true, false, not, cond, nat_lt, List, [], ◌∷◌, ◌++◌, map, filter, refl, sym, ap, ap₂, subst, ◌∙◌, zero-add, append-nil, rules}
-use Rattle.std.specs.Prelude.{Err, Ok, OnOk, Result}
-use Rattle.std.proofs.lemmas.List.{map-append}
-use Rattle.std.specs.List.{range_with_len}
-use Rattle.std.proofs.lemmas.List.FromFn.{filter_of_map_range_with_len_more}
-use Rattle.std.proofs.lemmas.Bool.Decides.{nat_tests}
-use Rattle.std.proofs.lemmas.Bool.{cases_Bool}
-use Rattle.std.proofs.Math.Bool.{and-false}
-use Rattle.arena_core.specs.State.{CoreState}
-use Rattle.trace_runner.specs.Recalls.{CanLeave, Carries, EndsBelow, EndsOne, IsOpen, KeepsPlan, KeepsShards, Resumes, TurnsBelow, ended_at}
-use Rattle.trace_runner.specs.Made.{Asked, Calls}
-use Rattle.trace_runner.specs.News.{News}
-use Rattle.trace_runner.specs.Runs.{ends_asked}
-use Rattle.arena_core.specs.declared.event.Event.TheVariants.{End}
+use Rattle.trace_runner.proofs.Names.{◌≡◌, ◌&&◌, ◌||◌, ◌+◌, ℕ, Bool, true, false, not, cond, nat_lt, List, [], ◌∷◌, ◌++◌, map, filter, refl, sym, ap, ap₂, subst, ◌∙◌, zero-add, rules, Err, Ok, OnOk, Result, map-append, range_with_len, filter_of_map_range_with_len_more, nat_tests, cases_Bool, and-false, CoreState, CanLeave, Carries, EndsBelow, EndsOne, IsOpen, KeepsPlan, KeepsShards, Resumes, TurnsBelow, ended_at, Asked, Calls, News, ends_asked, End}
+use Rattle.std.proofs.Common.{append-nil}
 use Rattle.trace_runner.proofs.Making.{Carries-append}
 
 -- what holds in any case holds where a call is done

@@ -1,9 +1,5 @@
 -- Bytes that went in one after another.
-use Rattle.std.proofs.Common.{◌≡◌, ℕ, ◌+◌, List, Option, Ok, Err, take, drop, rules}
-use Rattle.std.specs.Prelude.{Result}
-use Rattle.std.proofs.Math.Seq.{take-add}
-use Rattle.std.proofs.KnownBytes.{Appends-trans, Keeps-trans}
-use Rattle.std.specs.Io.KnownBytes.{Appends, Keeps, WriteAppends}
+use Rattle.trace_runner.proofs.Names.{◌≡◌, ℕ, ◌+◌, List, Option, Ok, Err, take, drop, rules, Result, take-add, Appends-trans, Keeps-trans, Appends, Keeps, WriteAppends}
 
 -- a prefix of the bytes, and then a prefix of the rest
 pub Appends-take : (a b c : Option (List ℕ)) (n m : ℕ) (bytes rest : List ℕ) → rest ≡ drop n bytes → Appends a b (take n bytes) → Appends b c (take m rest) → Appends a c (take (n + m) bytes)

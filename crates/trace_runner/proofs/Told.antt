@@ -1,10 +1,5 @@
 -- What is told, one line more.
-use Rattle.std.proofs.Common.{◌≡◌, ℕ, ◌+◌, Bool, List, [], ◌∷◌, ◌++◌, length, refl, sym, ap, ◌∙◌, arith, add-zero}
-use Rattle.std.specs.List.{fold}
-use Rattle.arena_core.specs.declared.event.Event.TheVariants.{Mark, Step}
-use Rattle.arena_core.specs.declared.reply.Reply.TheVariants.{Marked, Stepped}
-use Rattle.trace_runner.specs.Made.{CalledEvent, Called, Did, Made}
-use Rattle.trace_runner.specs.News.{News, news_from, news_of, no_news, with_all_made, with_called, with_line, with_made}
+use Rattle.trace_runner.proofs.Names.{◌≡◌, ℕ, ◌+◌, Bool, List, [], ◌∷◌, ◌++◌, length, refl, sym, ap, ◌∙◌, arith, add-zero, fold, Mark, Step, Marked, Stepped, CalledEvent, Called, Did, Made, News, news_from, news_of, no_news, with_all_made, with_called, with_line, with_made}
 
 -- whether replies are asked for stays
 replies-called : (n : News) (called : CalledEvent) → (with_called n called).replies ≡ n.replies

@@ -1,10 +1,6 @@
-use Rattle.std.proofs.Common.{◌≡◌, ◌∙◌, Bool, true, false, ℕ, List, get_or, ap, arith, inl, inr, nat_le, of_calls, rules, sym}
-use Rattle.std.proofs.lemmas.Bool.{cases_eq, leb-false, leb-true, le-leb}
+use Rattle.trace_runner.proofs.Names.{◌≡◌, ◌∙◌, Bool, true, false, ℕ, List, get_or, ap, arith, inl, inr, nat_le, of_calls, rules, sym, cases_eq, leb-false, leb-true, le-leb, get_or_from_slice_get, slice_get-get_or, slice_get_within, AreInRow, Stretch}
 use Rattle.std.proofs.lemmas.Fn.{always_returns_same}
-use Rattle.std.proofs.lemmas.Option.{get_or_from_slice_get, slice_get-get_or, slice_get_within}
 use Rattle.std.specs.List.Sorted.{IsPartitionPoint, IsPartitionedBy}
-use Rattle.trace_runner.specs.Given.{AreInRow}
-use Rattle.trace_runner.specs.declared.key_list.Stretch.{Stretch}
 use Rattle.trace_runner.proofs.Giving.{row_ascends}
 use Rattle.trace_runner.proofs.key_list.count_to.Goals as goal
 

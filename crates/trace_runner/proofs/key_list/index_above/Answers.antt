@@ -1,6 +1,4 @@
-use Rattle.std.proofs.Common.{◌≡◌, ◌∙◌, ◌-◌, Some, arith, get_or, slice_get}
-use Rattle.std.proofs.lemmas.Option.{slice_get-get_or}
-use Rattle.trace_runner.specs.declared.key_list.Stretch.{Stretch}
+use Rattle.trace_runner.proofs.Names.{◌≡◌, ◌∙◌, ◌-◌, Some, arith, get_or, slice_get, slice_get-get_or, Stretch}
 use Rattle.trace_runner.proofs.Giving.{get_or-found, get_or-given, get_or-refused, row_begins, row_last}
 use Rattle.trace_runner.proofs.key_list.index_above.Goals as goal
 

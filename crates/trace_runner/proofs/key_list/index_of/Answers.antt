@@ -1,4 +1,4 @@
-use Rattle.std.proofs.Common.{◌∙◌, ◌+◌, ap, arith, slice_get}
+use Rattle.trace_runner.proofs.Names.{◌∙◌, ◌+◌, ap, arith, slice_get}
 use Rattle.trace_runner.proofs.Giving.{get_or-all_closed, get_or-all_last, get_or-beyond, row_apart}
 use Rattle.trace_runner.proofs.key_list.index_of.Goals as goal
 

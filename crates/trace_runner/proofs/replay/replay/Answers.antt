@@ -1,6 +1,4 @@
-use Rattle.std.proofs.Common.{◌∙◌, ◌++◌, ap}
-use Rattle.trace_runner.specs.Report.{end_line}
-use Rattle.trace_runner.specs.declared.report.Ending.{Ending}
+use Rattle.trace_runner.proofs.Names.{◌∙◌, ◌++◌, ap, end_line, Ending}
 use Rattle.trace_runner.proofs.Reporting.{IsReportOf-run, Serves-start}
 use Rattle.trace_runner.proofs.replay.replay.Goals as goal
 

@@ -1,10 +1,6 @@
-use Rattle.std.proofs.Common.{List, Err}
-use Rattle.std.proofs.lemmas.Result.{err_from_is_err_and}
+use Rattle.trace_runner.proofs.Names.{List, Err, err_from_is_err_and, IsNoFault, Header, Line}
 use Rattle.trace_text.specs.Trace.{IsReadAs}
-use Rattle.trace_runner.specs.Replay.{IsNoFault}
 use Rattle.trace_runner.specs.Errors.{stop_of_parse}
-use Rattle.trace_text.specs.declared.header.Header.{Header}
-use Rattle.trace_text.specs.declared.line.Line.{Line}
 use Rattle.trace_text.specs.declared.cause.ParseError.{ParseError}
 use Rattle.trace_text.specs.declared.cause.ParseError.TheVariants.{OutOfMemory, BadTrace}
 use Rattle.trace_runner.proofs.replay.replay_serial.Goals as goal

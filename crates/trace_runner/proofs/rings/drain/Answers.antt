@@ -1,4 +1,4 @@
-use Rattle.std.proofs.Common.{ℕ, subst, sym}
+use Rattle.trace_runner.proofs.Names.{ℕ, subst, sym}
 use Rattle.trace_runner.proofs.Draining.{Drains-last, IsDraining, IsDraining-next}
 use Rattle.trace_runner.proofs.Shards.{KeepsPlan-trans}
 use Rattle.trace_runner.proofs.rings.drain.Goals as goal

@@ -1,6 +1,4 @@
-use Rattle.std.proofs.Common.{length}
-use Rattle.arena_core.specs.Rings.{pending_at}
-use Rattle.trace_runner.specs.Recalls.{KeepsPlan}
+use Rattle.trace_runner.proofs.Names.{length, pending_at, KeepsPlan}
 use Rattle.trace_runner.proofs.Draining.{IsDraining}
 use Rattle.trace_runner.proofs.rings.drain.Given as goal
 

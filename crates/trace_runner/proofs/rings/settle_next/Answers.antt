@@ -1,10 +1,4 @@
-use Rattle.std.proofs.Common.{None, Option, Some, subst}
-use Rattle.span.specs.declared.key.Key.{Key}
-use Rattle.arena_core.specs.Plain.{ErasedStep}
-use Rattle.arena_core.specs.State.{shown}
-use Rattle.arena_core.specs.Step.{CoreStep}
-use Rattle.arena_core.specs.declared.event.Event.TheVariants.{Settle}
-use Rattle.arena_core.specs.declared.reply.Reply.TheVariants.{Settled}
+use Rattle.trace_runner.proofs.Names.{None, Option, Some, subst, Key, ErasedStep, shown, CoreStep, Settle, Settled}
 use Rattle.trace_runner.proofs.Draining.{KeepsPlan-settled}
 use Rattle.trace_runner.proofs.Making.{AreSteps-one}
 use Rattle.trace_runner.proofs.rings.settle_next.Goals as goal

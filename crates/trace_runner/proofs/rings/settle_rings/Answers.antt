@@ -1,8 +1,4 @@
-use Rattle.std.proofs.Common.{◌≡◌, ◌∷◌, [], ℕ, List, arith, map, subst, sym, zero-add}
-use Rattle.std.specs.List.{range_with_len}
-use Rattle.std.proofs.lemmas.List.FromFn.{map-range_with_len_more}
-use Rattle.trace_runner.specs.Made.{Asked, Tends}
-use Rattle.trace_runner.specs.Recalls.{Carries}
+use Rattle.trace_runner.proofs.Names.{◌≡◌, ◌∷◌, [], ℕ, List, arith, map, subst, sym, zero-add, range_with_len, map-range_with_len_more, Asked, Tends, Carries}
 use Rattle.trace_runner.proofs.Draining.{Carries-tended}
 use Rattle.trace_runner.proofs.Making.{Carries-append}
 use Rattle.trace_runner.proofs.Shards.{KeepsPlan-trans}

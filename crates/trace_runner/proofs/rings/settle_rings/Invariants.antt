@@ -1,8 +1,4 @@
-use Rattle.std.proofs.Common.{map}
-use Rattle.std.specs.List.{range_with_len}
-use Rattle.trace_runner.specs.Made.{Tends}
-use Rattle.trace_runner.specs.News.{News}
-use Rattle.trace_runner.specs.Recalls.{Carries, KeepsPlan}
+use Rattle.trace_runner.proofs.Names.{map, range_with_len, Tends, News, Carries, KeepsPlan}
 use Rattle.trace_runner.proofs.rings.settle_rings.Given as goal
 
 -- the rings to the shards below this number are empty

@@ -1,9 +1,4 @@
-use Rattle.std.proofs.Common.{◌++◌, ◌∷◌, [], ℕ, List, map, subst, sym, zero-add}
-use Rattle.std.specs.List.{range_with_len}
-use Rattle.std.proofs.lemmas.List.FromFn.{map-range_with_len_more}
-use Rattle.arena_core.specs.declared.event.Event.TheVariants.{Settle}
-use Rattle.trace_runner.specs.Made.{Request, UntilNone}
-use Rattle.trace_runner.specs.Recalls.{Drains}
+use Rattle.trace_runner.proofs.Names.{◌++◌, ◌∷◌, [], ℕ, List, map, subst, sym, zero-add, range_with_len, map-range_with_len_more, Settle, Request, UntilNone, Drains}
 use Rattle.trace_runner.proofs.Draining.{Drains-append}
 use Rattle.trace_runner.proofs.Shards.{KeepsPlan-trans}
 use Rattle.trace_runner.proofs.rings.settle_shard.Goals as goal

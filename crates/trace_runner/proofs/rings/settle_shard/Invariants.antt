@@ -1,8 +1,4 @@
-use Rattle.std.proofs.Common.{map}
-use Rattle.std.specs.List.{range_with_len}
-use Rattle.arena_core.specs.declared.event.Event.TheVariants.{Settle}
-use Rattle.trace_runner.specs.Made.{UntilNone}
-use Rattle.trace_runner.specs.Recalls.{Drains, KeepsPlan}
+use Rattle.trace_runner.proofs.Names.{map, range_with_len, Settle, UntilNone, Drains, KeepsPlan}
 use Rattle.trace_runner.proofs.rings.settle_shard.Given as goal
 
 -- the rings from the workers below this number are empty

@@ -1,10 +1,5 @@
-use Rattle.std.proofs.Common.{◌≡◌, ◌∙◌, ◌+◌, ◌≤◌, ℕ, Bool, true, false, List, ◌∷◌, ◌++◌, [], Some, not, ap, arith, refl, filter, length, length-append, slice_get, take}
-use Rattle.std.specs.Prelude.{if◌then◌else◌}
-use Rattle.std.proofs.lemmas.List.{length-take-le, take_all}
-use Rattle.std.proofs.lemmas.List.Elements.{filter-append}
+use Rattle.trace_runner.proofs.Names.{◌≡◌, ◌∙◌, ◌+◌, ◌≤◌, ℕ, Bool, true, false, List, ◌∷◌, ◌++◌, [], Some, not, ap, arith, refl, filter, length, length-append, slice_get, take, if◌then◌else◌, length-take-le, take_all, filter-append, is_adopt, Line}
 use Rattle.std.proofs.lemmas.List.Filters.{length-filter_both}
-use Rattle.trace_text.specs.Causes.{is_adopt}
-use Rattle.trace_text.specs.declared.line.Line.{Line}
 use Rattle.trace_runner.proofs.Recalling.{take_line}
 use Rattle.trace_runner.proofs.run.adoptions.Goals as goal
 

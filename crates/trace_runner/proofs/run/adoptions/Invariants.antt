@@ -1,5 +1,4 @@
-use Rattle.std.proofs.Common.{◌≡◌, filter, length, take}
-use Rattle.trace_text.specs.Causes.{is_adopt}
+use Rattle.trace_runner.proofs.Names.{◌≡◌, filter, length, take, is_adopt}
 use Rattle.trace_runner.proofs.run.adoptions.Given as goal
 
 -- the adoptions so far

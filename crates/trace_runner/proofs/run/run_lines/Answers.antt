@@ -1,7 +1,4 @@
-use Rattle.std.proofs.Common.{◌≡◌, ◌∙◌, ap, arith, filter, length}
-use Rattle.trace_text.specs.Causes.{is_adopt}
-use Rattle.trace_runner.specs.Kept.{Kept, kept_in}
-use Rattle.trace_runner.specs.Recalls.{news_at}
+use Rattle.trace_runner.proofs.Names.{◌≡◌, ◌∙◌, ap, arith, filter, length, is_adopt, Kept, kept_in, news_at}
 use Rattle.trace_runner.proofs.Progress.{HasCome-CanLeave, HasCome-IsRun, HasCome-calls}
 use Rattle.trace_runner.proofs.run.run_lines.Goals as goal
 

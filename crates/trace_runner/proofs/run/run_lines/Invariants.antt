@@ -1,6 +1,4 @@
-use Rattle.std.proofs.Common.{◌≡◌}
-use Rattle.trace_runner.specs.Kept.{kept_in}
-use Rattle.trace_runner.specs.Recalls.{HasCome, has}
+use Rattle.trace_runner.proofs.Names.{◌≡◌, kept_in, HasCome, has}
 use Rattle.trace_runner.proofs.run.run_lines.Given as goal
 
 abbrev pub invariant-loop-place : goal.invariant-loop-place

@@ -1,5 +1,4 @@
-use Rattle.std.proofs.Common.{arith, ◌∙◌, length-drop}
-use Rattle.std.proofs.lemmas.Grind.{common_steps}
+use Rattle.trace_runner.proofs.Names.{arith, ◌∙◌, length-drop, common_steps}
 use Rattle.trace_runner.proofs.Taken.{Appends-take}
 use Rattle.trace_runner.proofs.sink.give.Goals as goal
 

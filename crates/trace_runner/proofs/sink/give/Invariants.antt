@@ -1,5 +1,4 @@
-use Rattle.std.proofs.Common.{◌≡◌, ◌≤◌, ◌-◌, length, take}
-use Rattle.std.specs.Io.KnownBytes.{Appends}
+use Rattle.trace_runner.proofs.Names.{◌≡◌, ◌≤◌, ◌-◌, length, take, Appends}
 use Rattle.trace_runner.proofs.sink.give.Given as goal
 
 -- the bytes so far went in, and nothing failed

@@ -1,4 +1,4 @@
-use Rattle.std.proofs.Common.{◌∙◌, arith, sym}
+use Rattle.trace_runner.proofs.Names.{◌∙◌, arith, sym}
 use Rattle.trace_runner.proofs.key_list.KeyList.key.Goals as goal
 
 pub returns : goal.returns

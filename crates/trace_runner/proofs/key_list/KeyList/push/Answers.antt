@@ -1,4 +1,4 @@
-use Rattle.std.proofs.Common.{◌∙◌, ◌∷◌, [], arith, length-append, rules, sym}
+use Rattle.trace_runner.proofs.Names.{◌∙◌, ◌∷◌, [], arith, length-append, rules, sym}
 use Rattle.trace_runner.proofs.Giving.{AreInRow-closed, all_given-key, all_given-next, row_apart}
 use Rattle.trace_runner.proofs.key_list.KeyList.push.Goals as goal
 

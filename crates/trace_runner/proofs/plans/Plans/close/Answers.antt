@@ -1,11 +1,6 @@
-use Rattle.std.proofs.Common.{◌∙◌, refl, ap, ap₂}
-use Rattle.std.proofs.lemmas.Result.{on_ok_weaker}
+use Rattle.trace_runner.proofs.Names.{◌∙◌, refl, ap, ap₂, on_ok_weaker, Kept, kept_in, Called, News, with_called, with_news, news_at}
 use Rattle.arena_core.specs.declared.event.Event.TheVariants as event
 use Rattle.arena_core.specs.declared.reply.Reply.TheVariants as reply
-use Rattle.trace_runner.specs.Kept.{Kept, kept_in}
-use Rattle.trace_runner.specs.Made.{Called}
-use Rattle.trace_runner.specs.News.{News, with_called, with_news}
-use Rattle.trace_runner.specs.Recalls.{news_at}
 use Rattle.trace_runner.specs.declared.report.PlanNews.TheVariants.{Closed}
 use Rattle.trace_runner.proofs.Making.{Carries-one}
 use Rattle.trace_runner.proofs.PlanSteps.{KeepsShards-closed, News-same}

@@ -1,9 +1,5 @@
-use Rattle.std.proofs.Common.{◌∙◌, ◌∷◌, [], replicate, sym}
-use Rattle.std.proofs.lemmas.Result.{on_ok_weaker}
+use Rattle.trace_runner.proofs.Names.{◌∙◌, ◌∷◌, [], replicate, sym, on_ok_weaker, kept_in, Calls, news_at}
 use Rattle.arena_core.specs.declared.event.Event.TheVariants as event
-use Rattle.trace_runner.specs.Kept.{kept_in}
-use Rattle.trace_runner.specs.Made.{Calls}
-use Rattle.trace_runner.specs.Recalls.{news_at}
 use Rattle.trace_runner.proofs.Making.{Carries-append}
 use Rattle.trace_runner.proofs.PlanSteps.{plan_end_asked-some}
 use Rattle.trace_runner.proofs.plans.Plans.end_open.Goals as goal

@@ -1,4 +1,4 @@
-use Rattle.std.proofs.Common.{◌∙◌, sym}
+use Rattle.trace_runner.proofs.Names.{◌∙◌, sym}
 use Rattle.trace_runner.proofs.PlanSteps.{stepping-some}
 use Rattle.trace_runner.proofs.plans.Plans.follow.Goals as goal
 

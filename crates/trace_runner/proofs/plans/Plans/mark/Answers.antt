@@ -1,14 +1,7 @@
-use Rattle.std.proofs.Common.{refl, ap, subst}
-use Rattle.std.proofs.lemmas.Result.{on_ok_weaker}
-use Rattle.arena_core.specs.Step.{CoreStep}
+use Rattle.trace_runner.proofs.Names.{refl, ap, subst, on_ok_weaker, CoreStep, Refusal, Kept, kept_in, Called, News, with_called, news_at}
 use Rattle.arena_core.specs.declared.event.Event.TheVariants as event
 use Rattle.arena_core.specs.declared.reply.Reply.TheVariants as reply
-use Rattle.arena_core.specs.declared.reply.Refusal.{Refusal}
 use Rattle.arena_core.specs.declared.reply.Refusal.TheVariants as refusal
-use Rattle.trace_runner.specs.Kept.{Kept, kept_in}
-use Rattle.trace_runner.specs.Made.{Called}
-use Rattle.trace_runner.specs.News.{News, with_called}
-use Rattle.trace_runner.specs.Recalls.{news_at}
 use Rattle.trace_runner.proofs.Making.{Carries-one}
 use Rattle.trace_runner.proofs.PlanSteps.{KeepsShards-marked, News-same}
 use Rattle.trace_runner.proofs.plans.Plans.mark.Goals as goal

@@ -1,9 +1,6 @@
-use Rattle.std.proofs.Common.{List, ap}
-use Rattle.std.proofs.lemmas.Result.{on_ok_weaker}
+use Rattle.trace_runner.proofs.Names.{List, ap, on_ok_weaker, News, news_at}
 use Rattle.arena_core.specs.declared.event.Event.TheVariants as event
 use Rattle.arena_core.specs.declared.reply.Reply.TheVariants as reply
-use Rattle.trace_runner.specs.News.{News}
-use Rattle.trace_runner.specs.Recalls.{news_at}
 use Rattle.trace_runner.specs.declared.report.TakenStep.{TakenStep}
 use Rattle.trace_runner.proofs.Making.{Carries-one}
 use Rattle.trace_runner.proofs.PlanSteps.{KeepsShards-stepped}

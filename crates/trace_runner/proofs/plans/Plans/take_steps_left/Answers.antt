@@ -1,7 +1,5 @@
-use Rattle.std.proofs.Common.{◌≡◌, ◌∙◌, ◌+◌, ◌-◌, ℕ, Some, ap, arith, replicate, subst}
+use Rattle.trace_runner.proofs.Names.{◌≡◌, ◌∙◌, ◌+◌, ◌-◌, ℕ, Some, ap, arith, replicate, subst, Calls, Carries, news_at}
 use Rattle.arena_core.specs.declared.event.Event.TheVariants as event
-use Rattle.trace_runner.specs.Made.{Calls}
-use Rattle.trace_runner.specs.Recalls.{Carries, news_at}
 use Rattle.trace_runner.proofs.PlanSteps.{Carries-next}
 use Rattle.trace_runner.proofs.Shards.{KeepsShards-trans}
 use Rattle.trace_runner.proofs.plans.Plans.take_steps_left.Goals as goal

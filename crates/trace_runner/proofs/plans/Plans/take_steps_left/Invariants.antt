@@ -1,8 +1,5 @@
-use Rattle.std.proofs.Common.{◌≡◌, ◌-◌, Some, replicate}
+use Rattle.trace_runner.proofs.Names.{◌≡◌, ◌-◌, Some, replicate, Calls, Kept, Carries, KeepsShards, KnowsPlan, news_at}
 use Rattle.arena_core.specs.declared.event.Event.TheVariants as event
-use Rattle.trace_runner.specs.Made.{Calls}
-use Rattle.trace_runner.specs.Kept.{Kept}
-use Rattle.trace_runner.specs.Recalls.{Carries, KeepsShards, KnowsPlan, news_at}
 use Rattle.trace_runner.proofs.plans.Plans.take_steps_left.Given as goal
 
 -- that many steps were taken

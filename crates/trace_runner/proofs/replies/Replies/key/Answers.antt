@@ -1,5 +1,4 @@
-use Rattle.std.proofs.Common.{None, ◌+◌, ◌∙◌}
-use Rattle.std.proofs.lemmas.Option.{get_or_from_slice_get}
+use Rattle.trace_runner.proofs.Names.{None, ◌+◌, ◌∙◌, get_or_from_slice_get}
 use Rattle.trace_runner.proofs.replies.Replies.key.Goals as goal
 
 pub returns-clause-found : goal.returns-clause-found

@@ -1,5 +1,4 @@
-use Rattle.std.proofs.Common.{◌≡◌, ◌∙◌, true, false, sym, arith}
-use Rattle.trace_runner.specs.Recalls.{has}
+use Rattle.trace_runner.proofs.Names.{◌≡◌, ◌∙◌, true, false, sym, arith, has}
 use Rattle.trace_runner.proofs.Shards.{Carries-more, Carries-skip, EndsBelow-end, EndsBelow-skip}
 use Rattle.trace_runner.proofs.run.Run.abandon.Goals as goal
 use Rattle.trace_runner.proofs.run.Run.abandon.Goals.{then-contains+in_ok-end, else-contains}

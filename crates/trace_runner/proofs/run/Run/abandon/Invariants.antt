@@ -1,8 +1,4 @@
-use Rattle.std.proofs.Common.{◌≡◌, filter}
-use Rattle.std.specs.List.{range_with_len}
-use Rattle.trace_runner.specs.News.{News}
-use Rattle.trace_runner.specs.Recalls.{Carries, EndsBelow, has}
-use Rattle.trace_runner.specs.Runs.{ends_asked}
+use Rattle.trace_runner.proofs.Names.{◌≡◌, filter, range_with_len, News, Carries, EndsBelow, has, ends_asked}
 use Rattle.trace_runner.proofs.run.Run.abandon.Given as goal
 
 -- the shards below this number are abandoned

@@ -1,6 +1,4 @@
-use Rattle.std.proofs.Common.{ap}
-use Rattle.trace_runner.specs.Kept.{kept_in}
-use Rattle.trace_runner.specs.Made.{one_call}
+use Rattle.trace_runner.proofs.Names.{ap, kept_in, one_call}
 use Rattle.trace_runner.proofs.Making.{Makes-called}
 use Rattle.trace_runner.proofs.Recalling.{keeping-other}
 use Rattle.trace_runner.proofs.Serving.{IsServed-step, KeepsPlan-step, MeetsPlan-step}

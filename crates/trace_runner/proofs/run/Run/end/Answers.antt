@@ -1,10 +1,5 @@
-use Rattle.std.proofs.Common.{subst}
-use Rattle.arena_core.specs.State.{shown}
-use Rattle.arena_core.specs.Step.{CoreStep}
-use Rattle.arena_core.specs.Plain.{ErasedStep}
+use Rattle.trace_runner.proofs.Names.{subst, shown, CoreStep, ErasedStep, Reply, ShardEnded}
 use Rattle.arena_core.specs.declared.event.Event.TheVariants as event
-use Rattle.arena_core.specs.declared.reply.Reply.{Reply}
-use Rattle.arena_core.specs.declared.reply.Reply.TheVariants.{ShardEnded}
 use Rattle.trace_runner.proofs.Making.{Carries-end}
 use Rattle.trace_runner.proofs.Serving.{EndsOne-step, plan-end}
 use Rattle.trace_runner.proofs.run.Run.end.Goals as goal

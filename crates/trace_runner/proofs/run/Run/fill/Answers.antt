@@ -1,10 +1,4 @@
-use Rattle.std.proofs.Common.{◌+◌, ◌∙◌, ◌∷◌, [], List, map, subst, sym, ℕ, zero-add}
-use Rattle.std.specs.List.{range_with_len}
-use Rattle.std.proofs.lemmas.List.FromFn.{map-range_with_len_more}
-use Rattle.trace_runner.specs.Kept.{kept_in}
-use Rattle.trace_runner.specs.Recalls.{Makes}
-use Rattle.trace_runner.specs.Made.{Asked, Calls}
-use Rattle.trace_text.specs.Objects.{counted_from}
+use Rattle.trace_runner.proofs.Names.{◌+◌, ◌∙◌, ◌∷◌, [], List, map, subst, sym, ℕ, zero-add, range_with_len, map-range_with_len_more, kept_in, Makes, Asked, Calls, counted_from}
 use Rattle.trace_text.proofs.Bases.{last_word-each}
 use Rattle.arena_core.specs.declared.event.Event.TheVariants as event
 use Rattle.trace_runner.proofs.Making.{Makes-append}

@@ -1,9 +1,4 @@
-use Rattle.std.proofs.Common.{◌≡◌, ◌+◌, map}
-use Rattle.std.specs.List.{range_with_len}
-use Rattle.trace_runner.specs.Kept.{kept_in}
-use Rattle.trace_runner.specs.Recalls.{KeepsPlan, Makes}
-use Rattle.trace_runner.specs.Made.{Calls}
-use Rattle.trace_text.specs.Objects.{counted_from}
+use Rattle.trace_runner.proofs.Names.{◌≡◌, ◌+◌, map, range_with_len, kept_in, KeepsPlan, Makes, Calls, counted_from}
 use Rattle.arena_core.specs.declared.event.Event.TheVariants as event
 use Rattle.trace_runner.proofs.run.Run.fill.Given as goal
 

@@ -1,8 +1,6 @@
-use Rattle.std.proofs.Common.{ap, refl}
+use Rattle.trace_runner.proofs.Names.{ap, refl, kept_in, one_call}
 use Rattle.arena_core.specs.declared.event.Event.TheVariants as event
 use Rattle.arena_core.specs.declared.reply.Reply.TheVariants as reply
-use Rattle.trace_runner.specs.Kept.{kept_in}
-use Rattle.trace_runner.specs.Made.{one_call}
 use Rattle.trace_runner.proofs.Making.{Makes-called}
 use Rattle.trace_runner.proofs.Recalling.{keeping-other}
 use Rattle.trace_runner.proofs.Serving.{KeepsPlan-step}

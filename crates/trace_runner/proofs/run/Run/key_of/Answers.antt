@@ -1,4 +1,4 @@
-use Rattle.trace_runner.specs.Runs.{key_of}
+use Rattle.trace_runner.proofs.Names.{key_of}
 use Rattle.trace_runner.proofs.run.Run.key_of.Goals as goal
 
 pub returns-clause-found : goal.returns-clause-found

@@ -1,6 +1,4 @@
-use Rattle.std.proofs.Common.{ap, refl}
-use Rattle.trace_runner.specs.Kept.{kept_in}
-use Rattle.trace_runner.specs.Made.{Leaves, no_call}
+use Rattle.trace_runner.proofs.Names.{ap, refl, kept_in, Leaves, no_call}
 use Rattle.trace_runner.proofs.Making.{Makes-left}
 use Rattle.trace_runner.proofs.Recalling.{keeping-other}
 use Rattle.trace_runner.proofs.run.Run.leave.Goals as goal

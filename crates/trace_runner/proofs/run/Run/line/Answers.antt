@@ -1,9 +1,4 @@
-use Rattle.std.proofs.Common.{◌+◌, ◌∙◌, ap, filter}
-use Rattle.std.specs.List.{range_with_len}
-use Rattle.std.proofs.lemmas.Result.{on_ok_weaker}
-use Rattle.trace_text.specs.Causes.{begins_again, is_call, thread_of}
-use Rattle.trace_runner.specs.Kept.{kept_in}
-use Rattle.trace_runner.specs.Recalls.{has}
+use Rattle.trace_runner.proofs.Names.{◌+◌, ◌∙◌, ap, filter, range_with_len, on_ok_weaker, begins_again, is_call, thread_of, kept_in, has}
 use Rattle.trace_runner.proofs.Making.{MakesLine-adopt, MakesLine-call, MakesLine-mark, MakesLine-silent}
 use Rattle.trace_runner.proofs.Shards.{EndsBelow-before, IsOpen-others, TurnsBelow-begins, TurnsBelow-ends, TurnsBelow-none, on_ok_always}
 use Rattle.trace_runner.proofs.run.Run.line.Goals as goal

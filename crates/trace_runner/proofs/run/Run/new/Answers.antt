@@ -1,4 +1,4 @@
-use Rattle.std.proofs.Common.{rules}
+use Rattle.trace_runner.proofs.Names.{rules}
 use Rattle.trace_runner.proofs.Progress.{HasCome-start}
 use Rattle.trace_runner.proofs.run.Run.new.Goals as goal
 

@@ -1,4 +1,4 @@
-use Rattle.trace_runner.specs.Kept.{kept_in}
+use Rattle.trace_runner.proofs.Names.{kept_in}
 use Rattle.trace_runner.proofs.Progress.{HasCome-IsReady, HasCome-finds, HasCome-more}
 use Rattle.trace_runner.proofs.run.Run.next_line.Goals as goal
 

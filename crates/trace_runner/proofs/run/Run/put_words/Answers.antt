@@ -1,10 +1,5 @@
-use Rattle.std.proofs.Common.{◌∙◌, ◌++◌, ◌∷◌, [], ap, refl, sym}
-use Rattle.arena_core.specs.State.{shown}
-use Rattle.arena_core.specs.Plain.{PlainStep}
+use Rattle.trace_runner.proofs.Names.{◌∙◌, ◌++◌, ◌∷◌, [], ap, refl, sym, shown, PlainStep, kept_in, one_call, reply_to_put}
 use Rattle.arena_core.specs.declared.event.Event.TheVariants as event
-use Rattle.trace_runner.specs.Kept.{kept_in}
-use Rattle.trace_runner.specs.Made.{one_call}
-use Rattle.trace_runner.specs.Recalls.{reply_to_put}
 use Rattle.trace_runner.proofs.Making.{Makes-called}
 use Rattle.trace_runner.proofs.Recalling.{answer_key, answer_key-put_told, answer_key-told, keeping-put}
 use Rattle.trace_runner.proofs.Serving.{CoreStep-put, IsPutServed-step, KeepsPlan-put, reply_to_put-each}

@@ -1,8 +1,4 @@
-use Rattle.std.proofs.lemmas.Result.{on_ok_weaker}
-use Rattle.std.proofs.Common.{true}
-use Rattle.trace_runner.specs.Kept.{kept_in}
-use Rattle.trace_runner.specs.News.{no_news}
-use Rattle.trace_runner.specs.Recalls.{news_at}
+use Rattle.trace_runner.proofs.Names.{on_ok_weaker, true, kept_in, no_news, news_at}
 use Rattle.trace_runner.proofs.Making.{Carries-append}
 use Rattle.trace_runner.proofs.Shards.{CanLeave-kept, EndsBelow-after, EndsBelow-before}
 use Rattle.trace_runner.proofs.run.Run.settle.Goals as goal

@@ -1,6 +1,4 @@
-use Rattle.std.proofs.Common.{ap, refl}
-use Rattle.trace_runner.specs.Kept.{kept_in}
-use Rattle.trace_runner.specs.Made.{Keyless, no_call}
+use Rattle.trace_runner.proofs.Names.{ap, refl, kept_in, Keyless, no_call}
 use Rattle.trace_runner.proofs.Making.{Makes-unbound}
 use Rattle.trace_runner.proofs.Recalling.{keeping-other}
 use Rattle.trace_runner.proofs.run.Run.skip.Goals as goal

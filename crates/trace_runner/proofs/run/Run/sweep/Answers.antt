@@ -1,10 +1,4 @@
-use Rattle.std.proofs.Common.{◌+◌, ◌-◌, ◌≡◌, ◌≤◌, ◌<◌, ◌∙◌, ◌∷◌, [], List, ap, map, subst, sym, arith, ℕ}
-use Rattle.std.specs.List.{range_with_len}
-use Rattle.std.proofs.lemmas.List.FromFn.{map-range_with_len_more}
-use Rattle.trace_runner.specs.Kept.{FindsOne, kept_in}
-use Rattle.trace_runner.specs.Recalls.{Makes}
-use Rattle.trace_runner.specs.Made.{Asked, Did}
-use Rattle.trace_runner.specs.Runs.{key_at, on_key}
+use Rattle.trace_runner.proofs.Names.{◌+◌, ◌-◌, ◌≡◌, ◌≤◌, ◌<◌, ◌∙◌, ◌∷◌, [], List, ap, map, subst, sym, arith, ℕ, range_with_len, map-range_with_len_more, FindsOne, kept_in, Makes, Asked, Did, key_at, on_key}
 use Rattle.arena_core.specs.declared.event.Event.TheVariants as event
 use Rattle.trace_runner.proofs.Making.{Makes-append}
 use Rattle.trace_runner.proofs.Shards.{KeepsPlan-trans}

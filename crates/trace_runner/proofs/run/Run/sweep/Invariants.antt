@@ -1,9 +1,4 @@
-use Rattle.std.proofs.Common.{◌≡◌, ◌-◌, ◌≤◌, ◌<◌, ℕ, List, map}
-use Rattle.std.specs.List.{range_with_len}
-use Rattle.trace_runner.specs.Kept.{FindsOne, kept_in}
-use Rattle.trace_runner.specs.Recalls.{KeepsPlan, Makes}
-use Rattle.trace_runner.specs.Made.{Did}
-use Rattle.trace_runner.specs.Runs.{key_at, on_key}
+use Rattle.trace_runner.proofs.Names.{◌≡◌, ◌-◌, ◌≤◌, ◌<◌, ℕ, List, map, range_with_len, FindsOne, kept_in, KeepsPlan, Makes, Did, key_at, on_key}
 use Rattle.arena_core.specs.declared.event.Event.TheVariants as event
 use Rattle.trace_runner.proofs.run.Run.sweep.Given as goal
 

@@ -1,5 +1,4 @@
-use Rattle.std.proofs.Common.{ap, refl}
-use Rattle.trace_runner.specs.Kept.{kept_in}
+use Rattle.trace_runner.proofs.Names.{ap, refl, kept_in}
 use Rattle.trace_runner.proofs.Draining.{Makes-tended, tended}
 use Rattle.trace_runner.proofs.Recalling.{keeping-other}
 use Rattle.trace_runner.proofs.run.Run.tend.Goals as goal

@@ -1,4 +1,4 @@
-use Rattle.std.specs.Io.KnownBytes.{Keeps}
+use Rattle.trace_runner.proofs.Names.{Keeps}
 use Rattle.trace_runner.proofs.sink.interrupted.write_once.Given as goal
 
 -- writes that were interrupted have taken nothing

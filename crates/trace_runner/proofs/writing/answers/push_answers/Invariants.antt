@@ -1,6 +1,4 @@
-use Rattle.std.proofs.Common.{◌≡◌, ◌++◌, take}
-use Rattle.std.specs.List.{flat_map}
-use Rattle.trace_runner.specs.Report.{answer_line}
+use Rattle.trace_runner.proofs.Names.{◌≡◌, ◌++◌, take, flat_map, answer_line}
 use Rattle.trace_runner.proofs.writing.answers.push_answers.Given as goal
 
 -- the lines so far

@@ -1,6 +1,4 @@
-use Rattle.std.proofs.Common.{◌≡◌, ◌++◌, take}
-use Rattle.std.specs.List.{flat_map}
-use Rattle.trace_runner.specs.Report.{number_word}
+use Rattle.trace_runner.proofs.Names.{◌≡◌, ◌++◌, take, flat_map, number_word}
 use Rattle.trace_runner.proofs.writing.answers.push_number_words.Given as goal
 
 -- the words so far

@@ -1,6 +1,4 @@
-use Rattle.std.proofs.Common.{◌≡◌, ◌++◌, take}
-use Rattle.std.specs.List.{flat_map}
-use Rattle.trace_runner.specs.Report.{fold_line}
+use Rattle.trace_runner.proofs.Names.{◌≡◌, ◌++◌, take, flat_map, fold_line}
 use Rattle.trace_runner.proofs.writing.plans.push_folds.Given as goal
 
 -- the lines so far

@@ -1,6 +1,4 @@
-use Rattle.std.proofs.Common.{◌≡◌, ◌++◌, take}
-use Rattle.std.specs.List.{flat_map}
-use Rattle.trace_runner.specs.Report.{id_word}
+use Rattle.trace_runner.proofs.Names.{◌≡◌, ◌++◌, take, flat_map, id_word}
 use Rattle.trace_runner.proofs.writing.plans.push_id_words.Given as goal
 
 -- the lines so far
