@@ -1,5 +1,5 @@
 -- Keys that are freed from rings, one after another.
-use Rattle.trace_runner.proofs.Names.{◌≡◌, ◌∙◌, ◌+◌, ◌++◌, ◌∷◌, [], ℕ, true, false, List, map, length, filter, Some, None, refl, sym, ap, subst, arith, append_assoc, length-append, fold, range_with_len, append-nil, filter-append, Key, ring_at, with_keys, with_ring_at, CoreState, with_rings, CoreStep, Free, Settle, Freed, Settled, Kept, keeping, AreAsRequested, CalledEvent, Called, Made, Once, Request, Tends, UntilNone, keys_taken, requests_of, takes_key, News, with_called, Carries, Drains, KeepsPlan, Makes, SettlesNext, AreSteps, IsAnswered}
+use Rattle.trace_runner.proofs.Names.{◌≡◌, ◌∙◌, ◌+◌, ◌++◌, ◌∷◌, [], ℕ, true, false, List, map, length, filter, Some, None, refl, sym, ap, subst, arith, append_assoc, length-append, fold, range_with_len, append-nil, filter-append, Key, with_keys, with_ring_at, CoreState, with_rings, CoreStep, Free, Settle, Freed, Settled, Kept, keeping, AreAsRequested, CalledEvent, Called, Made, Once, Request, Tends, UntilNone, keys_taken, requests_of, takes_key, News, with_called, Carries, Drains, KeepsPlan, Makes, SettlesNext, AreSteps, IsAnswered}
 use Rattle.trace_runner.proofs.Making.{AreSteps-append}
 use Rattle.trace_runner.proofs.Serving.{KeepsPlan-step}
 

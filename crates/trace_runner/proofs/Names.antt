@@ -17,7 +17,7 @@ pub use Rattle.std.specs.Option.{option_map_or, option_or}
 pub use Rattle.arena_core.proofs.Limits.{limits-CoreStep, limits-CoreRun}
 pub use Rattle.arena_core.proofs.Lists.{each-append}
 pub use Rattle.arena_core.specs.Plain.{ErasedStep, PlainRun, erased, is_plain, PlainStep}
-pub use Rattle.arena_core.specs.Rings.{ring_at, with_keys, with_ring_at, pending_at}
+pub use Rattle.arena_core.specs.Rings.{with_keys, with_ring_at, pending_at}
 pub use Rattle.arena_core.specs.Sound.{HasSoundGroups, IsSound}
 pub use Rattle.arena_core.specs.State.{CoreState, with_rings, opened_by, opened_of, shown, HasKeys, live_keys, new_shard, pages, with_shard}
 pub use Rattle.arena_core.specs.Step.{CoreStep, CoreRun}
@@ -44,7 +44,8 @@ pub use Rattle.trace_runner.specs.News.{News, with_called, with_all_made, with_m
 pub use Rattle.trace_runner.specs.Recalls.{Carries, Drains, KeepsPlan, Makes, SettlesNext, MakesLine, news_at, settling_with, KeepsShards, CanLeave, TurnsBelow, HasCome, IsReady, KnowsPlan, Serves, EndsOne, IsOpen, IsPutServed, IsServed, IsSetServed, MayCall, MeetsPlan, Resumes, ended_at, reply_to_put, EndsBelow, has}
 pub use Rattle.trace_runner.specs.Replay.{IsReportOf, start_of, IsNoFault}
 pub use Rattle.trace_runner.specs.Report.{answer_line, end_line, number_word, fold_line, id_word, step_line}
-pub use Rattle.trace_runner.specs.Runs.{AreSteps, IsAnswered, key_given, Happens, IsCallTold, IsTold, ends_asked, plan_end_asked, rings_asked, stepping, pairs_left_of, DoLines, Does, IsRun, asked_by, calls_at, calls_in, planning_at, settling_at, key_at, key_bound, key_made, on_key, key_of}
+pub use Rattle.trace_runner.specs.RunState.{KeepsAll, MakesAt, frees_in, leavers_in, lines_in}
+pub use Rattle.trace_runner.specs.Runs.{puts_asked, AreSteps, IsAnswered, key_given, Happens, IsCallTold, IsTold, ends_asked, plan_end_asked, rings_asked, stepping, pairs_left_of, DoLines, Does, IsRun, asked_by, calls_at, calls_in, planning_at, settling_at, key_at, key_bound, key_made, on_key, key_of}
 pub use Rattle.trace_runner.specs.declared.key_list.Stretch.{Stretch}
 pub use Rattle.trace_runner.specs.declared.plans.Plans.{Plans}
 pub use Rattle.trace_runner.specs.declared.report.Ending.{Ending}

@@ -1,5 +1,5 @@
 -- Plans that are carried out, closed and made.
-use Rattle.trace_runner.proofs.Names.{◌≡◌, ◌+◌, ◌<◌, ℕ, List, [], ◌∷◌, ◌++◌, map, replicate, nat_lt, slice_get, Option, Some, None, option_map, refl, sym, ap, subst, rules, nat_tests, slice_get-map, replicate_next, SpanId, ShardState, PoolState, CoreState, CoreStep, Asked, Calls, News, Carries, KeepsShards, plan_end_asked, pairs_left_of, stepping}
+use Rattle.trace_runner.proofs.Names.{◌≡◌, ◌+◌, ◌<◌, ℕ, List, [], ◌∷◌, ◌++◌, map, replicate, nat_lt, Option, Some, None, option_map, refl, sym, ap, subst, rules, nat_tests, slice_get-map, replicate_next, SpanId, ShardState, PoolState, CoreState, CoreStep, Asked, Calls, News, Carries, KeepsShards, plan_end_asked, pairs_left_of, stepping}
 use Rattle.certificate.specs.declared.certificate.Certificate.{Certificate}
 use Rattle.fold.specs.Folds.{Folds}
 use Rattle.fold.specs.declared.step.Step.{Step}

@@ -1,7 +1,6 @@
 -- What a run keeps of its replies, one line more, and how a key is found in it.
-use Rattle.trace_runner.proofs.Names.{zero, suc, ◌≡◌, ℕ, ◌+◌, ◌<◌, Bool, true, false, cond, not, List, [], ◌∷◌, ◌++◌, map, length, take, drop, filter, Option, Some, None, slice_get, refl, sym, ap, subst, ◌∙◌, ◌-◌, append_assoc, arith, inl, inr, length-append, add-zero, unwrap_or, option_map, option_and_then, rules, flat_map, range_with_len, option_map_or, option_or, nat_tests, flat_map-append, append-nil, length-map, map-append, take-append-drop, filter-append, length-range_with_len, slice_get-map, slice_get_within, Class, Key, CoreState, Event, Reply, FindsAt, FindsOne, Kept, Recalls, is_put, keeping, kept_none, kept_of, keys_of, Asked, Did, Made, asked_of, one_call, answer_told, on_line, put_told, told_of, news_of, answer_line, asked_by, key_at, key_bound, key_made, on_key, binding_at, binding_from, binding_of, first_cause, has_key, has_range, keys_at, keys_in, marks, marks_at, first_of, place_at, Header, Line, all_fine}
+use Rattle.trace_runner.proofs.Names.{zero, suc, ◌≡◌, ℕ, ◌+◌, ◌<◌, Bool, true, false, cond, not, List, [], ◌∷◌, ◌++◌, map, length, take, drop, filter, Option, Some, None, slice_get, refl, sym, ap, subst, ◌∙◌, append_assoc, arith, inl, inr, length-append, add-zero, unwrap_or, option_map, option_and_then, rules, flat_map, option_map_or, option_or, nat_tests, flat_map-append, append-nil, length-map, map-append, take-append-drop, filter-append, length-range_with_len, slice_get-map, slice_get_within, Class, Key, CoreState, Event, Reply, FindsAt, FindsOne, Kept, Recalls, is_put, keeping, kept_none, kept_of, keys_of, Asked, Did, Made, Calls, asked_of, one_call, answer_told, on_line, put_told, told_of, news_of, answer_line, asked_by, key_at, key_bound, key_made, on_key, binding_at, binding_from, binding_of, first_cause, has_key, has_range, keys_at, keys_in, marks, marks_at, first_of, place_at, Header, Line, all_fine}
 use Rattle.groups.proofs.Lists.{there_at}
-use Rattle.arena_core.specs.declared.event.Event.TheVariants as event
 use Rattle.trace_runner.specs.declared.report.Answer.{Answer}
 use Rattle.trace_runner.specs.declared.report.Answer.TheVariants as answer
 use Rattle.trace_text.specs.Earlier.{key_count}
@@ -137,21 +136,10 @@ keys_of-no : (made : List Made) → NoPuts (map asked_of made) → keys_of made 
 keys_of-no [] puts = refl
 keys_of-no (m ∷ made) puts = rw puts.0 (keys_of-no made puts.1)
 
-get_is_no_put : (o : Option Key) → is_put (on_key event.Get o) ≡ false
-get_is_no_put None = refl
-get_is_no_put (Some key) = refl
-
-set_is_no_put : (value : List ℕ) (o : Option Key) → is_put (on_key (λ k. event.Set k value) o) ≡ false
-set_is_no_put value None = refl
-set_is_no_put value (Some key) = refl
-
-free_is_no_put : (o : Option Key) → is_put (on_key event.Free o) ≡ false
-free_is_no_put None = refl
-free_is_no_put (Some key) = refl
-
-later_is_no_put : (thread : ℕ) (o : Option Key) → is_put (on_key (event.Later thread) o) ≡ false
-later_is_no_put thread None = refl
-later_is_no_put thread (Some key) = refl
+-- a call on a key is no put if its event is none
+on_key_is_no_put : (call : Key → Event) → ((key : Key) → is_put (Calls (call key)) ≡ false) → (o : Option Key) → is_put (on_key call o) ≡ false
+on_key_is_no_put call no_put None = refl
+on_key_is_no_put call no_put (Some key) = no_put key
 
 -- a line that binds a name has its keys, in order, and any other line has none
 abbrev pub Keyed : Line → List Made → Type 0
@@ -166,7 +154,7 @@ asks_none : (made : List Made) (asked : List Asked) → map asked_of made ≡ as
 asks_none made asked is puts = keys_of-no made (subst NoPuts (sym is) puts)
 
 pub Keyed-asked : (shards : ℕ) (all : List Line) (done : List Did) (l : Line) (made : List Made) → map asked_of made ≡ asked_by shards all done l → Keyed l made
-Keyed-asked shards all done l made is = search (rules, asks_none, asks_some, length-map, AllPuts-map, length-range_with_len, get_is_no_put, set_is_no_put, free_is_no_put, NoPuts-map, later_is_no_put)
+Keyed-asked shards all done l made is = search (rules, asks_none, asks_some, length-map, AllPuts-map, NoPuts-map, length-range_with_len, on_key_is_no_put)
 
 as_many : (made : List Made) (n : ℕ) → (keys_of made ≡ map key_made made) × (length made ≡ n) → length (keys_of made) ≡ n
 as_many made n keyed = ap length keyed.0 ∙ length-map made key_made ∙ keyed.1
@@ -276,20 +264,18 @@ module _ (h : Header) (lines : List Line) (n : ℕ) (done : List Did) (keys : Li
       let key : key_at lines done name place ≡ key_bound done place b = ap (λ o. option_and_then (λ (x : Binding). key_bound done place x) o) (binding_of-take lines n name b is) in
       ap (λ f. slice_get keys (f + place)) first ∙ (recalls name b place is less).1 ∙ ap Some (sym key)
 
+  key_found : (name : List ℕ) (index : Option ℕ) → not (option_map_or (λ (b : Binding). has_key index b.keys) (binding_of name (take n lines)) false) ≡ false
+      → FindsOne lines done keys (first_of (take n lines) name) name (unwrap_or index 0)
+  key_found name index fine =
+      let (b, is, has) = known (has_key index) (binding_of name (take n lines)) fine in
+      one_found name b (unwrap_or index 0) is (below_count index b.keys has)
+
   -- a line that may be run finds its keys
   pub FindsAt-fine : (l : Line) → first_cause h (take n lines) l ≡ None → FindsAt lines done keys (place_at (take n lines) l) l
-  FindsAt-fine (line.Call t (Later key)) fine =
-      let (b, is, has) = known (has_key key.index) (binding_of key.name (take n lines)) (all_fine h (take n lines) (line.Call t (Later key)) fine).known in
-      one_found key.name b (unwrap_or key.index 0) is (below_count key.index b.keys has)
-  FindsAt-fine (line.Call t (Get key)) fine =
-      let (b, is, has) = known (has_key key.index) (binding_of key.name (take n lines)) (all_fine h (take n lines) (line.Call t (Get key)) fine).known in
-      one_found key.name b (unwrap_or key.index 0) is (below_count key.index b.keys has)
-  FindsAt-fine (line.Call t (Set key class v)) fine =
-      let (b, is, has) = known (has_key key.index) (binding_of key.name (take n lines)) (all_fine h (take n lines) (line.Call t (Set key class v)) fine).known in
-      one_found key.name b (unwrap_or key.index 0) is (below_count key.index b.keys has)
-  FindsAt-fine (line.Call t (Free key)) fine =
-      let (b, is, has) = known (has_key key.index) (binding_of key.name (take n lines)) (all_fine h (take n lines) (line.Call t (Free key)) fine).known in
-      one_found key.name b (unwrap_or key.index 0) is (below_count key.index b.keys has)
+  FindsAt-fine (line.Call t (Later key)) fine = key_found key.name key.index (all_fine h (take n lines) (line.Call t (Later key)) fine).known
+  FindsAt-fine (line.Call t (Get key)) fine = key_found key.name key.index (all_fine h (take n lines) (line.Call t (Get key)) fine).known
+  FindsAt-fine (line.Call t (Set key class v)) fine = key_found key.name key.index (all_fine h (take n lines) (line.Call t (Set key class v)) fine).known
+  FindsAt-fine (line.Call t (Free key)) fine = key_found key.name key.index (all_fine h (take n lines) (line.Call t (Free key)) fine).known
   FindsAt-fine (line.Call t (Sweep name from to)) fine =
       let (b, is, has) = known (has_range from to) (binding_of name (take n lines)) (all_fine h (take n lines) (line.Call t (Sweep name from to)) fine).known in
       λ place low high. one_found name b place is (range_below from to place b.keys has high)

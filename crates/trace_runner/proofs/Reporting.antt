@@ -1,5 +1,5 @@
 -- The start of a run, and the report of one.
-use Rattle.trace_runner.proofs.Names.{◌≡◌, ◌++◌, ℕ, Bool, false, List, Option, Some, None, option_map, refl, ap, slice_get, rules, option_map_or, slice_get-map, empty_map, ShardState, CoreState, HasKeys, live_keys, new_shard, pages, shown, News, Serves, IsReportOf, start_of, end_line, IsRun, Ending, Header}
+use Rattle.trace_runner.proofs.Names.{◌≡◌, ◌++◌, ℕ, Bool, false, List, Option, Some, None, option_map, refl, rules, option_map_or, slice_get-map, empty_map, ShardState, CoreState, HasKeys, live_keys, new_shard, pages, shown, News, Serves, IsReportOf, start_of, end_line, IsRun, Ending, Header}
 use Rattle.trace_text.specs.declared.trace.Trace.{Trace}
 
 -- a new shard has not ended, whether or not there is one

@@ -4,7 +4,7 @@ use Rattle.pool.specs.Calls.{with_rooms}
 use Rattle.pool.specs.Retires.{MovesSparse, Retires}
 use Rattle.shard.specs.declared.shard.Freed.TheVariants.{Yes}
 use Rattle.shard.specs.declared.shard.replacing.Replaced.TheVariants as replaced
-use Rattle.arena_core.specs.declared.reply.Refusal.TheVariants.{OutOfMemory, Ended, PlanOpen, RingFull, Config}
+use Rattle.arena_core.specs.declared.reply.Refusal.TheVariants.{OutOfMemory, PlanOpen, RingFull, Config}
 
 -- the shard of this number is there and has ended
 abbrev pub ended_in : List ShardState → ℕ → Bool
@@ -30,8 +30,14 @@ module _ (old : CoreState) (number : ℕ) (before after : ShardState) (here : sl
   pub KeepsShards-with_shard : after.ended ≡ before.ended → KeepsShards old (with_shard old number after)
   KeepsShards-with_shard same = search (rules, ended_in-set, cases_Bool, eqb-true)
 
+  KeepsPlan-with_shard : (new : CoreState) → new ≡ with_shard old number after → after.ended ≡ before.ended → KeepsPlan old new
+  KeepsPlan-with_shard new is same = subst (KeepsPlan old) (sym is) (record { shards = KeepsShards-with_shard same; plan = refl })
+
   EndsOne-with_shard : after.ended ≡ true → EndsOne old number (with_shard old number after)
   EndsOne-with_shard ended = search (rules, ended_in-set, cases_Bool)
+
+  Resumes-with_shard : after.ended ≡ false → Resumes old (λ other. number == other) (with_shard old number after)
+  Resumes-with_shard runs = search (rules, ended_in-set, cases_Bool)
 
 KeepsShards-same : (old new : CoreState) → new ≡ old → KeepsShards old new
 KeepsShards-same old new same = record { limits = ap (λ (c : CoreState). c.limits) same; ended = λ number. ap (λ c. ended_at c number) same }
@@ -63,30 +69,20 @@ reply_to_put-each P (Err refusal) is = is
 
 -- a call of a line ends no shard, and leaves the plan
 pub KeepsPlan-step : (old new : CoreState) (event : Event) (reply : Reply) → MayCall old event → CoreStep old event reply new → KeepsPlan old new
-KeepsPlan-step old new (Put shard value) (Issued key) may step = subst (KeepsPlan old) (sym step.rest)
-    (record {
-      shards = KeepsShards-with_shard old shard step.before step.after step.here
-          (ended-Puts step.before step.after (class_of value) value key step.at step.puts);
-      plan = refl;
-    })
-KeepsPlan-step old new (Set key value) (Replaced true) may (inl step) = subst (KeepsPlan old) (sym step.rest)
-    (record {
-      shards = KeepsShards-with_shard old step.number step.before step.after step.here (ended-Sets step.before step.after key value step.at step.sets);
-      plan = refl;
-    })
+KeepsPlan-step old new (Put shard value) (Issued key) may step =
+    KeepsPlan-with_shard old shard step.before step.after step.here new step.rest (ended-Puts step.before step.after (class_of value) value key step.at step.puts)
+KeepsPlan-step old new (Set key value) (Replaced true) may (inl step) =
+    KeepsPlan-with_shard old step.number step.before step.after step.here new step.rest (ended-Sets step.before step.after key value step.at step.sets)
 KeepsPlan-step old new (Set key value) (Replaced true) may (inr step) = subst (KeepsPlan old) (sym step.rest) (record { shards = record { limits = refl; ended = λ number. refl }; plan = refl })
-KeepsPlan-step old new (Free key) (Freed true) may (inl step) = subst (KeepsPlan old) (sym step.rest)
-    (record {
-      shards = KeepsShards-with_shard old step.number step.before step.after step.here (ended-Frees step.before step.after key step.at step.frees);
-      plan = refl;
-    })
+KeepsPlan-step old new (Free key) (Freed true) may (inl step) =
+    KeepsPlan-with_shard old step.number step.before step.after step.here new step.rest (ended-Frees step.before step.after key step.at step.frees)
 KeepsPlan-step old new (Free key) (Freed true) may (inr step) = subst (KeepsPlan old) (sym step.rest) (record { shards = record { limits = refl; ended = λ number. refl }; plan = refl })
 KeepsPlan-step old new (Later worker key) Sent may step = subst (KeepsPlan old) (sym step.rest) (record { shards = record { limits = refl; ended = λ number. refl }; plan = refl })
 KeepsPlan-step old new (Retire shard most) (Retired count) may step =
     let keeps = KeepsShards-with_shard old shard step.before step.after step.here (ended-Retires old.pool step.pool step.before step.after most count step.retires) in
     subst (KeepsPlan old) (sym step.rest) (record { shards = record { limits = keeps.limits; ended = keeps.ended }; plan = refl })
-KeepsPlan-step old new (Trim shard) (Trimmed count) may step = subst (KeepsPlan old) (sym step.rest)
-    (record { shards = KeepsShards-with_shard old shard step.before step.after step.here (ap (λ (s : ShardState). s.ended) step.trims.after); plan = refl })
+KeepsPlan-step old new (Trim shard) (Trimmed count) may step =
+    KeepsPlan-with_shard old shard step.before step.after step.here new step.rest (ap (λ (s : ShardState). s.ended) step.trims.after)
 KeepsPlan-step old new (Adopt shard) (Adopted head) may step =
     let adopted = ap (λ (s : ShardState). s.ended) step.adopts.takes_in.after in
     let keeps = KeepsShards-with_shard old shard step.before step.after step.here adopted in
@@ -126,10 +122,6 @@ MeetsPlan-step old new event (Refused PlanOpen) may step = search
 MeetsPlan-step old new event reply may step = tt
 
 -- ---- a shard that begins again
-
-module _ (old : CoreState) (number : ℕ) (before after : ShardState) (here : slice_get old.shards number ≡ Some before) where
-  Resumes-with_shard : after.ended ≡ false → Resumes old (λ other. number == other) (with_shard old number after)
-  Resumes-with_shard runs = search (rules, ended_in-set, cases_Bool)
 
 pub Resumes-begin : (old new : CoreState) (shard : ℕ) → CoreStep old (Begin shard) ShardBegun new → Resumes old (λ other. shard == other) new
 Resumes-begin old new shard step = subst (Resumes old (λ other. shard == other)) (sym step.rest) (Resumes-with_shard old shard step.before (begun step.before) step.here refl)

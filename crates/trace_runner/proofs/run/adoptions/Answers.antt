@@ -1,4 +1,4 @@
-use Rattle.trace_runner.proofs.Names.{◌≡◌, ◌∙◌, ◌+◌, ◌≤◌, ℕ, Bool, true, false, List, ◌∷◌, ◌++◌, [], Some, not, ap, arith, refl, filter, length, length-append, slice_get, take, if◌then◌else◌, length-take-le, take_all, filter-append, is_adopt, Line}
+use Rattle.trace_runner.proofs.Names.{◌≡◌, ◌∙◌, ◌+◌, ◌≤◌, ℕ, Bool, true, false, List, ◌∷◌, [], Some, not, ap, arith, refl, filter, length, length-append, slice_get, take, if◌then◌else◌, length-take-le, take_all, filter-append, is_adopt, Line}
 use Rattle.std.proofs.lemmas.List.Filters.{length-filter_both}
 use Rattle.trace_runner.proofs.Recalling.{take_line}
 use Rattle.trace_runner.proofs.run.adoptions.Goals as goal

@@ -1,4 +1,4 @@
-use Rattle.trace_runner.proofs.Names.{◌≡◌, ◌∙◌, ap, arith, filter, length, is_adopt, Kept, kept_in, news_at}
+use Rattle.trace_runner.proofs.Names.{◌≡◌, ◌∙◌, ap, arith, length, Kept, kept_in, news_at}
 use Rattle.trace_runner.proofs.Progress.{HasCome-CanLeave, HasCome-IsRun, HasCome-calls}
 use Rattle.trace_runner.proofs.run.run_lines.Goals as goal
 
@@ -21,19 +21,17 @@ pub overflow_sub-calls : goal.overflow_sub-calls
 overflow_sub-calls g c =
     let all : c.loop-place.place ≡ length c.args.trace.now.lines.items = omega (arith, c.len-place-end.ensures.len) in
     let count = HasCome-calls c.args.trace.now.header _ _ _ _ _ _ _ _ c.loop-place.invariant.come all in
-    let adopts : c.adoptions.result ≡ length (filter is_adopt c.args.trace.now.lines.items) = c.adoptions.ensures in
     let long : c.in_ok-count.count ≡ (kept_in c.loop-place.run.replies).count = c.in_ok-count.ensures.count ∙ ap (λ (kept : Kept). kept.count) c.settle.ensures.rest in
-    omega (arith, count, adopts, long)
+    omega (arith, count, c.adoptions.ensures, long)
 
 pub returns : goal.returns
 returns g c =
     let all : c.loop-place.place ≡ length c.args.trace.now.lines.items = omega (arith, c.len-place-end.ensures.len) in
     let count = HasCome-calls c.args.trace.now.header _ _ _ _ _ _ _ _ c.loop-place.invariant.come all in
-    let adopts : c.adoptions.result ≡ length (filter is_adopt c.args.trace.now.lines.items) = c.adoptions.ensures in
     let long : c.in_ok-count.count ≡ (kept_in c.loop-place.run.replies).count = c.in_ok-count.ensures.count ∙ ap (λ (kept : Kept). kept.count) c.settle.ensures.rest in (
       news_at (kept_in c.settle.new.self.replies) c.settle.new.self.plans,
       HasCome-IsRun c.args.trace.now.header _ _ _ _ _ _ _ _ c.loop-place.invariant.come
-          c.settle.new.self.core _ _ all (rw c.loop-place.invariant.trace at c.in_ok-settle.ensures.made) (omega (arith, count, adopts, long)),
+          c.settle.new.self.core _ _ all (rw c.loop-place.invariant.trace at c.in_ok-settle.ensures.made) (omega (arith, count, c.adoptions.ensures, long)),
       ap (λ v. v.items) c.into_text.ensures,
       ap (λ v. v.items) c.into_certificate.ensures,
     )

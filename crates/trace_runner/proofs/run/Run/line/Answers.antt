@@ -1,4 +1,4 @@
-use Rattle.trace_runner.proofs.Names.{◌+◌, ◌∙◌, ap, filter, range_with_len, on_ok_weaker, begins_again, is_call, thread_of, kept_in, has}
+use Rattle.trace_runner.proofs.Names.{◌+◌, ◌∙◌, ap, on_ok_weaker, begins_again, is_call, thread_of, kept_in, has, leavers_in}
 use Rattle.trace_runner.proofs.Making.{MakesLine-adopt, MakesLine-call, MakesLine-mark, MakesLine-silent}
 use Rattle.trace_runner.proofs.Shards.{EndsBelow-before, IsOpen-others, TurnsBelow-begins, TurnsBelow-ends, TurnsBelow-none, on_ok_always}
 use Rattle.trace_runner.proofs.run.Run.line.Goals as goal
@@ -19,34 +19,30 @@ adopt-requires g c =
 
 pub returns-in-Silent-clause-made : goal.returns-in-Silent-clause-made
 returns-in-Silent-clause-made g c done finds =
-    let threads = filter (has c.args.self.now.leaving) (range_with_len 0 c.args.self.now.trace.now.header.shards) in
-    rw c.in-Silent.is (MakesLine-silent (c.args.place + 6) c.args.self.now.trace.now.header.shards threads c.args.self.now.core (kept_in c.args.self.now.replies) c.args.self.now.plans)
+    rw c.in-Silent.is (MakesLine-silent (c.args.place + 6) c.args.self.now.trace.now.header.shards (leavers_in c.args.self.now) c.args.self.now.core (kept_in c.args.self.now.replies) c.args.self.now.plans)
 
 pub returns-in_ok-thread_line-in-Call-clause-made : goal.returns-in_ok-thread_line-in-Call-clause-made
 returns-in_ok-thread_line-in-Call-clause-made g c done finds =
-    let threads = filter (has c.args.self.now.leaving) (range_with_len 0 c.args.self.now.trace.now.header.shards) in
     let follows = rw c.thread_line.ensures.plans at (c.follow.ensures.made (kept_in c.thread_line.new.self.replies)) in
     let first = c.place-first.ensures c.args.line.now c.requires.here in
     let found = rw c.in-Call.is at (rw (← first) at finds) in
     rw c.in-Call.is (on_ok_weaker c.follow.result
-    (MakesLine-call (c.args.place + 6) c.args.self.now.trace.now.header.shards threads c.args.self.now.core
+    (MakesLine-call (c.args.place + 6) c.args.self.now.trace.now.header.shards (leavers_in c.args.self.now) c.args.self.now.core
     (kept_in c.args.self.now.replies) c.args.self.now.plans c.in-Call.thread _ _ c.thread_line.new.self.core
     c.follow.new.core (kept_in c.thread_line.new.self.replies) c.follow.new.self (c.in_ok-thread_line-in-Call.ensures.made done found)) follows)
 
 pub returns-in_ok-settle-in-Adopt-clause-made : goal.returns-in_ok-settle-in-Adopt-clause-made
 returns-in_ok-settle-in-Adopt-clause-made g c done finds =
-    let threads = filter (has c.args.self.now.leaving) (range_with_len 0 c.args.self.now.trace.now.header.shards) in
     rw (c.in-Adopt.is, c.adopt.ensures.plans)
-    (on_ok_weaker c.adopt.result (MakesLine-adopt (c.args.place + 6) c.args.self.now.trace.now.header.shards threads c.args.self.now.core
+    (on_ok_weaker c.adopt.result (MakesLine-adopt (c.args.place + 6) c.args.self.now.trace.now.header.shards (leavers_in c.args.self.now) c.args.self.now.core
     (kept_in c.args.self.now.replies) c.args.self.now.plans c.settle.new.self.core
     (kept_in c.settle.new.self.replies) c.settle.new.self.plans c.in_ok-settle-in-Adopt.ensures.made c.settle.ensures.rest c.in-Adopt.shard _
     c.adopt.new.self.core (kept_in c.adopt.new.self.replies)) c.adopt.ensures.made)
 
 pub returns-in_ok-settle-in-Mark-clause-made : goal.returns-in_ok-settle-in-Mark-clause-made
 returns-in_ok-settle-in-Mark-clause-made g c done finds =
-    let threads = filter (has c.args.self.now.leaving) (range_with_len 0 c.args.self.now.trace.now.header.shards) in
     rw c.in-Mark.is (on_ok_weaker c.mark.result
-    (MakesLine-mark (c.args.place + 6) c.args.self.now.trace.now.header.shards threads c.args.self.now.core
+    (MakesLine-mark (c.args.place + 6) c.args.self.now.trace.now.header.shards (leavers_in c.args.self.now) c.args.self.now.core
     (kept_in c.args.self.now.replies) c.args.self.now.plans c.settle-in-Mark.new.self.core
     (kept_in c.settle-in-Mark.new.self.replies) c.settle-in-Mark.new.self.plans c.in_ok-settle-in-Mark.ensures.made c.settle-in-Mark.ensures.rest
     c.mark.new.core (kept_in c.mark.new.replies) c.mark.new.self c.mark.ensures.rest) c.mark.ensures.made)

@@ -1,4 +1,4 @@
-use Rattle.trace_runner.proofs.Names.{◌≡◌, Ok, Keeps-refl, Keeps-trans}
+use Rattle.trace_runner.proofs.Names.{Ok, Keeps-refl, Keeps-trans}
 use Rattle.std.specs.declared.io.Error.{Error}
 use Rattle.trace_runner.proofs.Taken.{Keeps-write, WriteAppends-err}
 use Rattle.trace_runner.proofs.sink.interrupted.write_once.Goals as goal
