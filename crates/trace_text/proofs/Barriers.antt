@@ -1,14 +1,6 @@
 -- The threads that have ended, and those that wait for a barrier, one line more.
-use Rattle.std.proofs.Common.{◌≡◌, ℕ, ◌&&◌, ◌||◌, not, Bool, true, false, cond, List, [], ◌∷◌, ◌++◌, Option, Some, reverse, refl, ap, ◌∙◌, rules}
-use Rattle.std.specs.List.{find, take_while}
-use Rattle.std.specs.Option.{option_map_or}
-use Rattle.std.proofs.lemmas.List.{reverse-append, reverse-reverse}
-use Rattle.std.proofs.lemmas.List.Sums.{take_while-cons}
-use Rattle.std.proofs.lemmas.Bool.{cases_Bool}
+use Rattle.trace_text.proofs.Names.{◌≡◌, ℕ, ◌&&◌, ◌||◌, not, Bool, true, false, cond, List, [], ◌∷◌, ◌++◌, Option, Some, reverse, refl, ap, ◌∙◌, rules, find, take_while, option_map_or, reverse-append, reverse-reverse, take_while-cons, cases_Bool, begins, ends, has_ended, Begin, Line}
 use Rattle.trace_text.specs.Barrier.{is_barrier, open_lines}
-use Rattle.trace_text.specs.Causes.{begins, ends, has_ended}
-use Rattle.trace_text.specs.declared.line.Call.TheVariants.{Begin}
-use Rattle.trace_text.specs.declared.line.Line.{Line}
 use Rattle.trace_text.specs.declared.line.Line.TheVariants as line
 
 -- a line that ends a thread lets none begin

@@ -1,18 +1,8 @@
 -- What the lines bind, one line more.
-use Rattle.std.proofs.Common.{◌≡◌, ℕ, ◌+◌, ◌⊎◌, false, List, [], ◌∷◌, ◌++◌, length, Option, Some, None, is_some, refl, sym, inl, inr, rules}
-use Rattle.std.specs.Option.{option_or}
-use Rattle.std.proofs.lemmas.Bool.Decides.{nat_tests}
+use Rattle.trace_text.proofs.Names.{◌≡◌, ℕ, ◌+◌, ◌⊎◌, false, List, [], ◌∷◌, ◌++◌, length, Option, Some, None, is_some, refl, sym, inl, inr, rules, option_or, nat_tests, Few, IsFew, binding_at, binding_from, binding_of, binds_again, call_binding, first_cause, is_call, is_call_over, keys_at, keys_in, marks, marks_at, Header, Call, Put, Fill, Line, Binding, same_bytes}
 use Rattle.trace_text.proofs.Tests.{chosen}
 use Rattle.trace_text.proofs.Clips.{all_fine}
-use Rattle.trace_text.specs.Earlier.{Few, IsFew}
-use Rattle.trace_text.specs.Causes.{binding_at, binding_from, binding_of, binds_again, call_binding, first_cause, is_call, is_call_over, keys_at, keys_in, marks, marks_at}
-use Rattle.trace_text.specs.declared.header.Header.{Header}
-use Rattle.trace_text.specs.declared.line.Call.{Call}
-use Rattle.trace_text.specs.declared.line.Call.TheVariants.{Put, Fill}
-use Rattle.trace_text.specs.declared.line.Line.{Line}
 use Rattle.trace_text.specs.declared.line.Line.TheVariants as line
-use Rattle.trace_text.specs.declared.line.Binding.{Binding}
-use Rattle.certificate.proofs.Spelling.{same_bytes}
 
 pub or_none : {X : Type 0} (o : Option X) → option_or o None ≡ o
 or_none None = refl

@@ -1,16 +1,5 @@
 -- The first cause of a line, where it is asked last whether the line binds a name again.
-use Rattle.std.proofs.Common.{◌≡◌, Bool, true, false, List, ℕ, Option, Some, None, Ok, Err, refl, rules}
-use Rattle.std.specs.Prelude.{if◌then◌else◌}
-use Rattle.trace_text.specs.Causes.{binds_again, classed, comes_early, first_cause, is_call, is_call_of, reads_unknown}
-use Rattle.trace_text.specs.Earlier.{Few}
-use Rattle.trace_text.specs.Form.{form_of}
-use Rattle.trace_text.specs.Header.{IsWithinLimits}
-use Rattle.trace_text.specs.Places.{unless}
-use Rattle.trace_text.specs.Within.{IsNextUnlessBound, cause_but_bound, within}
-use Rattle.trace_text.specs.declared.cause.Cause.{Cause}
-use Rattle.trace_text.specs.declared.cause.Cause.TheVariants.{Limit, Thread, Ended, Adopt, Bound, Unknown, Early}
-use Rattle.trace_text.specs.declared.header.Header.{Header}
-use Rattle.trace_text.specs.declared.line.Line.{Line}
+use Rattle.trace_text.proofs.Names.{◌≡◌, Bool, true, false, List, ℕ, Option, Some, None, Ok, Err, refl, rules, if◌then◌else◌, binds_again, classed, comes_early, first_cause, is_call, is_call_of, reads_unknown, Few, form_of, IsWithinLimits, unless, IsNextUnlessBound, cause_but_bound, within, Cause, Limit, Thread, Ended, Adopt, Bound, Unknown, Early, Header, Line}
 use Rattle.trace_text.proofs.Texts.{fine_line, refused_line}
 
 -- the first of all causes, by which of them hold

@@ -1,19 +1,5 @@
 -- Sets with the class that lines bind their keys with.
-use Rattle.std.proofs.Common.{◌≡◌, ℕ, cond, List, Option, Some, None, option_map, refl, ap}
-use Rattle.std.specs.Option.{option_map_or}
-use Rattle.span.specs.declared.class.Class.TheVariants.{C16}
-use Rattle.certificate.specs.Number.{clip}
-use Rattle.trace_text.specs.Causes.{binding_of, class_named, classed, is_call, is_of_kind}
-use Rattle.trace_text.specs.Form.{HasForm}
-use Rattle.trace_text.specs.Reference.{clip_reference}
-use Rattle.trace_text.specs.Within.{clip_line, is_value_over}
-use Rattle.trace_text.specs.declared.header.Version.{Version}
-use Rattle.trace_text.specs.declared.name.Reference.{Reference}
-use Rattle.trace_text.specs.declared.line.Binding.{Binding}
-use Rattle.trace_text.specs.declared.line.Call.TheVariants.{Put, Set}
-use Rattle.trace_text.specs.declared.line.Keys.{Keys}
-use Rattle.trace_text.specs.declared.line.Keys.TheVariants.{One}
-use Rattle.trace_text.specs.declared.line.Line.{Line}
+use Rattle.trace_text.proofs.Names.{◌≡◌, ℕ, cond, List, Option, Some, None, option_map, refl, ap, option_map_or, C16, clip, binding_of, class_named, classed, is_call, is_of_kind, HasForm, clip_reference, clip_line, is_value_over, Version, Reference, Binding, Put, Set, Keys, One, Line}
 use Rattle.trace_text.specs.declared.line.Line.TheVariants as line
 use Rattle.trace_text.proofs.Lines.{plain}
 

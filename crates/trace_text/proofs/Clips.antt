@@ -1,32 +1,10 @@
 -- Clipping a number changes no cause.
-use Rattle.std.proofs.Common.{◌≡◌, ℕ, ◌+◌, ◌-◌, ◌^◌, ◌≤◌, ◌&&◌, ◌||◌, not, nat_lt, nat_le, Bool, true, false, List, [], ◌∷◌, Option, Some, None, option_map, find, arith, refl, sym, ap, ap₂, ◌∙◌, inl, inr, rules}
-use Rattle.std.specs.Option.{option_map_or}
-use Rattle.std.proofs.lemmas.Bool.Decides.{nat_tests}
-use Rattle.std.proofs.lemmas.Bool.{and_parts, cases_Bool}
+use Rattle.trace_text.proofs.Names.{◌≡◌, ℕ, ◌+◌, ◌-◌, ◌^◌, ◌≤◌, ◌&&◌, ◌||◌, not, nat_lt, nat_le, Bool, true, false, List, [], ◌∷◌, Option, Some, None, option_map, arith, refl, sym, ap, ap₂, ◌∙◌, inl, inr, rules, option_map_or, nat_tests, and_parts, cases_Bool, IsInRange, IsWithinLimits, last_word, Class, width_of-least, clip, clip_reference, clip_call, clip_line, is_value_over, IsFew, Few, begins_again, bound_name, read_name, has_key, has_range, has_keys, binding_of, first_cause, is_call, is_call_over, reads_unknown, holds, MOST_SHARDS, Header, Reference, Call, Put, Fill, Get, Set, Free, Sweep, Later, Retire, Line, Keys, One, Many, Binding, Cause}
+use Rattle.std.proofs.Common.{find}
 use Rattle.trace_text.proofs.Tests.{chosen}
-use Rattle.std.specs.Int.{IsInRange}
 use Rattle.std.proofs.Math.Bool.{and-false}
-use Rattle.trace_text.specs.Header.{IsWithinLimits}
-use Rattle.trace_text.specs.Objects.{last_word}
-use Rattle.span.specs.declared.class.Class.{Class}
-use Rattle.span.proofs.Widths.{width_of-least}
-use Rattle.certificate.specs.Number.{clip}
-use Rattle.trace_text.specs.Reference.{clip_reference}
-use Rattle.trace_text.specs.Within.{clip_call, clip_line, is_value_over}
-use Rattle.trace_text.specs.Earlier.{IsFew, Few}
-use Rattle.trace_text.specs.Causes.{begins_again, bound_name, read_name, has_key, has_range, has_keys, binding_of, first_cause, is_call, is_call_over, reads_unknown, holds}
-use Rattle.span.specs.declared.limits.TheConstants.{MOST_SHARDS}
 use Rattle.trace_text.specs.declared.earlier.TheConstants.{MOST_RETIRED}
-use Rattle.trace_text.specs.declared.header.Header.{Header}
-use Rattle.trace_text.specs.declared.name.Reference.{Reference}
-use Rattle.trace_text.specs.declared.line.Call.{Call}
-use Rattle.trace_text.specs.declared.line.Call.TheVariants.{Put, Fill, Get, Set, Free, Sweep, Later, Retire}
-use Rattle.trace_text.specs.declared.line.Line.{Line}
 use Rattle.trace_text.specs.declared.line.Line.TheVariants as line
-use Rattle.trace_text.specs.declared.line.Keys.{Keys}
-use Rattle.trace_text.specs.declared.line.Keys.TheVariants.{One, Many}
-use Rattle.trace_text.specs.declared.line.Binding.{Binding}
-use Rattle.trace_text.specs.declared.cause.Cause.{Cause}
 use Rattle.trace_text.specs.declared.cause.Cause.TheVariants as cause
 
 -- ---- numbers

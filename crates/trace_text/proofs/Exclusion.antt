@@ -1,14 +1,6 @@
 -- A text that spells a trace has no fault, and spells no other trace.
-use Rattle.std.proofs.Common.{◌≡◌, ℕ, true, false, List, [], ◌∷◌, ◌++◌, Result, Ok, Err, IfOk, IfErr, refl, sym, ◌∙◌, inl, inr, subst, append_assoc, append-nil, rules}
-use Rattle.trace_text.specs.declared.header.Header.{Header}
-use Rattle.trace_text.specs.declared.header.Version.{Version}
-use Rattle.trace_text.specs.declared.line.Line.{Line}
-use Rattle.trace_text.specs.declared.cause.Cause.{Cause}
-use Rattle.trace_text.specs.declared.cause.ParseError.{ParseError}
-use Rattle.trace_text.specs.declared.cause.ParseError.TheVariants.{OutOfMemory, BadTrace}
+use Rattle.trace_text.proofs.Names.{◌≡◌, ℕ, true, false, List, [], ◌∷◌, ◌++◌, Result, Ok, Err, IfOk, IfErr, refl, sym, ◌∙◌, inl, inr, subst, append_assoc, append-nil, rules, Header, Version, Line, Cause, ParseError, OutOfMemory, BadTrace, BeginsAtFault, HasCause, IsNextLine, AreReadAs, SaysAfter, awaits_mark, lines_of}
 use Rattle.trace_text.specs.declared.trace.Trace.{Trace}
-use Rattle.trace_text.specs.Causes.{BeginsAtFault, HasCause, IsNextLine, AreReadAs, SaysAfter, awaits_mark}
-use Rattle.trace_text.specs.Words.{lines_of}
 use Rattle.trace_text.specs.Trace.{Spells, IsTrace, IsFault, IsFaultAt, IsReadAs}
 use Rattle.trace_text.proofs.Heads.{HasHeader-fine, HasHeader-same}
 use Rattle.trace_text.proofs.Lines.{form_again, plain}

@@ -1,8 +1,5 @@
 -- Lines by their number of words.
-use Rattle.std.proofs.Common.{◌≡◌, ℕ, ◌<◌, List, [], ◌∷◌, length, get_or, Bor, None, refl, arith}
-use Rattle.certificate.specs.Words.{contents_of}
-use Rattle.trace_text.specs.Form.{counted_call, form_of_words, thread_line, valued_call}
-use Rattle.trace_text.specs.declared.header.Version.{Version}
+use Rattle.trace_text.proofs.Names.{◌≡◌, ℕ, ◌<◌, List, [], ◌∷◌, length, get_or, Bor, None, refl, arith, contents_of, counted_call, form_of_words, thread_line, valued_call, Version}
 
 pub form_of_words-none : (version : Version) (words : List (List ℕ)) → length words < 1 → form_of_words version words ≡ None
 form_of_words-none version [] few = refl

@@ -1,23 +1,11 @@
 -- The header of a text, line by line.
-use Rattle.std.proofs.Common.{◌≡◌, ℕ, ◌+◌, ◌==◌, if◌then◌else◌, true, List, [], ◌∷◌, ◌++◌, length, get_or, Option, Some, None, rules, refl, sym, ap, ◌∙◌, inl, inr, subst}
-use Rattle.std.specs.Str.{bytes_eq}
-use Rattle.std.proofs.lemmas.Slice.Eq.{bytes_eq-Decides}
-use Rattle.std.specs.Int.{IsInRange}
-use Rattle.trace_text.specs.Form.{AreWords, Verb}
+use Rattle.trace_text.proofs.Names.{◌≡◌, ℕ, ◌+◌, ◌==◌, if◌then◌else◌, true, List, [], ◌∷◌, ◌++◌, length, get_or, Option, Some, None, rules, refl, sym, ap, ◌∙◌, inl, inr, subst, bytes_eq, bytes_eq-Decides, IsInRange, AreWords, Verb, BeginWith, FailsField, FailsHeader, Field, HasHeader, IsAtFault, IsHeaderFault, IsWithin, Opening, SaysNumber, Size, field_in, fields, number_of, numbers_of, opening_of, words_of, Header, Version, Cause, ParseError, BadTrace, OutOfMemory, same_bytes}
 use Rattle.trace_text.specs.Form as form
-use Rattle.trace_text.specs.Header.{BeginWith, FailsField, FailsHeader, Field, HasHeader, IsAtFault, IsHeaderFault, IsWithin, Opening, SaysNumber, Size, field_in, fields, number_of, numbers_of, opening_of}
 use Rattle.trace_text.specs.Number.{IsOutside, KeepsNumber}
-use Rattle.trace_text.specs.Words.{words_of}
-use Rattle.trace_text.specs.declared.header.Header.{Header}
-use Rattle.trace_text.specs.declared.header.Version.{Version}
 use Rattle.trace_text.specs.declared.header.Version.TheVariants.{One, Two, Three, Four, Five, Six}
 use Rattle.trace_text.specs.declared.numeral.Number.{Number}
-use Rattle.trace_text.specs.declared.cause.Cause.{Cause}
 use Rattle.trace_text.specs.declared.cause.Cause.TheVariants as cause
-use Rattle.trace_text.specs.declared.cause.ParseError.{ParseError}
-use Rattle.trace_text.specs.declared.cause.ParseError.TheVariants.{BadTrace, OutOfMemory}
 use Rattle.trace_text.proofs.Tests.{chosen}
-use Rattle.certificate.proofs.Spelling.{same_bytes}
 
 -- the line below those that begin a header is at fault
 pub FailsHeader-below : (above more : List Field) (field : Field) (numbers : List ℕ) (number : ℕ) (lines rest : List (List ℕ)) (e : ParseError)

@@ -1,15 +1,6 @@
 -- What is kept for a place.
-use Rattle.std.proofs.Common.{◌≡◌, ℕ, zero, suc, ◌+◌, ◌<◌, ◌≤◌, true, false, List, [], ◌∷◌, ◌++◌, length, get_or, map, Some, None, slice_get, arith, refl, sym, ap, ◌∙◌, ◌⊎◌, inl, inr, rules}
-use Rattle.std.specs.List.{find, range_with_len}
-use Rattle.std.specs.Option.{option_map_or}
-use Rattle.std.proofs.lemmas.Bool.Decides.{nat_tests}
-use Rattle.std.proofs.lemmas.List.FromFn.{fill_by_all, get_or-map-range_with_len, length-map-range_with_len, map-range_with_len_more}
-use Rattle.std.proofs.lemmas.List.Folds.{find-append, find_at}
-use Rattle.std.proofs.lemmas.List.Sums.{position_or_len_is}
-use Rattle.std.proofs.lemmas.Option.{get_or_from_slice_get, slice_get-get_or, slice_get_within}
-use Rattle.trace_text.specs.AllLines.{AreInOrder, is_at, line_kept, place_kept}
+use Rattle.trace_text.proofs.Names.{◌≡◌, ℕ, zero, suc, ◌+◌, ◌<◌, ◌≤◌, true, false, List, [], ◌∷◌, ◌++◌, length, get_or, map, Some, None, slice_get, arith, refl, sym, ap, ◌∙◌, ◌⊎◌, inl, inr, rules, find, range_with_len, option_map_or, nat_tests, fill_by_all, get_or-map-range_with_len, length-map-range_with_len, map-range_with_len_more, find-append, find_at, position_or_len_is, get_or_from_slice_get, slice_get-get_or, slice_get_within, AreInOrder, is_at, line_kept, place_kept, KeptLine}
 use Rattle.trace_text.specs.declared.line.Line.TheVariants.{Silent}
-use Rattle.trace_text.specs.declared.line_list.KeptLine.{KeptLine}
 use Rattle.trace_text.proofs.Bindings.{or_none}
 
 -- a list made of all numbers below another, at one of them

@@ -1,14 +1,9 @@
 -- What is kept of the lines, one line more.
-use Rattle.std.proofs.Common.{◌≡◌, ◌+◌, ◌≤◌, List, [], ◌∷◌, ◌++◌, length, None, arith, refl, rules}
-use Rattle.std.proofs.lemmas.List.{reverse-append}
+use Rattle.trace_text.proofs.Names.{◌≡◌, ◌+◌, ◌≤◌, List, [], ◌∷◌, ◌++◌, length, None, arith, refl, rules, reverse-append, Knows, NotesEnd, NotesLeaving, NotesNames, awaits_after, awaits_mark, first_cause, keys_at, keys_in, marks, marks_at, Header, Line}
 use Rattle.trace_text.proofs.Barriers.{has_ended-open-push, has_ended-push}
 use Rattle.trace_text.proofs.Clips.{all_fine}
 use Rattle.trace_text.proofs.Bindings.{binding_of-push, either_first, few-push, fresh}
-use Rattle.trace_text.specs.Earlier.{Knows, NotesEnd, NotesLeaving, NotesNames, awaits_after}
-use Rattle.trace_text.specs.Causes.{awaits_mark, first_cause, keys_at, keys_in, marks, marks_at}
-use Rattle.trace_text.specs.declared.header.Header.{Header}
 use Rattle.trace_text.specs.declared.earlier.Earlier.{Earlier}
-use Rattle.trace_text.specs.declared.line.Line.{Line}
 use Rattle.trace_text.specs.declared.line.Line.TheVariants as line
 
 pub keys_in-push : (ls : List Line) (l : Line) → keys_in (ls ++ l ∷ []) ≡ keys_in ls + keys_at l

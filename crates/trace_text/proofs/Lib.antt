@@ -1,3 +1,4 @@
+pub mod Names
 pub mod Bases
 pub mod Digits
 pub mod Ends

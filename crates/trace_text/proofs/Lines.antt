@@ -1,29 +1,9 @@
 -- The form of a line, as a function and as a relation.
-use Rattle.std.proofs.lemmas.Grind.{common_steps}
-use Rattle.std.proofs.Common.{◌≡◌, ℕ, ◌<◌, ◌≤◌, ◌==◌, nat_lt, ◌⊎◌, true, false, List, [], ◌∷◌, length, Option, Some, None, option_map, codes, slice_index, arith, rules, refl, sym, inl, inr, subst}
-use Rattle.std.specs.List.{onto_first}
-use Rattle.std.proofs.lemmas.Bool.Decides.{nat_tests}
-use Rattle.certificate.proofs.Digits.{is_digit-range}
-use Rattle.std.specs.Option.{option_and_then}
-use Rattle.std.specs.Str.{bytes_eq}
-use Rattle.std.proofs.lemmas.Option.{cond_some, option_and_then_some}
-use Rattle.std.proofs.lemmas.Bool.{and_parts, cases_Bool}
-use Rattle.span.specs.declared.class.Class.{Class}
-use Rattle.span.specs.declared.class.Class.TheVariants.{C16}
-use Rattle.trace_text.specs.declared.header.Version.{Version}
-use Rattle.trace_text.specs.declared.name.Reference.{Reference}
-use Rattle.trace_text.specs.declared.line.Call.{Call}
-use Rattle.trace_text.specs.declared.line.Call.TheVariants.{Put, Fill, Get, Set, Free, Sweep, Later, Tend, Trim, End, Begin}
-use Rattle.trace_text.specs.declared.line.Line.{Line}
+use Rattle.trace_text.proofs.Names.{common_steps, ◌≡◌, ℕ, ◌<◌, ◌≤◌, ◌==◌, nat_lt, ◌⊎◌, true, false, List, [], ◌∷◌, length, Option, Some, None, option_map, codes, slice_index, arith, rules, refl, sym, inl, inr, subst, onto_first, nat_tests, is_digit-range, option_and_then, bytes_eq, cond_some, option_and_then_some, and_parts, cases_Bool, Class, C16, Version, Reference, Call, Put, Fill, Get, Set, Free, Sweep, Later, Tend, Trim, End, Begin, Line, number_in, same_bytes, reference_in, words_of, Word, Verb, Number, Named, Refers, IsWord, AreWords, SaysLine, HasForm, has_verb, class_filled, class_put, fill_verb, put_verb, set_verb, retire_verb, verb_of, words_of_call, bare_call, key_call, retire_call, aimed_call, with_name, value_call, set_call, valued_call, with_two, counted_call, thread_line, one_word, two_words, form_of_words, form_of}
 use Rattle.trace_text.specs.declared.line.Line.TheVariants as line
-use Rattle.certificate.specs.Number.{number_in}
-use Rattle.certificate.proofs.Spelling.{same_bytes}
 use Rattle.trace_text.specs.Name.{is_name}
-use Rattle.trace_text.specs.Reference.{reference_in}
-use Rattle.trace_text.specs.Words.{words_of}
 use Rattle.trace_text.proofs.Tests.{chosen}
 use Rattle.trace_text.proofs.Verbs.{class_filled-again, class_filled-found, class_put-again, class_put-found}
-use Rattle.trace_text.specs.Form.{Word, Verb, Number, Named, Refers, IsWord, AreWords, SaysLine, HasForm, has_verb, class_filled, class_put, fill_verb, put_verb, set_verb, retire_verb, verb_of, words_of_call, bare_call, key_call, retire_call, aimed_call, with_name, value_call, set_call, valued_call, with_two, counted_call, thread_line, one_word, two_words, form_of_words, form_of}
 
 mapped : {A B : Type 0} (f : A → B) (o : Option A) (b : B) → option_map f o ≡ Some b → (a : A) × (o ≡ Some a) × (f a ≡ b)
 mapped f None b e = cc

@@ -1,9 +1,6 @@
 -- The places of the lines, one line more.
-use Rattle.std.proofs.Common.{◌≡◌, ℕ, zero, suc, List, [], ◌∷◌, ◌++◌, take, Option, Some, None, Ok, Err, slice_get, refl, sym, ap, ◌∙◌, append_assoc}
+use Rattle.trace_text.proofs.Names.{◌≡◌, ℕ, zero, suc, List, [], ◌∷◌, ◌++◌, take, Option, Some, None, Ok, Err, slice_get, refl, sym, ap, ◌∙◌, append_assoc, place_at, places_from, unless, Cause, Line}
 use Rattle.std.proofs.lemmas.List.{append-nil}
-use Rattle.trace_text.specs.Places.{place_at, places_from, unless}
-use Rattle.trace_text.specs.declared.cause.Cause.{Cause}
-use Rattle.trace_text.specs.declared.line.Line.{Line}
 
 places_from-push : (before ls : List Line) (l : Line) → places_from before (ls ++ l ∷ []) ≡ places_from before ls ++ place_at (before ++ ls) l ∷ []
 places_from-push before [] l = ap (λ b. place_at b l ∷ []) (sym (append-nil before))

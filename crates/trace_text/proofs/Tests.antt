@@ -1,5 +1,5 @@
 -- What a test that was made tells.
-use Rattle.std.proofs.Common.{◌≡◌, ◌⊎◌, Bool, true, false, cond, refl, inl, inr}
+use Rattle.trace_text.proofs.Names.{◌≡◌, ◌⊎◌, Bool, true, false, cond, refl, inl, inr}
 
 -- which way a test went
 pub chosen : {X : Type 0} (b : Bool) (x y z : X) → cond b x y ≡ z → ((b ≡ true) × (x ≡ z)) ⊎ ((b ≡ false) × (y ≡ z))

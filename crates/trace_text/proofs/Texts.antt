@@ -1,15 +1,7 @@
 -- The lines of a text, one after another.
-use Rattle.std.proofs.Common.{◌≡◌, ℕ, ◌+◌, ◌⊎◌, true, List, [], ◌∷◌, ◌++◌, length, take, Option, Some, None, Ok, Err, zero, suc, arith, refl, sym, ap, ◌∙◌, inl, inr, subst, append_assoc, append-nil, rules}
+use Rattle.trace_text.proofs.Names.{◌≡◌, ℕ, ◌+◌, ◌⊎◌, true, List, [], ◌∷◌, ◌++◌, length, take, Option, Some, None, Ok, Err, zero, suc, arith, refl, sym, ap, ◌∙◌, inl, inr, subst, append_assoc, append-nil, rules, Line, Header, Cause, form_of, clip_line, is_value_over, within, IsWithinLimits, Few, awaits_mark, classed, is_call, HasCause, IsNextLine, IsSound, AreReadAs, SaysAfter, first_cause, IsFirstFault}
 use Rattle.std.specs.List.{slice_get}
-use Rattle.trace_text.specs.declared.line.Line.{Line}
-use Rattle.trace_text.specs.declared.header.Header.{Header}
-use Rattle.trace_text.specs.declared.cause.Cause.{Cause}
 use Rattle.trace_text.specs.declared.cause.Cause.TheVariants as cause
-use Rattle.trace_text.specs.Form.{form_of}
-use Rattle.trace_text.specs.Within.{clip_line, is_value_over, within}
-use Rattle.trace_text.specs.Header.{IsWithinLimits}
-use Rattle.trace_text.specs.Earlier.{Few}
-use Rattle.trace_text.specs.Causes.{awaits_mark, classed, is_call, HasCause, IsNextLine, IsSound, AreReadAs, SaysAfter, first_cause, IsFirstFault}
 use Rattle.trace_text.proofs.Lines.{form_found, form_again}
 use Rattle.trace_text.proofs.Tests.{chosen}
 use Rattle.trace_text.proofs.Clips.{first_cause-clip, clip_line-fine, over-value}

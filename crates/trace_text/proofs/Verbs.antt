@@ -1,25 +1,11 @@
 -- Verbs that name a class.
-use Rattle.std.proofs.lemmas.Grind.{common_steps}
-use Rattle.std.proofs.Common.{◌≡◌, ◌∙◌, ℕ, ◌*◌, ◌%◌, ◌<◌, ◌^◌, ◌==◌, ◌&&◌, ◌||◌, nat_lt, nat_le, Bool, true, false, List, ◌++◌, length, get_or, Option, Some, None, is_some, codes, arith, sym, inl, inr, eqb-true, eq-eqb, rules}
+use Rattle.trace_text.proofs.Names.{common_steps, ◌≡◌, ◌∙◌, ℕ, ◌*◌, ◌%◌, ◌<◌, ◌^◌, ◌==◌, ◌&&◌, ◌||◌, nat_lt, nat_le, Bool, true, false, List, ◌++◌, length, get_or, Option, Some, None, is_some, codes, arith, sym, inl, inr, eqb-true, eq-eqb, rules, range_with_len, bytes_eq, and_parts, cases_Bool, or_left, or_right, nat_tests, length-append, take-append-drop, list_any_at, list_any_none, get_or-range_with_len, option_and_then_some, bytes_eq-Decides, number_in, same_bytes, word-number, Class, class_with-width, number_of-most, number_of-width, width_of-class_with, width_of-injective, width_of-least, width_of-most, class_behind, class_filled, class_of_bytes, class_of_size, class_put, fill_verb, is_binding_verb, put_verb, size_text}
 use Rattle.std.specs.Fmt.{decimal}
-use Rattle.std.specs.List.{range_with_len}
-use Rattle.std.specs.Str.{bytes_eq}
 use Rattle.std.proofs.Math.Seq.{drop-append_seam, take-append_seam}
-use Rattle.std.proofs.lemmas.Bool.{and_parts, cases_Bool, or_left, or_right}
-use Rattle.std.proofs.lemmas.Bool.Decides.{nat_tests}
 use Rattle.std.proofs.lemmas.Fmt.{decimal_is_IsNumeral}
-use Rattle.std.proofs.lemmas.List.{append-nil, length-append, take-append-drop}
-use Rattle.std.proofs.lemmas.List.Folds.{list_any_at, list_any_none}
-use Rattle.std.proofs.lemmas.List.FromFn.{get_or-range_with_len}
-use Rattle.std.proofs.lemmas.Option.{option_and_then_some}
-use Rattle.std.proofs.lemmas.Slice.Eq.{bytes_eq-Decides}
-use Rattle.certificate.specs.Number.{number_in}
+use Rattle.std.proofs.lemmas.List.{append-nil}
 use Rattle.certificate.proofs.ReadAgain.{bytes_eq-same, number_in-decimal}
-use Rattle.certificate.proofs.Spelling.{same_bytes, word-number}
 use Rattle.span.specs.Classes.{class_with, number_of, width_of}
-use Rattle.span.specs.declared.class.Class.{Class}
-use Rattle.span.proofs.Widths.{class_with-width, number_of-most, number_of-width, width_of-class_with, width_of-injective, width_of-least, width_of-most}
-use Rattle.trace_text.specs.Form.{class_behind, class_filled, class_of_bytes, class_of_size, class_put, fill_verb, is_binding_verb, put_verb, size_text}
 use Rattle.trace_text.proofs.Tests.{chosen}
 
 -- ---- the verb of a class names it

@@ -1,8 +1,5 @@
-use Rattle.std.proofs.Common.{◌+◌, ◌∙◌, arith, length, length-set, sym}
-use Rattle.std.specs.List.{range_with_len}
-use Rattle.std.proofs.lemmas.List.{same_lists}
+use Rattle.trace_text.proofs.Names.{◌+◌, ◌∙◌, arith, length, length-set, sym, range_with_len, same_lists, get_or-range_with_len, length-range_with_len}
 use Rattle.std.proofs.lemmas.List.Edits.{fill_by_more}
-use Rattle.std.proofs.lemmas.List.FromFn.{get_or-range_with_len, length-range_with_len}
 use Rattle.trace_text.proofs.counting.count_up.Goals as goal
 
 pub loop-place-preserved : goal.loop-place-preserved

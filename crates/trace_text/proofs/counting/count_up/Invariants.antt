@@ -1,4 +1,4 @@
-use Rattle.std.proofs.Common.{ℕ, ◌≡◌, ◌+◌, ◌<◌, get_or, length}
+use Rattle.trace_text.proofs.Names.{ℕ, ◌≡◌, ◌+◌, ◌<◌, get_or, length}
 use Rattle.trace_text.proofs.counting.count_up.Given as goal
 
 abbrev pub invariant-loop-place : goal.invariant-loop-place

@@ -1,5 +1,4 @@
-use Rattle.std.proofs.Common.{◌||◌, is_some, ap, refl, sym, ◌∙◌}
-use Rattle.trace_text.specs.Form.{class_filled}
+use Rattle.trace_text.proofs.Names.{◌||◌, is_some, ap, refl, sym, ◌∙◌, class_filled}
 use Rattle.trace_text.proofs.Verbs.{is_binding_verb-named}
 use Rattle.trace_text.proofs.header.binds_any_class.Goals as goal
 

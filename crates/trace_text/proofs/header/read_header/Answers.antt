@@ -1,9 +1,5 @@
-use Rattle.std.proofs.Common.{[], ◌∷◌, codes, refl, rules}
-use Rattle.std.proofs.lemmas.Result.{err_from_is_err_and}
-use Rattle.trace_text.specs.Header.{Opening, Size, number_of}
-use Rattle.trace_text.specs.Words.{lines_of}
+use Rattle.trace_text.proofs.Names.{[], ◌∷◌, codes, refl, rules, err_from_is_err_and, Opening, Size, number_of, lines_of, MOST_RING_KEYS, MOST_SHARDS}
 use Rattle.trace_text.specs.declared.header.TheConstants.{TRACE_PAGES}
-use Rattle.span.specs.declared.limits.TheConstants.{MOST_RING_KEYS, MOST_SHARDS}
 use Rattle.trace_text.proofs.Heads.{FailsHeader-below, size_range}
 use Rattle.trace_text.proofs.header.read_header.Goals as goal
 

@@ -1,5 +1,4 @@
-use Rattle.std.proofs.Common.{refl}
-use Rattle.trace_text.specs.Words.{lines_of}
+use Rattle.trace_text.proofs.Names.{refl, lines_of}
 use Rattle.trace_text.proofs.Heads.{size_outside}
 use Rattle.trace_text.proofs.header.size.Goals as goal
 

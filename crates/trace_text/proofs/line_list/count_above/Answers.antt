@@ -1,10 +1,6 @@
-use Rattle.std.proofs.Common.{◌≡◌, ◌∙◌, Bool, true, false, ℕ, List, get_or, ap, arith, inl, inr, lt-ltb, nat_lt, of_calls, rules, sym}
-use Rattle.std.proofs.lemmas.Bool.{cases_eq, ltb-false, ltb-true}
+use Rattle.trace_text.proofs.Names.{◌≡◌, ◌∙◌, Bool, true, false, ℕ, List, get_or, ap, arith, inl, inr, lt-ltb, nat_lt, of_calls, rules, sym, cases_eq, ltb-false, ltb-true, get_or_from_slice_get, slice_get-get_or, slice_get_within, AreInOrder, KeptLine}
 use Rattle.std.proofs.lemmas.Fn.{always_returns_same}
-use Rattle.std.proofs.lemmas.Option.{get_or_from_slice_get, slice_get-get_or, slice_get_within}
 use Rattle.std.specs.List.Sorted.{IsPartitionPoint, IsPartitionedBy}
-use Rattle.trace_text.specs.AllLines.{AreInOrder}
-use Rattle.trace_text.specs.declared.line_list.KeptLine.{KeptLine}
 use Rattle.trace_text.proofs.line_list.count_above.Goals as goal
 
 -- the line is kept for a place above that one

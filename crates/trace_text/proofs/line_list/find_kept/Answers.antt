@@ -1,4 +1,4 @@
-use Rattle.std.proofs.Common.{sym}
+use Rattle.trace_text.proofs.Names.{sym}
 use Rattle.trace_text.proofs.Keeping.{find-between}
 use Rattle.trace_text.proofs.line_list.find_kept.Goals as goal
 

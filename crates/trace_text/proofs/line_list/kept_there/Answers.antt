@@ -1,6 +1,4 @@
-use Rattle.std.proofs.Common.{◌≡◌, refl, ◌∙◌, Some, slice_get, sym, ap}
-use Rattle.std.proofs.lemmas.Option.{slice_get_read}
-use Rattle.trace_text.specs.declared.line_list.KeptLine.{KeptLine}
+use Rattle.trace_text.proofs.Names.{◌≡◌, refl, ◌∙◌, Some, slice_get, sym, ap, slice_get_read, KeptLine}
 use Rattle.trace_text.proofs.Keeping.{find-kept}
 use Rattle.trace_text.proofs.line_list.kept_there.Goals as goal
 

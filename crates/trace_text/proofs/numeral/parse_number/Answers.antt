@@ -1,5 +1,4 @@
-use Rattle.std.proofs.Common.{rules}
-use Rattle.certificate.proofs.Digits.{AllDigits-from_test}
+use Rattle.trace_text.proofs.Names.{rules, AllDigits-from_test}
 use Rattle.trace_text.proofs.numeral.parse_number.Goals as goal
 
 pub value_of-requires : goal.value_of-requires

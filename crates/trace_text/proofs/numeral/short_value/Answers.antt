@@ -1,6 +1,4 @@
-use Rattle.std.proofs.Common.{arith, ◌<◌, length}
-use Rattle.std.proofs.lemmas.Str.Parse.{digit_at}
-use Rattle.certificate.proofs.Digits.{value_more}
+use Rattle.trace_text.proofs.Names.{arith, ◌<◌, length, digit_at, value_more}
 use Rattle.trace_text.proofs.numeral.short_value.Goals as goal
 
 pub overflow_sub-digit : goal.overflow_sub-digit

@@ -1,5 +1,4 @@
-use Rattle.std.proofs.Common.{◌≡◌, take}
-use Rattle.std.specs.Str.Parse.{digits_value}
+use Rattle.trace_text.proofs.Names.{◌≡◌, take, digits_value}
 use Rattle.trace_text.proofs.numeral.short_value.Given as goal
 
 -- the value of the digits so far

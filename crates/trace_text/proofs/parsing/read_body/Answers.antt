@@ -1,7 +1,4 @@
-use Rattle.std.proofs.Common.{arith, ◌≡◌, ◌∙◌, length, refl, sym}
-use Rattle.std.proofs.lemmas.Grind.{common_steps}
-use Rattle.trace_text.specs.Words.{lines_of}
-use Rattle.trace_text.specs.declared.cause.Cause.TheVariants.{Bound}
+use Rattle.trace_text.proofs.Names.{arith, ◌≡◌, ◌∙◌, length, refl, sym, common_steps, lines_of, Bound}
 use Rattle.trace_text.proofs.Texts.{SoFar-fault, SoFar-more, SoFar-start}
 use Rattle.trace_text.proofs.Knowing.{Knows-push, marks-length}
 use Rattle.trace_text.proofs.Placing.{places-push}

@@ -1,7 +1,4 @@
-use Rattle.std.proofs.Common.{arith, ◌≡◌, true, sym, ◌∙◌, inr}
-use Rattle.std.proofs.lemmas.Grind.{common_steps}
-use Rattle.trace_text.specs.Causes.{awaits_mark}
-use Rattle.trace_text.specs.Words.{lines_of}
+use Rattle.trace_text.proofs.Names.{arith, ◌≡◌, true, sym, ◌∙◌, inr, common_steps, awaits_mark, lines_of}
 use Rattle.trace_text.proofs.Texts.{IsSound-AreReadAs, end_fault}
 use Rattle.trace_text.proofs.parsing.trace_of.Goals as goal
 

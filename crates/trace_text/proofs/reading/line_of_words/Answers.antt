@@ -1,7 +1,4 @@
-use Rattle.std.proofs.Common.{arith, sym, ap, ◌∙◌}
-use Rattle.std.proofs.lemmas.List.{length-map}
-use Rattle.trace_text.specs.Within.{within}
-use Rattle.certificate.specs.Words.{contents_of}
+use Rattle.trace_text.proofs.Names.{arith, sym, ap, ◌∙◌, length-map, within, contents_of}
 use Rattle.trace_text.proofs.Forms.{form_of_words-none, form_of_words-four, form_of_words-five, form_of_words-many}
 use borrow.Author.Tests.{ltb-true, ltb-false}
 use Rattle.trace_text.proofs.reading.line_of_words.Goals as goal

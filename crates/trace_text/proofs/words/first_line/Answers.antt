@@ -1,5 +1,4 @@
-use Rattle.std.proofs.Common.{rules, sym, ◌∙◌}
-use Rattle.std.proofs.lemmas.List.{take_rest}
+use Rattle.trace_text.proofs.Names.{rules, sym, ◌∙◌, take_rest}
 use Rattle.trace_text.proofs.Ends.{lines_of-first, lines_of-last}
 use Rattle.trace_text.proofs.words.first_line.Goals as goal
 

@@ -1,7 +1,4 @@
-use Rattle.std.proofs.Common.{◌&&◌, ◌∙◌, ap, not, sym, true}
-use Rattle.std.specs.Prelude.{nat_le}
-use Rattle.trace_text.specs.Causes.{awaits_mark, begins_again, comes_early, has_ended, is_call_over, reads_unknown}
-use Rattle.trace_text.specs.Places.{place_by}
+use Rattle.trace_text.proofs.Names.{◌&&◌, ◌∙◌, ap, not, sym, true, nat_le, awaits_mark, begins_again, comes_early, has_ended, is_call_over, reads_unknown, place_by}
 use Rattle.trace_text.proofs.BoundAgain.{unless-caller, unless-no_caller}
 use Rattle.trace_text.proofs.earlier.Earlier.call_place.Goals as goal
 

@@ -1,6 +1,4 @@
-use Rattle.std.proofs.Common.{sym}
-use Rattle.std.proofs.lemmas.List.FromFn.{length-map-range_with_len}
-use Rattle.trace_text.specs.AllLines.{line_kept}
+use Rattle.trace_text.proofs.Names.{sym, length-map-range_with_len, line_kept}
 use Rattle.trace_text.proofs.line_list.LineList.len.Goals as goal
 
 pub returns-clause-len : goal.returns-clause-len

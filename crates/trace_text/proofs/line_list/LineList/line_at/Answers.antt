@@ -1,4 +1,4 @@
-use Rattle.std.proofs.Common.{◌∙◌, Some, ap, sym}
+use Rattle.trace_text.proofs.Names.{◌∙◌, Some, ap, sym}
 use Rattle.trace_text.proofs.Keeping.{kept_line, kept_line-none}
 use Rattle.trace_text.proofs.line_list.LineList.line_at.Goals as goal
 

@@ -1,4 +1,4 @@
-use Rattle.std.proofs.Common.{sym}
+use Rattle.trace_text.proofs.Names.{sym}
 use Rattle.trace_text.proofs.Keeping.{kept_read, kept_read-none}
 use Rattle.trace_text.proofs.line_list.LineList.place_read.Goals as goal
 

@@ -1,6 +1,4 @@
-use Rattle.std.proofs.Common.{refl, arith}
-use Rattle.std.proofs.lemmas.List.FromFn.{length-map-range_with_len}
-use Rattle.trace_text.specs.AllLines.{line_kept}
+use Rattle.trace_text.proofs.Names.{refl, arith, length-map-range_with_len, line_kept}
 use Rattle.trace_text.proofs.Keeping.{AreInOrder-more, AreInOrder-push, lines-more, lines-push, reads-more, reads-push}
 use Rattle.trace_text.proofs.line_list.LineList.push.Goals as goal
 

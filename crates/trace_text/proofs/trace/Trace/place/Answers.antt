@@ -1,5 +1,4 @@
-use Rattle.std.proofs.Common.{◌≡◌, ◌∙◌, [], Some, slice_get, take, sym, ap}
-use Rattle.trace_text.specs.Places.{place_at}
+use Rattle.trace_text.proofs.Names.{◌≡◌, ◌∙◌, [], Some, slice_get, take, sym, ap, place_at}
 use Rattle.trace_text.proofs.Placing.{slice_get-places}
 use Rattle.trace_text.proofs.trace.Trace.place.Goals as goal
 
