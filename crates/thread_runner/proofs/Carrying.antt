@@ -1,21 +1,6 @@
 -- What a thread's rings carry, call after call.
-use Rattle.std.proofs.Common.{get_or-set_other, get_or-set_same, zero, suc, ◌≡◌, ◌∙◌, ◌<◌, ◌++◌, ◌==◌, ℕ, List, [], ◌∷◌, ap, append-nil, append_assoc, arith, length, map, refl, slice_index_or, slice_set, subst, sym, rules}
-use Rattle.std.specs.Prelude.{if◌then◌else◌, filter}
-use Rattle.std.specs.List.{All, AllByRecursion}
-use Rattle.std.specs.List.Sorted.{IsPermutation}
-use Rattle.std.proofs.lemmas.Bool.Decides.{eqb_tells}
-use Rattle.std.proofs.lemmas.List.{length-map}
-use Rattle.std.proofs.lemmas.List.Elements.{filter-append}
-use Rattle.std.proofs.lemmas.List.Sorted.{IsPermutation-append_comm, IsPermutation-append_left, IsPermutation-append_right, IsPermutation-refl, IsPermutation-trans}
-use Rattle.span.specs.declared.key.Key.{Key}
-use Rattle.span.specs.declared.receipt.Receipt.{Receipt}
-use Rattle.remote_queue.specs.Rings.{AreFreshInboxes, AreFreshOutboxes, Sending, Taking}
+use Rattle.thread_runner.proofs.Names.{get_or-set_other, get_or-set_same, zero, suc, ◌≡◌, ◌∙◌, ◌<◌, ◌++◌, ◌==◌, ℕ, List, [], ◌∷◌, ap, append-nil, append_assoc, arith, length, map, refl, slice_index_or, slice_set, subst, sym, rules, if◌then◌else◌, filter, All, AllByRecursion, IsPermutation, eqb_tells, length-map, filter-append, IsPermutation-append_comm, IsPermutation-append_left, IsPermutation-append_right, IsPermutation-refl, IsPermutation-trans, Key, Receipt, AreFreshInboxes, AreFreshOutboxes, Sending, Taking, joined, KeepsEnds, SeatState, sending_side, sent_lists, taken_lists, IsTended, Carried, carried_by, is_of_shard, keys_of, Carries, HaveNothing}
 use Rattle.arena.specs.Delays.{KeepsSeat}
-use Rattle.arena.specs.Receipts.{joined}
-use Rattle.arena.specs.Seats.{KeepsEnds, SeatState, sending_side, sent_lists, taken_lists}
-use Rattle.arena.specs.Tended.{IsTended}
-use Rattle.thread_runner.specs.Followed.{Carried, carried_by, is_of_shard, keys_of}
-use Rattle.thread_runner.specs.Grown.{Carries, HaveNothing}
 
 -- nothing was sent or taken
 pub Carries-none : (before after : Carried) → after ≡ before → Carries [] [] before after

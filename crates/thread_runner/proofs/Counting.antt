@@ -1,21 +1,7 @@
 -- How many replies there are, by thread and in all.
-use Rattle.std.proofs.Common.{◌≡◌, ◌∙◌, ◌+◌, ◌++◌, ◌==◌, ◌<◌, ◌≤◌, ℕ, Bool, true, false, List, [], ◌∷◌, Some, ap, arith, length, length-append, refl, slice_get, subst, suc, sym, take, zero, zero-add, add-zero, inl, inr, nat_le}
-use Rattle.std.specs.Prelude.{if◌then◌else◌}
-use Rattle.std.specs.List.{sum_by}
-use Rattle.std.specs.Option.{option_map_or}
-use Rattle.std.proofs.lemmas.Bool.Decides.{eqb_tells, nat_tests}
-use Rattle.std.proofs.lemmas.List.Sums.{sum_by-cons}
-use Rattle.trace_text.proofs.Clips.{all_fine}
-use Rattle.trace_text.specs.Causes.{IsSound}
-use Rattle.trace_text.specs.declared.header.Header.{Header}
-use Rattle.trace_text.specs.declared.line.Call.{Call}
-use Rattle.trace_text.specs.declared.line.Line.{Line}
+use Rattle.thread_runner.proofs.Names.{◌≡◌, ◌∙◌, ◌+◌, ◌++◌, ◌==◌, ◌<◌, ◌≤◌, ℕ, Bool, true, false, List, [], ◌∷◌, Some, ap, arith, length, length-append, refl, slice_get, subst, suc, sym, take, zero, zero-add, add-zero, inl, inr, nat_le, if◌then◌else◌, sum_by, option_map_or, eqb_tells, nat_tests, sum_by-cons, all_fine, IsSound, Header, Call, Line, SeatState, carried_by, AreDiaries, IsDiaryOf, Diary, GivenKeys, is_line_of, places_from, places_of, replies_at, replies_in, replies_on}
 use Rattle.trace_text.specs.declared.line.Line.TheVariants as line
-use Rattle.arena.specs.Seats.{SeatState}
-use Rattle.thread_runner.specs.Followed.{carried_by}
-use Rattle.thread_runner.specs.Grown.{AreDiaries, IsDiaryOf}
-use Rattle.thread_runner.specs.declared.diary.Diary.{Diary}
-use Rattle.thread_runner.specs.Asked.{GivenKeys, is_line_of, places_from, places_of, replies_at, replies_by as replies_by_call, replies_in, replies_on}
+use Rattle.thread_runner.specs.Asked.{replies_by as replies_by_call}
 
 -- how many replies the lines of one thread have
 replies_by : ℕ → List Line → ℕ

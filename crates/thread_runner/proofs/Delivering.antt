@@ -1,15 +1,6 @@
 -- What was taken from rings that are empty is what was sent on them.
-use Rattle.std.proofs.Common.{zero, suc, ◌≡◌, ◌∙◌, ◌<◌, ◌++◌, ℕ, List, [], ◌∷◌, Some, ap, append-nil, arith, length, map, refl, slice_get, slice_index_or, subst, sym}
-use Rattle.std.specs.List.{All}
-use Rattle.std.proofs.lemmas.List.{length-map}
-use Rattle.std.proofs.lemmas.Option.{same_Some, slice_get_within}
-use Rattle.groups.proofs.Lists.{before-map}
-use Rattle.span.specs.declared.key.Key.{Key}
-use Rattle.span.specs.declared.receipt.Receipt.{Receipt}
-use Rattle.remote_queue.specs.Rings.{Sending, Taking}
-use Rattle.arena.specs.Seats.{AreLinked, SeatState, sent_lists, sent_on, taken_lists, taken_on}
+use Rattle.thread_runner.proofs.Names.{zero, suc, ◌≡◌, ◌∙◌, ◌<◌, ◌++◌, ℕ, List, [], ◌∷◌, Some, ap, append-nil, arith, length, map, refl, slice_get, slice_index_or, subst, sym, All, length-map, same_Some, slice_get_within, before-map, Key, Receipt, Sending, Taking, AreLinked, SeatState, sent_lists, sent_on, taken_lists, taken_on, AreDelivered, Carried, carried_by}
 use Rattle.arena.specs.Settled.{IsSettled}
-use Rattle.thread_runner.specs.Followed.{AreDelivered, Carried, carried_by}
 
 -- a list that has an element has one to stand for another
 pub with_element : {X G : Type 0} (xs : List X) (k : ℕ) → k < length xs → (X → G) → G

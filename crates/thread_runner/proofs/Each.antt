@@ -1,7 +1,5 @@
 -- What holds of each of a list, by recursion and by number.
-use Rattle.std.proofs.Common.{◌≡◌, ℕ, List, [], ◌∷◌, ap, arith, map, suc, zero}
-use Rattle.std.specs.List.{All, AllByRecursion}
-use Rattle.arena.specs.Seats.{SeatState, Standing, first_standing, standing}
+use Rattle.thread_runner.proofs.Names.{◌≡◌, ℕ, List, [], ◌∷◌, ap, arith, map, suc, zero, All, AllByRecursion, SeatState, Standing, first_standing, standing}
 use Rattle.marks.specs.Numbers.{Limits}
 
 pub All-each : {X : Type 0} (P : X → Type 0) (xs : List X) → AllByRecursion P xs → All P xs

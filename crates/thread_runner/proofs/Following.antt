@@ -1,36 +1,13 @@
 -- What a thread was told follows its lines, line after line.
-use Rattle.trace_text.specs.Objects.{counted_from}
-use Rattle.span.specs.ReceiptLists.{kept_receipts}
-use Rattle.std.proofs.Common.{slice_index_or, add-zero, ◌≡◌, ◌∙◌, ◌+◌, ◌-◌, ◌++◌, ◌≤◌, ℕ, Bool, true, false, List, [], ◌∷◌, Some, ap, append-nil, length, refl, slice_get, subst, sym, take}
-use Rattle.std.specs.Prelude.{filter}
-use Rattle.std.specs.List.{flat_map, range_with_len, sum_by}
-use Rattle.std.specs.List.Sorted.{IsPermutation}
-use Rattle.std.specs.Option.{option_map_or}
-use Rattle.std.proofs.lemmas.Grind.{flat_map-append}
-use Rattle.std.proofs.lemmas.List.{length-map, take_all}
-use Rattle.std.proofs.lemmas.List.Elements.{filter-append}
-use Rattle.std.proofs.lemmas.List.FromFn.{length-range_with_len}
-use Rattle.std.proofs.lemmas.List.Sorted.{IsPermutation-append_left, IsPermutation-refl, IsPermutation-trans}
-use Rattle.std.proofs.lemmas.List.Sums.{sum_by_push}
+use Rattle.thread_runner.proofs.Names.{counted_from, kept_receipts, slice_index_or, add-zero, ◌≡◌, ◌∙◌, ◌+◌, ◌-◌, ◌++◌, ◌≤◌, ℕ, Bool, true, false, List, [], ◌∷◌, Some, ap, append-nil, length, refl, slice_get, subst, sym, take, filter, flat_map, range_with_len, sum_by, IsPermutation, option_map_or, flat_map-append, length-map, take_all, filter-append, length-range_with_len, IsPermutation-append_left, IsPermutation-refl, IsPermutation-trans, sum_by_push, joined, SeatState, Table, Key, is_adopt, keys_in, marks, Call, Line, AreAnswers, Frees, GivenKeys, Outcome, Puts, Said, asked_at, asked_by, is_adoption, is_line_of, places_of, replies_at, replies_by, replies_on, AnswersLine, ArePassages, AtBarrier, AtLine, Carried, FollowsLines, IsPassage, Passage, barriers_after, carried_by, entries_in, entries_on, is_of_shard, places_in, receipts_from, receipts_in, sent_by, sent_in, taken_by, taken_in, Carries, Grows, HaveNothing, IsDiaryOf, IsEmptyDiary, Rests, TellsTending, Tells, TellsAdoption, Tracks, voice_of, Diary, take_more, AreResting, IsResting, Resting}
 use Rattle.std.proofs.Math.Logic.{∥∥₁_map}
-use Rattle.arena.specs.Receipts.{joined}
-use Rattle.arena.specs.Seats.{SeatState, Table}
-use Rattle.span.specs.declared.key.Key.{Key}
-use Rattle.trace_text.specs.Causes.{is_adopt, keys_in, marks}
 use Rattle.trace_text.specs.Places.{first_of}
-use Rattle.trace_text.specs.declared.line.Call.{Call}
 use Rattle.trace_text.specs.declared.line.Call.TheVariants.{Fill, Sweep}
-use Rattle.trace_text.specs.declared.line.Line.{Line}
 use Rattle.trace_text.specs.declared.line.Line.TheVariants as line
-use Rattle.thread_runner.specs.Asked.{AreAnswers, Frees, GivenKeys, Outcome, Puts, Said, asked_at, asked_by, is_adoption, is_line_of, places_of, replies_at, replies_by, replies_on}
-use Rattle.thread_runner.specs.Followed.{AnswersLine, ArePassages, AtBarrier, AtLine, Carried, FollowsLines, IsPassage, Passage, barriers_after, carried_by, entries_in, entries_on, is_of_shard, places_in, receipts_from, receipts_in, sent_by, sent_in, taken_by, taken_in}
-use Rattle.thread_runner.specs.Grown.{Carries, Grows, HaveNothing, IsDiaryOf, IsEmptyDiary, Rests, TellsTending, Tells, TellsAdoption, Tracks}
-use Rattle.thread_runner.specs.Told.{voice_of}
-use Rattle.thread_runner.specs.declared.diary.Diary.{Diary}
 use Rattle.thread_runner.specs.declared.diary.Entry.TheVariants as entry
 use Rattle.trace_runner.specs.declared.report.Other.{Other}
-use Rattle.audit.proofs.Replies.{take_more}
 use Rattle.thread_runner.proofs.Carrying.{Carries-none}
+use Rattle.thread_runner.proofs.Each.{each-weaker}
 
 -- a thread that was told nothing
 pub FollowsLines-none : (lines : List Line) (given : GivenKeys) (thread : ℕ) (shown : Bool) (diary : Diary) (its : Carried) → IsEmptyDiary shown diary
@@ -232,7 +209,7 @@ Tracks-kept lines shown knows thread same done barriers old new before after is 
 })
 
 -- between two sections no less is known of the keys
-pub Rests-known : (lines : List Line) (shown : Bool) (table : Table) (knew knows : GivenKeys
+Rests-known : (lines : List Line) (shown : Bool) (table : Table) (knew knows : GivenKeys
     → Type 0) (section : ℕ) (seat : SeatState) (done : ℕ) (diary : Diary) → ((given : GivenKeys) → knows given → knew given)
     → Rests lines shown table knew section seat done diary → Rests lines shown table knows section seat done diary
 Rests-known lines shown table knew knows section seat done diary known rests = record {
@@ -241,6 +218,11 @@ Rests-known lines shown table knew knows section seat done diary known rests = r
   section_is = rests.section_is;
   tracks = Tracks-known lines shown knew knows seat.worker done section diary (carried_by seat) known rests.tracks;
 }
+
+pub AreResting-known : {G : Type 0} (lines : List Line) (shown : Bool) (table : Table) (knew knows : GivenKeys → Type 0) (section : ℕ) (threads : List (Resting G))
+    → ((given : GivenKeys) → knows given → knew given) → AreResting lines shown table knew section threads → AreResting lines shown table knows section threads
+AreResting-known lines shown table knew knows section threads known = each-weaker (IsResting lines shown table knew section) (IsResting lines shown table knows section) threads
+    (λ one. Rests-known lines shown table knew knows section one.caller.seat one.done one.caller.diary known)
 
 -- one that has run all its lines and come to all barriers
 pub IsDiaryOf-tracked : (lines : List Line) (shown : Bool) (knows : GivenKeys

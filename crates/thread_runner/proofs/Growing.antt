@@ -1,15 +1,5 @@
 -- How a diary goes on, call after call.
-use Rattle.span.specs.ReceiptLists.{kept_receipts}
-use Rattle.std.proofs.Common.{◌≡◌, ◌∙◌, ◌+◌, ◌++◌, ℕ, List, [], ◌∷◌, ap, append-nil, append_assoc, arith, length, length-append, map, refl, subst, sym}
-use Rattle.std.specs.List.{flat_map, range_with_len}
-use Rattle.std.proofs.lemmas.List.FromFn.{map-range_with_len_more}
-use Rattle.std.proofs.lemmas.Grind.{flat_map-append}
-use Rattle.span.specs.declared.key.Key.{Key}
-use Rattle.span.specs.declared.receipt.Receipt.{Receipt}
-use Rattle.thread_runner.specs.Asked.{Answers, AreAnswers, Asked, GivenKeys, Outcome, Tends, Took}
-use Rattle.thread_runner.specs.Followed.{Carried, entries_on, receipts_from, sent_by, taken_by}
-use Rattle.thread_runner.specs.Grown.{Carries, Grows, TellsTending, Tells}
-use Rattle.thread_runner.specs.declared.diary.Diary.{Diary}
+use Rattle.thread_runner.proofs.Names.{kept_receipts, ◌≡◌, ◌∙◌, ◌+◌, ◌++◌, ℕ, List, [], ◌∷◌, ap, append-nil, append_assoc, arith, length, length-append, map, refl, subst, sym, flat_map, range_with_len, map-range_with_len_more, flat_map-append, Key, Receipt, Answers, AreAnswers, Asked, GivenKeys, Outcome, Tends, Took, Carried, entries_on, receipts_from, sent_by, taken_by, Carries, Grows, TellsTending, Tells, Diary}
 use Rattle.thread_runner.specs.declared.diary.Entry.{Entry}
 use Rattle.thread_runner.specs.declared.diary.Entry.TheVariants as entry
 use Rattle.trace_runner.specs.declared.report.Other.TheVariants as other

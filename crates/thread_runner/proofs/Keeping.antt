@@ -1,16 +1,7 @@
 -- What is kept of the keys that puts gave.
-use Rattle.std.proofs.Common.{zero, suc, ◌≡◌, ◌∙◌, ℕ, ◌+◌, ◌<◌, ◌≤◌, ◌&&◌, true, false, List, [], ◌∷◌, ◌++◌, Option, Some, None, ap, arith, map, nat_le, nat_lt, refl, set, slice_get, subst, sym}
-use Rattle.std.specs.List.{All, AllByRecursion}
-use Rattle.std.specs.List.Sorted.{IsPermutation}
-use Rattle.std.proofs.lemmas.Bool.Decides.{nat_tests}
-use Rattle.std.proofs.lemmas.List.Sorted.{IsPermutation-sym}
+use Rattle.thread_runner.proofs.Names.{zero, suc, ◌≡◌, ◌∙◌, ℕ, ◌+◌, ◌<◌, ◌≤◌, ◌&&◌, true, false, List, [], ◌∷◌, ◌++◌, Option, Some, None, ap, arith, map, nat_le, nat_lt, refl, set, slice_get, subst, sym, All, AllByRecursion, IsPermutation, nat_tests, IsPermutation-sym, same_key-parts, Key, GivenKeys, AreApart, AreFresh, AreKept, IsGiven, given_by, key_from, Given}
 use Rattle.std.proofs.lemmas.Map.Views.{All-map-IsPermutation}
 use Rattle.span.proofs.Ids.{same_id}
-use Rattle.span.proofs.Next.{same_key-parts}
-use Rattle.span.specs.declared.key.Key.{Key}
-use Rattle.thread_runner.specs.Asked.{GivenKeys}
-use Rattle.thread_runner.specs.Known.{AreApart, AreFresh, AreKept, IsGiven, given_by, key_from}
-use Rattle.thread_runner.specs.declared.keys.Given.{Given}
 use Rattle.thread_runner.proofs.Each.{All-each, each-All}
 
 -- ---- one put more of those that go on

@@ -1,19 +1,8 @@
 -- What calls on keys are told, by what is known of the keys that puts gave.
-use Rattle.std.proofs.Common.{◌≡◌, ◌∙◌, ◌++◌, ℕ, Bool, false, true, List, [], ◌∷◌, Option, None, Some, ap, refl, subst, sym}
-use Rattle.span.specs.Log.{Value}
-use Rattle.std.specs.List.{AllByRecursion}
-use Rattle.arena.specs.Receipts.{free_receipt, get_receipt, put_receipt, set_receipt}
+use Rattle.thread_runner.proofs.Names.{◌≡◌, ◌∙◌, ◌++◌, ℕ, Bool, false, true, List, [], ◌∷◌, Option, None, Some, ap, refl, subst, sym, Value, AllByRecursion, free_receipt, get_receipt, put_receipt, set_receipt, Key, Receipt, Answers, Asked, Called, Frees, Gets, GivenKeys, IsKeptBack, IsSetTo, Outcome, Puts, Sets, is_look_up, entries_on, receipts_from, sent_by, taken_by, Carries, Grows, AreFresh, AreKnown, is_free, Given, TellsFrom, carried_by}
 use Rattle.span.specs.Receipts.{look_up, set as set_call}
-use Rattle.span.specs.declared.key.Key.{Key}
-use Rattle.span.specs.declared.receipt.Receipt.{Receipt}
-use Rattle.thread_runner.specs.Asked.{Answers, Asked, Called, Frees, Gets, GivenKeys, IsKeptBack, IsSetTo, Outcome, Puts, Sets, is_look_up}
-use Rattle.thread_runner.specs.Followed.{Carried, entries_on, receipts_from, sent_by, taken_by}
-use Rattle.thread_runner.specs.Grown.{Carries, Grows, Tells}
-use Rattle.thread_runner.specs.Known.{AreFresh, AreKnown}
-use Rattle.thread_runner.specs.Told.{is_free}
-use Rattle.thread_runner.specs.declared.diary.Diary.{Diary}
 use Rattle.trace_runner.specs.declared.report.Other.TheVariants as other
-use Rattle.thread_runner.specs.declared.keys.Given.{Given}
+use Rattle.thread_runner.specs.declared.caller.Caller.{Caller}
 use Rattle.thread_runner.proofs.Growing.{Tells-one}
 use Rattle.thread_runner.proofs.Taking.{is_free-free}
 
@@ -35,22 +24,22 @@ each-parts P [] ys each = (tt, each)
 each-parts P (x ∷ xs) ys each = let (left, right) = each-parts P xs ys each.1 in ((each.0, left), right)
 
 -- one thing was asked that changes nothing of what is known of keys
-pub Tells-still : (section thread number : ℕ) (asked : Asked) (outcome : Outcome) (kept : List Given) (fresh later : List Given) (old new : Diary) (before after : Carried) → later ≡ fresh
-    → ((given : GivenKeys) → AreKnown kept fresh given → Answers given section thread asked outcome) → Carries (sent_by outcome) (taken_by outcome) before after
-    → Grows (entries_on number outcome) (receipts_from outcome) 1 old new
-    → Tells section thread number (asked ∷ []) (AreKnown kept fresh) (AreKnown kept later) old new before after
-Tells-still section thread number asked outcome kept fresh later old new before after same answers carries grows =
-    let fits : (given : GivenKeys) → AreKnown kept later given → AreKnown kept fresh given = λ given known. subst (λ f. AreKnown kept f given) same known in
-    Tells-one section thread number asked outcome (AreKnown kept fresh) (AreKnown kept later) old new before after (λ given known. answers given (fits given known)) fits grows carries
+pub TellsFrom-still : {G : Type 0} (number : ℕ) (asked : Asked) (outcome : Outcome) (kept : List Given) (old new : Caller G) → new.fresh ≡ old.fresh
+    → ((given : GivenKeys) → AreKnown kept old.fresh.items given → Answers given old.seat.section old.seat.worker asked outcome)
+    → Carries (sent_by outcome) (taken_by outcome) (carried_by old.seat) (carried_by new.seat)
+    → Grows (entries_on number outcome) (receipts_from outcome) 1 old.diary new.diary → TellsFrom number (asked ∷ []) kept old new
+TellsFrom-still number asked outcome kept old new same answers carries grows =
+    let fits : (given : GivenKeys) → AreKnown kept new.fresh.items given → AreKnown kept old.fresh.items given = λ given. subst (λ f. AreKnown kept f.items given) same in
+    Tells-one _ _ number asked outcome _ _ _ _ _ _ (λ given known. answers given (fits given known)) fits grows carries
 
 -- a put is kept with what it gave
-pub Tells-put : (section thread number place : ℕ) (value : Value) (outcome : Outcome) (key : Option Key) (kept : List Given) (fresh later : List Given) (old new : Diary) (before after : Carried)
-    → ((given : GivenKeys) → AreFresh later given → AreFresh fresh given × (given place ≡ key)) → ((given : GivenKeys) → given place ≡ key → Answers given section thread (Puts place value) outcome)
-    → Carries (sent_by outcome) (taken_by outcome) before after → Grows (entries_on number outcome) (receipts_from outcome) 1 old new
-    → Tells section thread number (Puts place value ∷ []) (AreKnown kept fresh) (AreKnown kept later) old new before after
-Tells-put section thread number place value outcome key kept fresh later old new before after entered answers carries grows =
-    Tells-one section thread number (Puts place value) outcome (AreKnown kept fresh) (AreKnown kept later) old new before after
-    (λ given known. answers given (entered given known.1).1) (λ given known. (known.0, (entered given known.1).0)) grows carries
+pub TellsFrom-put : {G : Type 0} (number place : ℕ) (value : Value) (outcome : Outcome) (key : Option Key) (kept : List Given) (old new : Caller G)
+    → ((given : GivenKeys) → AreFresh new.fresh.items given → AreFresh old.fresh.items given × (given place ≡ key))
+    → ((given : GivenKeys) → given place ≡ key → Answers given old.seat.section old.seat.worker (Puts place value) outcome)
+    → Carries (sent_by outcome) (taken_by outcome) (carried_by old.seat) (carried_by new.seat)
+    → Grows (entries_on number outcome) (receipts_from outcome) 1 old.diary new.diary → TellsFrom number (Puts place value ∷ []) kept old new
+TellsFrom-put number place value outcome key kept old new entered answers carries grows =
+    Tells-one _ _ number (Puts place value) outcome _ _ _ _ _ _ (λ given known. answers given (entered given known.1).1) (λ given known. (known.0, (entered given known.1).0)) grows carries
 
 -- the receipt of a put
 pub Answers-put : (given : GivenKeys) (section thread place : ℕ) (value : Value) (key : Key) (receipt : Receipt) → receipt ≡ put_receipt thread section value key receipt.at → given place ≡ Some key

@@ -1,3 +1,4 @@
+pub mod Names
 mod Voices
 mod Noting
 mod Places

@@ -1,21 +1,6 @@
 -- Lists that are gone through by places: of receipts and of logs.
-use Rattle.std.proofs.Common.{zero, suc, ◌≡◌, ◌∙◌, ◌+◌, ◌++◌, ℕ, List, [], ◌∷◌, Some, ap, append-nil, append_assoc, arith, drop, map, slice_get, subst, sym, take, zero-add}
-use Rattle.std.specs.FinSet.{len}
-use Rattle.std.specs.List.{flat_map, sum_by}
-use Rattle.std.proofs.lemmas.Grind.{flat_map-append}
-use Rattle.std.proofs.lemmas.List.{map-append}
-use Rattle.std.proofs.lemmas.List.Sums.{sum_by-append, sum_by-cons}
-use Rattle.span.specs.KeptLogs.{kept_changes}
-use Rattle.span.specs.Log.{live_slots}
-use Rattle.span.specs.SpanLogs.{span_of_log}
+use Rattle.thread_runner.proofs.Names.{zero, suc, ◌≡◌, ◌∙◌, ◌+◌, ◌++◌, ℕ, List, [], ◌∷◌, Some, ap, append-nil, append_assoc, arith, drop, map, slice_get, subst, sym, take, zero-add, len, flat_map, sum_by, flat_map-append, map-append, sum_by-append, sum_by-cons, kept_changes, live_slots, span_of_log, Receipt, SpanLog, live_count, drop_step, take_more, LineAnswer, lineless}
 use Rattle.span.specs.State.{SpanState}
-use Rattle.span.specs.declared.receipt.Receipt.{Receipt}
-use Rattle.span.specs.declared.span_log.SpanLog.{SpanLog}
-use Rattle.groups.specs.Spans.{live_count}
-use Rattle.groups.proofs.Maps.{drop_step}
-use Rattle.audit.proofs.Replies.{take_more}
-use Rattle.trace_runner.specs.declared.report.LineAnswer.{LineAnswer}
-use Rattle.thread_runner.specs.Told.{lineless}
 
 pub slice_get-drop : {X : Type 0} (xs : List X) (first i : ℕ) (x : X) → slice_get xs (first + i) ≡ Some x → slice_get (drop first xs) i ≡ Some x
 slice_get-drop xs zero i x here = subst (λ n. slice_get xs n ≡ Some x) (zero-add i) here

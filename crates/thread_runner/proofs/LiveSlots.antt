@@ -1,12 +1,10 @@
 -- What a set does to the live slots, whatever came before it.
-use Rattle.std.proofs.Common.{◌≡◌, ◌∙◌, ◌++◌, ◌∷◌, [], ℕ, List, ap, sym}
+use Rattle.thread_runner.proofs.Names.{◌≡◌, ◌∙◌, ◌++◌, ◌∷◌, [], ℕ, List, ap, sym, from_list, insert, Contents, Value, live_slots-put}
 use Rattle.std.specs.FinMap as map
-use Rattle.std.specs.FinSet.{from_list, insert}
-use Rattle.span.specs.Log.{Contents, Value, live_slots}
+use Rattle.span.specs.Log.{live_slots}
 use Rattle.span.specs.declared.change.Change.{Change}
 use Rattle.span.specs.declared.change.Change.TheVariants.{Put, Set}
 use Rattle.span.proofs.Changes.{replay-push}
-use Rattle.span.proofs.Slots.{live_slots-put}
 
 -- a set leaves the slot live, as a put would
 pub live_slots-set : (log : List Change) (slot generation : ℕ) (value : Value) → live_slots (log ++ Set slot generation value ∷ []) ≡ insert (live_slots log) slot

@@ -1,34 +1,21 @@
 -- How the notes of a run go on.
-use Rattle.std.proofs.Common.{◌≡◌, ◌∙◌, ◌++◌, ◌+◌, ◌-◌, ◌<◌, ◌≤◌, ℕ, Bool, true, false, cond, List, [], ◌∷◌, Option, None, Some, ap, arith, drop, length, map, option_map, refl, slice_get, suc, subst, sym, zero}
-use Rattle.std.specs.Prelude.{is_some, not}
-use Rattle.std.specs.List.{flat_map, take_while}
-use Rattle.std.specs.Option.{option_map_or}
-use Rattle.std.proofs.lemmas.Grind.{flat_map-append}
-use Rattle.std.proofs.lemmas.List.{append-nil, append_assoc, length-append, map-append, take_all}
-use Rattle.std.proofs.lemmas.List.Sums.{fold-append, take_while-cons}
-use Rattle.std.proofs.lemmas.Option.{slice_get_within}
+use Rattle.thread_runner.proofs.Names.{◌≡◌, ◌∙◌, ◌++◌, ◌+◌, ◌-◌, ◌<◌, ◌≤◌, ℕ, Bool, true, false, cond, List, [], ◌∷◌, Option, None, Some, ap, arith, drop, length, map, option_map, refl, slice_get, suc, subst, sym, zero, is_some, not, flat_map, take_while, option_map_or, flat_map-append, map-append, take_all, fold-append, take_while-cons, slice_get_within, each-append, drop_step, Line, AreNotesTo, IsCarriedOut, IsMarkMade, MarkMade, PlanMade, barrier_from, certificate_after, is_mark, is_mark_at, mark_notes, mark_number, marks_above, note_at, note_closed, note_planned, place_marked, plan_notes, taken_pair, text_after, HaveCome, pairs_done, pairs_left, plan_pairs, Note, take_more}
+use Rattle.std.proofs.lemmas.List.{append-nil, append_assoc, length-append}
 use Rattle.arena.specs.declared.arena.Stepped.{Stepped}
 use Rattle.arena.specs.declared.arena.Stepped.TheVariants.{Taken}
 use Rattle.arena.specs.Stewards.{Steps}
-use Rattle.arena_core.proofs.Lists.{each-append}
 use Rattle.certificate.specs.Text.{certificate_text}
 use Rattle.certificate.specs.declared.certificate.Certificate.{Certificate}
 use Rattle.fold.specs.declared.step.Step.{Step}
-use Rattle.groups.proofs.Maps.{drop_step}
 use Rattle.marks.specs.Plans.{OpenPlan, next_pair, with_next_done}
 use Rattle.span.specs.declared.id.SpanId.{SpanId}
-use Rattle.trace_text.specs.declared.line.Line.{Line}
 use Rattle.trace_text.specs.declared.line.Line.TheVariants as line
 use Rattle.trace_text.specs.Barrier.{is_barrier}
 use Rattle.trace_runner.specs.declared.report.PlanNews.TheVariants.{Marked, TooMany, Closed}
 use Rattle.trace_runner.specs.News.{mark_news}
 use Rattle.trace_runner.specs.declared.report.TakenStep.{TakenStep}
 use Rattle.marks.specs.Seen.{IsShown}
-use Rattle.thread_runner.specs.Marked.{AreNotesTo, IsCarriedOut, IsMarkMade, MarkMade, PlanMade, barrier_from, certificate_after, is_mark, is_mark_at, mark_notes, mark_number, marks_above, note_at, note_closed, note_planned, place_marked, plan_notes, taken_pair, text_after}
-use Rattle.thread_runner.specs.Noted.{HaveCome, pairs_done, pairs_left, plan_pairs}
-use Rattle.thread_runner.specs.declared.body.Note.{Note}
 use Rattle.thread_runner.specs.declared.minutes.Minutes.{Minutes}
-use Rattle.audit.proofs.Replies.{take_more}
 use Rattle.trace_runner.proofs.Shards.{filter-range_with_len_more}
 use Rattle.thread_runner.proofs.Lists.{slice_get-drop}
 

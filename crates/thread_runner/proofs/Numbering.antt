@@ -1,12 +1,7 @@
 -- How many marks and keys stand above a line.
-use Rattle.std.proofs.Common.{◌≡◌, ◌∙◌, ◌+◌, ◌≤◌, ℕ, true, false, List, Some, ap, arith, inl, inr, refl, slice_get, take}
-use Rattle.std.proofs.lemmas.Bool.Decides.{eqb_tells}
-use Rattle.audit.proofs.Replies.{take_more}
+use Rattle.thread_runner.proofs.Names.{◌≡◌, ◌∙◌, ◌+◌, ◌≤◌, ℕ, true, false, List, Some, ap, arith, inl, inr, refl, slice_get, take, eqb_tells, take_more, keys_at, keys_in, marks, marks_at, Line, is_mark}
 use Rattle.trace_text.proofs.Knowing.{keys_in-push, marks-push}
-use Rattle.trace_text.specs.Causes.{keys_at, keys_in, marks, marks_at}
-use Rattle.trace_text.specs.declared.line.Line.{Line}
 use Rattle.trace_text.specs.declared.line.Line.TheVariants as line
-use Rattle.thread_runner.specs.Marked.{is_mark}
 
 -- one line more
 pub keys_in-next : (lines : List Line) (place : ℕ) (l : Line) → slice_get lines place ≡ Some l → keys_in (take (place + 1) lines) ≡ keys_in (take place lines) + keys_at l

@@ -1,13 +1,6 @@
 -- Where the lines of a thread stand.
-use Rattle.std.proofs.Common.{◌≡◌, ◌∙◌, ◌+◌, ◌++◌, ◌==◌, ◌<◌, ℕ, Bool, true, false, List, [], ◌∷◌, Some, ap, suc, zero, inl, inr, ◌≤◌, set, get_or, vec_items, Vec, append-nil, arith, length, map, refl, subst, sym, add-zero, slice_get, rules}
-use Rattle.std.specs.Prelude.{if◌then◌else◌}
-use Rattle.std.proofs.lemmas.Bool.Decides.{eqb_tells}
-use Rattle.std.proofs.lemmas.Option.{slice_get_read, slice_get_within}
-use Rattle.groups.proofs.Lists.{in_either, same_some}
+use Rattle.thread_runner.proofs.Names.{◌≡◌, ◌∙◌, ◌+◌, ◌++◌, ◌==◌, ◌<◌, ℕ, Bool, true, false, List, [], ◌∷◌, Some, ap, suc, zero, inl, inr, ◌≤◌, set, get_or, vec_items, Vec, append-nil, arith, length, map, refl, subst, sym, add-zero, slice_get, rules, if◌then◌else◌, eqb_tells, slice_get_read, slice_get_within, in_either, same_some, Line, is_line_of, places_from, places_of, AddsAt, AreLaid}
 use Rattle.marks.proofs.Lists.{slice_get-map_at, slice_get-set_other, slice_get-set_same}
-use Rattle.trace_text.specs.declared.line.Line.{Line}
-use Rattle.thread_runner.specs.Asked.{is_line_of, places_from, places_of}
-use Rattle.thread_runner.specs.Laid.{AddsAt, AreLaid}
 
 -- the places in two parts
 pub places_from-append : (thread place : ℕ) (above below : List Line) → places_from thread place (above ++ below) ≡ places_from thread place above ++ places_from thread (place + length above) below

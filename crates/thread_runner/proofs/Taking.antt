@@ -1,18 +1,7 @@
 -- What a diary keeps of the keys that were taken from rings.
-use Rattle.span.specs.ReceiptLists.{kept_receipts}
-use Rattle.std.proofs.Common.{◌≡◌, ◌∙◌, ◌++◌, ℕ, Bool, true, false, List, [], ◌∷◌, ap, append-nil, arith, length, refl, sym, suc, ◌+◌}
-use Rattle.std.specs.List.{All, AllByRecursion}
-use Rattle.std.proofs.lemmas.List.{length-map}
-use Rattle.span.specs.declared.receipt.Receipt.{Receipt}
+use Rattle.thread_runner.proofs.Names.{kept_receipts, ◌≡◌, ◌∙◌, ◌++◌, ℕ, Bool, true, false, List, [], ◌∷◌, ap, append-nil, arith, length, refl, sym, suc, ◌+◌, All, AllByRecursion, length-map, Receipt, done_by, KeepsEnds, SeatState, sending_side, IsTended, IsFreeBy, carried_by, Grows, TellsTending, is_free, Diary}
 use Rattle.span.specs.Receipts.{free}
-use Rattle.arena.specs.Receipts.{IsFreeBy as IsKeyFreeBy, done_by}
-use Rattle.arena.specs.Seats.{KeepsEnds, SeatState, sending_side}
-use Rattle.arena.specs.Tended.{IsTended}
-use Rattle.thread_runner.specs.Asked.{IsFreeBy}
-use Rattle.thread_runner.specs.Followed.{carried_by}
-use Rattle.thread_runner.specs.Grown.{Grows, TellsTending}
-use Rattle.thread_runner.specs.Told.{is_free}
-use Rattle.thread_runner.specs.declared.diary.Diary.{Diary}
+use Rattle.arena.specs.Receipts.{IsFreeBy as IsKeyFreeBy}
 use Rattle.thread_runner.specs.declared.diary.Entry.TheVariants as entry
 use Rattle.thread_runner.proofs.Carrying.{Carries-tended}
 

@@ -1,35 +1,11 @@
 -- What diaries say, and the report that follows.
-use Rattle.span.specs.ReceiptLists.{kept_receipts}
-use Rattle.std.proofs.Common.{◌≡◌, ◌∙◌, ◌+◌, ◌++◌, ◌&&◌, ℕ, Bool, List, [], ◌∷◌, Option, Some, ap, arith, length, map, not, refl, slice_get, subst, sym}
-use Rattle.std.specs.Prelude.{◌==◌, codes, filter, option_map}
-use Rattle.std.specs.List.{flat_map}
-use Rattle.std.specs.List.Sorted.{IsNonDecreasingBy, IsPermutation, IsStableByKey, ties}
+use Rattle.thread_runner.proofs.Names.{kept_receipts, ◌≡◌, ◌∙◌, ◌+◌, ◌++◌, ◌&&◌, ℕ, Bool, List, [], ◌∷◌, Option, Some, ap, arith, length, map, not, refl, slice_get, subst, sym, ◌==◌, codes, filter, option_map, flat_map, IsNonDecreasingBy, IsPermutation, IsStableByKey, ties, nat_tests, length-map, same_Some, slice_get-map, marks, Line, IsTrace, LineAnswer, Receipt, SpanLog, span_of_log, live_count, GivenKeys, places_of, replies_in, SeatState, AreDelivered, AreVoices, Carried, FollowsLines, carried_by, AreDiaries, IsDiaryOf, AreNotesOf, AreByLine, IsAuditStop, IsRunStop, IsThreadedReport, StopsThreads, TellsAll, is_on, Voice, diary_lines, voice_lines, voice_of, Note, Diary}
 use Rattle.std.specs.Ordering.{is_lt, nat_cmp}
-use Rattle.std.proofs.lemmas.Bool.Decides.{nat_tests}
-use Rattle.std.proofs.lemmas.List.{length-map}
-use Rattle.std.proofs.lemmas.Option.{same_Some, slice_get-map}
-use Rattle.trace_text.specs.Causes.{marks}
-use Rattle.trace_text.specs.declared.line.Line.{Line}
-use Rattle.trace_text.specs.Trace.{IsTrace}
 use Rattle.trace_text.specs.declared.trace.Trace.{Trace}
 use Rattle.trace_runner.specs.declared.report.Answer.TheVariants as answer
 use Rattle.trace_runner.specs.declared.report.Ending.{Ending}
-use Rattle.trace_runner.specs.declared.report.LineAnswer.{LineAnswer}
-use Rattle.span.specs.declared.receipt.Receipt.{Receipt}
-use Rattle.span.specs.declared.span_log.SpanLog.{SpanLog}
-use Rattle.span.specs.SpanLogs.{span_of_log}
-use Rattle.groups.specs.Spans.{live_count}
 use Rattle.audit.specs.Agreement.{Agreement}
 use Rattle.audit.specs.History.{HaveHistories}
-use Rattle.thread_runner.specs.Asked.{GivenKeys, places_of, replies_in}
-use Rattle.arena.specs.Seats.{SeatState}
-use Rattle.thread_runner.specs.Followed.{AreDelivered, AreVoices, Carried, FollowsLines, carried_by}
-use Rattle.thread_runner.specs.Grown.{AreDiaries, IsDiaryOf}
-use Rattle.thread_runner.specs.Marked.{AreNotesOf}
-use Rattle.thread_runner.specs.Threaded.{AreByLine, IsAuditStop, IsRunStop, IsThreadedReport, StopsThreads, TellsAll, is_on}
-use Rattle.thread_runner.specs.Told.{Voice, diary_lines, voice_lines, voice_of}
-use Rattle.thread_runner.specs.declared.body.Note.{Note}
-use Rattle.thread_runner.specs.declared.diary.Diary.{Diary}
 use Rattle.thread_runner.specs.declared.error.ThreadsError.{ThreadsError}
 use Rattle.thread_runner.specs.declared.error.ThreadsError.TheVariants.{OutOfMemory, BadTrace, AuditFault, SinkFailed}
 

@@ -1,5 +1,4 @@
-use Rattle.std.proofs.Common.{◌≡◌, ◌+◌, drop}
-use Rattle.thread_runner.specs.Report.{count_above}
+use Rattle.thread_runner.proofs.Names.{◌≡◌, ◌+◌, drop, count_above}
 use Rattle.thread_runner.proofs.body.count_above.Given as goal
 
 -- all so far are above the line, and what is left makes the whole

@@ -1,6 +1,4 @@
-use Rattle.std.proofs.Common.{◌≡◌, ◌++◌, take}
-use Rattle.std.specs.List.{flat_map}
-use Rattle.thread_runner.specs.Told.{diary_lines}
+use Rattle.thread_runner.proofs.Names.{◌≡◌, ◌++◌, take, flat_map, diary_lines}
 use Rattle.thread_runner.proofs.body.push_all.Given as goal
 
 -- the replies so far

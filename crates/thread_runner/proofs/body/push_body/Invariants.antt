@@ -1,5 +1,4 @@
-use Rattle.std.proofs.Common.{◌≡◌, ◌++◌, drop}
-use Rattle.thread_runner.specs.Report.{body_text}
+use Rattle.thread_runner.proofs.Names.{◌≡◌, ◌++◌, drop, body_text}
 use Rattle.thread_runner.proofs.body.push_body.Given as goal
 
 -- what is written and what is left make the whole

@@ -1,10 +1,5 @@
-use Rattle.std.proofs.Common.{◌∙◌, ◌++◌, List, ap, map, of_calls, rules, sym}
-use Rattle.std.specs.List.{flat_map}
+use Rattle.thread_runner.proofs.Names.{◌∙◌, ◌++◌, List, ap, map, of_calls, rules, sym, flat_map, IsNonDecreasingBy-from_sort_by_key, LineAnswer, told_replies, diary_lines, voice_of}
 use Rattle.std.proofs.lemmas.Fn.{always_returns_same}
-use Rattle.std.proofs.lemmas.List.Sorted.{IsNonDecreasingBy-from_sort_by_key}
-use Rattle.trace_runner.specs.declared.report.LineAnswer.{LineAnswer}
-use Rattle.thread_runner.specs.Threaded.{told_replies}
-use Rattle.thread_runner.specs.Told.{diary_lines, voice_of}
 use Rattle.thread_runner.proofs.Voices.{AreByLine-sorted, flat_map-voices}
 use Rattle.thread_runner.proofs.body.replies_of.Goals as goal
 

@@ -1,5 +1,4 @@
-use Rattle.std.proofs.Common.{arith}
-use Rattle.span.specs.ReceiptLists.{kept_receipts}
+use Rattle.thread_runner.proofs.Names.{arith, kept_receipts}
 use Rattle.thread_runner.proofs.Lists.{lineless-more}
 use Rattle.thread_runner.proofs.diary.push_all_lineless.Goals as goal
 

@@ -1,7 +1,4 @@
-use Rattle.std.proofs.Common.{◌≡◌, ◌++◌, drop, take}
-use Rattle.std.specs.List.{flat_map}
-use Rattle.span.specs.ReceiptLists.{kept_receipts}
-use Rattle.thread_runner.specs.Told.{lineless}
+use Rattle.thread_runner.proofs.Names.{◌≡◌, ◌++◌, drop, take, flat_map, kept_receipts, lineless}
 use Rattle.thread_runner.proofs.diary.push_all_lineless.Given as goal
 
 -- the replies so far

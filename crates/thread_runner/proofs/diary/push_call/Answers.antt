@@ -1,6 +1,4 @@
-use Rattle.std.proofs.Common.{◌∙◌, ◌++◌, ◌∷◌, [], ap, map, sym}
-use Rattle.span.specs.ReceiptLists.{kept_receipts}
-use Rattle.thread_runner.specs.Told.{call_line}
+use Rattle.thread_runner.proofs.Names.{◌∙◌, ◌++◌, ◌∷◌, [], ap, map, sym, kept_receipts, call_line}
 use Rattle.thread_runner.proofs.Lists.{drop-more, take-drop_one}
 use Rattle.thread_runner.proofs.diary.push_call.Goals as goal
 

@@ -1,6 +1,4 @@
-use Rattle.std.proofs.Common.{◌≡◌, ◌≤◌, ◌++◌, drop, length}
-use Rattle.span.specs.ReceiptLists.{kept_receipts}
-use Rattle.thread_runner.specs.Told.{told_lines}
+use Rattle.thread_runner.proofs.Names.{◌≡◌, ◌≤◌, ◌++◌, drop, length, kept_receipts, told_lines}
 use Rattle.thread_runner.proofs.diary.push_told.Given as goal
 
 -- what is added and what is left make the whole

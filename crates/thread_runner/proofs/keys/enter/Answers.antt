@@ -1,7 +1,4 @@
-use Rattle.std.proofs.Common.{◌-◌, ◌∷◌, [], arith, refl, subst}
-use Rattle.std.proofs.lemmas.Option.{slice_get_read}
-use Rattle.thread_runner.specs.Known.{AreFresh, IsGiven}
-use Rattle.thread_runner.specs.declared.keys.Given.{Given}
+use Rattle.thread_runner.proofs.Names.{◌-◌, ◌∷◌, [], arith, refl, subst, slice_get_read, AreFresh, IsGiven, Given}
 use Rattle.thread_runner.proofs.Keeping.{AreFresh-more, IsGiven-one}
 use Rattle.thread_runner.proofs.Knowing.{each-parts}
 use Rattle.thread_runner.proofs.keys.enter.Goals as goal

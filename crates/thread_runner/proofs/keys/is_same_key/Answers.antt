@@ -1,4 +1,4 @@
-use Rattle.std.proofs.Common.{rules}
+use Rattle.thread_runner.proofs.Names.{rules}
 use Rattle.thread_runner.proofs.Keeping.{same_keys}
 use Rattle.thread_runner.proofs.keys.is_same_key.Goals as goal
 

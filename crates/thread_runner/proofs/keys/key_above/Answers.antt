@@ -1,5 +1,4 @@
-use Rattle.std.proofs.Common.{◌≡◌, ◌+◌, Some, ap, rules}
-use Rattle.span.proofs.Next.{same_key-parts}
+use Rattle.thread_runner.proofs.Names.{◌≡◌, ◌+◌, Some, ap, rules, same_key-parts}
 use Rattle.thread_runner.proofs.keys.key_above.Goals as goal
 
 pub returns : goal.returns

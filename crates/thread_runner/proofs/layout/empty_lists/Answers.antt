@@ -1,5 +1,4 @@
-use Rattle.std.proofs.Common.{map, vec_items}
-use Rattle.std.proofs.lemmas.List.{map-append}
+use Rattle.thread_runner.proofs.Names.{map, vec_items, map-append}
 use Rattle.thread_runner.proofs.Places.{AreLaid-none}
 use Rattle.thread_runner.proofs.layout.empty_lists.Goals as goal
 

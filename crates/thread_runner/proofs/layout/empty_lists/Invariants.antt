@@ -1,5 +1,4 @@
-use Rattle.std.proofs.Common.{[], map, vec_items}
-use Rattle.thread_runner.specs.Laid.{AreLaid}
+use Rattle.thread_runner.proofs.Names.{[], map, vec_items, AreLaid}
 use Rattle.thread_runner.proofs.layout.empty_lists.Given as goal
 
 abbrev pub invariant-loop : goal.invariant-loop

@@ -1,5 +1,4 @@
-use Rattle.std.proofs.Common.{◌≡◌, take}
-use Rattle.trace_text.specs.Causes.{keys_in}
+use Rattle.thread_runner.proofs.Names.{◌≡◌, take, keys_in}
 use Rattle.thread_runner.specs.declared.layout.LineFirst.{LineFirst}
 use Rattle.thread_runner.proofs.Counting.{each_at-push}
 use Rattle.thread_runner.proofs.layout.enter_first.Goals as goal

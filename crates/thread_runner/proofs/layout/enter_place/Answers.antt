@@ -1,10 +1,5 @@
-use Rattle.std.proofs.Common.{◌≡◌, ◌++◌, ◌∷◌, [], ℕ, List, false, inl, inr, map, refl, subst, sym, vec_items}
-use Rattle.std.specs.Prelude.{◌⊎◌}
-use Rattle.std.proofs.lemmas.Result.{on_ok_weaker}
-use Rattle.trace_text.specs.declared.line.Line.{Line}
+use Rattle.thread_runner.proofs.Names.{◌≡◌, ◌++◌, ◌∷◌, [], ℕ, List, false, inl, inr, map, refl, subst, sym, vec_items, ◌⊎◌, on_ok_weaker, Line, is_line_of, AreLaid}
 use Rattle.trace_text.specs.declared.line.Line.TheVariants as line
-use Rattle.thread_runner.specs.Asked.{is_line_of}
-use Rattle.thread_runner.specs.Laid.{AreLaid}
 use Rattle.thread_runner.proofs.Places.{AreLaid-other, AreLaid-own}
 use Rattle.thread_runner.proofs.layout.enter_place.Goals as goal
 

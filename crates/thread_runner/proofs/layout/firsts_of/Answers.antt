@@ -1,5 +1,4 @@
-use Rattle.std.proofs.Common.{◌≡◌, ◌∙◌, ◌+◌, ap, rules, sym, take}
-use Rattle.trace_text.specs.Causes.{keys_in}
+use Rattle.thread_runner.proofs.Names.{◌≡◌, ◌∙◌, ◌+◌, ap, rules, sym, take, keys_in}
 use Rattle.thread_runner.proofs.Numbering.{keys_in-next}
 use Rattle.thread_runner.proofs.layout.firsts_of.Goals as goal
 

@@ -1,6 +1,4 @@
-use Rattle.std.proofs.Common.{◌≡◌, take}
-use Rattle.trace_text.specs.Causes.{keys_in}
-use Rattle.thread_runner.specs.Laid.{AreFirsts}
+use Rattle.thread_runner.proofs.Names.{◌≡◌, take, keys_in, AreFirsts}
 use Rattle.thread_runner.proofs.layout.firsts_of.Given as goal
 
 -- the numbers of the lines so far, and how many keys they bind

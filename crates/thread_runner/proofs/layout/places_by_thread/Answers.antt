@@ -1,8 +1,5 @@
-use Rattle.std.proofs.Common.{rules, ◌≡◌, ◌++◌, arith, drop, length, map, take, vec_items}
+use Rattle.thread_runner.proofs.Names.{rules, ◌≡◌, ◌++◌, arith, drop, length, map, take, vec_items, length-take-le, take_more, AreLaid}
 use Rattle.std.proofs.Math.Seq.{take-append_seam}
-use Rattle.std.proofs.lemmas.List.{length-take-le}
-use Rattle.audit.proofs.Replies.{take_more}
-use Rattle.thread_runner.specs.Laid.{AreLaid}
 use Rattle.thread_runner.proofs.layout.places_by_thread.Goals as goal
 
 pub loop-place-preserved : goal.loop-place-preserved

@@ -1,5 +1,4 @@
-use Rattle.std.proofs.Common.{map, take, vec_items}
-use Rattle.thread_runner.specs.Laid.{AreLaid}
+use Rattle.thread_runner.proofs.Names.{map, take, vec_items, AreLaid}
 use Rattle.thread_runner.proofs.layout.places_by_thread.Given as goal
 
 abbrev pub invariant-loop-place : goal.invariant-loop-place

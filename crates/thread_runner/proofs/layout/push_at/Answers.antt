@@ -1,5 +1,4 @@
-use Rattle.std.proofs.Common.{map, vec_items}
-use Rattle.std.proofs.lemmas.List.{length-map, map-set}
+use Rattle.thread_runner.proofs.Names.{map, vec_items, length-map, map-set}
 use Rattle.thread_runner.proofs.Places.{AddsAt-none, AddsAt-set, slice_get-items}
 use Rattle.thread_runner.proofs.layout.push_at.Goals as goal
 

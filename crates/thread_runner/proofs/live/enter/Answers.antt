@@ -1,8 +1,5 @@
-use Rattle.std.proofs.Common.{◌∙◌, ◌++◌, ◌∷◌, [], ap, sym}
+use Rattle.thread_runner.proofs.Names.{◌∙◌, ◌++◌, ◌∷◌, [], ap, sym, live_slots, viewed, live_slots-free, live_slots-put}
 use Rattle.std.specs.FinSet as set
-use Rattle.span.specs.Log.{live_slots}
-use Rattle.span.specs.Views.{viewed}
-use Rattle.span.proofs.Slots.{live_slots-free, live_slots-put}
 use Rattle.thread_runner.proofs.LiveSlots.{live_slots-set}
 use Rattle.thread_runner.proofs.live.enter.Goals as goal
 

@@ -1,9 +1,4 @@
-use Rattle.std.proofs.Common.{◌∙◌, ap, sym, take}
-use Rattle.span.proofs.Slots.{live_slots-empty}
-use Rattle.span.specs.KeptLogs.{kept_changes}
-use Rattle.span.specs.Log.{live_slots}
-use Rattle.span.specs.Views.{viewed}
-use Rattle.audit.proofs.Replies.{take_more}
+use Rattle.thread_runner.proofs.Names.{◌∙◌, ap, sym, take, live_slots-empty, kept_changes, live_slots, viewed, take_more}
 use Rattle.thread_runner.proofs.live.live_after.Goals as goal
 
 pub loop-place-init : goal.loop-place-init

@@ -1,6 +1,4 @@
-use Rattle.std.proofs.Common.{◌≡◌, take}
-use Rattle.span.specs.KeptLogs.{kept_changes}
-use Rattle.span.specs.Log.{live_slots}
+use Rattle.thread_runner.proofs.Names.{◌≡◌, take, kept_changes, live_slots}
 use Rattle.thread_runner.proofs.live.live_after.Given as goal
 
 -- the live slots so far

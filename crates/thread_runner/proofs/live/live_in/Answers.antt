@@ -1,5 +1,4 @@
-use Rattle.std.proofs.Common.{◌∙◌, ◌+◌, length, refl, sym}
-use Rattle.std.proofs.lemmas.Option.{slice_get_read}
+use Rattle.thread_runner.proofs.Names.{◌∙◌, ◌+◌, length, refl, sym, slice_get_read}
 use Rattle.thread_runner.proofs.Lists.{live_count-more_log}
 use Rattle.thread_runner.proofs.live.live_in.Goals as goal
 

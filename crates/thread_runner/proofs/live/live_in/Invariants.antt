@@ -1,6 +1,4 @@
-use Rattle.std.proofs.Common.{◌≡◌, map, take}
-use Rattle.span.specs.SpanLogs.{span_of_log}
-use Rattle.groups.specs.Spans.{live_count}
+use Rattle.thread_runner.proofs.Names.{◌≡◌, map, take, span_of_log, live_count}
 use Rattle.thread_runner.proofs.live.live_in.Given as goal
 
 -- the live keys so far

@@ -1,6 +1,4 @@
-use Rattle.std.proofs.Common.{◌≡◌, map}
-use Rattle.thread_runner.specs.Marked.{taken_pair}
-use Rattle.thread_runner.specs.Noted.{pairs_done, pairs_left, plan_pairs}
+use Rattle.thread_runner.proofs.Names.{◌≡◌, map, taken_pair, pairs_done, pairs_left, plan_pairs}
 use Rattle.thread_runner.proofs.plans.take_steps.Given as goal
 
 -- the steps so far are those of the same plan

@@ -1,6 +1,4 @@
-use Rattle.span.specs.ReceiptLists.{kept_receipts}
-use Rattle.std.proofs.Common.{map}
-use Rattle.std.proofs.lemmas.Result.{err_from_is_err_and}
+use Rattle.thread_runner.proofs.Names.{kept_receipts, map, err_from_is_err_and}
 use Rattle.thread_runner.proofs.Voices.{IsRunStop-audit, IsThreadedReport-told}
 use Rattle.thread_runner.proofs.replay.audited.Goals as goal
 

@@ -1,6 +1,4 @@
-use Rattle.std.proofs.Common.{◌≡◌, take}
-use Rattle.std.specs.List.{sum_by}
-use Rattle.thread_runner.specs.declared.diary.Diary.{Diary}
+use Rattle.thread_runner.proofs.Names.{◌≡◌, take, sum_by, Diary}
 use Rattle.thread_runner.proofs.replay.calls_of.Given as goal
 
 -- the replies so far

@@ -1,6 +1,4 @@
-use Rattle.std.proofs.Common.{◌≡◌, arith, rules}
-use Rattle.std.specs.Prelude.{IsTrue}
-use Rattle.arena.specs.Seats.{SeatState}
+use Rattle.thread_runner.proofs.Names.{◌≡◌, arith, rules, IsTrue, SeatState}
 use Rattle.thread_runner.proofs.Delivering.{AreDelivered-settled, all_none, with_element}
 use Rattle.thread_runner.proofs.Each.{All-each}
 use Rattle.thread_runner.proofs.replay.logs_of.Goals as goal

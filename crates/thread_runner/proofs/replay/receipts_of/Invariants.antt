@@ -1,6 +1,4 @@
-use Rattle.span.specs.ReceiptLists.{kept_receipts}
-use Rattle.std.proofs.Common.{◌≡◌, map}
-use Rattle.thread_runner.specs.declared.diary.Diary.{Diary}
+use Rattle.thread_runner.proofs.Names.{kept_receipts, ◌≡◌, map, Diary}
 use Rattle.thread_runner.proofs.replay.receipts_of.Given as goal
 
 -- the lists so far

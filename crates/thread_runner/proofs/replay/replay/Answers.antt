@@ -1,7 +1,4 @@
-use Rattle.std.proofs.Common.{◌≡◌}
-use Rattle.arena.specs.Seats.{SeatState}
-use Rattle.thread_runner.specs.Followed.{carried_by}
-use Rattle.thread_runner.specs.Grown.{HaveNothing}
+use Rattle.thread_runner.proofs.Names.{◌≡◌, SeatState, carried_by, HaveNothing}
 use Rattle.thread_runner.proofs.Carrying.{HaveNothing-fresh}
 use Rattle.thread_runner.proofs.Each.{each-All, each-first}
 use Rattle.thread_runner.proofs.replay.replay.Goals as goal

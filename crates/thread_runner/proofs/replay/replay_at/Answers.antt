@@ -1,5 +1,4 @@
-use Rattle.std.proofs.Common.{◌∙◌, subst, sym}
-use Rattle.thread_runner.specs.Grown.{AreDiaries}
+use Rattle.thread_runner.proofs.Names.{◌∙◌, subst, sym, AreDiaries}
 use Rattle.thread_runner.proofs.Counting.{AreBelow-sound, AreDiaries-counted}
 use Rattle.thread_runner.proofs.Voices.{AreVoices-diaries}
 use Rattle.thread_runner.proofs.replay.replay_at.Goals as goal

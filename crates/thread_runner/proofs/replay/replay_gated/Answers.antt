@@ -1,12 +1,7 @@
-use Rattle.std.proofs.Common.{List, Err}
-use Rattle.std.proofs.lemmas.Result.{err_from_is_err_and}
-use Rattle.trace_text.specs.Trace.{IsReadAs}
-use Rattle.trace_text.specs.declared.header.Header.{Header}
-use Rattle.trace_text.specs.declared.line.Line.{Line}
+use Rattle.thread_runner.proofs.Names.{List, Err, err_from_is_err_and, IsReadAs, Header, Line, IsNoFault}
 use Rattle.trace_text.specs.declared.cause.ParseError.{ParseError}
 use Rattle.trace_text.specs.declared.cause.ParseError.TheVariants.{OutOfMemory, BadTrace}
 use Rattle.thread_runner.specs.Errors.{stop_of_parse}
-use Rattle.thread_runner.specs.Threaded.{IsNoFault}
 use Rattle.thread_runner.proofs.Voices.{StopsThreads-run}
 use Rattle.thread_runner.proofs.replay.replay_gated.Goals as goal
 

@@ -1,4 +1,4 @@
-use Rattle.std.proofs.Common.{◌≡◌, ◌<◌, ℕ, slice_index_or}
+use Rattle.thread_runner.proofs.Names.{◌≡◌, ◌<◌, ℕ, slice_index_or}
 use Rattle.thread_runner.proofs.replay.was_empty.Given as goal
 
 abbrev pub invariant-loop-from : goal.invariant-loop-from

@@ -1,4 +1,5 @@
-use Rattle.std.proofs.Common.{◌≡◌, ◌<◌, ℕ, All, slice_index_or}
+use Rattle.thread_runner.proofs.Names.{◌≡◌, ◌<◌, ℕ, slice_index_or}
+use Rattle.std.proofs.Common.{All}
 use Rattle.thread_runner.proofs.replay.were_empty.Given as goal
 
 abbrev pub invariant-loop-shard : goal.invariant-loop-shard

@@ -1,4 +1,4 @@
-use Rattle.std.proofs.Common.{◌∙◌, sym}
+use Rattle.thread_runner.proofs.Names.{◌∙◌, sym}
 use Rattle.thread_runner.proofs.Noting.{barrier_from-here, barrier_from-other}
 use Rattle.thread_runner.proofs.run.barrier_of.Goals as goal
 

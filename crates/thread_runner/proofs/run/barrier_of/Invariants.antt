@@ -1,5 +1,4 @@
-use Rattle.std.proofs.Common.{◌≡◌}
-use Rattle.thread_runner.specs.Marked.{barrier_from}
+use Rattle.thread_runner.proofs.Names.{◌≡◌, barrier_from}
 use Rattle.thread_runner.proofs.run.barrier_of.Given as goal
 
 -- no barrier begins so far

@@ -1,8 +1,4 @@
-use Rattle.std.proofs.Common.{◌≡◌, ◌∷◌, [], arith, subst}
-use Rattle.arena.specs.Seats.{SeatState}
-use Rattle.arena_core.proofs.Lists.{each-append}
-use Rattle.thread_runner.specs.Followed.{carried_by}
-use Rattle.thread_runner.specs.Grown.{AreDiaries, IsDiaryOf}
+use Rattle.thread_runner.proofs.Names.{◌≡◌, ◌∷◌, [], arith, subst, SeatState, each-append, carried_by, AreDiaries, IsDiaryOf}
 use Rattle.thread_runner.proofs.Counting.{AreDiaries-push}
 use Rattle.thread_runner.proofs.run.seats_and_diaries.Goals as goal
 

@@ -1,8 +1,4 @@
-use Rattle.std.proofs.Common.{◌≡◌}
-use Rattle.std.specs.List.{AllByRecursion}
-use Rattle.thread_runner.specs.Asked.{GivenKeys}
-use Rattle.thread_runner.specs.Grown.{AreDiaries}
-use Rattle.thread_runner.specs.Known.{AreKept}
+use Rattle.thread_runner.proofs.Names.{◌≡◌, AllByRecursion, GivenKeys, AreDiaries, AreKept}
 use Rattle.thread_runner.proofs.run.seats_and_diaries.Given as goal
 
 -- the diaries of the threads so far, and the seats of the arena

@@ -1,5 +1,4 @@
-use Rattle.std.proofs.Common.{subst, sym}
-use Rattle.thread_runner.specs.Known.{AreFresh}
+use Rattle.thread_runner.proofs.Names.{subst, sym, AreFresh}
 use Rattle.thread_runner.proofs.caller.Caller.key_at.Goals as goal
 
 pub returns-in-Some : goal.returns-in-Some

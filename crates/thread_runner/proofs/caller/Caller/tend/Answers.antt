@@ -1,5 +1,4 @@
-use Rattle.thread_runner.specs.Followed.{carried_by}
-use Rattle.thread_runner.specs.Known.{AreKnown}
+use Rattle.thread_runner.proofs.Names.{carried_by, AreKnown}
 use Rattle.thread_runner.proofs.Growing.{Tells-tended}
 use Rattle.thread_runner.proofs.caller.Caller.tend.Goals as goal
 

@@ -1,4 +1,4 @@
-use Rattle.std.proofs.Common.{refl}
+use Rattle.thread_runner.proofs.Names.{refl}
 use Rattle.thread_runner.proofs.Taking.{TellsTending-tended}
 use Rattle.thread_runner.proofs.diary.Diary.tend.Goals as goal
 

@@ -1,6 +1,4 @@
-use Rattle.std.proofs.Common.{subst}
-use Rattle.std.proofs.lemmas.Result.{IfOk-weaker}
-use Rattle.thread_runner.specs.Known.{AreFresh, IsGiven}
+use Rattle.thread_runner.proofs.Names.{subst, IfOk-weaker, AreFresh, IsGiven}
 use Rattle.thread_runner.proofs.Keeping.{each-sorted}
 use Rattle.thread_runner.proofs.keys.Keys.with.Goals as goal
 

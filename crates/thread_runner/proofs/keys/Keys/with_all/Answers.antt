@@ -1,9 +1,4 @@
-use Rattle.std.proofs.Common.{◌∷◌, [], arith, length, refl, subst, sym}
-use Rattle.std.proofs.lemmas.List.{take_all}
-use Rattle.std.proofs.lemmas.Option.{slice_get_read}
-use Rattle.arena_core.proofs.Lists.{each-append}
-use Rattle.audit.proofs.Replies.{take_more}
-use Rattle.thread_runner.specs.Known.{AreFresh, IsGiven}
+use Rattle.thread_runner.proofs.Names.{◌∷◌, [], arith, length, refl, subst, sym, take_all, slice_get_read, each-append, take_more, AreFresh, IsGiven}
 use Rattle.thread_runner.proofs.keys.Keys.with_all.Goals as goal
 
 pub loop-one-preserved : goal.loop-one-preserved

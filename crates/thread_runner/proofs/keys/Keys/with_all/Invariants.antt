@@ -1,6 +1,4 @@
-use Rattle.std.proofs.Common.{take}
-use Rattle.thread_runner.specs.Asked.{GivenKeys}
-use Rattle.thread_runner.specs.Known.{AreFresh, AreKept}
+use Rattle.thread_runner.proofs.Names.{take, GivenKeys, AreFresh, AreKept}
 use Rattle.thread_runner.proofs.keys.Keys.with_all.Given as goal
 
 -- what was kept before, and those so far

@@ -1,5 +1,4 @@
-use Rattle.std.proofs.Common.{◌≡◌, ◌+◌, ◌++◌, ◌∷◌, [], rules, subst, sym}
-use Rattle.thread_runner.specs.Known.{AreApart, AreKept, IsGiven}
+use Rattle.thread_runner.proofs.Names.{◌≡◌, ◌+◌, ◌++◌, ◌∷◌, [], rules, subst, sym, AreApart, AreKept, IsGiven}
 use Rattle.thread_runner.proofs.Keeping.{AreApart-push}
 use Rattle.thread_runner.proofs.Knowing.{each-parts}
 use Rattle.thread_runner.proofs.keys.Keys.with_one.Goals as goal

@@ -1,5 +1,4 @@
-use Rattle.std.proofs.Common.{◌≤◌, ap, arith, length, rules, sym}
-use Rattle.std.proofs.lemmas.Bool.{ltb-true}
+use Rattle.thread_runner.proofs.Names.{◌≤◌, ap, arith, length, rules, sym, ltb-true}
 use Rattle.thread_runner.proofs.Places.{slice_get-items}
 use Rattle.thread_runner.proofs.layout.Layout.has_no_line_after.Goals as goal
 

@@ -1,6 +1,4 @@
-use Rattle.std.proofs.Common.{◌∙◌, ap, refl, slice_get, sym}
-use Rattle.std.proofs.lemmas.Bool.{ltb-true}
-use Rattle.std.proofs.lemmas.Option.{slice_get_read}
+use Rattle.thread_runner.proofs.Names.{◌∙◌, ap, refl, slice_get, sym, ltb-true, slice_get_read}
 use Rattle.thread_runner.proofs.Places.{slice_get-items}
 use Rattle.thread_runner.proofs.layout.Layout.line_after.Goals as goal
 

@@ -1,5 +1,4 @@
-use Rattle.std.proofs.Common.{◌∙◌, None, subst, sym}
-use Rattle.thread_runner.specs.Noted.{HaveCome}
+use Rattle.thread_runner.proofs.Names.{◌∙◌, None, subst, sym, HaveCome}
 use Rattle.thread_runner.proofs.Noting.{HaveCome-closed_before, HaveCome-ended}
 use Rattle.thread_runner.proofs.plans.Plans.end_open.Goals as goal
 use Rattle.thread_runner.proofs.plans.Plans.end_open.Goals.{then-close+in_ok-closed, else-close}

@@ -1,5 +1,4 @@
-use Rattle.std.proofs.Common.{◌∙◌, ◌+◌, ap, subst, sym}
-use Rattle.thread_runner.specs.Noted.{HaveCome, plan_pairs}
+use Rattle.thread_runner.proofs.Names.{◌∙◌, ◌+◌, ap, subst, sym, HaveCome, plan_pairs}
 use Rattle.thread_runner.proofs.Noting.{HaveCome-planned, HaveCome-refused}
 use Rattle.thread_runner.proofs.plans.Plans.mark.Goals as goal
 

@@ -1,8 +1,4 @@
-use Rattle.std.proofs.Common.{◌≡◌, ◌∙◌, ◌+◌, ap, rules, subst, sym}
-use Rattle.std.specs.List.{AllByRecursion}
-use Rattle.thread_runner.specs.Grown.{Rests}
-use Rattle.thread_runner.specs.Known.{AreKept}
-use Rattle.thread_runner.specs.declared.worker.Resting.{Resting}
+use Rattle.thread_runner.proofs.Names.{◌≡◌, ◌∙◌, ◌+◌, ap, rules, subst, sym, AreKept, AreResting}
 use Rattle.thread_runner.proofs.run.AtBarrier.rested.Goals as goal
 
 pub invariant_of-result : goal.invariant_of-result
@@ -11,8 +7,5 @@ invariant_of-result g c =
     let next = total ∙ ap (λ n. n + 1) c.requires.section in
     record {
       reads = c.args.self.reads;
-      rest = subst (λ n. AllByRecursion
-          (λ (r : Resting g.row.G.Denot). Rests g.J.Reading.lines g.J.Reading.shown g.J.Reading.table
-          (AreKept c.in_ok-threads.keys.kept.items) n r.caller.seat r.done r.caller.diary)
-          c.in_ok-threads.threads.items) (sym next) c.in_ok-threads.ensures;
+      rest = subst (λ n. AreResting g.J.Reading.lines g.J.Reading.shown g.J.Reading.table (AreKept c.in_ok-threads.keys.kept.items) n c.in_ok-threads.threads.items) (sym next) c.in_ok-threads.ensures;
     }

@@ -1,9 +1,4 @@
-use Rattle.std.proofs.Common.{◌≡◌, ◌∙◌, ◌+◌, ◌<◌, ◌≤◌, ◌^◌, Some, ap, arith, length, slice_get, subst, sym, take, true, false}
-use Rattle.std.proofs.lemmas.List.{take_all}
-use Rattle.std.proofs.lemmas.Result.{IfOk-weaker}
-use Rattle.thread_runner.specs.Marked.{is_mark, is_mark_at, marks_above}
-use Rattle.thread_runner.specs.Noted.{plan_pairs}
-use Rattle.trace_text.specs.Causes.{marks}
+use Rattle.thread_runner.proofs.Names.{◌≡◌, ◌∙◌, ◌+◌, ◌<◌, ◌≤◌, ◌^◌, Some, ap, arith, length, slice_get, subst, sym, take, true, false, take_all, IfOk-weaker, is_mark, is_mark_at, marks_above, plan_pairs, marks}
 use Rattle.thread_runner.proofs.Noting.{HaveCome-other, HaveCome-same, barrier_from-mark, is_mark_at-here, marks_above-other}
 use Rattle.thread_runner.proofs.Numbering.{IsOneSection, IsOneSection-mark, IsOneSection-other}
 use Rattle.thread_runner.proofs.run.BetweenSections.run_to_end.Goals as goal

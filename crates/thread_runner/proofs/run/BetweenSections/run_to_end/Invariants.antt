@@ -1,6 +1,4 @@
-use Rattle.std.proofs.Common.{◌≡◌, ◌≤◌}
-use Rattle.thread_runner.specs.Marked.{marks_above}
-use Rattle.thread_runner.specs.Noted.{HaveCome, plan_pairs}
+use Rattle.thread_runner.proofs.Names.{◌≡◌, ◌≤◌, marks_above, HaveCome, plan_pairs}
 use Rattle.thread_runner.proofs.Numbering.{IsOneSection}
 use Rattle.thread_runner.proofs.run.BetweenSections.run_to_end.Given as goal
 

@@ -1,4 +1,4 @@
-use Rattle.thread_runner.specs.Known.{given_by}
+use Rattle.thread_runner.proofs.Names.{given_by}
 use Rattle.thread_runner.proofs.Keeping.{AreKept-given_by}
 use Rattle.thread_runner.proofs.run.BetweenSections.taken_apart.Goals as goal
 

@@ -1,8 +1,4 @@
-use Rattle.std.proofs.Common.{◌∙◌, ap, subst, sym}
-use Rattle.arena.specs.Seats.{SeatState}
-use Rattle.thread_runner.specs.Followed.{carried_by}
-use Rattle.thread_runner.specs.Grown.{HaveNothing}
-use Rattle.thread_runner.specs.Known.{AreKept}
+use Rattle.thread_runner.proofs.Names.{◌∙◌, ap, subst, sym, SeatState, carried_by, HaveNothing, AreKept}
 use Rattle.thread_runner.proofs.Following.{Tracks-none}
 use Rattle.thread_runner.proofs.worker.Resting.new.Goals as goal
 

@@ -1,7 +1,4 @@
-use Rattle.std.proofs.Common.{◌∙◌, ap, subst, sym}
-use Rattle.thread_runner.specs.Followed.{carried_by}
-use Rattle.thread_runner.specs.Grown.{Seated, TellsTending, Tracks}
-use Rattle.thread_runner.specs.Known.{AreKnown}
+use Rattle.thread_runner.proofs.Names.{◌∙◌, ap, subst, sym, carried_by, Seated, TellsTending, Tracks, AreKnown}
 use Rattle.thread_runner.proofs.Following.{Tracks-barrier}
 use Rattle.thread_runner.proofs.worker.SentOff.settled.Goals as goal
 

@@ -1,8 +1,4 @@
-use Rattle.std.proofs.Common.{◌≡◌, ◌∙◌, ◌+◌, Some, ap, slice_get, subst, sym}
-use Rattle.thread_runner.specs.Asked.{places_of}
-use Rattle.thread_runner.specs.Followed.{carried_by}
-use Rattle.thread_runner.specs.Grown.{Seated, Tracks}
-use Rattle.thread_runner.specs.Known.{AreKnown}
+use Rattle.thread_runner.proofs.Names.{◌≡◌, ◌∙◌, ◌+◌, Some, ap, slice_get, subst, sym, places_of, carried_by, Seated, Tracks, AreKnown}
 use Rattle.thread_runner.proofs.Following.{Tracks-adoption}
 use Rattle.thread_runner.proofs.Places.{line_at-place}
 use Rattle.thread_runner.proofs.worker.Settled.adopt.Goals as goal

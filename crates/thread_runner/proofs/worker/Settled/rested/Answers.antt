@@ -1,9 +1,4 @@
-use Rattle.std.proofs.Common.{◌∙◌, ◌+◌, ap, subst, sym}
-use Rattle.arena.specs.Seats.{Table}
-use Rattle.thread_runner.specs.Asked.{GivenKeys}
-use Rattle.thread_runner.specs.Followed.{carried_by}
-use Rattle.thread_runner.specs.Grown.{Tracks}
-use Rattle.thread_runner.specs.Known.{AreKnown}
+use Rattle.thread_runner.proofs.Names.{◌∙◌, ◌+◌, ap, subst, sym, Table, GivenKeys, carried_by, Tracks, AreKnown}
 use Rattle.thread_runner.proofs.Following.{Tracks-known}
 use Rattle.thread_runner.proofs.worker.Settled.rested.Goals as goal
 

@@ -1,8 +1,4 @@
-use Rattle.std.proofs.Common.{◌≡◌, ◌∙◌, ◌+◌, Some, ap, arith, slice_get, subst, sym, take}
-use Rattle.thread_runner.specs.Asked.{asked_at, places_of}
-use Rattle.thread_runner.specs.Followed.{carried_by}
-use Rattle.thread_runner.specs.Grown.{Seated, Tells, Tracks}
-use Rattle.thread_runner.specs.Known.{AreKnown}
+use Rattle.thread_runner.proofs.Names.{◌≡◌, ◌∙◌, ◌+◌, Some, ap, arith, slice_get, subst, sym, take, asked_at, places_of, carried_by, Seated, Tells, Tracks, AreKnown, TellsFrom, TellsLine}
 use Rattle.thread_runner.proofs.Following.{Tracks-kept, Tracks-line}
 use Rattle.thread_runner.proofs.Places.{line_at-place}
 use Rattle.thread_runner.proofs.worker.Worker.run.Goals as goal
@@ -38,11 +34,8 @@ loop-preserved g c =
     let new = c.line.new.self in
     let next = rw c.thread-in-loop.ensures at (c.in-Some.ensures.place text.trace.now.lines.items text.laid) in
     let (l, here, own) = line_at-place worker text.trace.now.lines.items c.loop.done place next in
-    let tells = c.in_ok-line.ensures.told l here in
-    let known = subst (λ k. Tells old.seat.section worker (place + 6) (asked_at (take place text.trace.now.lines.items) l) (AreKnown k old.fresh.items)
-    (AreKnown k new.fresh.items) old.diary new.diary (carried_by old.seat) (carried_by new.seat)) told.known tells in
-    let of_trace = subst (λ ls. Tells old.seat.section worker (place + 6) (asked_at (take place ls) l) (AreKnown kept old.fresh.items)
-    (AreKnown kept new.fresh.items) old.diary new.diary (carried_by old.seat) (carried_by new.seat)) c.args.self.reads known in
+    let known = subst (λ k. TellsLine text place l k old new) told.known (c.in_ok-line.ensures.told l here) in
+    let of_trace = subst (λ ls. TellsFrom (place + 6) (asked_at (take place ls) l) kept old new) c.args.self.reads known in
     let of_section = subst (λ n. Tells n worker (place + 6) (asked_at (take place lines) l) (AreKnown kept old.fresh.items)
     (AreKnown kept new.fresh.items) old.diary new.diary (carried_by old.seat) (carried_by new.seat)) c.loop.invariant.section of_trace in
     record {

@@ -1,7 +1,4 @@
-use Rattle.std.proofs.Common.{◌≡◌}
-use Rattle.thread_runner.specs.Followed.{carried_by}
-use Rattle.thread_runner.specs.Grown.{Tracks}
-use Rattle.thread_runner.specs.Known.{AreKnown}
+use Rattle.thread_runner.proofs.Names.{◌≡◌, carried_by, Tracks, AreKnown}
 use Rattle.thread_runner.proofs.worker.Worker.run.Given as goal
 
 -- what it was told so far is what came of the lines that it has run

@@ -1,6 +1,4 @@
-use Rattle.std.proofs.Common.{subst, sym}
-use Rattle.thread_runner.specs.Followed.{carried_by}
-use Rattle.thread_runner.specs.Known.{AreFresh, AreKnown}
+use Rattle.thread_runner.proofs.Names.{subst, sym, carried_by, AreFresh, AreKnown}
 use Rattle.thread_runner.proofs.Following.{IsDiaryOf-tracked}
 use Rattle.thread_runner.proofs.worker.Worker.taken_apart.Goals as goal
 
