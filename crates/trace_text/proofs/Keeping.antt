@@ -1,10 +1,9 @@
 -- What is kept for a place.
-use Rattle.trace_text.proofs.Names.{◌≡◌, ℕ, zero, suc, ◌+◌, ◌<◌, ◌≤◌, true, false, List, [], ◌∷◌, ◌++◌, length, get_or, map, Some, None, slice_get, arith, refl, sym, ap, ◌∙◌, ◌⊎◌, inl, inr, rules, find, range_with_len, option_map_or, nat_tests, fill_by_all, get_or-map-range_with_len, length-map-range_with_len, map-range_with_len_more, find-append, find_at, position_or_len_is, get_or_from_slice_get, slice_get-get_or, slice_get_within, AreInOrder, is_at, line_kept, place_kept, KeptLine}
-use Rattle.trace_text.specs.declared.line.Line.TheVariants.{Silent}
+use Rattle.trace_text.proofs.Names.{◌≡◌, ℕ, zero, suc, ◌+◌, ◌<◌, ◌≤◌, true, false, List, [], ◌∷◌, ◌++◌, length, get_or, map, Some, None, slice_get, arith, refl, ap, ◌∙◌, ◌⊎◌, inl, inr, rules, find, range_with_len, option_map_or, nat_tests, fill_by_all, get_or-map-range_with_len, length-map-range_with_len, map-range_with_len_more, find-append, find_at, position_or_len_is, get_or_from_slice_get, slice_get-get_or, slice_get_within, AreInOrder, is_at, line_kept, KeptLine, Option, cases_eq, cases_lt}
 use Rattle.trace_text.proofs.Bindings.{or_none}
 
 -- a list made of all numbers below another, at one of them
-pub slice_get-map-range : {X : Type 0} (f : ℕ → X) (n i : ℕ) → i < n → slice_get (map f (range_with_len 0 n)) i ≡ Some (f i)
+slice_get-map-range : {X : Type 0} (f : ℕ → X) (n i : ℕ) → i < n → slice_get (map f (range_with_len 0 n)) i ≡ Some (f i)
 slice_get-map-range f n i less =
     slice_get-get_or (map f (range_with_len 0 n)) i (f i) (omega (arith, length-map-range_with_len f 0 n)) ∙ ap Some (get_or-map-range_with_len f 0 n i i (f i) less (omega arith))
 
@@ -36,27 +35,16 @@ pub find-between : (kept : List KeptLine) (count index place : ℕ) → AreInOrd
     → ((n : ℕ) (a : KeptLine) → n < index → slice_get kept n ≡ Some a → a.place < place)
     → ((n : ℕ) (a : KeptLine) → index ≤ n → slice_get kept n ≡ Some a → place ≤ a.place)
     → ((a : KeptLine) → slice_get kept index ≡ Some a → a.place ≡ place → ⊥) → find (is_at place) kept ≡ None
-find-between kept count index place order above below next = find-none kept place (λ n a here same. elim (cases n index) [
+find-between kept count index place order above below next = find-none kept place (λ n a here same. elim (cases_lt n index) [
   | inl less ↦ omega (arith, same, above n a less here)
-  | inr rest ↦ elim rest [
-    | inl equal ↦ next a (ap (slice_get kept) (sym equal) ∙ here) same
-    | inr more ↦
-        let within : index < length kept = omega (arith, more, slice_get_within kept n a here) in
+  | inr rest ↦ elim (cases_eq index n) [
+    | inl equal ↦ next a (ap (slice_get kept) equal ∙ here) same
+    | inr apart ↦
+        let within : index < length kept = omega (arith, rest, slice_get_within kept n a here) in
         let first = slice_get-get_or kept index a within in
-        omega (arith, same, below index (get_or kept index a) (omega arith) first, order.ascend index n (get_or kept index a) a more first here)
+        omega (arith, same, below index (get_or kept index a) (omega arith) first, order.ascend index n (get_or kept index a) a (omega (arith, rest, apart)) first here)
   ]
-]) where
-  cases : (n m : ℕ) → (n < m) ⊎ ((n ≡ m) ⊎ (m < n))
-  cases zero zero = inr (inl refl)
-  cases zero (suc m) = inl (omega arith)
-  cases (suc n) zero = inr (inr (omega arith))
-  cases (suc n) (suc m) = elim (cases n m) [
-    | inl less ↦ inl (omega (arith, less))
-    | inr rest ↦ elim rest [
-      | inl equal ↦ inr (inl (ap suc equal))
-      | inr more ↦ inr (inr (omega (arith, more)))
-    ]
-  ]
+])
 
 -- what stands in a list with one more at its end
 slice_get-push : {X : Type 0} (xs : List X) (y : X) (n : ℕ) (x : X) → slice_get (xs ++ y ∷ []) n ≡ Some x → (slice_get xs n ≡ Some x) ⊎ ((n ≡ length xs) × (x ≡ y))
@@ -106,34 +94,9 @@ module _ {X : Type 0} (d : X) (f : KeptLine → X) where
       map-range_with_len_more (λ place. option_map_or f (find (is_at place) kept) d) 0 count count (omega arith)
       ∙ ap (λ o. map (λ place. option_map_or f (find (is_at place) kept) d) (range_with_len 0 count) ++ option_map_or f o d ∷ []) (find-next kept count order)
 
--- what stands at a place
-pub kept_line : (kept : List KeptLine) (count place : ℕ) (one : KeptLine) → place < length (map (line_kept kept) (range_with_len 0 count)) → find (is_at place) kept ≡ Some one
-    → slice_get (map (line_kept kept) (range_with_len 0 count)) place ≡ Some one.line
-kept_line kept count place one less found = search (rules, slice_get-map-range, length-map-range_with_len)
-
-pub kept_line-none : (kept : List KeptLine) (count place : ℕ) → place < length (map (line_kept kept) (range_with_len 0 count)) → find (is_at place) kept ≡ None
-    → slice_get (map (line_kept kept) (range_with_len 0 count)) place ≡ Some Silent
-kept_line-none kept count place less none = search (rules, slice_get-map-range, length-map-range_with_len)
-
-pub kept_read : (kept : List KeptLine) (count place : ℕ) (one : KeptLine) → place < length (map (line_kept kept) (range_with_len 0 count)) → find (is_at place) kept ≡ Some one
-    → slice_get (map (place_kept kept) (range_with_len 0 count)) place ≡ Some one.reads
-kept_read kept count place one less found = search (rules, slice_get-map-range, length-map-range_with_len)
-
-pub kept_read-none : (kept : List KeptLine) (count place : ℕ) → place < length (map (line_kept kept) (range_with_len 0 count)) → find (is_at place) kept ≡ None
-    → slice_get (map (place_kept kept) (range_with_len 0 count)) place ≡ Some 0
-kept_read-none kept count place less none = search (rules, slice_get-map-range, length-map-range_with_len)
-
--- one line more
-pub lines-push : (kept : List KeptLine) (count : ℕ) (new : KeptLine) → new.place ≡ count → AreInOrder kept count
-    → map (line_kept (kept ++ new ∷ [])) (range_with_len 0 (count + 1)) ≡ map (line_kept kept) (range_with_len 0 count) ++ new.line ∷ []
-lines-push kept count new is order = map-kept-push Silent (λ k. k.line) kept count new is order
-
-pub reads-push : (kept : List KeptLine) (count : ℕ) (new : KeptLine) → new.place ≡ count → AreInOrder kept count
-    → map (place_kept (kept ++ new ∷ [])) (range_with_len 0 (count + 1)) ≡ map (place_kept kept) (range_with_len 0 count) ++ new.reads ∷ []
-reads-push kept count new is order = map-kept-push 0 (λ k. k.reads) kept count new is order
-
-pub lines-more : (kept : List KeptLine) (count : ℕ) → AreInOrder kept count → map (line_kept kept) (range_with_len 0 (count + 1)) ≡ map (line_kept kept) (range_with_len 0 count) ++ Silent ∷ []
-lines-more kept count order = map-kept-more Silent (λ k. k.line) kept count order
-
-pub reads-more : (kept : List KeptLine) (count : ℕ) → AreInOrder kept count → map (place_kept kept) (range_with_len 0 (count + 1)) ≡ map (place_kept kept) (range_with_len 0 count) ++ 0 ∷ []
-reads-more kept count order = map-kept-more 0 (λ k. k.reads) kept count order
+  -- what stands at a place
+  pub kept_at : (kept : List KeptLine) (count place : ℕ) (o : Option KeptLine) → place < length (map (line_kept kept) (range_with_len 0 count)) → find (is_at place) kept ≡ o
+      → slice_get (map (λ other. option_map_or f (find (is_at other) kept) d) (range_with_len 0 count)) place ≡ Some (option_map_or f o d)
+  kept_at kept count place o less found =
+      slice_get-map-range (λ other. option_map_or f (find (is_at other) kept) d) count place (omega (arith, less, length-map-range_with_len (line_kept kept) 0 count))
+      ∙ ap (λ p. Some (option_map_or f p d)) found

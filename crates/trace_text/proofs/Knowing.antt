@@ -16,14 +16,11 @@ marks-push (m ∷ ms) l = omega (arith, marks-push ms l)
 
 pub marks-length : (ls : List Line) → marks ls ≤ length ls
 marks-length [] = omega arith
-marks-length (line.Silent ∷ ms) = omega (arith, marks-length ms)
-marks-length (line.Call t c ∷ ms) = omega (arith, marks-length ms)
-marks-length (line.Adopt s ∷ ms) = omega (arith, marks-length ms)
 marks-length (line.Mark ∷ ms) = omega (arith, marks-length ms)
+marks-length (l ∷ ms) = omega (arith, marks-length ms)
 
 awaits_mark-push : (ls : List Line) (l : Line) → awaits_mark (ls ++ l ∷ []) ≡ awaits_after (awaits_mark ls) l
 awaits_mark-push ls (line.Call t c) = rw (reverse-append ls (line.Call t c ∷ [])) refl
-awaits_mark-push ls (line.Adopt s) = rw (reverse-append ls (line.Adopt s ∷ [])) refl
 awaits_mark-push ls l = rw (reverse-append ls (l ∷ [])) refl
 
 -- one line more is known, where it is not refused

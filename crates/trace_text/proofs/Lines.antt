@@ -1,5 +1,5 @@
 -- The form of a line, as a function and as a relation.
-use Rattle.trace_text.proofs.Names.{common_steps, ◌≡◌, ℕ, ◌<◌, ◌≤◌, ◌==◌, nat_lt, ◌⊎◌, true, false, List, [], ◌∷◌, length, Option, Some, None, option_map, codes, slice_index, arith, rules, refl, sym, inl, inr, subst, onto_first, nat_tests, is_digit-range, option_and_then, bytes_eq, cond_some, option_and_then_some, and_parts, cases_Bool, Class, C16, Version, Reference, Call, Put, Fill, Get, Set, Free, Sweep, Later, Tend, Trim, End, Begin, Line, number_in, same_bytes, reference_in, words_of, Word, Verb, Number, Named, Refers, IsWord, AreWords, SaysLine, HasForm, has_verb, class_filled, class_put, fill_verb, put_verb, set_verb, retire_verb, verb_of, words_of_call, bare_call, key_call, retire_call, aimed_call, with_name, value_call, set_call, valued_call, with_two, counted_call, thread_line, one_word, two_words, form_of_words, form_of}
+use Rattle.trace_text.proofs.Names.{common_steps, ◌≡◌, ℕ, ◌<◌, ◌≤◌, ◌==◌, nat_lt, ◌⊎◌, true, false, List, [], ◌∷◌, length, Option, Some, None, option_map, codes, slice_index, arith, rules, refl, sym, inl, inr, subst, onto_first, nat_tests, is_digit-range, option_and_then, bytes_eq, cond_some, option_and_then_some, and_parts, cases_Bool, Class, C16, Version, Reference, Call, Put, Fill, Get, Set, Free, Sweep, Later, Tend, Trim, End, Begin, Line, number_in, same_bytes, reference_in, words_of, Word, Verb, Number, Named, Refers, IsWord, AreWords, SaysLine, HasForm, has_verb, class_filled, class_put, fill_verb, put_verb, set_verb, retire_verb, verb_of, words_of_call, bare_call, key_call, retire_call, aimed_call, with_name, value_call, set_call, valued_call, with_two, counted_call, thread_line, one_word, two_words, form_of_words, form_of, ap, ◌∙◌}
 use Rattle.trace_text.specs.declared.line.Line.TheVariants as line
 use Rattle.trace_text.specs.Name.{is_name}
 use Rattle.trace_text.proofs.Tests.{chosen}
@@ -132,38 +132,32 @@ abbrev pub plain : Line → Line
 plain (line.Call thread call) = line.Call thread (plain_call call)
 plain w = w
 
--- the words, by their number
-four : (words : List (List ℕ)) (p q r s : Word) → AreWords words (p ∷ q ∷ r ∷ s ∷ [])
-    → (a : List ℕ) × (b : List ℕ) × (c : List ℕ) × (d : List ℕ) × (words ≡ a ∷ b ∷ c ∷ d ∷ []) × IsWord a p × IsWord b q × IsWord c r × IsWord d s
-four [] p q r s says = absurd says
-four (a ∷ []) p q r s says = absurd says.1
-four (a ∷ b ∷ []) p q r s says = absurd says.1.1
-four (a ∷ b ∷ c ∷ []) p q r s says = absurd says.1.1.1
-four (a ∷ b ∷ c ∷ d ∷ []) p q r s says = (a, b, c, d, refl, says.0, says.1.0, says.1.1.0, says.1.1.1.0)
-four (a ∷ b ∷ c ∷ d ∷ e ∷ more) p q r s says = absurd says.1.1.1.1
-
 -- one word says it, and others the rest
 one_more : (words : List (List ℕ)) (p : Word) (ps : List Word) → AreWords words (p ∷ ps) → (a : List ℕ) × (more : List (List ℕ)) × (words ≡ a ∷ more) × IsWord a p × AreWords more ps
 one_more [] p ps says = absurd says
 one_more (a ∷ more) p ps says = (a, more, refl, says.0, says.1)
 
-three : (words : List (List ℕ)) (p q r : Word) → AreWords words (p ∷ q ∷ r ∷ []) → (a : List ℕ) × (b : List ℕ) × (c : List ℕ) × (words ≡ a ∷ b ∷ c ∷ []) × IsWord a p × IsWord b q × IsWord c r
-three [] p q r says = absurd says
-three (a ∷ []) p q r says = absurd says.1
-three (a ∷ b ∷ []) p q r says = absurd says.1.1
-three (a ∷ b ∷ c ∷ []) p q r says = (a, b, c, refl, says.0, says.1.0, says.1.1.0)
-three (a ∷ b ∷ c ∷ d ∷ more) p q r says = absurd says.1.1.1
-
-two : (words : List (List ℕ)) (p q : Word) → AreWords words (p ∷ q ∷ []) → (a : List ℕ) × (b : List ℕ) × (words ≡ a ∷ b ∷ []) × IsWord a p × IsWord b q
-two [] p q says = absurd says
-two (a ∷ []) p q says = absurd says.1
-two (a ∷ b ∷ []) p q says = (a, b, refl, says.0, says.1.0)
-two (a ∷ b ∷ c ∷ more) p q says = absurd says.1.1
-
+-- the words, by their number
 one : (words : List (List ℕ)) (p : Word) → AreWords words (p ∷ []) → (a : List ℕ) × (words ≡ a ∷ []) × IsWord a p
 one [] p says = absurd says
 one (a ∷ []) p says = (a, refl, says.0)
 one (a ∷ b ∷ more) p says = absurd says.1
+
+two : (words : List (List ℕ)) (p q : Word) → AreWords words (p ∷ q ∷ []) → (a : List ℕ) × (b : List ℕ) × (words ≡ a ∷ b ∷ []) × IsWord a p × IsWord b q
+two words p q says =
+    let (a, more, is, its, others) = one_more words p (q ∷ []) says in
+    let (b, are, last) = one more q others in (a, b, is ∙ ap (λ l. a ∷ l) are, its, last)
+
+three : (words : List (List ℕ)) (p q r : Word) → AreWords words (p ∷ q ∷ r ∷ []) → (a : List ℕ) × (b : List ℕ) × (c : List ℕ) × (words ≡ a ∷ b ∷ c ∷ []) × IsWord a p × IsWord b q × IsWord c r
+three words p q r says =
+    let (a, more, is, its, others) = one_more words p (q ∷ r ∷ []) says in
+    let (b, c, are, next, last) = two more q r others in (a, b, c, is ∙ ap (λ l. a ∷ l) are, its, next, last)
+
+four : (words : List (List ℕ)) (p q r s : Word) → AreWords words (p ∷ q ∷ r ∷ s ∷ [])
+    → (a : List ℕ) × (b : List ℕ) × (c : List ℕ) × (d : List ℕ) × (words ≡ a ∷ b ∷ c ∷ d ∷ []) × IsWord a p × IsWord b q × IsWord c r × IsWord d s
+four words p q r s says =
+    let (a, more, is, its, others) = one_more words p (q ∷ r ∷ s ∷ []) says in
+    let (b, c, d, are, next, third, last) = three more q r s others in (a, b, c, d, is ∙ ap (λ l. a ∷ l) are, its, next, third, last)
 
 -- a number begins with a digit
 first_of_number : (word : List ℕ) (n : ℕ) → number_in word ≡ Some n → (0 < length word) × (48 ≤ slice_index word 0) × (slice_index word 0 < 58)

@@ -1,6 +1,6 @@
 -- The names that most proofs of this crate cite, passed on from one place.
 pub use Rattle.std.proofs.Common.{◌≡◌, ℕ, ◌&&◌, ◌||◌, not, Bool, true, false, cond, List, [], ◌∷◌, ◌++◌, Option, Some, reverse, refl, ap, ◌∙◌, rules, ◌+◌, ◌-◌, ◌<◌, ◌^◌, arith, ◌⊎◌, length, None, is_some, sym, inl, inr, Ok, Err, if◌then◌else◌, option_map, ◌≤◌, nat_lt, nat_le, ap₂, ◌*◌, take, get_or, ◌==◌, drop, Result, IfOk, IfErr, subst, append_assoc, append-nil, Bor, zero, suc, map, slice_get, codes, slice_index, ◌%◌, eqb-true, eq-eqb, length-set, lt-ltb, of_calls, tests}
-pub use Rattle.std.proofs.lemmas.Bool.{cases_Bool, and_parts, or_left, or_right, cases_eq, ltb-false, ltb-true}
+pub use Rattle.std.proofs.lemmas.Bool.{cases_Bool, cases_lt, and_parts, or_left, or_right, cases_eq, ltb-false, ltb-true}
 pub use Rattle.std.proofs.lemmas.Bool.Decides.{nat_tests}
 pub use Rattle.std.proofs.lemmas.Grind.{common_steps}
 pub use Rattle.std.proofs.lemmas.List.{reverse-append, reverse-reverse, length-append, take-append-drop, same_lists, length-map, take_rest}
@@ -24,7 +24,7 @@ pub use Rattle.span.proofs.Widths.{width_of-least, class_with-width, number_of-m
 pub use Rattle.span.specs.declared.class.Class.{Class}
 pub use Rattle.span.specs.declared.class.Class.TheVariants.{C16}
 pub use Rattle.span.specs.declared.limits.TheConstants.{MOST_SHARDS, MOST_RING_KEYS}
-pub use Rattle.trace_text.specs.AllLines.{AreInOrder, is_at, line_kept, place_kept}
+pub use Rattle.trace_text.specs.AllLines.{AreInOrder, is_at, line_kept}
 pub use Rattle.trace_text.specs.Causes.{begins, ends, has_ended, binding_at, binding_from, binding_of, binds_again, call_binding, first_cause, is_call, is_call_over, keys_at, keys_in, marks, marks_at, classed, comes_early, is_call_of, reads_unknown, class_named, is_of_kind, begins_again, bound_name, read_name, has_key, has_range, has_keys, holds, BeginsAtFault, HasCause, IsNextLine, AreReadAs, SaysAfter, awaits_mark, IsSound, IsFirstFault}
 pub use Rattle.trace_text.specs.Earlier.{Few, IsFew, Knows, NotesEnd, NotesLeaving, NotesNames, awaits_after}
 pub use Rattle.trace_text.specs.Form.{form_of, HasForm, counted_call, form_of_words, thread_line, valued_call, AreWords, Verb, Word, Number, Named, Refers, IsWord, SaysLine, has_verb, class_filled, class_put, fill_verb, put_verb, set_verb, retire_verb, verb_of, words_of_call, bare_call, key_call, retire_call, aimed_call, with_name, value_call, set_call, with_two, one_word, two_words, class_behind, class_of_bytes, class_of_size, is_binding_verb, size_text}

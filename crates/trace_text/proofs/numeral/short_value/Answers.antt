@@ -1,10 +1,9 @@
-use Rattle.trace_text.proofs.Names.{arith, ◌<◌, length, digit_at, value_more}
+use Rattle.trace_text.proofs.Names.{arith, digit_at, value_more}
 use Rattle.trace_text.proofs.numeral.short_value.Goals as goal
 
 pub overflow_sub-digit : goal.overflow_sub-digit
-overflow_sub-digit c = let there : c.loop-digit.digit-index < length c.args.digits.now = omega arith in
-    (digit_at c.args.digits.now c.loop-digit.digit-index c.requires there).0
+overflow_sub-digit c = (digit_at c.args.digits.now c.loop-digit.digit-index c.requires (omega arith)).0
 
 pub loop-digit-preserved : goal.loop-digit-preserved
-loop-digit-preserved c = let there : c.loop-digit.digit-index < length c.args.digits.now = omega arith in
-    omega (arith, c.loop-digit.invariant, value_more c.args.digits.now c.loop-digit.digit-index c.requires there)
+loop-digit-preserved c =
+    omega (arith, c.loop-digit.invariant, value_more c.args.digits.now c.loop-digit.digit-index c.requires (omega arith))
