@@ -1,5 +1,5 @@
 -- Calls that are made one after another.
-use Rattle.trace_runner.proofs.Names.{◌≡◌, ℕ, Bool, true, false, cond, length, arith, List, [], ◌∷◌, ◌++◌, map, refl, sym, ap, subst, ◌∙◌, flat_map-append, map-append, length-map, limits-CoreRun, each-append, CoreState, shown, Limits, CoreStep, CoreRun, ErasedStep, PlainRun, erased, is_plain, IsSound, Asked, Calls, Keyless, Leaves, CalledEvent, Called, Made, IsAsAsked, all_called, asked_of, core_called, event_called, events_of, no_call, one_call, replies_of, reply_called, News, with_all_made, with_called, with_made, Kept, keeping, Carries, Makes, MakesLine, news_at, settling_with, AreSteps, Happens, IsAnswered, IsCallTold, IsTold, ends_asked, plan_end_asked, rings_asked, stepping, Plans, Event, Put, Get, Set, Free, Later, Settle, End, Adopt, Mark, ShardEnded, Reply, PlainMap}
+use Rattle.trace_runner.proofs.Names.{◌≡◌, ℕ, Bool, true, false, cond, length, arith, List, [], ◌∷◌, ◌++◌, map, refl, sym, ap, subst, ◌∙◌, flat_map-append, map-append, length-map, limits-CoreRun, each-append, CoreState, shown, Limits, CoreStep, CoreRun, ErasedStep, PlainRun, erased, is_plain, IsSound, Asked, Calls, CalledEvent, Called, Made, IsAsAsked, all_called, asked_of, core_called, event_called, events_of, no_call, one_call, replies_of, reply_called, News, with_all_made, with_called, with_made, Kept, keeping, Carries, Makes, MakesLine, news_at, settling_with, AreSteps, Happens, IsAnswered, IsCallTold, IsTold, ends_asked, plan_end_asked, rings_asked, stepping, Plans, Event, Put, Get, Set, Free, Later, Settle, End, Adopt, Mark, ShardEnded, Reply, PlainMap}
 use Rattle.std.proofs.lemmas.List.Sums.{fold-append}
 use Rattle.trace_runner.proofs.Recalling.{keeping-append, keeping-none}
 use Rattle.trace_text.specs.declared.line.Call.{Call}
@@ -103,13 +103,10 @@ pub Makes-called : (number : ℕ) (event : Event) (reply : Reply) (old new : Cor
 Makes-called number event reply old new before after step sound plain told kept =
     (one_call event reply new ∷ [], refl, IsAnswered-one event reply old new step sound plain told, kept)
 
--- no call, since its key was never given out
-pub Makes-unbound : (number : ℕ) (core : CoreState) (before after : Kept) → after ≡ keeping number before (no_call Keyless ∷ []) → Makes number (Keyless ∷ []) core before core after
-Makes-unbound number core before after kept = (no_call Keyless ∷ [], refl, IsAnswered-no_call Keyless core tt, kept)
-
--- no call, since the thread ends
-pub Makes-left : (number : ℕ) (core : CoreState) (before after : Kept) → after ≡ keeping number before (no_call Leaves ∷ []) → Makes number (Leaves ∷ []) core before core after
-Makes-left number core before after kept = (no_call Leaves ∷ [], refl, IsAnswered-no_call Leaves core tt, kept)
+-- no call, since its key was never given out, or the thread ends
+pub Makes-no_call : (number : ℕ) (asked : Asked) (core : CoreState) (before after : Kept) → IsAsAsked (no_call asked) → after ≡ keeping number before (no_call asked ∷ [])
+    → Makes number (asked ∷ []) core before core after
+Makes-no_call number asked core before after fits kept = (no_call asked ∷ [], refl, IsAnswered-no_call asked core fits, kept)
 
 pub Makes-none : (number : ℕ) (core : CoreState) (kept : Kept) → Makes number [] core kept core kept
 Makes-none number core kept = ([], refl, IsAnswered-none core, sym (keeping-none number kept))

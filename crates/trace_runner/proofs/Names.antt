@@ -1,5 +1,5 @@
 -- The names that most proofs of this crate cite, passed on from one place.
-pub use Rattle.std.proofs.Common.{◌≡◌, ◌∙◌, ◌+◌, ◌++◌, ◌∷◌, [], ℕ, true, false, List, map, length, filter, Some, None, refl, sym, ap, subst, arith, append_assoc, length-append, zero, suc, ◌-◌, ◌^◌, ◌<◌, ◌≤◌, Option, drop, get_or, replicate, slice_get, take, ◌⊎◌, inl, inr, Bool, cond, nat_lt, option_map, rules, ◌==◌, ◌&&◌, ◌||◌, nat_le, not, ap₂, add-zero, unwrap_or, option_and_then, is_some, set, Result, Ok, Err, MatchResult, zero-add, OnOk, of_calls, if◌then◌else◌, length-drop}
+pub use Rattle.std.proofs.Common.{map-id, true≢false, ◌≡◌, ◌∙◌, ◌+◌, ◌++◌, ◌∷◌, [], ℕ, true, false, List, map, length, filter, Some, None, refl, sym, ap, subst, arith, append_assoc, length-append, zero, suc, ◌-◌, ◌^◌, ◌<◌, ◌≤◌, Option, drop, get_or, replicate, slice_get, take, ◌⊎◌, inl, inr, Bool, cond, nat_lt, option_map, rules, ◌==◌, ◌&&◌, ◌||◌, nat_le, not, ap₂, add-zero, unwrap_or, option_and_then, is_some, set, Result, Ok, Err, MatchResult, zero-add, OnOk, of_calls, if◌then◌else◌, length-drop}
 pub use Rattle.std.proofs.KnownBytes.{Appends-trans, Keeps-trans, Keeps-refl}
 pub use Rattle.std.proofs.Math.Bool.{and-true, and-false}
 pub use Rattle.std.proofs.Math.Seq.{drop-length, get_or-append_right, take-length, take-add}
@@ -49,7 +49,7 @@ pub use Rattle.trace_runner.specs.Runs.{puts_asked, AreSteps, IsAnswered, key_gi
 pub use Rattle.trace_runner.specs.declared.key_list.Stretch.{Stretch}
 pub use Rattle.trace_runner.specs.declared.plans.Plans.{Plans}
 pub use Rattle.trace_runner.specs.declared.report.Ending.{Ending}
-pub use Rattle.trace_text.proofs.Clips.{AllFine, all_fine}
+pub use Rattle.trace_text.proofs.Clips.{all_fine}
 pub use Rattle.trace_text.specs.Causes.{begins, begins_again, comes_early, ends, has_ended, first_cause, is_abandoned, is_adopt, is_call, is_call_of, reads_early, thread_of, binding_at, binding_from, binding_of, has_key, has_range, keys_at, keys_in, marks, marks_at}
 pub use Rattle.trace_text.specs.Objects.{counted_from}
 pub use Rattle.trace_text.specs.Places.{place_at, first_of}

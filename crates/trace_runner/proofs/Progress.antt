@@ -1,5 +1,5 @@
 -- One more line is run.
-use Rattle.trace_runner.proofs.Names.{◌≡◌, ℕ, ◌+◌, ◌<◌, ◌≤◌, ◌==◌, ◌&&◌, ◌||◌, nat_lt, nat_le, not, Bool, true, false, filter, List, [], ◌∷◌, ◌++◌, length, take, Some, None, slice_get, refl, sym, ap, ap₂, subst, ◌∙◌, arith, inl, inr, append_assoc, length-append, add-zero, take-length, flat_map, range_with_len, option_map_or, and_parts, cases_Bool, eqb-true, not-true, nat_tests, flat_map-append, filter-append, append-nil, length-map, length_push, and-true, CoreState, Limits, limits-CoreRun, each-append, begins, begins_again, comes_early, ends, has_ended, first_cause, is_abandoned, is_adopt, is_call, is_call_of, reads_early, thread_of, CanLeave, Carries, TurnsBelow, HasCome, IsReady, KnowsPlan, MakesLine, Serves, news_at, settling_with, AreHome, FindsAt, IsHome, Kept, keeping, kept_none, keys_of, place_at, told_of, Did, all_made, asked_of, made_by, News, news_of, no_news, with_all_made, with_answers, with_line, DoLines, Does, IsRun, asked_by, calls_at, calls_in, ends_asked, plan_end_asked, pairs_left_of, planning_at, rings_asked, settling_at, Plans, Header, Line, AllFine, all_fine}
+use Rattle.trace_runner.proofs.Names.{◌≡◌, ℕ, ◌+◌, ◌<◌, ◌≤◌, ◌==◌, ◌&&◌, ◌||◌, nat_lt, nat_le, not, Bool, true, false, filter, List, [], ◌∷◌, ◌++◌, length, take, Some, None, slice_get, refl, sym, ap, ap₂, subst, ◌∙◌, arith, inl, inr, append_assoc, length-append, add-zero, take-length, flat_map, range_with_len, option_map_or, and_parts, cases_Bool, eqb-true, not-true, nat_tests, flat_map-append, filter-append, append-nil, length-map, length_push, and-true, CoreState, Limits, limits-CoreRun, each-append, begins, begins_again, comes_early, ends, has_ended, first_cause, is_abandoned, is_adopt, is_call, is_call_of, reads_early, thread_of, CanLeave, Carries, TurnsBelow, HasCome, IsReady, KnowsPlan, MakesLine, Serves, news_at, settling_with, AreHome, FindsAt, IsHome, Kept, keeping, kept_none, keys_of, place_at, told_of, Did, all_made, asked_of, made_by, News, news_of, no_news, with_all_made, with_answers, with_line, DoLines, Does, IsRun, asked_by, calls_at, calls_in, ends_asked, plan_end_asked, pairs_left_of, planning_at, rings_asked, settling_at, Plans, Header, Line, all_fine}
 use Rattle.std.specs.Option.{option_map}
 use Rattle.trace_runner.specs.Barrier.{leavers}
 use Rattle.trace_text.specs.Barrier.{is_barrier, open_lines}
@@ -57,16 +57,13 @@ ends-barrier (line.Call thread call) t e = cc
 ends-barrier l t e = refl
 
 module _ (h : Header) (above : List Line) (l : Line) (fine : first_cause h above l ≡ None) where
-  fine_of : AllFine h above l
-  fine_of = all_fine h above l fine
-
   -- the thread of a line has not ended above it, and is one of the header's
   running_above : (t : ℕ) → thread_of l ≡ Some t → is_call begins_again l ≡ false → has_ended above t ≡ false
-  running_above t is runs = sym (and-true (has_ended above t)) ∙ sym (ap₂ (λ o b. option_map_or (has_ended above) o false && not b) is runs) ∙ fine_of.ended
+  running_above t is runs = sym (and-true (has_ended above t)) ∙ sym (ap₂ (λ o b. option_map_or (has_ended above) o false && not b) is runs) ∙ (all_fine h above l fine).ended
 
   -- that of a line by which it begins again rests
   resting_above : (t : ℕ) → thread_of l ≡ Some t → is_call begins_again l ≡ true → is_abandoned above t ≡ true
-  resting_above t is again = by_line l fine_of.in_time is again
+  resting_above t is again = by_line l (all_fine h above l fine).in_time is again
     where
       by_line : (m : Line) → is_call_of (comes_early above) m ≡ false → thread_of m ≡ Some t → is_call begins_again m ≡ true → is_abandoned above t ≡ true
       by_line (line.Call thread call) late of again =
@@ -75,7 +72,7 @@ module _ (h : Header) (above : List Line) (l : Line) (fine : first_cause h above
       by_line m late of again = cc
 
   thread_below : (t : ℕ) → thread_of l ≡ Some t → t < h.shards
-  thread_below t is = let e : nat_le h.shards t ≡ false = sym (ap (λ o. option_map_or (nat_le h.shards) o false) is) ∙ fine_of.thread in grind (arith, nat_tests)
+  thread_below t is = let e : nat_le h.shards t ≡ false = sym (ap (λ o. option_map_or (nat_le h.shards) o false) is) ∙ (all_fine h above l fine).thread in grind (arith, nat_tests)
 
 -- a thread that a line ends is the line's
 ends-thread : (l : Line) (t : ℕ) → ends t l ≡ true → thread_of l ≡ Some t
@@ -120,9 +117,6 @@ module _ (h : Header) (replies : Bool) (lines : List Line) (count : ℕ) (old co
   pub HasCome-finds : (l : Line) → first_cause h (take count lines) l ≡ None → FindsAt lines come.done kept.keys (place_at (take count lines) l) l
   HasCome-finds = FindsAt-fine h lines count come.done kept.keys come.recalls
 
-  waiting_ended : (t : ℕ) → has_ended (open_lines (take count lines)) t ≡ true → has_ended (take count lines) t ≡ true
-  waiting_ended t = has_ended-open (take count lines) t
-
   -- a thread that begins again does not wait
   resting_waits : (l : Line) → first_cause h (take count lines) l ≡ None → (t : ℕ) → thread_of l ≡ Some t → is_call begins_again l ≡ true → has_ended (open_lines (take count lines)) t ≡ false
   resting_waits l fine t is again =
@@ -138,7 +132,7 @@ module _ (h : Header) (replies : Bool) (lines : List Line) (count : ℕ) (old co
   -- the next line may be run
   pub HasCome-IsReady : (l : Line) → first_cause h (take count lines) l ≡ None → IsReady h.shards core leaving l
   HasCome-IsReady l fine = record {
-    within = (take count lines, (fine_of h (take count lines) l fine).within);
+    within = (take count lines, (all_fine h (take count lines) l fine).within);
     running = λ t is runs. record {
       within = omega (arith, thread_below h (take count lines) l fine t is, come.enough);
       running = come.ended_are t (thread_below h (take count lines) l fine t is) ∙ rw (running_above h (take count lines) l fine t is runs) refl;
@@ -151,7 +145,7 @@ module _ (h : Header) (replies : Bool) (lines : List Line) (count : ℕ) (old co
       | inl again ↦ come.leaving_are t ∙ resting_waits l fine t is again
       | inr runs ↦ elim (cases_Bool (leaving t)) [
         | inl leaves ↦
-            let bad : true ≡ false = sym (waiting_ended t (sym (come.leaving_are t) ∙ leaves)) ∙ running_above h (take count lines) l fine t is runs in cc
+            let bad : true ≡ false = sym (has_ended-open (take count lines) t (sym (come.leaving_are t) ∙ leaves)) ∙ running_above h (take count lines) l fine t is runs in cc
         | inr stays ↦ stays
       ]
     ];
@@ -224,7 +218,7 @@ module _ (h : Header) (replies : Bool) (lines : List Line) (count : ℕ) (old co
             let less : nat_lt t h.shards ≡ true = grind (arith, nat_tests, below) in
             ended.ended t ∙ rw less (ap₂ (λ a b. not (begins t l) && ((is_barrier l && a) || b)) (come.leaving_are t) (come.ended_are t below))
             ∙ flags_turned (has_ended (take count lines) t) (has_ended (open_lines (take count lines)) t) (ends t l) (is_barrier l) (begins t l)
-            (ends-barrier l t) (waiting_ended t) (λ ends_here. running_above h (take count lines) l fine t (ends-thread l t ends_here) (ends-runs l t ends_here))
+            (ends-barrier l t) (has_ended-open (take count lines) t) (λ ends_here. running_above h (take count lines) l fine t (ends-thread l t ends_here) (ends-runs l t ends_here))
             ∙ ap₂ (λ a b. a && not b) (sym (ap (λ ls. has_ended ls t) next.0 ∙ has_ended-push t (take count lines) l)) (sym (waits t));
       }
 

@@ -1,5 +1,5 @@
 -- Which shards have ended, one step later.
-use Rattle.trace_runner.proofs.Names.{◌≡◌, ◌==◌, ℕ, zero, suc, Bool, true, false, cond, List, [], ◌∷◌, Some, refl, sym, ap, subst, ◌∙◌, arith, inl, inr, is_some, slice_get, set, Result, Ok, Err, MatchResult, rules, option_map_or, nat_tests, cases_Bool, eqb-true, PoolState, ShardState, begun, Puts, Frees, Sets, class_of, Value, Class, Key, CoreState, with_shard, CoreStep, EndsOne, IsOpen, IsPutServed, IsServed, IsSetServed, KeepsPlan, KeepsShards, MayCall, MeetsPlan, Resumes, ended_at, reply_to_put, Event, Put, Get, Set, Free, Later, End, Begin, Retire, Trim, Adopt, Reply, Issued, Found, Replaced, Freed, Sent, ShardEnded, ShardBegun, Retired, Trimmed, Adopted, Refused, Refusal}
+use Rattle.trace_runner.proofs.Names.{◌≡◌, ◌==◌, ℕ, zero, suc, Bool, true, false, cond, List, [], ◌∷◌, Some, refl, sym, ap, subst, ◌∙◌, arith, inl, inr, is_some, slice_get, set, Result, Ok, Err, MatchResult, rules, option_map_or, nat_tests, cases_Bool, eqb-true, PoolState, ShardState, begun, Puts, Frees, Sets, class_of, Value, Class, Key, CoreState, with_shard, CoreStep, EndsOne, IsOpen, IsPutServed, IsServed, IsSetServed, KeepsPlan, KeepsShards, MayCall, MeetsPlan, Resumes, ended_at, reply_to_put, Event, Put, Get, Set, Free, Later, End, Begin, Retire, Trim, Adopt, Reply, Issued, Found, Replaced, Freed, Sent, ShardEnded, ShardBegun, Retired, Trimmed, Adopted, Refused, Refusal, true≢false}
 use Rattle.pool.specs.Calls.{with_rooms}
 use Rattle.pool.specs.Retires.{MovesSparse, Retires}
 use Rattle.shard.specs.declared.shard.Freed.TheVariants.{Yes}
@@ -106,18 +106,15 @@ EndsOne-step old new shard step =
 pub plan-end : (old new : CoreState) (shard : ℕ) → CoreStep old (End shard) ShardEnded new → new.plan ≡ old.plan
 plan-end old new shard step = ap (λ (core : CoreState). core.plan) step.rest
 
-clash : true ≡ false → ⊥
-clash e = cc
-
 has_ended-clash : (core : CoreState) (number : ℕ) (shard : ShardState) → IsOpen core number → slice_get core.shards number ≡ Some shard → shard.ended ≡ true → ⊥
-has_ended-clash core number shard is_open here ended = clash (sym ended ∙ sym (ap (λ o. option_map_or (λ (s : ShardState). s.ended) o false) here) ∙ is_open.running)
+has_ended-clash core number shard is_open here ended = true≢false (sym ended ∙ sym (ap (λ o. option_map_or (λ (s : ShardState). s.ended) o false) here) ∙ is_open.running)
 
 pub IsServed-step : (old new : CoreState) (event : Event) (reply : Reply) → MayCall old event → CoreStep old event reply new → IsServed reply
 IsServed-step old new event reply may step = search (rules, has_ended-clash)
 
 -- an open plan is in the way of no other call of a line than a retirement
 pub MeetsPlan-step : (old new : CoreState) (event : Event) (reply : Reply) → MayCall old event → CoreStep old event reply new → MeetsPlan event reply
-MeetsPlan-step old new (Adopt shard) (Refused PlanOpen) may step = clash (sym step.1 ∙ ap is_some may.1)
+MeetsPlan-step old new (Adopt shard) (Refused PlanOpen) may step = true≢false (sym step.1 ∙ ap is_some may.1)
 MeetsPlan-step old new event (Refused PlanOpen) may step = search
 MeetsPlan-step old new event reply may step = tt
 

@@ -1,5 +1,5 @@
 -- Which shards have ended, after several steps.
-use Rattle.trace_runner.proofs.Names.{◌≡◌, ◌&&◌, ◌||◌, ◌+◌, ℕ, Bool, true, false, not, cond, nat_lt, List, [], ◌∷◌, ◌++◌, map, filter, refl, sym, ap, ap₂, subst, ◌∙◌, zero-add, rules, Err, Ok, OnOk, Result, map-append, range_with_len, filter_of_map_range_with_len_more, nat_tests, cases_Bool, and-false, CoreState, CanLeave, Carries, EndsBelow, EndsOne, IsOpen, KeepsPlan, KeepsShards, Resumes, TurnsBelow, ended_at, Asked, Calls, News, ends_asked, End}
+use Rattle.trace_runner.proofs.Names.{◌≡◌, ◌&&◌, ◌||◌, ◌+◌, ℕ, Bool, true, false, not, cond, nat_lt, List, [], ◌∷◌, ◌++◌, filter, refl, sym, ap, ap₂, subst, ◌∙◌, zero-add, rules, Err, Ok, OnOk, Result, map-append, range_with_len, filter_of_map_range_with_len_more, nat_tests, cases_Bool, and-false, CoreState, CanLeave, Carries, EndsBelow, EndsOne, IsOpen, KeepsPlan, KeepsShards, Resumes, TurnsBelow, ended_at, Asked, Calls, News, ends_asked, End, map-id}
 use Rattle.std.proofs.Common.{append-nil}
 use Rattle.trace_runner.proofs.Making.{Carries-append}
 
@@ -59,15 +59,11 @@ module _ (old mid : CoreState) (bound : ℕ) (test : ℕ → Bool) (below : Ends
   pub EndsBelow-end : (new : CoreState) → test bound ≡ true → EndsOne mid bound new → EndsBelow old (bound + 1) test new
   EndsBelow-end new passes ends = search (rules, nat_lt, cases_Bool, nat_tests, ap₂)
 
-map_same : (ks : List ℕ) → map (λ (k : ℕ). k) ks ≡ ks
-map_same [] = refl
-map_same (k ∷ ks) = ap (λ xs. k ∷ xs) (map_same ks)
-
 -- the numbers below one more that pass the test
 pub filter-range_with_len_more : (test : ℕ → Bool) (n : ℕ) → filter test (range_with_len 0 (n + 1)) ≡ filter test (range_with_len 0 n) ++ cond (test n) (n ∷ []) []
 filter-range_with_len_more test n =
-    ap (filter test) (sym (map_same (range_with_len 0 (n + 1)))) ∙ filter_of_map_range_with_len_more test (λ k. k) 0 n n (zero-add n)
-    ∙ ap (λ ks. filter test ks ++ cond (test n) (n ∷ []) []) (map_same (range_with_len 0 n))
+    ap (filter test) (sym (map-id (range_with_len 0 (n + 1)))) ∙ filter_of_map_range_with_len_more test (λ k. k) 0 n n (zero-add n)
+    ∙ ap (λ ks. filter test ks ++ cond (test n) (n ∷ []) []) (map-id (range_with_len 0 n))
 
 module _ (old mid : CoreState) (bound : ℕ) (test : ℕ → Bool) (news : News) (ends : Carries (ends_asked (filter test (range_with_len 0 bound))) old news mid news) where
   pub Carries-skip : test bound ≡ false → Carries (ends_asked (filter test (range_with_len 0 (bound + 1)))) old news mid news
