@@ -1,5 +1,5 @@
 -- What is kept of the keys that puts gave.
-use Rattle.thread_runner.proofs.Names.{zero, suc, ◌≡◌, ◌∙◌, ℕ, ◌+◌, ◌<◌, ◌≤◌, ◌&&◌, true, false, List, [], ◌∷◌, ◌++◌, Option, Some, None, ap, arith, map, nat_le, nat_lt, refl, set, slice_get, subst, sym, All, AllByRecursion, IsPermutation, nat_tests, IsPermutation-sym, same_key-parts, Key, GivenKeys, AreApart, AreFresh, AreKept, IsGiven, given_by, key_from, Given}
+use Rattle.thread_runner.proofs.Names.{zero, suc, ◌≡◌, ◌∙◌, ℕ, ◌+◌, ◌<◌, ◌≤◌, ◌&&◌, true, false, List, [], ◌∷◌, ◌++◌, Option, Some, None, ap, arith, map, nat_le, nat_lt, refl, set, slice_get, subst, sym, All, AllByRecursion, IsPermutation, nat_tests, IsPermutation-sym, same_key-parts, Key, GivenKeys, AreApart, AreFresh, AreKept, IsGiven, given_by, key_from, Given, map-id}
 use Rattle.std.proofs.lemmas.Map.Views.{All-map-IsPermutation}
 use Rattle.span.proofs.Ids.{same_id}
 use Rattle.thread_runner.proofs.Each.{All-each, each-All}
@@ -62,14 +62,10 @@ AreKept-given_by from (one ∷ kept) end apart = (
 
 -- ---- in another order
 
-map_same : {X : Type 0} (xs : List X) → map (λ x. x) xs ≡ xs
-map_same [] = refl
-map_same (x ∷ xs) = ap (λ l. x ∷ l) (map_same xs)
-
 pub each-sorted : {X : Type 0} (P : X → Type 0) (xs ys : List X) → IsPermutation xs ys → AllByRecursion P ys → AllByRecursion P xs
 each-sorted P xs ys moved each =
     let back : All P (map (λ x. x) ys) → All P (map (λ x. x) xs) = All-map-IsPermutation (λ x. x) P ys xs (IsPermutation-sym xs ys moved) in
-    each-All P xs (subst (All P) (map_same xs) (back (subst (All P) (sym (map_same ys)) (All-each P ys each))))
+    each-All P xs (subst (All P) (map-id xs) (back (subst (All P) (sym (map-id ys)) (All-each P ys each))))
 
 -- ---- the same key
 

@@ -1,5 +1,5 @@
 -- What calls on keys are told, by what is known of the keys that puts gave.
-use Rattle.thread_runner.proofs.Names.{◌≡◌, ◌∙◌, ◌++◌, ℕ, Bool, false, true, List, [], ◌∷◌, Option, None, Some, ap, refl, subst, sym, Value, AllByRecursion, free_receipt, get_receipt, put_receipt, set_receipt, Key, Receipt, Answers, Asked, Called, Frees, Gets, GivenKeys, IsKeptBack, IsSetTo, Outcome, Puts, Sets, is_look_up, entries_on, receipts_from, sent_by, taken_by, Carries, Grows, AreFresh, AreKnown, is_free, Given, TellsFrom, carried_by}
+use Rattle.thread_runner.proofs.Names.{◌≡◌, ◌∙◌, ℕ, Bool, false, true, List, [], ◌∷◌, Option, None, Some, ap, refl, subst, sym, Value, free_receipt, get_receipt, put_receipt, set_receipt, Key, Receipt, Answers, Asked, Called, Frees, Gets, GivenKeys, IsKeptBack, IsSetTo, Outcome, Puts, Sets, is_look_up, entries_on, receipts_from, sent_by, taken_by, Carries, Grows, AreFresh, AreKnown, is_free, Given, TellsFrom, carried_by}
 use Rattle.span.specs.Receipts.{look_up, set as set_call}
 use Rattle.trace_runner.specs.declared.report.Other.TheVariants as other
 use Rattle.thread_runner.specs.declared.caller.Caller.{Caller}
@@ -17,11 +17,6 @@ IsKeptBack-none key none = subst (λ k. IsKeptBack k other.Unbound) (sym none) r
 
 pub IsKeptBack-some : (key : Option Key) (one : Key) → key ≡ Some one → IsKeptBack key other.RingFull
 IsKeptBack-some key one some = subst (λ k. IsKeptBack k other.RingFull) (sym some) refl
-
--- of two lists in a row, what holds of each holds in both
-pub each-parts : {X : Type 0} (P : X → Type 0) (xs ys : List X) → AllByRecursion P (xs ++ ys) → AllByRecursion P xs × AllByRecursion P ys
-each-parts P [] ys each = (tt, each)
-each-parts P (x ∷ xs) ys each = let (left, right) = each-parts P xs ys each.1 in ((each.0, left), right)
 
 -- one thing was asked that changes nothing of what is known of keys
 pub TellsFrom-still : {G : Type 0} (number : ℕ) (asked : Asked) (outcome : Outcome) (kept : List Given) (old new : Caller G) → new.fresh ≡ old.fresh

@@ -1,5 +1,5 @@
 -- The names that most proofs of this crate cite, passed on from one place.
-pub use Rattle.std.proofs.Common.{get_or-set_other, get_or-set_same, zero, suc, ◌≡◌, ◌∙◌, ◌<◌, ◌++◌, ◌==◌, ℕ, List, [], ◌∷◌, ap, append-nil, append_assoc, arith, length, map, refl, slice_index_or, slice_set, subst, sym, rules, if◌then◌else◌, filter, ◌+◌, ◌≤◌, Bool, true, false, Some, length-append, slice_get, take, zero-add, add-zero, inl, inr, nat_le, ◌-◌, ◌&&◌, Option, None, nat_lt, set, drop, cond, option_map, is_some, not, get_or, vec_items, Vec, codes, of_calls, OnOk, IsTrue, ◌⊎◌, vec_len, Err, ◌^◌}
+pub use Rattle.std.proofs.Common.{map-id, get_or-set_other, get_or-set_same, zero, suc, ◌≡◌, ◌∙◌, ◌<◌, ◌++◌, ◌==◌, ℕ, List, [], ◌∷◌, ap, append-nil, append_assoc, arith, length, map, refl, slice_index_or, slice_set, subst, sym, rules, if◌then◌else◌, filter, ◌+◌, ◌≤◌, Bool, true, false, Some, length-append, slice_get, take, zero-add, add-zero, inl, inr, nat_le, ◌-◌, ◌&&◌, Option, None, nat_lt, set, drop, cond, option_map, is_some, not, get_or, vec_items, Vec, codes, of_calls, OnOk, IsTrue, ◌⊎◌, vec_len, Err, ◌^◌}
 pub use Rattle.std.proofs.lemmas.Bool.{ltb-true}
 pub use Rattle.std.proofs.lemmas.Bool.Decides.{eqb_tells, nat_tests}
 pub use Rattle.std.proofs.lemmas.Grind.{flat_map-append}
@@ -49,6 +49,7 @@ pub use Rattle.thread_runner.specs.declared.body.Note.{Note}
 pub use Rattle.thread_runner.specs.declared.diary.Diary.{Diary}
 pub use Rattle.thread_runner.specs.declared.keys.Given.{Given}
 pub use Rattle.thread_runner.specs.declared.worker.Resting.{Resting}
+pub use Rattle.trace_runner.proofs.Homes.{each-parts}
 pub use Rattle.trace_runner.specs.declared.report.LineAnswer.{LineAnswer}
 pub use Rattle.trace_text.proofs.Clips.{all_fine}
 pub use Rattle.trace_text.specs.Causes.{IsSound, is_adopt, keys_in, marks, keys_at, marks_at}

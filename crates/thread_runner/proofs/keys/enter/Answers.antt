@@ -1,6 +1,5 @@
-use Rattle.thread_runner.proofs.Names.{◌-◌, ◌∷◌, [], arith, refl, subst, slice_get_read, AreFresh, IsGiven, Given}
+use Rattle.thread_runner.proofs.Names.{◌-◌, ◌∷◌, [], arith, refl, subst, slice_get_read, AreFresh, IsGiven, Given, each-parts}
 use Rattle.thread_runner.proofs.Keeping.{AreFresh-more, IsGiven-one}
-use Rattle.thread_runner.proofs.Knowing.{each-parts}
 use Rattle.thread_runner.proofs.keys.enter.Goals as goal
 
 pub returns-then-goes_on : goal.returns-then-goes_on

@@ -1,5 +1,4 @@
-use Rattle.thread_runner.proofs.Names.{◌∙◌, ◌++◌, ap, subst, AreFresh, IsGiven}
-use Rattle.thread_runner.proofs.Knowing.{each-parts}
+use Rattle.thread_runner.proofs.Names.{◌∙◌, ◌++◌, ap, subst, AreFresh, IsGiven, each-parts}
 use Rattle.thread_runner.proofs.caller.Caller.go_on.Goals as goal
 
 pub returns-clause-before : goal.returns-clause-before

@@ -1,6 +1,5 @@
-use Rattle.thread_runner.proofs.Names.{◌≡◌, ◌+◌, ◌++◌, ◌∷◌, [], rules, subst, sym, AreApart, AreKept, IsGiven}
+use Rattle.thread_runner.proofs.Names.{◌≡◌, ◌+◌, ◌++◌, ◌∷◌, [], rules, subst, sym, AreApart, AreKept, IsGiven, each-parts}
 use Rattle.thread_runner.proofs.Keeping.{AreApart-push}
-use Rattle.thread_runner.proofs.Knowing.{each-parts}
 use Rattle.thread_runner.proofs.keys.Keys.with_one.Goals as goal
 
 pub invariant_of-result : goal.invariant_of-result

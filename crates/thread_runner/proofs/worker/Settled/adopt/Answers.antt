@@ -7,13 +7,9 @@ pub invariant_of-result : goal.invariant_of-result
 invariant_of-result g c =
     let text = c.args.self.text.now in
     let lines = g.J.Reading.lines in
-    let shown = g.J.Reading.shown in
-    let kept = g.K.Known.kept in
-    let section = g.K.Known.section in
     let place = c.args.place in
     let done = c.args.self.done in
     let old = c.args.self.caller in
-    let new = c.adopt.new.self in
     let worker = old.seat.worker in
     let there = rw (c.thread.ensures, c.args.self.reads) at (c.in-Some.ensures.place text.trace.now.lines.items text.laid) in
     let next : slice_get (places_of worker lines) done ≡ Some place = there ∙ ap Some c.if-next-place.false in
@@ -23,7 +19,8 @@ invariant_of-result g c =
       columns = ap (λ (s : Seated). s.table.columns) c.adopt.ensures.seat ∙ c.args.self.columns;
       reads = c.args.self.reads;
       section = ap (λ (s : Seated). s.section) c.adopt.ensures.seat ∙ c.args.self.section;
-      tracks = Tracks-adoption lines shown (AreKnown kept new.fresh.items) section worker new.seat.worker done place l old.diary new.diary (carried_by old.seat)
-          (carried_by new.seat) (ap (λ (s : Seated). s.worker) c.adopt.ensures.seat) c.adopt.ensures.carried (sym c.requires.section) next here own (c.requires.adopts l here)
-          c.in_ok-adopt.ensures.told (subst (λ f. Tracks lines shown (AreKnown kept f.items) worker done (section + 1) old.diary (carried_by old.seat)) (sym c.adopt.ensures.fresh) c.args.self.tracks);
+      tracks = Tracks-adoption _ _ _ _ _ _ _ place l _ _ _ _ (ap (λ (s : Seated). s.worker) c.adopt.ensures.seat) c.adopt.ensures.carried (sym c.requires.section) next here own
+          (c.requires.adopts l here) c.in_ok-adopt.ensures.told
+          (subst (λ f. Tracks lines g.J.Reading.shown (AreKnown g.K.Known.kept f.items) worker done (g.K.Known.section + 1) old.diary (carried_by old.seat))
+          (sym c.adopt.ensures.fresh) c.args.self.tracks);
     }

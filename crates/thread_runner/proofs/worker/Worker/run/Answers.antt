@@ -5,16 +5,11 @@ use Rattle.thread_runner.proofs.worker.Worker.run.Goals as goal
 
 pub loop-init : goal.loop-init
 loop-init g c =
-    let lines = g.J.Reading.lines in
-    let shown = g.J.Reading.shown in
-    let kept = g.K.Known.kept in
-    let section = g.K.Known.section in
     let caller = c.args.self.caller in
-    let later = c.reserve.new.self in
     record {
-      tracks = Tracks-kept lines shown (AreKnown kept later.fresh.items) caller.seat.worker later.seat.worker c.args.self.done section caller.diary later.diary
-          (carried_by caller.seat) (carried_by later.seat) (ap (λ (s : Seated). s.worker) c.reserve.ensures.seat) c.in_ok-reserve.ensures.told c.reserve.ensures.carried
-          (subst (λ f. Tracks lines shown (AreKnown kept f.items) caller.seat.worker c.args.self.done section caller.diary (carried_by caller.seat)) (sym c.reserve.ensures.fresh) c.args.self.tracks);
+      tracks = Tracks-kept _ _ _ _ _ _ _ _ _ _ _ (ap (λ (s : Seated). s.worker) c.reserve.ensures.seat) c.in_ok-reserve.ensures.told c.reserve.ensures.carried
+          (subst (λ f. Tracks g.J.Reading.lines g.J.Reading.shown (AreKnown g.K.Known.kept f.items) caller.seat.worker c.args.self.done
+          g.K.Known.section caller.diary (carried_by caller.seat)) (sym c.reserve.ensures.fresh) c.args.self.tracks);
       section = ap (λ (s : Seated). s.section) c.reserve.ensures.seat ∙ c.args.self.section;
       rows = ap (λ (s : Seated). s.table.rows) c.reserve.ensures.seat ∙ c.args.self.rows;
       columns = ap (λ (s : Seated). s.table.columns) c.reserve.ensures.seat ∙ c.args.self.columns;
@@ -24,9 +19,7 @@ pub loop-preserved : goal.loop-preserved
 loop-preserved g c =
     let text = c.args.self.text.now in
     let lines = g.J.Reading.lines in
-    let shown = g.J.Reading.shown in
     let kept = g.K.Known.kept in
-    let section = g.K.Known.section in
     let told = c.args.told.now in
     let place = c.in-Some.place in
     let worker = c.loop.caller.seat.worker in
@@ -39,9 +32,7 @@ loop-preserved g c =
     let of_section = subst (λ n. Tells n worker (place + 6) (asked_at (take place lines) l) (AreKnown kept old.fresh.items)
     (AreKnown kept new.fresh.items) old.diary new.diary (carried_by old.seat) (carried_by new.seat)) c.loop.invariant.section of_trace in
     record {
-      tracks = Tracks-line lines shown (AreKnown kept old.fresh.items)
-          (AreKnown kept new.fresh.items) section worker new.seat.worker c.loop.done place l old.diary new.diary (carried_by old.seat)
-          (carried_by new.seat) (ap (λ (s : Seated). s.worker) c.line.ensures.seat)
+      tracks = Tracks-line _ _ _ _ _ _ _ _ place l _ _ _ _ (ap (λ (s : Seated). s.worker) c.line.ensures.seat)
           (sym (told.one place (omega (arith, c.if-place-told.false)) c.in-Some.ensures.above)) (subst (λ ls. slice_get (places_of worker ls) c.loop.done ≡ Some place) c.args.self.reads next)
           (subst (λ ls. slice_get ls place ≡ Some l) c.args.self.reads here) own (c.in_ok-line.ensures.call l here) of_section c.loop.invariant.tracks;
       section = ap (λ (s : Seated). s.section) c.line.ensures.seat ∙ c.loop.invariant.section;
