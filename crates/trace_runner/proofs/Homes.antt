@@ -1,5 +1,5 @@
 -- The shards that open the spans of the keys which puts give out.
-use Rattle.trace_runner.proofs.Names.{◌≡◌, ◌⊎◌, ◌∙◌, ◌<◌, ◌≤◌, ◌++◌, ◌∷◌, [], ℕ, List, Some, length, refl, sym, ap, subst, arith, inl, inr, slice_get, AllByRecursion, cases_Bool, cases_lt, slice_get_past, slice_get_within, SpanId, class_of, Value, Class, Key, Puts, ShardState, HasSoundGroups, IsSound, CoreState, opened_by, opened_of, Limits, CoreRun, CoreStep, Event, Put, Reply, Issued, limits-CoreStep, AreHome, IsHome, is_put, keys_of, CalledEvent, Called, Made, all_called, events_of, replies_of, IsAnswered, key_given}
+use Rattle.trace_runner.proofs.Names.{◌≡◌, ◌⊎◌, ◌∙◌, ◌<◌, ◌≤◌, ◌++◌, ◌∷◌, [], ℕ, List, Some, length, refl, sym, ap, subst, arith, inl, inr, slice_get, AllByRecursion, cases_Bool, cases_lt, slice_get_past, slice_get_within, SpanId, class_of, Value, Class, Key, Puts, ShardState, HasSoundGroups, IsSound, CoreState, opened_by, opened_of, Limits, CoreRun, CoreStep, Event, Put, Reply, Issued, limits-CoreStep, AreHome, IsHome, is_put, keys_of, CalledEvent, Called, Made, all_called, events_of, replies_of, IsAnswered, key_given, rules}
 use Rattle.shard.specs.Group.{GroupState}
 use Rattle.groups.specs.Pages.{put_group}
 use Rattle.arena_core.specs.Moved.{StandsIn}
@@ -61,8 +61,7 @@ each-parts P [] ys all = (tt, all)
 each-parts P (x ∷ xs) ys all = let parts = each-parts P xs ys all.1 in ((all.0, parts.0), parts.1)
 
 home-given : (shards : ℕ) (called : List CalledEvent) → AllByRecursion (IsGivenHome shards) called → IsHome shards (key_given called)
-home-given shards (Called event (Issued key) core ∷ called) all = all.0
-home-given shards called all = tt
+home-given shards called all = search rules
 
 AreHome-keys_of : (shards : ℕ) (made : List Made) → AllByRecursion (IsGivenHome shards) (all_called made) → AreHome shards (keys_of made)
 AreHome-keys_of shards [] all = tt

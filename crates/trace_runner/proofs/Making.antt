@@ -1,5 +1,5 @@
 -- Calls that are made one after another.
-use Rattle.trace_runner.proofs.Names.{◌≡◌, ℕ, Bool, true, false, cond, length, arith, List, [], ◌∷◌, ◌++◌, map, refl, sym, ap, subst, ◌∙◌, flat_map-append, map-append, length-map, limits-CoreRun, each-append, CoreState, shown, Limits, CoreStep, CoreRun, ErasedStep, PlainRun, erased, is_plain, IsSound, Asked, Calls, CalledEvent, Called, Made, IsAsAsked, all_called, asked_of, core_called, event_called, events_of, no_call, one_call, replies_of, reply_called, News, with_all_made, with_called, with_made, Kept, keeping, Carries, Makes, MakesLine, news_at, settling_with, AreSteps, Happens, IsAnswered, IsCallTold, IsTold, ends_asked, plan_end_asked, rings_asked, stepping, Plans, Event, Put, Get, Set, Free, Later, Settle, End, Adopt, Mark, ShardEnded, Reply, PlainMap}
+use Rattle.trace_runner.proofs.Names.{◌≡◌, ℕ, Bool, cond, length, arith, List, [], ◌∷◌, ◌++◌, map, refl, sym, ap, subst, ◌∙◌, flat_map-append, map-append, length-map, limits-CoreRun, each-append, CoreState, shown, Limits, CoreStep, CoreRun, ErasedStep, PlainRun, erased, is_plain, IsSound, Asked, Calls, CalledEvent, Called, Made, IsAsAsked, all_called, asked_of, core_called, event_called, events_of, no_call, one_call, replies_of, reply_called, News, with_all_made, with_called, with_made, Kept, keeping, Carries, Makes, MakesLine, news_at, settling_with, AreSteps, Happens, IsAnswered, IsCallTold, IsTold, ends_asked, plan_end_asked, rings_asked, stepping, Plans, Event, End, Adopt, Mark, ShardEnded, Reply, PlainMap, rules}
 use Rattle.std.proofs.lemmas.List.Sums.{fold-append}
 use Rattle.trace_runner.proofs.Recalling.{keeping-append, keeping-none}
 use Rattle.trace_text.specs.declared.line.Call.{Call}
@@ -16,8 +16,7 @@ PlainRun-append limits a b c (step ∷ first) second (mid, here, before) after =
 
 -- what is erased of a list that goes on
 cond-append : (b : Bool) (step : Event × Reply) (first second : List (Event × Reply)) → cond b (step ∷ (first ++ second)) (first ++ second) ≡ cond b (step ∷ first) first ++ second
-cond-append true step first second = refl
-cond-append false step first second = refl
+cond-append b step first second = search rules
 
 erased-append : (es fs : List Event) (rs ss : List Reply) → length es ≡ length rs → erased (es ++ fs) (rs ++ ss) ≡ erased es rs ++ erased fs ss
 erased-append [] fs [] ss same = refl
@@ -43,13 +42,7 @@ all_called-append first second = flat_map-append (λ (m : Made). m.called) first
 
 -- one event, as the plain map has it
 erased-one : (limits : Limits) (a b : PlainMap) (event : Event) (reply : Reply) → ErasedStep limits a event reply b → PlainRun limits a (erased (event ∷ []) (reply ∷ [])) b
-erased-one limits a b (Put shard value) reply step = (b, step, refl)
-erased-one limits a b (Get key) reply step = (b, step, refl)
-erased-one limits a b (Set key value) reply step = (b, step, refl)
-erased-one limits a b (Free key) reply step = (b, step, refl)
-erased-one limits a b (Later worker key) reply step = (b, step, refl)
-erased-one limits a b (Settle worker shard) reply step = (b, step, refl)
-erased-one limits a b event reply step = step
+erased-one limits a b event reply step = search rules
 
 pub AreSteps-none : (core : CoreState) → AreSteps core [] core
 AreSteps-none core = record { each = tt; last = refl; core = refl; plain = refl; told = tt }

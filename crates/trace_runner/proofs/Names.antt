@@ -22,10 +22,10 @@ pub use Rattle.arena_core.specs.Sound.{HasSoundGroups, IsSound}
 pub use Rattle.arena_core.specs.State.{CoreState, with_rings, opened_by, opened_of, shown, HasKeys, live_keys, new_shard, pages, with_shard}
 pub use Rattle.arena_core.specs.Step.{CoreStep, CoreRun}
 pub use Rattle.arena_core.specs.declared.event.Event.{Event}
-pub use Rattle.arena_core.specs.declared.event.Event.TheVariants.{Free, Settle, Put, Get, Set, Later, End, Adopt, Mark, Begin, Retire, Trim, Step}
+pub use Rattle.arena_core.specs.declared.event.Event.TheVariants.{Free, Settle, Put, Get, Set, Later, End, Adopt, Mark, Begin, Retire, Trim}
 pub use Rattle.arena_core.specs.declared.reply.Refusal.{Refusal}
 pub use Rattle.arena_core.specs.declared.reply.Reply.{Reply}
-pub use Rattle.arena_core.specs.declared.reply.Reply.TheVariants.{Freed, Settled, Issued, ShardEnded, Found, Replaced, Sent, ShardBegun, Retired, Trimmed, Adopted, Refused, Marked, Stepped}
+pub use Rattle.arena_core.specs.declared.reply.Reply.TheVariants.{Freed, Settled, Issued, ShardEnded, Found, Replaced, Sent, ShardBegun, Retired, Trimmed, Adopted, Refused}
 pub use Rattle.marks.specs.Numbers.{Limits}
 pub use Rattle.pool.specs.State.{PoolState}
 pub use Rattle.shard.specs.Calls.{Puts, Frees, Sets}

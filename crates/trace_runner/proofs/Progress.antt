@@ -1,5 +1,5 @@
 -- One more line is run.
-use Rattle.trace_runner.proofs.Names.{◌≡◌, ℕ, ◌+◌, ◌<◌, ◌≤◌, ◌==◌, ◌&&◌, ◌||◌, nat_lt, nat_le, not, Bool, true, false, filter, List, [], ◌∷◌, ◌++◌, length, take, Some, None, slice_get, refl, sym, ap, ap₂, subst, ◌∙◌, arith, inl, inr, append_assoc, length-append, add-zero, take-length, flat_map, range_with_len, option_map_or, and_parts, cases_Bool, eqb-true, not-true, nat_tests, flat_map-append, filter-append, append-nil, length-map, length_push, and-true, CoreState, Limits, limits-CoreRun, each-append, begins, begins_again, comes_early, ends, has_ended, first_cause, is_abandoned, is_adopt, is_call, is_call_of, reads_early, thread_of, CanLeave, Carries, TurnsBelow, HasCome, IsReady, KnowsPlan, MakesLine, Serves, news_at, settling_with, AreHome, FindsAt, IsHome, Kept, keeping, kept_none, keys_of, place_at, told_of, Did, all_made, asked_of, made_by, News, news_of, no_news, with_all_made, with_answers, with_line, DoLines, Does, IsRun, asked_by, calls_at, calls_in, ends_asked, plan_end_asked, pairs_left_of, planning_at, rings_asked, settling_at, Plans, Header, Line, all_fine}
+use Rattle.trace_runner.proofs.Names.{◌≡◌, ℕ, ◌+◌, ◌<◌, ◌≤◌, ◌==◌, ◌&&◌, ◌||◌, nat_lt, nat_le, not, Bool, true, false, filter, List, [], ◌∷◌, ◌++◌, length, take, Some, None, slice_get, refl, sym, ap, ap₂, subst, ◌∙◌, arith, inl, inr, append_assoc, length-append, add-zero, take-length, flat_map, range_with_len, option_map_or, and_parts, cases_Bool, eqb-true, not-true, nat_tests, flat_map-append, filter-append, append-nil, length-map, length_push, and-true, CoreState, Limits, limits-CoreRun, each-append, begins, begins_again, comes_early, ends, has_ended, first_cause, is_abandoned, is_adopt, is_call, is_call_of, reads_early, thread_of, CanLeave, Carries, TurnsBelow, HasCome, IsReady, KnowsPlan, MakesLine, Serves, news_at, settling_with, AreHome, FindsAt, IsHome, Kept, keeping, kept_none, keys_of, place_at, told_of, Did, all_made, asked_of, made_by, News, news_of, no_news, with_all_made, with_answers, with_line, DoLines, Does, IsRun, asked_by, calls_at, calls_in, ends_asked, plan_end_asked, pairs_left_of, planning_at, rings_asked, settling_at, Plans, Header, Line, all_fine, rules}
 use Rattle.std.specs.Option.{option_map}
 use Rattle.trace_runner.specs.Barrier.{leavers}
 use Rattle.trace_text.specs.Barrier.{is_barrier, open_lines}
@@ -22,8 +22,7 @@ all_made-push : (done : List Did) (did : Did) → all_made (done ++ did ∷ []) 
 all_made-push done did = flat_map-append made_by done (did ∷ []) ∙ ap (λ l. all_made done ++ l) (append-nil (made_by did))
 
 and_false : (b : Bool) → (b && not true) ≡ false
-and_false true = refl
-and_false false = refl
+and_false b = search rules
 
 -- a shard has ended where its thread ended above and does not wait, one line later
 flags : (above waits ends barrier : Bool) → (barrier ≡ true → ends ≡ false) → (waits ≡ true → above ≡ true) → (ends ≡ true → above ≡ false)
@@ -42,19 +41,15 @@ flags_turned above waits ends barrier true bound waiting fresh = refl
 flags_turned above waits ends barrier false bound waiting fresh = flags above waits ends barrier bound waiting fresh
 
 waits_turned : (waits ends begins : Bool) → (ends ≡ true → begins ≡ false) → (begins ≡ true → waits ≡ false) → (ends || waits) ≡ (not begins && (ends || waits))
-waits_turned waits ends false apart rests = refl
-waits_turned waits true true apart rests = let bad = apart refl in cc
-waits_turned waits false true apart rests = rests refl
+waits_turned waits ends begins apart rests = search (rules, cases_Bool)
 
 -- a call that begins again and comes in time is of a thread that rests
 in_time : (begins rests reads : Bool) → ((begins && not rests) || reads) ≡ false → begins ≡ true → rests ≡ true
-in_time true true reads e is = refl
-in_time begins rests reads e is = cc
+in_time begins rests reads e is = search rules
 
 -- a line of a barrier ends no thread
 ends-barrier : (l : Line) (t : ℕ) → is_barrier l ≡ true → ends t l ≡ false
-ends-barrier (line.Call thread call) t e = cc
-ends-barrier l t e = refl
+ends-barrier l t e = search rules
 
 module _ (h : Header) (above : List Line) (l : Line) (fine : first_cause h above l ≡ None) where
   -- the thread of a line has not ended above it, and is one of the header's
@@ -81,8 +76,7 @@ ends-thread l t e = cc
 
 -- and that line does not let it begin again
 ends-runs : (l : Line) (t : ℕ) → ends t l ≡ true → is_call begins_again l ≡ false
-ends-runs (line.Call thread End) t e = refl
-ends-runs l t e = cc
+ends-runs l t e = search rules
 
 -- a thread that a line lets begin again is the line's
 begins-thread : (l : Line) (t : ℕ) → begins t l ≡ true → (thread_of l ≡ Some t) × (is_call begins_again l ≡ true)

@@ -35,12 +35,10 @@ told_of-append true number first second = sym
 told_of-append false number first second = refl
 
 told_of-none : (asked : Bool) (number : ℕ) → told_of asked number [] ≡ []
-told_of-none true number = refl
-told_of-none false number = refl
+told_of-none asked number = search rules
 
 told_of-one : (asked : Bool) (number : ℕ) (m : Made) → told_of asked number (m ∷ []) ≡ cond asked (answer_line (on_line number m)) []
-told_of-one true number m = append-nil (answer_line (on_line number m))
-told_of-one false number m = refl
+told_of-one asked number m = search rules
 
 pub keeping-none : (number : ℕ) (kept : Kept) → keeping number kept [] ≡ kept
 keeping-none number kept =
@@ -223,8 +221,7 @@ module _ (above : List Line) (l : Line) (done : List Did) (did : Did) (keys : Li
 -- ---- what a line reads
 
 either_left : {X : Type 0} (o p : Option X) (x : X) → o ≡ Some x → option_or o p ≡ Some x
-either_left None p x e = cc
-either_left (Some y) p x e = e
+either_left o p x e = search rules
 
 binding_from-front : (place section first : ℕ) (name : List ℕ) (front back : List Line) (b : Binding) → binding_from place section first name front ≡ Some b
     → binding_from place section first name (front ++ back) ≡ Some b

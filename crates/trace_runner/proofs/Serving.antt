@@ -64,8 +64,7 @@ ended-Retires old new shard left most count retires = ended-MovesSparse count (w
 
 -- what holds of both answers of a put holds of the reply that its answer stands for
 pub reply_to_put-each : (P : Reply → Type 0) (put : Result Key Refusal) → MatchResult put (λ key. P (Issued key)) (λ refusal. P (Refused refusal)) → P (reply_to_put put)
-reply_to_put-each P (Ok key) is = is
-reply_to_put-each P (Err refusal) is = is
+reply_to_put-each P put is = search rules
 
 -- a call of a line ends no shard, and leaves the plan
 pub KeepsPlan-step : (old new : CoreState) (event : Event) (reply : Reply) → MayCall old event → CoreStep old event reply new → KeepsPlan old new
@@ -145,9 +144,7 @@ KeepsPlan-put old new shard value put may step = KeepsPlan-step old new (Put sha
 pub IsSetServed-step : (old new : CoreState) (key : Key) (value : Value) (answer : Result Bool Refusal)
     → MatchResult answer (λ done. CoreStep old (Set key value) (Replaced done) new) (λ refusal. CoreStep old (Set key value) (Refused refusal) new)
     → IsSetServed answer
-IsSetServed-step old new key value (Ok done) step = tt
-IsSetServed-step old new key value (Err OutOfMemory) step = tt
-IsSetServed-step old new key value (Err cause) step = absurd step
+IsSetServed-step old new key value answer step = search rules
 
 pub KeepsPlan-set : (old new : CoreState) (key : Key) (value : Value) (answer : Result Bool Refusal)
     → MatchResult answer (λ done. CoreStep old (Set key value) (Replaced done) new) (λ refusal. CoreStep old (Set key value) (Refused refusal) new)

@@ -1,11 +1,9 @@
 -- What is told, one line more.
-use Rattle.trace_runner.proofs.Names.{◌≡◌, ℕ, ◌+◌, Bool, List, [], ◌∷◌, ◌++◌, length, refl, sym, ap, ◌∙◌, arith, add-zero, fold, Mark, Step, Marked, Stepped, CalledEvent, Called, Did, Made, News, news_from, news_of, no_news, with_all_made, with_called, with_line, with_made}
+use Rattle.trace_runner.proofs.Names.{◌≡◌, ℕ, ◌+◌, Bool, List, [], ◌∷◌, ◌++◌, length, refl, sym, ap, ◌∙◌, arith, add-zero, fold, CalledEvent, Did, Made, News, news_from, news_of, no_news, with_all_made, with_called, with_line, with_made, rules}
 
 -- whether replies are asked for stays
 replies-called : (n : News) (called : CalledEvent) → (with_called n called).replies ≡ n.replies
-replies-called n (Called Step (Stepped abandoned owned outcome) core) = refl
-replies-called n (Called Mark (Marked c) core) = refl
-replies-called n called = refl
+replies-called n called = search rules
 
 replies-all_called : (n : News) (called : List CalledEvent) → (fold with_called n called).replies ≡ n.replies
 replies-all_called n [] = refl
