@@ -1,12 +1,10 @@
 -- The threads that have ended, and those that wait for a barrier, one line more.
-use Rattle.trace_text.proofs.Names.{◌≡◌, ℕ, ◌&&◌, ◌||◌, not, Bool, true, false, cond, List, [], ◌∷◌, ◌++◌, Option, Some, reverse, refl, ap, ◌∙◌, rules, find, take_while, option_map_or, reverse-append, reverse-reverse, take_while-cons, cases_Bool, begins, ends, has_ended, Begin, Line}
+use Rattle.trace_text.proofs.Names.{◌≡◌, ℕ, ◌&&◌, ◌||◌, not, Bool, true, false, cond, List, [], ◌∷◌, ◌++◌, Option, Some, reverse, refl, ap, ◌∙◌, rules, find, take_while, option_map_or, reverse-append, reverse-reverse, take_while-cons, cases_Bool, begins, ends, has_ended, Line}
 use Rattle.trace_text.specs.Barrier.{is_barrier, open_lines}
-use Rattle.trace_text.specs.declared.line.Line.TheVariants as line
 
 -- a line that ends a thread lets none begin
 pub begins-ending : (t : ℕ) (l : Line) → ends t l ≡ true → begins t l ≡ false
-begins-ending t (line.Call thread Begin) e = cc
-begins-ending t l e = refl
+begins-ending t l e = search rules
 
 -- whether the last line by which the thread turns is an end, by what the line does
 turned : (t : ℕ) (l : Line) (o : Option Line) (end begin : Bool) → ends t l ≡ end → (end ≡ true → begin ≡ false)

@@ -1,33 +1,28 @@
 -- Sets with the class that lines bind their keys with.
-use Rattle.trace_text.proofs.Names.{◌≡◌, ℕ, cond, List, Option, Some, None, option_map, refl, ap, option_map_or, C16, clip, binding_of, class_named, classed, is_call, is_of_kind, HasForm, clip_reference, clip_line, is_value_over, Version, Reference, Binding, Put, Set, Keys, One, Line}
+use Rattle.trace_text.proofs.Names.{◌≡◌, ℕ, cond, List, Option, Some, None, option_map, refl, ap, option_map_or, C16, clip, binding_of, class_named, classed, is_call, is_of_kind, HasForm, clip_reference, clip_line, is_value_over, Version, Reference, Binding, Set, Keys, Line, rules}
 use Rattle.trace_text.specs.declared.line.Line.TheVariants as line
 use Rattle.trace_text.proofs.Lines.{plain}
 
 -- the class of a set is in none of its words
 pub HasForm-classed : (version : Version) (before : List Line) (bytes : List ℕ) (w : Line) → HasForm version w bytes → HasForm version (classed before w) bytes
-HasForm-classed version before bytes (line.Call t (Put name class v)) form = form
-HasForm-classed version before bytes w form = form
+HasForm-classed version before bytes w form = search rules
 
 -- a class that is given twice is the one that is given once
 pub classed-again : (before : List Line) (w : Line) → classed before (classed before w) ≡ classed before w
-classed-again before (line.Call t (Put name class v)) = refl
-classed-again before w = refl
+classed-again before w = search rules
 
 -- and the one that stood there before is nothing to it
 pub classed-plain : (before : List Line) (w : Line) → classed before (plain w) ≡ classed before w
-classed-plain before (line.Call t (Put name class v)) = refl
-classed-plain before w = refl
+classed-plain before w = search rules
 
 -- a value is over in any class
 pub value_over-classed : (before : List Line) (w : Line) → is_call is_value_over (classed before w) ≡ is_call is_value_over w
-value_over-classed before (line.Call t (Put name class v)) = refl
-value_over-classed before w = refl
+value_over-classed before w = search rules
 
 -- ---- clipping an index changes no class
 
 is_of_kind-clip : (i : Option ℕ) (keys : Keys) → is_of_kind (option_map clip i) keys ≡ is_of_kind i keys
-is_of_kind-clip None One = refl
-is_of_kind-clip i keys = refl
+is_of_kind-clip i keys = search rules
 
 same_class : (i : Option ℕ) (o : Option Binding)
     → option_map_or (λ (b : Binding). cond (is_of_kind (option_map clip i) b.keys) b.class C16) o C16

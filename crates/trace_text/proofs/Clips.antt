@@ -1,5 +1,5 @@
 -- Clipping a number changes no cause.
-use Rattle.trace_text.proofs.Names.{◌≡◌, ℕ, ◌+◌, ◌-◌, ◌^◌, ◌≤◌, ◌&&◌, ◌||◌, not, nat_lt, nat_le, Bool, true, false, List, [], ◌∷◌, Option, Some, None, option_map, arith, refl, sym, ap, ap₂, ◌∙◌, inl, inr, rules, option_map_or, nat_tests, and_parts, cases_Bool, IsInRange, IsWithinLimits, last_word, Class, width_of-least, clip, clip_reference, clip_call, clip_line, is_value_over, IsFew, Few, begins_again, bound_name, read_name, has_key, has_range, has_keys, binding_of, first_cause, is_call, is_call_over, reads_unknown, holds, MOST_SHARDS, Header, Reference, Call, Put, Fill, Get, Set, Free, Sweep, Later, Retire, Line, Keys, One, Many, Binding, Cause}
+use Rattle.trace_text.proofs.Names.{◌≡◌, ℕ, ◌+◌, ◌-◌, ◌^◌, ◌≤◌, ◌&&◌, ◌||◌, not, nat_lt, nat_le, Bool, true, false, List, [], ◌∷◌, Option, Some, None, option_map, arith, refl, sym, ap, ap₂, ◌∙◌, inl, inr, rules, option_map_or, nat_tests, and_parts, cases_Bool, IsInRange, IsWithinLimits, last_word, Class, width_of-least, clip, clip_reference, clip_call, clip_line, is_value_over, IsFew, Few, begins_again, bound_name, read_name, has_key, has_range, has_keys, binding_of, first_cause, is_call, is_call_over, reads_unknown, holds, MOST_SHARDS, Header, Reference, Call, Fill, Get, Set, Free, Sweep, Later, Retire, Line, Keys, One, Many, Binding, Cause}
 use Rattle.std.proofs.Common.{find}
 use Rattle.trace_text.proofs.Tests.{chosen}
 use Rattle.std.proofs.Math.Bool.{and-false}
@@ -65,42 +65,28 @@ has_range-clip from to One few = refl
 has_range-clip from to (Many n) few = clip-range from to n few
 
 has_keys-clip : (c : Call) (keys : Keys) → IsFew keys → has_keys (clip_call c) keys ≡ has_keys c keys
-has_keys-clip (Get key) keys few = has_key-clip key.index keys few
-has_keys-clip (Set key class v) keys few = has_key-clip key.index keys few
-has_keys-clip (Free key) keys few = has_key-clip key.index keys few
-has_keys-clip (Sweep name from to) keys few = has_range-clip from to keys few
-has_keys-clip (Later key) keys few = has_key-clip key.index keys few
-has_keys-clip c keys few = refl
+has_keys-clip c keys few = search (rules, has_key-clip, has_range-clip)
 
 read_name-clip : (c : Call) → read_name (clip_call c) ≡ read_name c
-read_name-clip (Put name class v) = refl
-read_name-clip c = refl
+read_name-clip c = search rules
 
 bound_name-clip : (c : Call) → bound_name (clip_call c) ≡ bound_name c
-bound_name-clip (Put name class v) = refl
-bound_name-clip c = refl
+bound_name-clip c = search rules
 
 begins_again-clip : (c : Call) → begins_again (clip_call c) ≡ begins_again c
-begins_again-clip (Put name class v) = refl
-begins_again-clip c = refl
+begins_again-clip c = search rules
 
 over-clip : (before : List Line) (c : Call) → is_call_over before (clip_call c) ≡ is_call_over before c
-over-clip before (Fill name class n v) = clip-count class n v
-over-clip before (Retire most) = clip-most most
-over-clip before c = refl
+over-clip before c = search (rules, clip-count, clip-most)
 
 -- a value that is over makes its call so
 pub over-value : (before : List Line) (w : Line) → is_call is_value_over w ≡ true → is_call (is_call_over before) w ≡ true
-over-value before (line.Call t (Put name class v)) over = word-over class v over
-over-value before (line.Call t (Fill name class n v)) over = last-over class n v over
-over-value before (line.Call t (Set key class v)) over = word-over class v over
-over-value before w over = cc
+over-value before w over = search (rules, word-over, last-over)
 
 -- ---- causes
 
 same_keys : (c : Call) (o : Option Binding) → ((b : Binding) → o ≡ Some b → IsFew b.keys) → option_map_or (λ b. has_keys (clip_call c) b.keys) o false ≡ option_map_or (λ b. has_keys c b.keys) o false
-same_keys c None few = refl
-same_keys c (Some b) few = has_keys-clip c b.keys (few b refl)
+same_keys c o few = search (rules, has_keys-clip)
 
 same_unknown : (before : List Line) (c : Call) (o : Option (List ℕ)) → Few before
     → option_map_or (λ name. not (option_map_or (λ b. has_keys (clip_call c) b.keys) (binding_of name before) false)) o false

@@ -109,8 +109,7 @@ words_found version (a ∷ b ∷ c ∷ d ∷ f ∷ []) w e = thread_found versio
 words_found version words w e = cc
 
 says_form : (version : Version) (bytes : List ℕ) (w : Line) → SaysLine version w (words_of bytes) → HasForm version w bytes
-says_form version bytes line.Silent says = absurd says
-says_form version bytes w says = says
+says_form version bytes w says = search rules
 
 silent_found : (version : Version) (bytes : List ℕ) (w : Line) → (bytes ≡ []) ⊎ ((remark : List ℕ) × (bytes ≡ 35 ∷ remark)) → Some line.Silent ≡ Some w → HasForm version w bytes
 silent_found version bytes w is e = let same : line.Silent ≡ w = cc in let P : Line → Type 0 = λ v. HasForm version v bytes in subst P same is

@@ -1,5 +1,5 @@
 -- The places of the lines, one line more.
-use Rattle.trace_text.proofs.Names.{◌≡◌, ℕ, zero, suc, List, [], ◌∷◌, ◌++◌, take, Option, Some, None, Ok, Err, slice_get, refl, sym, ap, ◌∙◌, append_assoc, place_at, places_from, unless, Cause, Line}
+use Rattle.trace_text.proofs.Names.{◌≡◌, ℕ, zero, suc, List, [], ◌∷◌, ◌++◌, take, Option, Some, None, Ok, Err, slice_get, sym, ap, ◌∙◌, append_assoc, place_at, places_from, unless, Cause, Line, rules}
 use Rattle.std.proofs.lemmas.List.{append-nil}
 
 places_from-push : (before ls : List Line) (l : Line) → places_from before (ls ++ l ∷ []) ≡ places_from before ls ++ place_at (before ++ ls) l ∷ []
@@ -17,10 +17,8 @@ slice_get-places before (m ∷ ms) (suc n) l here = slice_get-places (before ++ 
 
 -- a place comes where no cause holds
 pub unless-ok : (o : Option Cause) (place found : ℕ) → unless o place ≡ Ok found → (o ≡ None) × (found ≡ place)
-unless-ok None place found e = (refl, cc)
-unless-ok (Some c) place found e = cc
+unless-ok o place found e = search rules
 
 -- and else the cause
 pub unless-err : (o : Option Cause) (place : ℕ) (said : Cause) → unless o place ≡ Err said → o ≡ Some said
-unless-err None place said e = cc
-unless-err (Some c) place said e = cc
+unless-err o place said e = search rules

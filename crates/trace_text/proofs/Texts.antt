@@ -16,8 +16,7 @@ AreReadAs-push h before texts lines bytes l all next = absurd all
 
 -- what is kept of a line that has a form
 within_ok : (form : Option Line) (l : Line) → within form ≡ Ok l → (w : Line) × (form ≡ Some w) × (clip_line w ≡ l)
-within_ok None l e = cc
-within_ok (Some w) l e = search (rules, chosen)
+within_ok form l e = search (rules, chosen)
 
 within_err : (form : Option Line) (c : Cause) → within form ≡ Err c → ((form ≡ None) × (c ≡ cause.Form)) ⊎ ((w : Line) × (form ≡ Some w) × (is_call is_value_over w ≡ true) × (c ≡ cause.Limit))
 within_err None c e = inl (refl, cc)
