@@ -1,5 +1,5 @@
 -- How many replies there are, by thread and in all.
-use Rattle.thread_runner.proofs.Names.{◌≡◌, ◌∙◌, ◌+◌, ◌++◌, ◌==◌, ◌<◌, ◌≤◌, ℕ, Bool, true, false, List, [], ◌∷◌, Some, ap, arith, length, length-append, refl, slice_get, subst, suc, sym, take, zero, zero-add, add-zero, inl, inr, nat_le, if◌then◌else◌, sum_by, option_map_or, eqb_tells, nat_tests, sum_by-cons, all_fine, IsSound, Header, Call, Line, SeatState, carried_by, AreDiaries, IsDiaryOf, Diary, GivenKeys, is_line_of, places_from, places_of, replies_at, replies_in, replies_on}
+use Rattle.thread_runner.proofs.Names.{◌≡◌, ◌∙◌, ◌+◌, ◌++◌, ◌==◌, ◌<◌, ◌≤◌, ℕ, Bool, true, false, List, [], ◌∷◌, Some, ap, arith, length, length-append, refl, slice_get, subst, suc, sym, take, zero, zero-add, add-zero, inl, inr, nat_le, if◌then◌else◌, sum_by, option_map_or, eqb_tells, nat_tests, sum_by-cons, all_fine, IsSound, Header, Call, Line, SeatState, carried_by, AreDiaries, IsDiaryOf, Diary, GivenKeys, is_line_of, places_from, places_of, replies_at, replies_in, replies_on, rules}
 use Rattle.trace_text.specs.declared.line.Line.TheVariants as line
 use Rattle.thread_runner.specs.Asked.{replies_by as replies_by_call}
 
@@ -40,8 +40,7 @@ below-nothing f zero none = refl
 below-nothing f (suc n) none = omega (arith, below-nothing f n none, none n)
 
 nothing-either : (b : Bool) → let nothing : ℕ = 0 in (if b then nothing else nothing) ≡ nothing
-nothing-either true = refl
-nothing-either false = refl
+nothing-either b = search rules
 
 below-none : (n : ℕ) → below (λ k. 0) n ≡ 0
 unfolding below

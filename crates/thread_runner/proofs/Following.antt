@@ -1,5 +1,5 @@
 -- What a thread was told follows its lines, line after line.
-use Rattle.thread_runner.proofs.Names.{counted_from, kept_receipts, slice_index_or, add-zero, ◌≡◌, ◌∙◌, ◌+◌, ◌-◌, ◌++◌, ◌≤◌, ℕ, Bool, true, false, List, [], ◌∷◌, Some, ap, append-nil, length, refl, slice_get, subst, sym, take, filter, flat_map, range_with_len, sum_by, IsPermutation, option_map_or, flat_map-append, length-map, take_all, filter-append, length-range_with_len, IsPermutation-append_left, IsPermutation-refl, IsPermutation-trans, sum_by_push, joined, SeatState, Table, Key, is_adopt, keys_in, marks, Call, Line, AreAnswers, Frees, GivenKeys, Outcome, Puts, Said, asked_at, asked_by, is_adoption, is_line_of, places_of, replies_at, replies_by, replies_on, AnswersLine, ArePassages, AtBarrier, AtLine, Carried, FollowsLines, IsPassage, Passage, barriers_after, carried_by, entries_in, entries_on, is_of_shard, places_in, receipts_from, receipts_in, sent_by, sent_in, taken_by, taken_in, Carries, Grows, HaveNothing, IsDiaryOf, IsEmptyDiary, Rests, TellsTending, Tells, TellsAdoption, Tracks, voice_of, Diary, take_more, AreResting, IsResting, Resting}
+use Rattle.thread_runner.proofs.Names.{counted_from, kept_receipts, slice_index_or, add-zero, ◌≡◌, ◌∙◌, ◌+◌, ◌-◌, ◌++◌, ◌≤◌, ℕ, Bool, true, false, List, [], ◌∷◌, Some, ap, append-nil, length, refl, slice_get, subst, sym, take, filter, flat_map, range_with_len, sum_by, IsPermutation, option_map_or, flat_map-append, length-map, take_all, filter-append, length-range_with_len, IsPermutation-append_left, IsPermutation-refl, IsPermutation-trans, sum_by_push, joined, SeatState, Table, Key, is_adopt, keys_in, marks, Call, Line, AreAnswers, Frees, GivenKeys, Outcome, Puts, Said, asked_at, asked_by, is_adoption, is_line_of, places_of, replies_at, replies_by, replies_on, AnswersLine, ArePassages, AtBarrier, AtLine, Carried, FollowsLines, IsPassage, Passage, barriers_after, carried_by, entries_in, entries_on, is_of_shard, places_in, receipts_from, receipts_in, sent_by, sent_in, taken_by, taken_in, Carries, Grows, HaveNothing, IsDiaryOf, IsEmptyDiary, Rests, TellsTending, Tells, TellsAdoption, Tracks, voice_of, Diary, take_more, AreResting, IsResting, Resting, rules}
 use Rattle.std.proofs.Math.Logic.{∥∥₁_map}
 use Rattle.trace_text.specs.Places.{first_of}
 use Rattle.trace_text.specs.declared.line.Call.TheVariants.{Fill, Sweep}
@@ -117,14 +117,11 @@ length-asked_by above (Sweep name from to) = length-map (range_with_len from (to
 length-asked_by above call = refl
 
 length-asked_at : (above : List Line) (l : Line) → is_adopt l ≡ false → length (asked_at above l) ≡ replies_at l
-length-asked_at above (line.Call thread call) is = length-asked_by above call
-length-asked_at above (line.Adopt shard) is = absurd cc
-length-asked_at above l is = refl
+length-asked_at above l is = search (rules, length-asked_by)
 
 -- an adoption has no reply that is counted
 replies_at-adopt : (l : Line) → is_adopt l ≡ true → replies_at l ≡ 0
-replies_at-adopt (line.Call thread call) is = absurd cc
-replies_at-adopt l is = refl
+replies_at-adopt l is = search rules
 
 -- the replies of a line are counted
 sum-place : (lines : List Line) (place : ℕ) (places : List ℕ) (l : Line) → slice_get lines place ≡ Some l

@@ -1,5 +1,5 @@
 -- What calls on keys are told, by what is known of the keys that puts gave.
-use Rattle.thread_runner.proofs.Names.{◌≡◌, ◌∙◌, ℕ, Bool, false, true, List, [], ◌∷◌, Option, None, Some, ap, refl, subst, sym, Value, free_receipt, get_receipt, put_receipt, set_receipt, Key, Receipt, Answers, Asked, Called, Frees, Gets, GivenKeys, IsKeptBack, IsSetTo, Outcome, Puts, Sets, is_look_up, entries_on, receipts_from, sent_by, taken_by, Carries, Grows, AreFresh, AreKnown, is_free, Given, TellsFrom, carried_by}
+use Rattle.thread_runner.proofs.Names.{◌≡◌, ◌∙◌, ℕ, Bool, true, List, [], ◌∷◌, Option, None, Some, ap, refl, subst, sym, Value, free_receipt, get_receipt, put_receipt, set_receipt, Key, Receipt, Answers, Asked, Called, Frees, Gets, GivenKeys, IsKeptBack, IsSetTo, Outcome, Puts, Sets, is_look_up, entries_on, receipts_from, sent_by, taken_by, Carries, Grows, AreFresh, AreKnown, is_free, Given, TellsFrom, carried_by, rules}
 use Rattle.span.specs.Receipts.{look_up, set as set_call}
 use Rattle.trace_runner.specs.declared.report.Other.TheVariants as other
 use Rattle.thread_runner.specs.declared.caller.Caller.{Caller}
@@ -45,8 +45,7 @@ Answers-put given section thread place value key receipt is known = (
 )
 
 is_look_up-look_up : (value : Option Value) → is_look_up (look_up value) ≡ true
-is_look_up-look_up None = refl
-is_look_up-look_up (Some value) = refl
+is_look_up-look_up value = search rules
 
 -- the receipt of a look-up
 pub Answers-get : (given : GivenKeys) (section thread place : ℕ) (value : Option Value) (key : Key) (receipt : Receipt)
@@ -58,8 +57,7 @@ Answers-get given section thread place value key receipt is known = (
 )
 
 IsSetTo-set : (value : Value) (done : Bool) → IsSetTo value (set_call value done)
-IsSetTo-set value true = refl
-IsSetTo-set value false = refl
+IsSetTo-set value done = search rules
 
 -- the receipt of a set
 pub Answers-set : (given : GivenKeys) (section thread place : ℕ) (value : Value) (done : Bool) (key : Key) (receipt : Receipt)

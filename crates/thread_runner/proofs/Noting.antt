@@ -1,5 +1,5 @@
 -- How the notes of a run go on.
-use Rattle.thread_runner.proofs.Names.{◌≡◌, ◌∙◌, ◌++◌, ◌+◌, ◌-◌, ◌<◌, ◌≤◌, ℕ, Bool, true, false, cond, List, [], ◌∷◌, Option, None, Some, ap, arith, drop, length, map, option_map, refl, slice_get, suc, subst, sym, zero, is_some, not, flat_map, take_while, option_map_or, flat_map-append, map-append, take_all, fold-append, take_while-cons, slice_get_within, each-append, drop_step, Line, AreNotesTo, IsCarriedOut, IsMarkMade, MarkMade, PlanMade, barrier_from, certificate_after, is_mark, is_mark_at, mark_notes, mark_number, marks_above, note_at, note_closed, note_planned, place_marked, plan_notes, taken_pair, text_after, HaveCome, pairs_done, pairs_left, plan_pairs, Note, take_more}
+use Rattle.thread_runner.proofs.Names.{◌≡◌, ◌∙◌, ◌++◌, ◌+◌, ◌-◌, ◌<◌, ◌≤◌, ℕ, Bool, true, false, cond, List, [], ◌∷◌, Option, None, Some, ap, arith, drop, length, map, option_map, refl, slice_get, suc, subst, sym, zero, is_some, not, flat_map, take_while, option_map_or, flat_map-append, map-append, take_all, fold-append, take_while-cons, slice_get_within, each-append, drop_step, Line, AreNotesTo, IsCarriedOut, IsMarkMade, MarkMade, PlanMade, barrier_from, certificate_after, is_mark, is_mark_at, mark_notes, mark_number, marks_above, note_at, note_closed, note_planned, place_marked, plan_notes, taken_pair, text_after, HaveCome, pairs_done, pairs_left, plan_pairs, Note, take_more, rules}
 use Rattle.std.proofs.lemmas.List.{append-nil, append_assoc, length-append}
 use Rattle.arena.specs.declared.arena.Stepped.{Stepped}
 use Rattle.arena.specs.declared.arena.Stepped.TheVariants.{Taken}
@@ -9,7 +9,6 @@ use Rattle.certificate.specs.declared.certificate.Certificate.{Certificate}
 use Rattle.fold.specs.declared.step.Step.{Step}
 use Rattle.marks.specs.Plans.{OpenPlan, next_pair, with_next_done}
 use Rattle.span.specs.declared.id.SpanId.{SpanId}
-use Rattle.trace_text.specs.declared.line.Line.TheVariants as line
 use Rattle.trace_text.specs.Barrier.{is_barrier}
 use Rattle.trace_runner.specs.declared.report.PlanNews.TheVariants.{Marked, TooMany, Closed}
 use Rattle.trace_runner.specs.News.{mark_news}
@@ -206,9 +205,7 @@ take_while-stop test (y ∷ xs) (suc k) x here stops = rw (take_while-cons test 
     by_test false rest = omega arith
 
 is_barrier-mark : (l : Line) → is_mark l ≡ true → is_barrier l ≡ true
-is_barrier-mark (line.Adopt shard) is = refl
-is_barrier-mark line.Mark is = refl
-is_barrier-mark l is = absurd cc
+is_barrier-mark l is = search rules
 
 -- no barrier begins below the next mark
 pub barrier_from-mark : (lines : List Line) (from place : ℕ) (l : Line) → slice_get lines place ≡ Some l → is_mark l ≡ true → from ≤ place → barrier_from lines from ≤ place
