@@ -1,8 +1,9 @@
 -- The slots that are taken after a put.
-use Rattle.std.proofs.Common.{◌≡◌, ℕ, ◌⊎◌, ◌+◌, ◌/◌, ◌<◌, ◌≤◌, ◌&&◌, ◌||◌, ◌==◌, ◌++◌, ◌∷◌, [], List, Bool, true, false, ap, sym, ◌∙◌, refl, inl, inr, eq-eqb, nat_lt, rules}
+use Rattle.std.proofs.Common.{◌≡◌, ℕ, ◌⊎◌, ◌+◌, ◌/◌, ◌<◌, ◌≤◌, ◌&&◌, ◌||◌, ◌==◌, ◌++◌, ◌∷◌, [], List, Bool, true, ap, sym, ◌∙◌, refl, inl, inr, eq-eqb, nat_lt, rules}
 use Rattle.std.specs.Cmp.{nat_cmp_total, unsigned_tied}
 use Rattle.std.specs.FinSet.{contains, insert, union, contains-insert, contains-union}
 use Rattle.std.specs.Ordering.{eq_by_cmp, nat_cmp}
+use Rattle.std.proofs.Math.Bool.{or-true}
 use Rattle.std.proofs.lemmas.Bool.{cases_Bool, cases_eq, ne_eqb, true≢false}
 use Rattle.bitmap.specs.Slots.{SlotSet, HasWord}
 use Rattle.bitmap.specs.WordSets.{has_word}
@@ -16,15 +17,12 @@ use Rattle.span.proofs.Slots.{contains-worn_slots, live_slots-put}
 use Rattle.groups.specs.Spans.{SpansState, taken, union_of, with_put}
 use Rattle.groups.specs.SpansKept.{IsFullOutside}
 
-or_true : (x : Bool) → (x || true) ≡ true
-or_true x = search rules
-
 -- a member of either set is one of both
 left_in : (a b : SlotSet) (q : ℕ) → contains a q ≡ true → contains (union a b) q ≡ true
 left_in a b q member = contains-union nat_cmp_total a b q ∙ rw member refl
 
 right_in : (a b : SlotSet) (q : ℕ) → contains b q ≡ true → contains (union a b) q ≡ true
-right_in a b q member = contains-union nat_cmp_total a b q ∙ ap (λ other. contains a q || other) member ∙ or_true (contains a q)
+right_in a b q member = contains-union nat_cmp_total a b q ∙ ap (λ other. contains a q || other) member ∙ or-true (contains a q)
 
 -- and there is no other
 either : (a b : SlotSet) (q : ℕ) → contains (union a b) q ≡ true → (contains a q ≡ true) ⊎ (contains b q ≡ true)
@@ -70,7 +68,7 @@ module _ (spans : SpansState) (slot : ℕ) (value : Value) where
   ]
 
   pub taken-put_old : (q : ℕ) → contains (taken spans) q ≡ true → contains (taken (record spans { head = with_put spans.head slot value })) q ≡ true
-  taken-put_old q member = taken-put q (contains-insert nat_cmp_total (taken spans) slot q ∙ ap (λ b. eq_by_cmp nat_cmp q slot || b) member ∙ or_true (eq_by_cmp nat_cmp q slot))
+  taken-put_old q member = taken-put q (contains-insert nat_cmp_total (taken spans) slot q ∙ ap (λ b. eq_by_cmp nat_cmp q slot || b) member ∙ or-true (eq_by_cmp nat_cmp q slot))
 
   -- a word leaves the set if it is full once the slot is taken
   pub IsFullOutside-put : (limit : ℕ) (words after : WordSet) (out : Bool) → limit ≤ 256 → IsFullOutside words limit (taken spans)

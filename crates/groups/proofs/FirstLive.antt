@@ -1,11 +1,11 @@
 -- The first live key among spans, and of the map that groups show.
-use Rattle.std.proofs.Common.{zero, suc, ◌≡◌, ◌⊎◌, ℕ, ◌<◌, ◌≤◌, ◌+◌, Bool, true, false, List, [], ◌∷◌, ◌++◌, Option, None, Some, take, is_some, slice_get, ◌∙◌, ap, sym, subst, refl, inl, inr, arith, rules}
+use Rattle.std.proofs.Common.{suc, ◌≡◌, ◌⊎◌, ℕ, ◌<◌, ◌≤◌, ◌+◌, Bool, true, false, List, [], ◌∷◌, ◌++◌, Option, None, Some, take, is_some, slice_get, ◌∙◌, ap, sym, subst, refl, inl, inr, arith, rules}
 use Rattle.std.specs.Prelude.{IfSome, MatchOption}
 use Rattle.std.specs.List.{All, flat_map}
 use Rattle.std.specs.List.Sorted.{IsPermutation}
 use Rattle.std.proofs.lemmas.Bool.{cases_eq, cases_lt}
 use Rattle.std.proofs.lemmas.Grind.{flat_map-append}
-use Rattle.std.proofs.lemmas.List.{append-nil}
+use Rattle.std.proofs.lemmas.List.{append-nil, take_more}
 use Rattle.std.proofs.lemmas.List.Elements.{All-append, All-contains, All-nil, All-push, All-weaker, Contains-append_left, Contains-append_right, Contains-push}
 use Rattle.std.proofs.lemmas.List.Sorted.{All-permutation, Contains-permutation}
 use Rattle.std.proofs.lemmas.Option.{get_or_from_slice_get, slice_get-get_or, slice_get_within}
@@ -23,8 +23,8 @@ use Rattle.span.proofs.Next.{first-held}
 use Rattle.groups.specs.FirstLive.{HasNoneIn, IsFirstAmong, IsLowestOfOne, IsSooner, rank_or_end}
 use Rattle.groups.specs.Group.{Group, IsHere, spans_in, spans_of}
 use Rattle.groups.specs.Shown.{shown_by, span_named, value_by}
-use Rattle.groups.proofs.GroupSpans.{StandsSomewhere}
-use Rattle.groups.proofs.Lists.{found_at, in_either, same_some}
+use Rattle.groups.proofs.GroupSpans.{stands_in}
+use Rattle.groups.proofs.Lists.{found_at}
 use Rattle.groups.proofs.Ranks.{id_from_rank}
 
 abbrev has_value : PlainMap → Key → Bool
@@ -121,20 +121,13 @@ IsFirstAmong-permutation xs ys low o moved first = record {
 -- the first of the spans of groups is the first of what they show
 
 module _ {Closed : Type 0} where
-  stands : (groups : List (Group Closed)) (at : ℕ) (span : SpanState) → slice_get (spans_in groups) at ≡ Some span → StandsSomewhere spans_of groups span
-  stands [] at span there = absurd cc
-  stands (group ∷ groups) at span there = elim (in_either (spans_of group) (spans_in groups) at span there) [
-    | inl here ↦ (0, at, group, (refl, here))
-    | inr later ↦ let rest = stands groups later.0 span later.1 in (suc rest.0, rest.1, rest.2, (rest.3.0, rest.3.1))
-  ]
-
   module _ (groups : List (Group Closed))
       (here : (key : Key) (index place : ℕ) (group : Group Closed) (span : SpanState) → IsHere groups key.span index place group span
       → (shown_by groups).value_of key ≡ value_in span.log key.slot key.generation) where
     -- what a span of these answers is what the map has
     of_span : (id : SpanId) (at : ℕ) (span : SpanState) → slice_get (spans_in groups) at ≡ Some span → span.id ≡ id → (key : Key) → key.span ≡ id
         → is_some ((shown_by groups).value_of key) ≡ is_some (value_in span.log key.slot key.generation)
-    of_span id at span there named key same = search (rules, stands)
+    of_span id at span there named key same = search (rules, stands_in)
 
     none-shown : (low high : ℕ) → All (HasNoneIn low high) (spans_in groups) → HasNoneBetween (shown_by groups) low high
     none-shown low high none key above below = by_span (span_named (spans_in groups) key.span) refl
@@ -159,14 +152,12 @@ module _ {Closed : Type 0} where
         IsFirstLive-span (shown_by groups) low key.span key first.its.0 (none-shown low (rank key.span) first.none_before)
         (first-held (shown_by groups) key.span one.span.log 0 (of_span key.span at one.span there one.named) (Some key) one.lowest refl)
 
-pub take-suc : {X : Type 0} (xs : List X) (at : ℕ) (x : X) → slice_get xs at ≡ Some x → take (suc at) xs ≡ take at xs ++ x ∷ []
-take-suc [] at x here = absurd cc
-take-suc (y ∷ xs) zero x here = search (rules, same_some)
-take-suc (y ∷ xs) (suc at) x here = ap (λ ys. y ∷ ys) (take-suc xs at x here)
-
 -- one more of the first
 pub take-more : {X : Type 0} (xs : List X) (at : ℕ) (x : X) → slice_get xs at ≡ Some x → take (at + 1) xs ≡ take at xs ++ x ∷ []
-take-more xs at x here = let same : at + 1 ≡ suc at = omega arith in ap (λ n. take n xs) same ∙ take-suc xs at x here
+take-more xs at x here = take_more xs at x (slice_get_within xs at x here) ∙ ap (λ y. take at xs ++ y ∷ []) (get_or_from_slice_get xs at x x here)
+
+pub take-suc : {X : Type 0} (xs : List X) (at : ℕ) (x : X) → slice_get xs at ≡ Some x → take (suc at) xs ≡ take at xs ++ x ∷ []
+take-suc xs at x here = ap (λ n. take n xs) (let same : suc at ≡ at + 1 = omega arith in same) ∙ take-more xs at x here
 
 -- groups that are walked, one after another
 module _ {G : Type 0} (spans_of : G → List SpanState) where

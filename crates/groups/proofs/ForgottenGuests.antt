@@ -13,7 +13,7 @@ use Rattle.groups.specs.declared.directory.Place.{Place}
 use Rattle.groups.proofs.DeadGuests.{after-filter, before-filter, times-live}
 use Rattle.groups.proofs.Entered.{HasNoRank, HaveOwnRanks, HaveOwnRanks-once, entered-was, get-entered_in, get-entered_out, get-struck_out, struck-was}
 use Rattle.groups.proofs.FoundGuests.{own_heads}
-use Rattle.groups.proofs.GuestDirectory.{HaveOwnHeads, get-set_other, one_group, stands_too}
+use Rattle.groups.proofs.GuestDirectory.{HaveOwnHeads, get-set_other, one_group, stands_now, stands_too}
 use Rattle.groups.proofs.Lists.{cases-set, get-set, same_some}
 
 -- a span that is dead is not live
@@ -74,22 +74,11 @@ module _ {G : Type 0} (head_of : G → SpanId) (guests_of : G → List SpanState
         by_live : slice_get (guests_of before) was.place ≡ Some was.guest → (b : Bool) → is_live was.guest ≡ b → IsGuestAt head_of guests_of (set groups index after) number at
         by_live there true lives =
             let kept = after-filter is_live (guests_of before) was.place was.guest there lives in
-            let entry : record {
-              head = head_of before;
-              place = 1 + kept.0;
-            } ≡ at = same_some
+            let entry : record { head = head_of before; place = 1 + kept.0 } ≡ at = same_some
             (sym (get-entered_in live left (head_of before) 1 kept.0 was.guest own kept.1) ∙ ap (map.get now) was.rank_is ∙ found) in
-            record {
-              index = index;
-              place = kept.0;
-              group = after;
-              guest = was.guest;
-              group_is = get-set groups index before after here;
-              guest_is = ap (λ gs. slice_get gs kept.0) guests ∙ kept.1;
-              rank_is = was.rank_is;
-              head_is = ap (λ (p : Place). p.head) (sym entry) ∙ sym head;
-              place_is = ap (λ (p : Place). p.place) (sym entry) ∙ next kept.0;
-            }
+            stands_now head_of guests_of (set groups index after) index after (get-set groups index before after here) kept.0 was.guest
+            (ap (λ gs. slice_get gs kept.0) guests ∙ kept.1) number at was.rank_is
+            (ap (λ (p : Place). p.head) (sym entry) ∙ sym head) (ap (λ (p : Place). p.place) (sym entry) ∙ next kept.0)
         by_live there false dies =
             let gone = after-filter is_dead (guests_of before) was.place was.guest there (ap not dies) in
             absurd (none gone.0 was.guest gone.1 was.rank_is)
@@ -104,17 +93,9 @@ module _ {G : Type 0} (head_of : G → SpanId) (guests_of : G → List SpanState
         | inr that ↦ old other place g guest that.0 that.1 there
       ];
       only = λ number at found. elim (entered-was live left (head_of before) 1 number at found) [
-        | inl (place, guest, there, named, head_is, place_is) ↦ record {
-          index = index;
-          place = place;
-          group = after;
-          guest = guest;
-          group_is = get-set groups index before after here;
-          guest_is = ap (λ gs. slice_get gs place) guests ∙ there;
-          rank_is = named;
-          head_is = head_is ∙ sym head;
-          place_is = place_is ∙ next place;
-        }
+        | inl (place, guest, there, named, head_is, place_is) ↦
+            stands_now head_of guests_of (set groups index after) index after (get-set groups index before after here) place guest
+            (ap (λ gs. slice_get gs place) guests ∙ there) number at named (head_is ∙ sym head) (place_is ∙ next place)
         | inr stayed ↦ let was = struck-was dead entries number at stayed in moved number at found was.0 (is.only number at was.1)
       ];
     }

@@ -1,5 +1,5 @@
 -- A group stays sound where a key of one of its spans is freed.
-use Rattle.std.proofs.Common.{◌≡◌, ◌⊎◌, ℕ, Option, None, Some, MatchOption, slice_get, ◌∙◌, ap, sym, subst, inl, inr, rules}
+use Rattle.std.proofs.Common.{◌≡◌, ℕ, Option, None, Some, MatchOption, slice_get, sym, subst, inl, inr, rules}
 use Rattle.std.specs.FinSet.{empty}
 use Rattle.span.proofs.Changes.{IsLegal-push}
 use Rattle.span.specs.Log.{Holds, IsLegal}
@@ -10,9 +10,8 @@ use Rattle.page.specs.Words.{Words}
 use Rattle.groups.specs.Group.{Group, spans_of, with_span}
 use Rattle.groups.specs.Sound.{AreStored, IsSoundGroup}
 use Rattle.groups.specs.Spans.{AreApart, union_of, with_free}
-use Rattle.groups.proofs.Lists.{cases-set}
 use Rattle.groups.proofs.Logs.{was_held}
-use Rattle.groups.proofs.Standing.{AreSpansOf-with_span, IsSpanOf-with_free, page-with_span, spans_of-with_span}
+use Rattle.groups.proofs.Standing.{AreSpansOf-with_span, IsSpanOf-with_free, cases-with_span, page-with_span, spans_of-with_span}
 use Rattle.groups.proofs.StoredObjects.{none_live}
 use Rattle.groups.proofs.Unions.{live_if_held, lose_held}
 
@@ -28,18 +27,14 @@ module _ {Closed : Type 0} (group : Group Closed) (sound : IsSoundGroup group) (
   abbrev after : Group Closed
   after = with_span group place changed
 
-  -- a span of the group after the free is the changed one, or was there before
-  changed_or_kept : (at : ℕ) (other : SpanState) → slice_get (spans_of after) at ≡ Some other → ((at ≡ place) × (changed ≡ other)) ⊎ ((at ≡ place → ⊥) × (slice_get (spans_of group) at ≡ Some other))
-  changed_or_kept at other there = cases-set (spans_of group) place changed at other (ap (λ spans. slice_get spans at) (sym (spans_of-with_span group place changed)) ∙ there)
-
   page_now : (page : Option Words) → MatchOption page (union_of (spans_of group) ≡ empty) (AreStored (spans_of group))
       → MatchOption page (union_of (spans_of after) ≡ empty) (AreStored (spans_of after))
-  page_now page none = search (rules, none_live, live_if_held, changed_or_kept, was_held)
+  page_now page none = search (rules, none_live, live_if_held, (cases-with_span group place changed), was_held)
 
   pub IsSoundGroup-free : IsSoundGroup after
   IsSoundGroup-free = record {
     apart = subst AreApart (sym (spans_of-with_span group place changed)) (lose_held (spans_of group) place span key.slot key.generation here holds sound.apart).1;
-    legal = λ at other there. elim (changed_or_kept at other there) [
+    legal = λ at other there. elim (cases-with_span group place changed at other there) [
       | inl this ↦ subst (λ (s : SpanState). IsLegal s.gens s.log) this.1 (IsLegal-push span.gens span.log (Free key.slot key.generation) (sound.legal place span here) holds)
       | inr that ↦ sound.legal at other that.1
     ];

@@ -34,7 +34,7 @@ module _ {G : Type 0} (spans_of : G → List SpanState) where
   IsInNone groups id = (index : ℕ) (group : G) → slice_get groups index ≡ Some group → HasNoSpan (spans_of group) id
 
   -- a span of the list stands in a group
-  stands_in : (groups : List G) (at : ℕ) (span : SpanState) → slice_get (all_in groups) at ≡ Some span → StandsSomewhere groups span
+  pub stands_in : (groups : List G) (at : ℕ) (span : SpanState) → slice_get (all_in groups) at ≡ Some span → StandsSomewhere groups span
   stands_in [] at span there = absurd cc
   stands_in (group ∷ groups) at span there = elim (in_either (spans_of group) (all_in groups) at span there) [
     | inl here ↦ (0, at, group, (refl, here))

@@ -58,6 +58,12 @@ module _ {G : Type 0} (head_of : G → SpanId) (guests_of : G → List SpanState
       → slice_get others index ≡ Some was.group → IsGuestAt head_of guests_of others number at
   stands_too groups others number at was index here = search rules
 
+  -- the guest at this place of the group at the index
+  pub stands_now : (groups : List G) (index : ℕ) (group : G) → slice_get groups index ≡ Some group → (place : ℕ) (guest : SpanState)
+      → slice_get (guests_of group) place ≡ Some guest → (number : ℕ) (at : Place) → rank guest.id ≡ number → at.head ≡ head_of group → at.place ≡ suc place
+      → IsGuestAt head_of guests_of groups number at
+  stands_now groups index group here place guest there number at named head_is place_is = search rules
+
   -- groups of which those that have guests are the same, in whatever order
   pub IsDirectory-left : (groups left : List G) (entries : Entries) → IsDirectory head_of guests_of groups entries
       → ((index : ℕ) (group : G) → slice_get left index ≡ Some group → (was : ℕ) × (slice_get groups was ≡ Some group))
@@ -86,17 +92,7 @@ module _ {G : Type 0} (head_of : G → SpanId) (guests_of : G → List SpanState
       | inl same ↦
           let one : was.group ≡ before = same_some (sym was.group_is ∙ ap (slice_get groups) same ∙ here) in
           let now = forth was.place was.guest (ap (λ g. slice_get (guests_of g) was.place) (sym one) ∙ was.guest_is) in
-          record {
-            index = index;
-            place = was.place;
-            group = after;
-            guest = now.0;
-            group_is = get-set groups index before after here;
-            guest_is = now.1;
-            rank_is = ap rank now.2 ∙ was.rank_is;
-            head_is = was.head_is ∙ ap head_of one ∙ sym head;
-            place_is = was.place_is;
-          }
+          stands_now (set groups index after) index after (get-set groups index before after here) was.place now.0 now.1 number at (ap rank now.2 ∙ was.rank_is) (was.head_is ∙ ap head_of one ∙ sym head) was.place_is
       | inr apart ↦ stands_too groups (set groups index after) number at was was.index (get-set_other groups index was.index was.group after apart was.group_is)
     ]
 
@@ -128,17 +124,9 @@ module _ {G : Type 0} (head_of : G → SpanId) (guests_of : G → List SpanState
         | inr (inr high) ↦ old high.0 place g guest high.3 there
       ];
       only = λ number at found. elim (entered-was (guests_of group) entries (head_of group) 1 number at found) [
-        | inl (place, guest, here, named, head, there) ↦ record {
-          index = index;
-          place = place;
-          group = group;
-          guest = guest;
-          group_is = get-insert groups index group within;
-          guest_is = here;
-          rank_is = named;
-          head_is = head;
-          place_is = there ∙ (let next : 1 + place ≡ suc place = omega arith in next);
-        }
+        | inl (place, guest, here, named, head, there) ↦
+            stands_now (insert groups index group) index group (get-insert groups index group within) place guest here number at named head
+            (there ∙ (let next : 1 + place ≡ suc place = omega arith in next))
         | inr before ↦ moved number at (is.only number at before)
       ];
     }
@@ -190,17 +178,10 @@ module _ {G : Type 0} (head_of : G → SpanId) (guests_of : G → List SpanState
         | inr elsewhere ↦ old other place g guest elsewhere.1 there
       ];
       only = λ number at found. elim (entered-was more entries (head_of before) (suc (length (guests_of before))) number at found) [
-        | inl (place, guest, there, named, head_is, place_is) ↦ record {
-          index = index;
-          place = length (guests_of before) + place;
-          group = after;
-          guest = guest;
-          group_is = get-set groups index before after here;
-          guest_is = ap (λ gs. slice_get gs (length (guests_of before) + place)) guests ∙ get_behind (guests_of before) more place guest there;
-          rank_is = named;
-          head_is = head_is ∙ sym head;
-          place_is = place_is ∙ (let next : suc (length (guests_of before)) + place ≡ suc (length (guests_of before) + place) = omega arith in next);
-        }
+        | inl (place, guest, there, named, head_is, place_is) ↦
+            stands_now (set groups index after) index after (get-set groups index before after here) (length (guests_of before) + place) guest
+            (ap (λ gs. slice_get gs (length (guests_of before) + place)) guests ∙ get_behind (guests_of before) more place guest there) number at named (head_is ∙ sym head)
+            (place_is ∙ (let next : suc (length (guests_of before)) + place ≡ suc (length (guests_of before) + place) = omega arith in next))
         | inr was ↦ still_there index before after here head stays number at (is.only number at was)
       ];
     }

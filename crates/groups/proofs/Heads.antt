@@ -1,7 +1,8 @@
 -- Groups whose heads ascend, whatever else a group has.
-use Rattle.std.proofs.Common.{zero, suc, ◌≡◌, ℕ, ◌+◌, ◌<◌, List, [], ◌∷◌, length, map, get_or, slice_get, Some, ap, refl, arith, rules}
+use Rattle.std.proofs.Common.{zero, suc, ◌≡◌, ℕ, ◌+◌, ◌<◌, List, [], ◌∷◌, map, get_or, slice_get, Some, ap, arith, rules}
 use Rattle.std.specs.List.Sorted.{IsStrictlyIncreasing}
 use Rattle.std.proofs.lemmas.Bool.{cases_eq, cases_lt}
+use Rattle.std.proofs.lemmas.List.{length-map}
 use Rattle.span.specs.Ids.{rank}
 use Rattle.span.specs.declared.id.SpanId.{SpanId}
 use Rattle.groups.proofs.Lists.{same_some, there_at}
@@ -19,14 +20,10 @@ module _ {G : Type 0} (id_of : G → SpanId) where
   read_rank (first ∷ groups) zero group here = ap head_rank (same_some here)
   read_rank (first ∷ groups) (suc at) group here = read_rank groups at group here
 
-  length_ranks : (groups : List G) → length (map head_rank groups) ≡ length groups
-  length_ranks [] = refl
-  length_ranks (group ∷ groups) = ap suc (length_ranks groups)
-
   module _ (groups : List G) (ascend : AreAscending groups) where
     pub IsStrictlyIncreasing-heads : IsStrictlyIncreasing (map (λ (g : G). rank (id_of g)) groups)
     IsStrictlyIncreasing-heads k low =
-        let long = length_ranks groups in
+        let long = length-map groups head_rank in
         let first = there_at groups k (omega arith) in
         let second = there_at groups (k + 1) (omega arith) in
         let less = ascend k (k + 1) first.0 second.0 (omega arith) first.1 second.1 in

@@ -1,5 +1,5 @@
 -- Which words of a page may have a usable slot.
-use Rattle.std.proofs.Common.{zero, suc, ◌≡◌, ℕ, ◌+◌, ◌/◌, ◌<◌, Bool, true, false, not, ◌||◌, Option, Some, None, is_some, ap, sym, ◌∙◌, refl, inl, inr, arith}
+use Rattle.std.proofs.Common.{zero, suc, ◌≡◌, ℕ, ◌+◌, ◌/◌, ◌<◌, Bool, true, false, not, cond, ◌||◌, Option, Some, None, is_some, ap, sym, ◌∙◌, inl, inr, arith, rules}
 use Rattle.std.specs.Prelude.{MatchOption}
 use Rattle.std.specs.Cmp.{nat_cmp_total}
 use Rattle.std.specs.FinSet.{contains, remove, union, contains-union}
@@ -14,56 +14,24 @@ use Rattle.span.specs.declared.class.Class.{Class}
 use Rattle.span.specs.Log.{worn_slots}
 use Rattle.groups.specs.Spans.{SpansState, all_spans, taken, union_of}
 use Rattle.groups.specs.SpansKept.{IsFullOutside}
+use Rattle.groups.proofs.Lists.{none_where, one_where}
 
-pub one : Bool → ℕ
-one true = 1
-one false = 0
-
-one_yes : (b : Bool) → b ≡ true → one b ≡ 1
-unfolding one
-one_yes true is = refl
-one_yes false is = absurd cc
-
-one_no : (b : Bool) → b ≡ false → one b ≡ 0
-unfolding one
-one_no true is = absurd cc
-one_no false is = refl
+-- a word that stays counts as before
+kept : (old new : WordSet) (word : ℕ) → ((other : ℕ) → other < 4 → (other ≡ word → ⊥) → has_word new other ≡ has_word old other) → (other : ℕ) → other < 4 → (other ≡ word → ⊥)
+    → cond {A = ℕ} (has_word new other) 1 0 ≡ cond (has_word old other) 1 0
+kept old new word same other low apart = ap (λ b. cond {A = ℕ} b 1 0) (same other low apart)
 
 -- how many words are in the set
 abbrev pub words_left : WordSet → ℕ
-words_left words = one (has_word words 0) + one (has_word words 1) + one (has_word words 2) + one (has_word words 3)
+words_left words = cond (has_word words 0) 1 0 + cond (has_word words 1) 1 0 + cond (has_word words 2) 1 0 + cond (has_word words 3) 1 0
 
 -- fewer, once one is out
 pub words_left-removed : (old new : WordSet) (word : ℕ) → word < 4 → has_word old word ≡ true → has_word new word ≡ false
     → ((other : ℕ) → other < 4 → (other ≡ word → ⊥) → has_word new other ≡ has_word old other) → words_left new < words_left old
-words_left-removed old new zero low was gone same =
-    let one_was : one (has_word old 0) ≡ 1 = one_yes (has_word old 0) was in
-    let one_gone : one (has_word new 0) ≡ 0 = one_no (has_word new 0) gone in
-    let same1 : one (has_word new 1) ≡ one (has_word old 1) = ap one (same 1 (omega arith) (λ e. absurd (omega (arith, e)))) in
-    let same2 : one (has_word new 2) ≡ one (has_word old 2) = ap one (same 2 (omega arith) (λ e. absurd (omega (arith, e)))) in
-    let same3 : one (has_word new 3) ≡ one (has_word old 3) = ap one (same 3 (omega arith) (λ e. absurd (omega (arith, e)))) in
-    omega arith
-words_left-removed old new (suc zero) low was gone same =
-    let one_was : one (has_word old 1) ≡ 1 = one_yes (has_word old 1) was in
-    let one_gone : one (has_word new 1) ≡ 0 = one_no (has_word new 1) gone in
-    let same0 : one (has_word new 0) ≡ one (has_word old 0) = ap one (same 0 (omega arith) (λ e. absurd (omega (arith, e)))) in
-    let same2 : one (has_word new 2) ≡ one (has_word old 2) = ap one (same 2 (omega arith) (λ e. absurd (omega (arith, e)))) in
-    let same3 : one (has_word new 3) ≡ one (has_word old 3) = ap one (same 3 (omega arith) (λ e. absurd (omega (arith, e)))) in
-    omega arith
-words_left-removed old new (suc (suc zero)) low was gone same =
-    let one_was : one (has_word old 2) ≡ 1 = one_yes (has_word old 2) was in
-    let one_gone : one (has_word new 2) ≡ 0 = one_no (has_word new 2) gone in
-    let same0 : one (has_word new 0) ≡ one (has_word old 0) = ap one (same 0 (omega arith) (λ e. absurd (omega (arith, e)))) in
-    let same1 : one (has_word new 1) ≡ one (has_word old 1) = ap one (same 1 (omega arith) (λ e. absurd (omega (arith, e)))) in
-    let same3 : one (has_word new 3) ≡ one (has_word old 3) = ap one (same 3 (omega arith) (λ e. absurd (omega (arith, e)))) in
-    omega arith
-words_left-removed old new (suc (suc (suc zero))) low was gone same =
-    let one_was : one (has_word old 3) ≡ 1 = one_yes (has_word old 3) was in
-    let one_gone : one (has_word new 3) ≡ 0 = one_no (has_word new 3) gone in
-    let same0 : one (has_word new 0) ≡ one (has_word old 0) = ap one (same 0 (omega arith) (λ e. absurd (omega (arith, e)))) in
-    let same1 : one (has_word new 1) ≡ one (has_word old 1) = ap one (same 1 (omega arith) (λ e. absurd (omega (arith, e)))) in
-    let same2 : one (has_word new 2) ≡ one (has_word old 2) = ap one (same 2 (omega arith) (λ e. absurd (omega (arith, e)))) in
-    omega arith
+words_left-removed old new zero low was gone same = omega (arith, one_where _ was, none_where _ gone, kept old new 0 same)
+words_left-removed old new (suc zero) low was gone same = omega (arith, one_where _ was, none_where _ gone, kept old new 1 same)
+words_left-removed old new (suc (suc zero)) low was gone same = omega (arith, one_where _ was, none_where _ gone, kept old new 2 same)
+words_left-removed old new (suc (suc (suc zero))) low was gone same = omega (arith, one_where _ was, none_where _ gone, kept old new 3 same)
 words_left-removed old new (suc (suc (suc (suc word)))) low was gone same = absurd (omega (arith, low))
 
 -- the sets of a search are what is taken
@@ -75,14 +43,6 @@ taken-is spans occupied worn live worn_is = ap (λ s. union s worn) live ∙ ap 
 pub HasAllBelow-none : (class : Class) (slots : SlotSet) (words : WordSet) → IsFullOutside words (slots_in class) slots
     → ((word : ℕ) → word < 4 → has_word words word ≡ false) → HasAllBelow slots (slots_in class)
 HasAllBelow-none class slots words full none q below = full q below (none (q / 64) (omega (arith, below, slots_in-most class)))
-
--- more slots are taken
-pub IsFullOutside-more : (words : WordSet) (limit : ℕ) (slots more : SlotSet) → IsFullOutside words limit slots
-    → ((q : ℕ) → contains slots q ≡ true → contains more q ≡ true) → IsFullOutside words limit more
-IsFullOutside-more words limit slots more full each q below out = each q (full q below out)
-
-left_in : (a b : SlotSet) (q : ℕ) → contains a q ≡ true → contains (union a b) q ≡ true
-left_in a b q member = contains-union nat_cmp_total a b q ∙ rw member refl
 
 -- a slot that is given up comes into its word
 pub IsFullOutside-freed : (limit : ℕ) (live worn : SlotSet) (words after : WordSet) (slot : ℕ) → IsFullOutside words limit (union live worn)
@@ -101,16 +61,13 @@ IsFullOutside-freed limit live worn words after slot full this others q below ou
 -- slots that come to be live
 pub IsFullOutside-joined : (words : WordSet) (limit : ℕ) (live more worn : SlotSet) → IsFullOutside words limit (union live worn)
     → IsFullOutside words limit (union (union live more) worn)
-IsFullOutside-joined words limit live more worn full =
-    IsFullOutside-more words limit (union live worn) (union (union live more) worn) full (λ q member.
+IsFullOutside-joined words limit live more worn full q below out =
     contains-union nat_cmp_total (union live more) worn q
     ∙ ap (λ b. b || contains worn q) (contains-union nat_cmp_total live more q)
-    ∙ wider (contains live q) (contains more q) (contains worn q) (sym (contains-union nat_cmp_total live worn q) ∙ member))
+    ∙ wider (contains live q) (contains more q) (contains worn q) (sym (contains-union nat_cmp_total live worn q) ∙ full q below out)
   where
     wider : (a b c : Bool) → (a || c) ≡ true → ((a || b) || c) ≡ true
-    wider true b c so = refl
-    wider false true c so = refl
-    wider false false c so = so
+    wider a b c so = search rules
 
 -- what a search that found nothing says
 pub of-none : {A : Type 0} (B : ℕ → Type 0) (found : Option ℕ) (out : Bool) → is_some found ≡ not out → out ≡ true → MatchOption found A B → A

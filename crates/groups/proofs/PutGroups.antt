@@ -3,23 +3,22 @@ use Rattle.std.proofs.Common.{zero, suc, ◌≡◌, ℕ, ◌+◌, ◌<◌, lengt
 use Rattle.std.specs.FinMap as map
 use Rattle.std.specs.FinSet.{contains}
 use Rattle.std.proofs.lemmas.Bool.{cases_eq, ne_eqb, true≢false}
-use Rattle.bitmap.specs.Slots.{AreDisjoint}
 use Rattle.span.specs.Classes.{slots_in, width_of}
-use Rattle.span.specs.Log.{Held, IsLegal, Value, live_slots, puts_of, replay, worn_slots}
+use Rattle.span.specs.Log.{Held, IsLegal, Value, live_slots, puts_of, worn_slots}
 use Rattle.span.specs.State.{SpanState}
 use Rattle.span.specs.declared.class.Class.{Class}
 use Rattle.span.proofs.Changes.{get-put}
 use Rattle.span.proofs.LegalLogs.{IsLegal-put}
-use Rattle.span.proofs.OfClass.{Fits-replay, IsOfClass-push}
+use Rattle.span.proofs.OfClass.{IsOfClass-push}
 use Rattle.span.proofs.Slots.{contains-live_slots, live_slots-put}
 use Rattle.page.specs.Words.{Words, object_in, set_object}
-use Rattle.page.proofs.Words.{object_in-set_object_other, object_in-set_object_same, on_page_slot}
+use Rattle.page.proofs.Words.{object_in-set_object_same, on_page_slot}
 use Rattle.groups.specs.Group.{Group, occupied, spans_of}
-use Rattle.groups.specs.Pages.{object_at, put_group, words_of}
+use Rattle.groups.specs.Pages.{put_group, words_of}
 use Rattle.groups.specs.Sound.{IsSoundGroup, IsStored}
 use Rattle.groups.specs.Spans.{AreApart, AreSpansOf, IsSpanOf, union_of, with_put}
 use Rattle.groups.proofs.Lists.{same_some}
-use Rattle.groups.proofs.StoredObjects.{stored_in}
+use Rattle.groups.proofs.StoredObjects.{stored_other}
 use Rattle.groups.proofs.Unions.{AreDisjoint-insert, member_of_union, outside_left, outside_right}
 
 module _ {Closed : Type 0} (group : Group Closed) (sound : IsSoundGroup group) (class : Class) (class_is : group.head.class ≡ class) (slot : ℕ)
@@ -40,16 +39,6 @@ module _ {Closed : Type 0} (group : Group Closed) (sound : IsSoundGroup group) (
   not_in_guests : contains (union_of group.guests) slot ≡ false
   not_in_guests = outside_right (live_slots group.head.log) (union_of group.guests) slot free_slot
 
-  -- what a span of the group holds at another slot stays
-  stored_other : (place : ℕ) (span : SpanState) → slice_get (spans_of group) place ≡ Some span → (q : ℕ) (held : Held) → map.get (replay span.log) q ≡ Some held
-      → (q ≡ slot → ⊥) → object_in page_now span.class q ≡ held.value
-  stored_other place span here q held is other =
-      let its = sound.classes place span here in
-      let same : span.class ≡ class = its.class_is ∙ class_is in
-      let low : q < slots_in class = subst (λ c. q < slots_in c) class_is (Fits-replay group.head.class span.log its.of_class q held is).0 in
-      let then : object_at group.page class q ≡ held.value = subst (λ c. object_at group.page c q ≡ held.value) same (stored_in group sound place span here q held is) in
-      subst (λ c. object_in page_now c q ≡ held.value) (sym same) (object_in-set_object_other (words_of group.page) class slot value q low other ∙ then)
-
   head_now : IsStored page_now head
   head_now q held is = elim (cases_eq q slot) [
     | inl same ↦
@@ -58,13 +47,13 @@ module _ {Closed : Type 0} (group : Group Closed) (sound : IsSoundGroup group) (
         subst (λ c. object_in page_now c q ≡ held.value) (sym class_is)
         (ap (object_in page_now class) same ∙ object_in-set_object_same (words_of group.page) class slot value on_page width
         ∙ ap (λ (h : Held). h.value) (same_some put))
-    | inr other ↦ stored_other 0 group.head refl q held (sym (get-put group.head.log slot (puts_of slot group.head.log + 1) value q ∙ rw (ne_eqb q slot other) refl) ∙ is) other
+    | inr other ↦ stored_other group sound class class_is slot value 0 group.head refl q held (sym (get-put group.head.log slot (puts_of slot group.head.log + 1) value q ∙ rw (ne_eqb q slot other) refl) ∙ is) other
   ]
 
   guest_now : (place : ℕ) (span : SpanState) → slice_get group.guests place ≡ Some span → IsStored page_now span
   guest_now place span here q held is =
       let live : contains (union_of group.guests) q ≡ true = member_of_union group.guests place span q here (contains-live_slots span.log q ∙ ap is_some is) in
-      stored_other (suc place) span here q held is (λ same. true≢false (sym live ∙ ap (contains (union_of group.guests)) same ∙ not_in_guests))
+      stored_other group sound class class_is slot value (suc place) span here q held is (λ same. true≢false (sym live ∙ ap (contains (union_of group.guests)) same ∙ not_in_guests))
 
   spans_now : (place : ℕ) (span : SpanState) → slice_get (spans_of after) place ≡ Some span → IsStored page_now span
   spans_now place span here = search (rules, same_some, head_now, guest_now)

@@ -1,5 +1,5 @@
 -- A group stays sound where one of its spans is set in place.
-use Rattle.std.proofs.Common.{zero, suc, ◌≡◌, ℕ, ◌<◌, ◌⊎◌, ◌++◌, ◌∷◌, [], length, Bool, true, false, IsTrue, ◌↔◌, List, Option, Some, None, IsSomeAnd, is_some, set, slice_get, ap, sym, subst, ◌∙◌, refl, inl, inr, eqb, eq-eqb, eqb-true, rules, if◌then◌else◌}
+use Rattle.std.proofs.Common.{zero, suc, ◌≡◌, ℕ, ◌<◌, ◌++◌, ◌∷◌, [], length, Bool, true, false, IsTrue, ◌↔◌, List, Option, Some, None, IsSomeAnd, is_some, set, slice_get, ap, sym, subst, ◌∙◌, refl, inl, inr, eqb, eq-eqb, eqb-true, rules, if◌then◌else◌}
 use Rattle.std.specs.Bool.{OnTrue, OnFalse}
 use Rattle.std.specs.FinMap as map
 use Rattle.std.specs.FinSet as finset
@@ -19,15 +19,15 @@ use Rattle.span.proofs.Changes.{IsLegal-push, get-set}
 use Rattle.span.proofs.OfClass.{Fits-replay, Holds-on_page, IsOfClass-push}
 use Rattle.span.proofs.Slots.{contains-live_slots, worn_slots-set}
 use Rattle.page.specs.Words.{Words, object_in, set_object}
-use Rattle.page.proofs.Words.{object_in-set_object_other, object_in-set_object_same}
+use Rattle.page.proofs.Words.{object_in-set_object_same}
 use Rattle.groups.specs.Group.{Group, spans_of}
-use Rattle.groups.specs.Pages.{object_at, set_group, words_of}
-use Rattle.groups.proofs.StoredObjects.{stored_in}
+use Rattle.groups.specs.Pages.{set_group, words_of}
+use Rattle.groups.proofs.StoredObjects.{stored_other}
 use Rattle.groups.specs.Sound.{IsSoundGroup, IsStored}
 use Rattle.groups.specs.SpansKept.{IsFullOutside, IsKept}
 use Rattle.groups.specs.Spans.{AreApart, IsSpanOf, SpansState, all_spans, union_of, with_set_at, with_span_at}
-use Rattle.groups.proofs.Lists.{cases-set, same_some, set-same}
-use Rattle.groups.proofs.Standing.{AreSpansOf-with_span, spans_of-with_span}
+use Rattle.groups.proofs.Lists.{same_some, set-same}
+use Rattle.groups.proofs.Standing.{AreSpansOf-with_span, cases-with_span, spans_of-with_span}
 use Rattle.groups.proofs.Unions.{keep_held, live_if_held, member_of_union}
 
 -- a slot is live in one of the spans alone
@@ -128,34 +128,25 @@ module _ {Closed : Type 0} (group : Group Closed) (sound : IsSoundGroup group)
   fits_page = subst (λ c. (slot < slots_in c) × (length value ≡ width_of c)) its.class_is (on_page, settable.1)
 
   -- what a span of the group holds at another slot stays
-  stored_other : (at : ℕ) (other : SpanState) → slice_get (spans_of group) at ≡ Some other → (q : ℕ) (held : Held) → map.get (replay other.log) q ≡ Some held
+  stays_other : (at : ℕ) (other : SpanState) → slice_get (spans_of group) at ≡ Some other → (q : ℕ) (held : Held) → map.get (replay other.log) q ≡ Some held
       → (q ≡ slot → ⊥) → object_in page_now other.class q ≡ held.value
-  stored_other at other there q held is differ =
-      let of_other = sound.classes at other there in
-      let same : other.class ≡ span.class = of_other.class_is ∙ sym its.class_is in
-      let low : q < slots_in span.class = subst (λ c. q < slots_in c) (sym its.class_is) (Fits-replay group.head.class other.log of_other.of_class q held is).0 in
-      let was : object_at group.page span.class q ≡ held.value = subst (λ c. object_at group.page c q ≡ held.value) same (stored_in group sound at other there q held is) in
-      subst (λ c. object_in page_now c q ≡ held.value) (sym same) (object_in-set_object_other (words_of group.page) span.class slot value q low differ ∙ was)
+  stays_other = stored_other group sound span.class (sym its.class_is) slot value
 
   changed_now : IsStored page_now changed
-  changed_now q held is = search (rules, cases_eq, get-set, eq-eqb, object_in-set_object_same, on_page, same_some, stored_other, ne_eqb)
+  changed_now q held is = search (rules, cases_eq, get-set, eq-eqb, object_in-set_object_same, on_page, same_some, stays_other, ne_eqb)
 
   other_now : (at : ℕ) (other : SpanState) → (at ≡ place → ⊥) → slice_get (spans_of group) at ≡ Some other → IsStored page_now other
-  other_now at other apart there q held is = stored_other at other there q held is (λ same. apart_at (spans_of group) at place other span q sound.apart there here apart
+  other_now at other apart there q held is = stays_other at other there q held is (λ same. apart_at (spans_of group) at place other span q sound.apart there here apart
       (contains-live_slots other.log q ∙ ap is_some is)
       (ap (contains (live_slots span.log)) same ∙ live_if_held span.log slot generation settable.0))
 
   pub spans_of-set_group : spans_of after ≡ set (spans_of group) place changed
   spans_of-set_group = spans_of-with_span group place changed
 
-  -- a span of the group after the set is the changed one, or was there before
-  changed_or_kept : (at : ℕ) (other : SpanState) → slice_get (spans_of after) at ≡ Some other → ((at ≡ place) × (changed ≡ other)) ⊎ ((at ≡ place → ⊥) × (slice_get (spans_of group) at ≡ Some other))
-  changed_or_kept at other there = cases-set (spans_of group) place changed at other (ap (λ spans. slice_get spans at) (sym spans_of-set_group) ∙ there)
-
   pub IsSoundGroup-set : IsSoundGroup after
   IsSoundGroup-set = record {
     apart = subst AreApart (sym spans_of-set_group) (keep_held (spans_of group) place span slot generation value here settable.0 sound.apart).1;
-    legal = λ at other there. elim (changed_or_kept at other there) [
+    legal = λ at other there. elim (cases-with_span group place changed at other there) [
       | inl this ↦ subst (λ (s : SpanState). IsLegal s.gens s.log) this.1 (IsLegal-set span.class span.gens span.log slot generation value (sound.legal place span here) of_class settable.0 settable.1)
       | inr that ↦ sound.legal at other that.1
     ];
@@ -163,7 +154,7 @@ module _ {Closed : Type 0} (group : Group Closed) (sound : IsSoundGroup group)
       class_is = its.class_is;
       of_class = IsOfClass-push group.head.class span.log _ its.of_class fits_page;
     });
-    page = λ at other there. elim (changed_or_kept at other there) [
+    page = λ at other there. elim (cases-with_span group place changed at other there) [
       | inl this ↦ subst (IsStored page_now) this.1 changed_now
       | inr that ↦ other_now at other that.0 that.1
     ];

@@ -1,28 +1,25 @@
 -- Sound groups show the map that their logs leave.
-use Rattle.std.specs.Ordering.{nat_cmp}
-use Rattle.std.proofs.Common.{zero, suc, ◌≡◌, ℕ, ◌≤◌, Bool, true, false, cond, List, [], ◌∷◌, Option, None, Some, MatchOption, is_some, slice_get, ◌∙◌, ap, sym, refl, inl, inr, arith, eqb, rules}
+use Rattle.std.proofs.Common.{zero, suc, ◌≡◌, ℕ, ◌≤◌, Bool, true, false, cond, List, [], ◌∷◌, Option, None, Some, is_some, slice_get, ◌∙◌, ap, sym, refl, inl, inr, arith, eqb, rules}
 use Rattle.std.specs.Prelude.{find, option_map}
 use Rattle.std.specs.FinMap as map
-use Rattle.std.specs.FinSet.{contains, contains-empty, empty}
 use Rattle.std.proofs.lemmas.Bool.{false≢true}
 use Rattle.std.proofs.lemmas.Option.{none-some}
-use Rattle.span.proofs.Slots.{contains-live_slots}
 use Rattle.span.specs.Ids.{same_span}
-use Rattle.span.specs.Log.{Held, Value, live_slots, replay, value_if, value_in}
+use Rattle.span.specs.Log.{Held, Value, replay, value_if, value_in}
 use Rattle.span.specs.PlainMap.{PlainMap}
 use Rattle.span.specs.State.{SpanState}
 use Rattle.span.specs.declared.id.SpanId.{SpanId}
 use Rattle.span.specs.declared.key.Key.{Key}
-use Rattle.page.specs.Words.{Words, object_in}
+use Rattle.page.specs.Words.{object_in}
 use Rattle.groups.specs.Group.{Group, IsElsewhere, IsHere, spans_in, spans_of}
+use Rattle.groups.specs.Pages.{object_at}
 use Rattle.groups.specs.Shown.{has_span, page_in, page_of, shown_by, span_named, value_by}
-use Rattle.groups.specs.Sound.{AreSoundGroups, AreStored}
-use Rattle.groups.specs.Spans.{union_of}
+use Rattle.groups.specs.Sound.{AreSoundGroups}
 use Rattle.groups.proofs.GroupSpans.{count-stands, named_stands, span_named-none, span_named-stands, times}
 use Rattle.groups.proofs.Lists.{count-append, count-some, find-none, same_some}
 use Rattle.groups.proofs.Logged.{logged, logged_by, nothing_pending, same_plain_map}
 use Rattle.groups.proofs.Removed.{none_or_some}
-use Rattle.groups.proofs.Unions.{member_of_union}
+use Rattle.groups.proofs.StoredObjects.{stored_on}
 
 -- a span that stands among the spans is found there
 find-is_some : {X : Type 0} (p : X → Bool) (xs : List X) (at : ℕ) (x : X) → slice_get xs at ≡ Some x → p x ≡ true → is_some (find p xs) ≡ true
@@ -60,14 +57,9 @@ module _ {Closed : Type 0} where
     -- the object of a live key of a span that stands in a group is its log's value
     stored_at : (index place : ℕ) (group : Group Closed) (span : SpanState) → slice_get groups index ≡ Some group → slice_get (spans_of group) place ≡ Some span
         → (slot : ℕ) (held : Held) → map.get (replay span.log) slot ≡ Some held → option_map (λ words. object_in words span.class slot) group.page ≡ Some held.value
-    stored_at index place group span at_group at_span slot held is = by_page group.page (sound index group at_group).page
-      where
-        by_page : (page : Option Words) → MatchOption page (union_of (spans_of group) ≡ empty) (AreStored (spans_of group))
-            → option_map (λ words. object_in words span.class slot) page ≡ Some held.value
-        by_page None none =
-            let live : contains (live_slots span.log) slot ≡ true = contains-live_slots span.log slot ∙ ap is_some is in
-            absurd (false≢true (sym (contains-empty nat_cmp slot) ∙ ap (λ slots. contains slots slot) (sym none) ∙ member_of_union (spans_of group) place span slot at_span live))
-        by_page (Some words) stored = ap Some (stored place span at_span slot held is)
+    stored_at index place group span at_group at_span slot held is =
+        let on = stored_on group (sound index group at_group) place span at_span slot held is in
+        ap (option_map (λ words. object_in words span.class slot)) on.1 ∙ ap Some (sym (ap (λ page. object_at page span.class slot) on.1) ∙ on.2)
 
     value_by-logged : (key : Key) (o : Option SpanState) → span_named (spans_in groups) key.span ≡ o → value_by groups key o ≡ logged_by key o
     value_by-logged key None e = refl

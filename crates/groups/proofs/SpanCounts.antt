@@ -2,7 +2,8 @@
 use Rattle.std.proofs.Common.{zero, suc, ◌≡◌, ℕ, ◌<◌, ◌≤◌, ◌+◌, ◌||◌, Bool, true, false, List, [], ◌∷◌, length, map, get_or, take, slice_get, Some, ap, ◌∙◌, refl, arith, eqb, eqb-true, rules, sym}
 use Rattle.std.specs.Prelude.{count_by}
 use Rattle.std.specs.List.{flat_map, list_any}
-use Rattle.std.proofs.lemmas.List.{length-append}
+use Rattle.std.proofs.lemmas.Bool.{false_from_ne_true}
+use Rattle.std.proofs.lemmas.List.{length-append, length-map}
 use Rattle.std.proofs.lemmas.Map.Keys.{IsDistinct-from_apart}
 use Rattle.std.proofs.lemmas.Map.Steps.{length-le_from_distinct_below}
 use Rattle.span.specs.Ids.{rank, same_span}
@@ -15,10 +16,6 @@ use Rattle.groups.proofs.Ranks.{id_from_rank}
 
 abbrev span_rank : SpanState → ℕ
 span_rank span = rank span.id
-
-length_ranks : (spans : List SpanState) → length (map span_rank spans) ≡ length spans
-length_ranks [] = refl
-length_ranks (span ∷ spans) = ap suc (length_ranks spans)
 
 -- the span whose rank stands at the place
 ranked_at : (spans : List SpanState) (at d : ℕ) → at < length spans → (span : SpanState) × (slice_get spans at ≡ Some span) × (get_or (map span_rank spans) at d ≡ rank span.id)
@@ -41,23 +38,17 @@ ranks_below (span ∷ spans) number among = by_test (eqb number (rank span.id)) 
 pub at_most_ids : (spans : List SpanState) → ((id : SpanId) → count_by (λ span. same_span span.id id) spans ≤ 1) → length spans ≤ ALL_IDS
 at_most_ids spans once =
     let fewer = length-le_from_distinct_below (map span_rank spans) ALL_IDS (IsDistinct-from_apart eqb (map span_rank spans) apart) (ranks_below spans) in
-    omega (arith, length_ranks spans)
+    omega (arith, length-map spans span_rank)
   where
     apart : (low high d : ℕ) → low < high → high < length (map span_rank spans) → eqb (get_or (map span_rank spans) low d) (get_or (map span_rank spans) high d) ≡ false
-    apart low high d less within =
-        let long = length_ranks spans in
-        let first = ranked_at spans low d (omega arith) in
-        let second = ranked_at spans high d (omega arith) in
-        by_test first.0 second.0 first.1 second.1 first.2 second.2 (eqb (get_or (map span_rank spans) low d) (get_or (map span_rank spans) high d)) refl
-      where
-        by_test : (a b : SpanState) → slice_get spans low ≡ Some a → slice_get spans high ≡ Some b → get_or (map span_rank spans) low d ≡ rank a.id → get_or (map span_rank spans) high d ≡ rank b.id
-            → (t : Bool) → eqb (get_or (map span_rank spans) low d) (get_or (map span_rank spans) high d) ≡ t → eqb (get_or (map span_rank spans) low d) (get_or (map span_rank spans) high d) ≡ false
-        by_test a b at_low at_high low_is high_is false e = e
-        by_test a b at_low at_high low_is high_is true e = absurd (
-            let same : a.id ≡ b.id = id_from_rank a.id b.id (sym low_is ∙ eqb-true _ _ e ∙ high_is) in
-            let two = count-two (λ (s : SpanState). same_span s.id b.id) spans low high a b less at_low at_high (test_from_same_id a.id b.id same) (test_from_same_id b.id b.id refl) in
-            let most = once b.id in
-            omega arith)
+    apart low high d less within = false_from_ne_true _ (λ one.
+        let long = length-map spans span_rank in
+        let (a, at_low, low_is) = ranked_at spans low d (omega arith) in
+        let (b, at_high, high_is) = ranked_at spans high d (omega arith) in
+        let same : a.id ≡ b.id = id_from_rank a.id b.id (sym low_is ∙ eqb-true _ _ one ∙ high_is) in
+        let two = count-two (λ (s : SpanState). same_span s.id b.id) spans low high a b less at_low at_high (test_from_same_id a.id b.id same) (test_from_same_id b.id b.id refl) in
+        let most = once b.id in
+        omega arith)
 
 -- the spans of the first groups are no more than those of all
 pub length-take_spans : {G : Type 0} (spans_of : G → List SpanState) (groups : List G) (count : ℕ) → length (flat_map spans_of (take count groups)) ≤ length (flat_map spans_of groups)

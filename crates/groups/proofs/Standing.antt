@@ -1,5 +1,5 @@
 -- A group where one span is replaced.
-use Rattle.std.proofs.Common.{◌≡◌, ℕ, set, slice_get, ap, sym, subst, ◌∙◌, inl, inr, rules}
+use Rattle.std.proofs.Common.{◌≡◌, ◌⊎◌, ℕ, Some, set, slice_get, ap, sym, subst, ◌∙◌, inl, inr, rules}
 use Rattle.span.proofs.OfClass.{IsOfClass-push}
 use Rattle.span.specs.State.{SpanState}
 use Rattle.span.specs.declared.change.Change.TheVariants.{Free}
@@ -23,6 +23,11 @@ module _ {Closed : Type 0} where
   pub spans_of-with_span : (group : Group Closed) (place : ℕ) (span : SpanState) → spans_of (with_span group place span) ≡ set (spans_of group) place span
   spans_of-with_span group place span = search rules
 
+  -- a span of the group is the changed one, or was there before
+  pub cases-with_span : (group : Group Closed) (place : ℕ) (span : SpanState) (at : ℕ) (other : SpanState) → slice_get (spans_of (with_span group place span)) at ≡ Some other
+      → ((at ≡ place) × (span ≡ other)) ⊎ ((at ≡ place → ⊥) × (slice_get (spans_of group) at ≡ Some other))
+  cases-with_span group place span at other there = cases-set (spans_of group) place span at other (ap (λ spans. slice_get spans at) (sym (spans_of-with_span group place span)) ∙ there)
+
   class-with_span : (group : Group Closed) (place : ℕ) (span : SpanState) → span.class ≡ group.head.class → (with_span group place span).head.class ≡ group.head.class
   class-with_span group place span same = search rules
 
@@ -30,7 +35,7 @@ module _ {Closed : Type 0} where
   pub AreSpansOf-with_span : (group : Group Closed) (place : ℕ) (span : SpanState) → AreSpansOf group.head.class (spans_of group)
       → IsSpanOf group.head.class span → AreSpansOf (with_span group place span).head.class (spans_of (with_span group place span))
   AreSpansOf-with_span group place span are its at other there = subst (λ c. IsSpanOf c other) (sym (class-with_span group place span its.class_is))
-      (elim (cases-set (spans_of group) place span at other (ap (λ spans. slice_get spans at) (sym (spans_of-with_span group place span)) ∙ there)) [
+      (elim (cases-with_span group place span at other there) [
         | inl this ↦ subst (IsSpanOf group.head.class) this.1 its
         | inr that ↦ are at other that.1
       ])
