@@ -1,4 +1,5 @@
 -- An accepted text is a text of what was read.
+use mathlib.Core.List.{map-map}
 use Rattle.std.proofs.Common.{ℕ, ◌≡◌, cond, true, false, List, [], ◌∷◌, map, Result, Ok, refl, sym, ◌∙◌, ap, inl, inr, rules}
 use Rattle.std.specs.List.{AllByRecursion, join_with_byte}
 use Rattle.std.specs.Prelude.{IfOk}
@@ -23,10 +24,6 @@ use Rattle.certificate.proofs.Spelling.{>>=-ok, IsOfVersion, Spells, body_in-spe
 version_in-spells : Spells version_in opening_of
 version_in-spells line version h = search (rules, same_bytes, if-ok)
 
-same_map : {X Y Z : Type 0} (g : Y → Z) (f : X → Y) (xs : List X) → map g (map f xs) ≡ map (λ x. g (f x)) xs
-same_map g f [] = refl
-same_map g f (x ∷ xs) = ap (λ ys. g (f x) ∷ ys) (same_map g f xs)
-
 classes-version : (xs : List Entry) → AllByRecursion (IsOfVersion One) (map entry_parts xs) → AllByRecursion (λ (x : Entry). x.class ≡ C16) xs
 classes-version [] h = tt
 classes-version (x ∷ xs) h = (h.0 refl, classes-version xs h.1)
@@ -34,18 +31,11 @@ classes-version (x ∷ xs) h = (h.0 refl, classes-version xs h.1)
 -- the lines that are said are those that are written
 outline_lines-outline_of : (version : Version) (body : Entry → List ℕ) → ((x : Entry) → entry_words version (entry_parts x) ≡ body x) → (c : Certificate)
     → opening_of version ∷ outline_lines version (outline_of c) ≡ lines_with version body c
-outline_lines-outline_of version body same c = search (rules, entry_words, same_map, pair_words, pair_body, id_word, title_body, length-map)
+outline_lines-outline_of version body same c = search (rules, entry_words, map-map, pair_words, pair_body, id_word, title_body, length-map)
 
 -- a text of which all lines are those of another is that text
 same_text : (text other : List ℕ) → parts_of 10 text ≡ parts_of 10 other → text ≡ other
 same_text text other same = sym (join_with_byte-slice_split 10 text) ∙ ap (join_with_byte 10) same ∙ join_with_byte-slice_split 10 other
-
--- what version 2 can say is written in it, and all else in version 3
-version_of-small : (c : Certificate) → needs_version_three (outline_of c) ≡ false → version_of (outline_of c) ≡ Two
-version_of-small c none = ap (λ b. cond b Three Two) none
-
-version_of-large : (c : Certificate) → needs_version_three (outline_of c) ≡ true → version_of (outline_of c) ≡ Three
-version_of-large c some = ap (λ b. cond b Three Two) some
 
 -- the text is written of the certificate, where these are the lines of the version that is written
 text-written : (c : Certificate) (text : List ℕ) (version : Version) → IsWritable c → version_of (outline_of c) ≡ version → parts_of 10 text ≡ all_lines version c → text ≡ certificate_text c
@@ -71,8 +61,8 @@ IsTextOf-certificate_in c text w h =
         serials = small refl;
       },
     )
-    named Two lines abandoned owned wanted small = inl (text-written c text Two w (version_of-small c (small refl)) (lines ∙ outline_lines-outline_of Two entry_body (λ x. refl) c))
-    named Three lines abandoned owned wanted small = inl (text-written c text Three w (version_of-large c wanted) (lines ∙ outline_lines-outline_of Three entry_body (λ x. refl) c))
+    named Two lines abandoned owned wanted small = inl (text-written c text Two w (ap (λ b. cond b Three Two) (small refl)) (lines ∙ outline_lines-outline_of Two entry_body (λ x. refl) c))
+    named Three lines abandoned owned wanted small = inl (text-written c text Three w (ap (λ b. cond b Three Two) wanted) (lines ∙ outline_lines-outline_of Three entry_body (λ x. refl) c))
 
 -- the same, of whatever reading answered
 pub IsTextOf-Reads : (answer : Result Certificate ReadError) (text : List ℕ) → Reads outline_of answer (certificate_in text) → IfOk answer IsWritable → IfOk answer (λ c. IsTextOf c text)

@@ -1,10 +1,10 @@
 -- A text that is read line by line: what is left of it, by its bytes and by its lines.
 use Rattle.std.proofs.lemmas.Grind.{common_steps}
-use Rattle.std.proofs.Common.{ℕ, ◌+◌, ◌-◌, ◌<◌, ◌≤◌, ◌≡◌, ◌==◌, ◌&&◌, cond, Bool, true, false, List, [], ◌∷◌, length, get_or, take, drop, ◌≢◌, Some, None, Result, Ok, Err, refl, sym, ◌∙◌, ap, arith, zero, suc, nat_eq, lt-ltb, le-ltb, eq-eqb, rules}
+use Rattle.std.proofs.Common.{ℕ, ◌+◌, ◌-◌, ◌<◌, ◌≤◌, ◌≡◌, ◌==◌, ◌&&◌, cond, Bool, true, false, List, [], ◌∷◌, length, get_or, take, drop, ◌≢◌, Some, None, Result, Ok, Err, refl, sym, ◌∙◌, ap, arith, suc, nat_eq, lt-ltb, le-ltb, eq-eqb, rules}
 use Rattle.std.specs.List.{join_with_byte, position_or_len}
 use Rattle.std.specs.Prelude.{position}
 use Rattle.std.proofs.lemmas.Bool.{cases_eq, cases_lt, ne_eqb}
-use Rattle.std.proofs.lemmas.List.{drop_more, length-drop, nil_from_length}
+use Rattle.std.proofs.lemmas.List.{drop-drop, drop_more, length-drop, nil_from_length}
 use Rattle.std.proofs.lemmas.List.Splits.{join_with_byte-slice_split, length-slice_split, slice_split_first, slice_split_none}
 use Rattle.std.proofs.lemmas.List.Sums.{fails_before_first}
 use Rattle.certificate.specs.declared.text.cause.Cause.{Cause}
@@ -28,15 +28,6 @@ lines_of-no_feed xs none = slice_split_none is_feed xs (λ k d l. fails_before_f
 
 lines_of-feed : (xs : List ℕ) (end : ℕ) → position is_feed xs ≡ Some end → lines_of xs ≡ take end xs ∷ lines_of (drop (end + 1) xs)
 lines_of-feed xs end h = search (rules, position-some, slice_split_first)
-
-drop-nil : (n : ℕ) → ◌≡◌ {A = List ℕ} (drop n []) []
-drop-nil zero = refl
-drop-nil (suc n) = refl
-
-drop-drop : (n m : ℕ) (xs : List ℕ) → drop n (drop m xs) ≡ drop (m + n) xs
-drop-drop n zero xs = let same : n ≡ 0 + n = omega arith in ap (λ k. drop k xs) same
-drop-drop n (suc m) [] = drop-nil n ∙ sym (drop-nil (suc m + n))
-drop-drop n (suc m) (x ∷ xs) = let same : suc (m + n) ≡ suc m + n = omega arith in drop-drop n m xs ∙ ap (λ k. drop k (x ∷ xs)) same
 
 -- the first line of those that are left
 get_or-left : (parts : List (List ℕ)) (at : ℕ) (line : List ℕ) (rest : List (List ℕ)) → drop at parts ≡ line ∷ rest

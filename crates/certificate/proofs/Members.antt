@@ -39,10 +39,10 @@ among-without same t x q (y ∷ ys) n h =
       ]
     ]
 
-left_within : {K : Type 0} (same : K → K → Bool) → Tells same → (x : K) (xs ys : List K) → AllByRecursion (λ y. same x y ≡ false) xs
-    → AllByRecursion (λ x. among same x ys ≡ true) xs → AllByRecursion (λ q. among same q (without same x ys) ≡ true) xs
-left_within same t x [] ys d h = tt
-left_within same t x (q ∷ xs) ys d h = (among-without same t x q ys d.0 h.0, left_within same t x xs ys d.1 h.1)
+-- what follows of each from two facts of each
+both : {K : Type 0} (P Q R : K → Type 0) → ((x : K) → P x → Q x → R x) → (xs : List K) → AllByRecursion P xs → AllByRecursion Q xs → AllByRecursion R xs
+both P Q R follows [] p q = tt
+both P Q R follows (x ∷ xs) p q = (follows x p.0 q.0, both P Q R follows xs p.1 q.1)
 
 -- no more than they can be chosen from
 pub length-le_from_distinct : {K : Type 0} (same : K → K → Bool) → Tells same → (xs ys : List K) → IsDistinct same xs → AllByRecursion (λ x. among same x ys ≡ true) xs → length xs ≤ length ys
@@ -50,7 +50,7 @@ unfolding IsDistinct
 length-le_from_distinct same t [] ys d h = omega arith
 length-le_from_distinct same t (x ∷ xs) ys d h =
     let shorter : suc (length (without same x ys)) ≡ length ys = length-without same x ys h.0 in
-    let rest : length xs ≤ length (without same x ys) = length-le_from_distinct same t xs (without same x ys) d.1 (left_within same t x xs ys d.0 h.1) in
+    let rest : length xs ≤ length (without same x ys) = length-le_from_distinct same t xs (without same x ys) d.1 (both _ _ _ (λ q. among-without same t x q ys) xs d.0 h.1) in
     omega arith
 
 -- a member that passes stands in the filter
@@ -74,11 +74,6 @@ any_from_among same t test x (y ∷ ys) h p =
       | inr f ↦ or_right (test y) _ (any_from_among same t test x ys f p)
     ]
 
-kept : {K : Type 0} (same : K → K → Bool) → Tells same → (zs xs ys : List K) → AllByRecursion (λ x. among same x ys ≡ true) xs
-    → AllByRecursion (λ x. among same x zs ≡ true) xs → AllByRecursion (λ x. among same x (filter (λ y. among same y zs) ys) ≡ true) xs
-kept same t zs [] ys h k = tt
-kept same t zs (x ∷ xs) ys h k = (among-filter same t (λ y. among same y zs) x ys h.0 k.0, kept same t zs xs ys h.1 k.1)
-
 all_more : {K : Type 0} (same : K → K → Bool) (y : K) (ys xs : List K) → AllByRecursion (λ x. among same x ys ≡ true) xs → AllByRecursion (λ x. among same x (y ∷ ys) ≡ true) xs
 all_more same y ys [] h = tt
 all_more same y ys (x ∷ xs) h = (or_right (same x y) _ h.0, all_more same y ys xs h.1)
@@ -90,7 +85,7 @@ all_among same t (x ∷ xs) = (or_left (same x x) _ (t.itself x), all_more same 
 
 pub among_itself : {K : Type 0} (same : K → K → Bool) → Tells same → (xs ys : List K) → AllByRecursion (λ x. among same x ys ≡ true) xs
     → AllByRecursion (λ x. among same x (filter (λ y. among same y xs) ys) ≡ true) xs
-among_itself same t xs ys h = kept same t xs xs ys h (all_among same t xs)
+among_itself same t xs ys h = both _ _ _ (λ x. among-filter same t (λ y. among same y xs) x ys) xs h (all_among same t xs)
 
 -- those outside a choice are as many as the choice leaves
 pub length-outside : {K : Type 0} (same : K → K → Bool) → Tells same → (xs ys : List K) → IsDistinct same xs → AllByRecursion (λ x. among same x ys ≡ true) xs

@@ -5,7 +5,7 @@ use Rattle.std.specs.List.{filter, flat_map, list_any, slice_get}
 use Rattle.std.proofs.Math.Bool.{or-false}
 use Rattle.std.proofs.Math.Nat.{mul-le-mul_left, mul-suc}
 use Rattle.std.proofs.Math.Seq.{take-suc}
-use Rattle.std.proofs.lemmas.Bool.{cases_Bool, cases_eq, cases_lt, le-ltb, ne_eqb, or_parts}
+use Rattle.std.proofs.lemmas.Bool.{cases_Bool, cases_eq, cases_lt, false_from_ne_true, le-ltb, ne_eqb, or_parts}
 use Rattle.std.proofs.lemmas.Grind.{flat_map-append}
 use Rattle.std.proofs.lemmas.List.{append_assoc, append-nil, get_or_default, get_or_past, length-map, map-append}
 use Rattle.std.proofs.lemmas.List.Filters.{length-filter_more}
@@ -30,6 +30,7 @@ use Rattle.span.specs.Entries.{are_compatible}
 use Rattle.lane_kernels.specs.Disjoint.{are_disjoint, fits}
 use Rattle.mesh_graph.proofs.Entries.{any_at}
 use Rattle.certificate.specs.Plans.{partners_of, sides_of}
+use Rattle.certificate.proofs.Needs.{list_any-map}
 use Rattle.certificate.proofs.Places.{IsAscending-drop, place-same}
 use Rattle.certificate.proofs.Verdicts.{tells_span}
 
@@ -63,10 +64,6 @@ any-filter : {X : Type 0} (p q : X → Bool) (xs : List X) → list_any q (filte
 any-filter p q [] = refl
 any-filter p q (x ∷ xs) = search (rules, cases_Bool, (any-filter p q xs), (any-filter p q xs))
 
-any-map : {X Y : Type 0} (test : Y → Bool) (f : X → Y) (xs : List X) → list_any test (map f xs) ≡ list_any (λ x. test (f x)) xs
-any-map test f [] = refl
-any-map test f (x ∷ xs) = ap (λ b. test (f x) || b) (any-map test f xs)
-
 any-flat_map : {X Y : Type 0} (test : Y → Bool) (f : X → List Y) (xs : List X) → list_any test (flat_map f xs) ≡ list_any (λ x. list_any test (f x)) xs
 any-flat_map test f [] = refl
 any-flat_map test f (x ∷ xs) = search (rules, flat_map-cons, list_any-append, (any-flat_map test f xs))
@@ -81,7 +78,7 @@ AreMembers members abandoned chosen = (number : ℕ) → number < CLASSES → me
 
 -- whether a group is compatible with a group of one of the ids, by the sets of those of its class
 pub fits_some-members : (members : Members) (abandoned : List Entry) (chosen : List SpanId) → AreMembers members abandoned chosen → (y : Entry) → fits_some members y ≡ fits_any abandoned chosen y
-fits_some-members members abandoned chosen are y = search (rules, number_of-most, any-map, any-filter, same_number, any-flat_map)
+fits_some-members members abandoned chosen are y = search (rules, number_of-most, list_any-map, any-filter, same_number, any-flat_map)
 
 -- the groups that are
 pub filter-members : (members : Members) (abandoned owned : List Entry) (chosen : List SpanId) → AreMembers members abandoned chosen
@@ -105,15 +102,11 @@ groups_with-at (y ∷ ys) id zero x up within is same =
     rw first (ap (λ l. y ∷ l) (groups_with-none ys id others) ∙ ap (λ (z : Entry). z ∷ []) (sym is))
   where
     later : (k : ℕ) (d : Entry) → k < length ys → same_span y.id id ≡ true → same_span (get_or ys k d).id id ≡ false
-    later k d low first = elim (cases_Bool (same_span (get_or ys k d).id id)) [
-      | inl one ↦ absurd (let e : 0 ≡ suc k = place-same (y ∷ ys) id 0 (suc k) y d up (omega arith) (omega arith) first one in omega arith)
-      | inr other ↦ other
-    ]
+    later k d low first = false_from_ne_true _ (λ one.
+        let e : 0 ≡ suc k = place-same (y ∷ ys) id 0 (suc k) y d up (omega arith) (omega arith) first one in omega arith)
 groups_with-at (y ∷ ys) id (suc p) x up within is same =
-    let apart : same_span y.id id ≡ false = elim (cases_Bool (same_span y.id id)) [
-      | inl one ↦ absurd (let e : 0 ≡ suc p = place-same (y ∷ ys) id 0 (suc p) y x up (omega arith) within one (ap (λ (z : Entry). same_span z.id id) (sym is) ∙ same) in omega arith)
-      | inr other ↦ other
-    ] in
+    let apart : same_span y.id id ≡ false = false_from_ne_true _ (λ one.
+    let e : 0 ≡ suc p = place-same (y ∷ ys) id 0 (suc p) y x up (omega arith) within one (ap (λ (z : Entry). same_span z.id id) (sym is) ∙ same) in omega arith) in
     rw apart (groups_with-at ys id p x (IsAscending-drop 1 (y ∷ ys) up) (omega arith) is same)
 
 -- one more id

@@ -1,12 +1,12 @@
 -- Sets of places of groups, and what they say of a list of ids while it is walked.
 use Rattle.std.proofs.lemmas.Grind.{common_steps}
-use Rattle.std.proofs.Common.{◌≡◌, ℕ, ◌+◌, ◌<◌, ◌≤◌, ◌&&◌, ◌||◌, Bool, true, false, cond, List, [], ◌∷◌, ◌++◌, length, map, get_or, take, drop, ap, refl, subst, sym, ◌∙◌, inl, inr, arith, eqb, eq-eqb, eqb-true, lt-ltb, nat_lt, not, replicate, suc, count_by, sum_by, rules}
+use Rattle.std.proofs.Common.{◌≡◌, ℕ, ◌+◌, ◌<◌, ◌≤◌, ◌&&◌, ◌||◌, Bool, true, false, cond, List, [], ◌∷◌, ◌++◌, length, map, get_or, take, drop, ap, refl, subst, sym, ◌∙◌, inl, inr, arith, eqb, eq-eqb, lt-ltb, nat_lt, replicate, suc, count_by, sum_by, rules}
 use Rattle.std.specs.List.{IsDistinct, list_any, range_with_len}
 use Rattle.std.specs.List.Sorted.{IsStrictlyIncreasing}
-use Rattle.std.proofs.Math.Bool.{or-false}
+use Rattle.std.proofs.Math.Bool.{or-false, or_comm}
 use Rattle.std.proofs.Math.Numerals.{add-one}
 use Rattle.std.proofs.Math.Seq.{take-suc}
-use Rattle.std.proofs.lemmas.Bool.{and_from, and_parts, both_ways, cases_Bool, cases_eq, cases_lt, le-ltb, ne_eqb, or_cases, or_left, or_right}
+use Rattle.std.proofs.lemmas.Bool.{and_from, and_parts, both_ways, cases_eq, cases_lt, false_from_ne_true, le-ltb, ne_eqb, or_cases, or_left, or_right}
 use Rattle.std.proofs.lemmas.List.{drop-map, get_or_default, get_or-drop, get_or-replicate, get_or-take, length-drop, length-replicate, length-take-le, map-id, take_all, take-map}
 use Rattle.std.proofs.lemmas.List.Folds.{list_any-append, list_any_at, list_any_none}
 use Rattle.std.proofs.lemmas.List.FromFn.{sum_by-map-range_with_len_more}
@@ -84,26 +84,14 @@ module _ (entries : List Entry) (before : List SpanId) (id : SpanId) (old : List
   module _ (p : ℕ) (up : IsAscending (ids entries)) (p_in : p < length entries) (at : (d : Entry) → same_span (get_or entries p d).id id ≡ true) where
     pub HasSeen-more : (new : List ℕ) → ((q : ℕ) → has_bit new q ≡ (eqb q p || has_bit old q)) → HasSeen entries (before ++ id ∷ []) new
     HasSeen-more new bits q d within =
-        bits q ∙ ap (λ b. eqb q p || b) (seen q d within) ∙ turned (eqb q p) (list_any (same_span (get_or entries q d).id) before)
+        bits q ∙ ap (λ b. eqb q p || b) (seen q d within) ∙ or_comm (eqb q p) (list_any (same_span (get_or entries q d).id) before)
         ∙ ap (λ b. list_any (same_span (get_or entries q d).id) before || b) here
         ∙ sym (any-more (same_span (get_or entries q d).id) before id)
       where
-        turned : (a b : Bool) → (a || b) ≡ (b || a)
-        turned true true = refl
-        turned true false = refl
-        turned false true = refl
-        turned false false = refl
-
         here : eqb q p ≡ same_span (get_or entries q d).id id
         here = elim (cases_eq q p) [
           | inl same ↦ eq-eqb q p same ∙ sym (ap (λ k. same_span (get_or entries k d).id id) same ∙ at d)
-          | inr other ↦ elim (cases_Bool (same_span (get_or entries q d).id id)) [
-            | inl one ↦ absurd (other (place-same entries id q p d d up within p_in one (at d)))
-            | inr none ↦ elim (cases_Bool (eqb q p)) [
-              | inl e ↦ absurd (other (eqb-true q p e))
-              | inr e ↦ e ∙ sym none
-            ]
-          ]
+          | inr other ↦ ne_eqb q p other ∙ sym (false_from_ne_true _ (λ one. other (place-same entries id q p d d up within p_in one (at d))))
         ]
 
 -- whether the group was seen
@@ -115,15 +103,6 @@ was-seen (x ∷ xs) before id old p seen p_in at =
     seen p x p_in
     ∙ ap (λ (y : SpanId). list_any (same_span y) before) (same_id_from_test (get_or (x ∷ xs) p x).id id (at x))
     ∙ sym (ap (λ b. b && list_any (same_span id) before) (list_any_at (λ (y : Entry). same_span y.id id) (x ∷ xs) p x p_in (at x)))
-
--- what is not new stood before
-pub old-from_not : (new had : Bool) → new ≡ not had → new ≡ false → had ≡ true
-old-from_not new true is h = refl
-old-from_not new false is h = absurd (both_ways new h is)
-
-pub new-from_not : (new had : Bool) → new ≡ not had → new ≡ true → had ≡ false
-new-from_not new false is h = refl
-new-from_not new true is h = absurd (both_ways new is h)
 
 -- ---- no group twice
 
@@ -149,15 +128,10 @@ module _ (entries : List Entry) (ids : List SpanId) (k : ℕ) (x : SpanId) (low 
             ∙ once i j d less (omega arith) (ap (has_id entries) (first ∙ sym read_i) ∙ has)
         | inr last ↦
             let here : get_or (take (k + 1) ids) j d ≡ x = read_j ∙ ap (λ n. get_or ids n d) (let e : j ≡ k = omega arith in e) ∙ sym (is d) in
-            elim (cases_Bool (same_span (get_or (take (k + 1) ids) i d) x)) [
-              | inl same ↦
-                  let one : get_or (take (k + 1) ids) i d ≡ x = same_id_from_test _ x same in
-                  let there : list_any (same_span x) (take k ids)
-                  ≡ true = list_any_at (same_span x) (take k ids) i d (omega arith)
-                  (test_from_same_id x (get_or (take k ids) i d) (sym one ∙ read_i ∙ sym first)) in
-                  absurd (both_ways (has_id entries x && list_any (same_span x) (take k ids)) new (and_from (has_id entries x) _ (ap (has_id entries) (sym one) ∙ has) there))
-              | inr other ↦ ap (same_span (get_or (take (k + 1) ids) i d)) here ∙ other
-            ]
+            ap (same_span (get_or (take (k + 1) ids) i d)) here ∙ false_from_ne_true _ (λ same.
+            let one : get_or (take (k + 1) ids) i d ≡ x = same_id_from_test _ x same in
+            let there = list_any_at (same_span x) (take k ids) i d (omega arith) (test_from_same_id x (get_or (take k ids) i d) (sym one ∙ read_i ∙ sym first)) in
+            both_ways (has_id entries x && list_any (same_span x) (take k ids)) new (and_from (has_id entries x) _ (ap (has_id entries) (sym one) ∙ has) there))
       ]
 
   -- an id of a group that was met before
@@ -168,22 +142,11 @@ module _ (entries : List Entry) (ids : List SpanId) (k : ℕ) (x : SpanId) (low 
       both_ways (list_any (same_span x) (take k ids))
       (list_any_none (same_span x) (take k ids) (λ i d within.
       let first : get_or (take k ids) i d ≡ get_or ids i d = get_or-take k ids i d (omega arith) in
-      elim (cases_Bool (same_span x (get_or (take k ids) i d))) [
-        | inl same ↦
-            let one : x ≡ get_or ids i d = same_id_from_test x _ same ∙ first in
-            let apart : same_span (get_or ids i d) (get_or ids k d) ≡ false = once i k d (omega arith) low (ap (has_id entries) (sym one) ∙ both.0) in
-            absurd (both_ways (same_span (get_or ids i d) (get_or ids k d)) apart (test_from_same_id _ _ (sym one ∙ is d)))
-        | inr other ↦ other
-      ]))
+      false_from_ne_true _ (λ same.
+      let one : x ≡ get_or ids i d = same_id_from_test x _ same ∙ first in
+      let apart : same_span (get_or ids i d) (get_or ids k d) ≡ false = once i k d (omega arith) low (ap (has_id entries) (sym one) ∙ both.0) in
+      both_ways (same_span (get_or ids i d) (get_or ids k d)) apart (test_from_same_id _ _ (sym one ∙ is d)))))
       both.1
-
--- none at all
-pub AreOnce-none : (entries : List Entry) (ids : List SpanId) → AreOnce entries (take 0 ids)
-AreOnce-none entries ids i j d less within has = absurd (omega arith)
-
--- all of them
-pub AreOnce-all : (entries : List Entry) (ids : List SpanId) (k : ℕ) → length ids ≤ k → AreOnce entries (take k ids) → AreOnce entries ids
-AreOnce-all entries ids k past = subst (AreOnce entries) (take_all k ids past)
 
 -- of all groups, where it is so of the first ones and of the others
 module _ (entries first rest : List Entry) (ids : List SpanId) (parts : entries ≡ first ++ rest) where

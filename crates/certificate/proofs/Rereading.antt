@@ -214,24 +214,6 @@ body_in-all_lines version c w named up_a up_o sets_a sets_o =
     let n5 : length front5 ≡ length front4 + length head_s = length-append front4 head_s in
     let n6 : length (front5 ++ codes "end" ∷ []) ≡ length front5 + 1 = length-append front5 (codes "end" ∷ []) in
     let n7 : length ((front5 ++ codes "end" ∷ []) ++ ([] ∷ [])) ≡ length (front5 ++ codes "end" ∷ []) + 1 = length-append (front5 ++ codes "end" ∷ []) ([] ∷ []) in
-    let read_a : list_in (codes "abandoned") (entry_in version) (λ x. x.id) (all_lines version c) 1
-    ≡ Ok (map entry_parts A) = list_in-at (entry_in version) (λ x. x.id) entry_parts (λ x. x.id) (λ y. refl) entry_body (codes "abandoned") A front1
-    (owned_lines c) refl w.abandoned
-    (each_entry version named.classes A named.abandoned sets_a (recursion_from_All FitsClass A w.abandoned_fit)) up_a
-    (omega arith) in
-    let read_o : list_in (codes "owned") (entry_in version) (λ x. x.id) (all_lines version c) (length front2)
-    ≡ Ok (map entry_parts O) = ap (λ ps. list_in (codes "owned") (entry_in version) (λ x. x.id) ps (length front2)) whole2
-    ∙ list_in-at (entry_in version) (λ x. x.id) entry_parts (λ x. x.id) (λ y. refl) entry_body (codes "owned") O front2 (fold_lines c) refl w.owned
-    (each_entry version named.classes O named.owned sets_o (recursion_from_All FitsClass O w.owned_fit)) up_o (omega arith) in
-    let read_f : list_in (codes "folds") (pair_in version) (λ p. p.0) (all_lines version c) (length front3)
-    ≡ Ok (map pair_parts c.plan) = ap (λ ps. list_in (codes "folds") (pair_in version) (λ p. p.0) ps (length front3)) whole3
-    ∙ list_in-at (pair_in version) (λ p. p.0) pair_parts (λ p. p.0) (λ y. refl) pair_body (codes "folds") c.plan front3 (short_lines c) refl w.folds
-    (each (pair_in-body version) c.plan named.folds) w.folds_ascending (omega arith) in
-    let read_s : list_in (codes "short") (id_in version) (λ id. id) (all_lines version c) (length front4)
-    ≡ Ok (map id_parts c.short) = ap (λ ps. list_in (codes "short") (id_in version) (λ id. id) ps (length front4)) whole4
-    ∙ list_in-at (id_in version) (λ id. id) id_parts (λ id. id) (λ y. refl) id_text (codes "short") c.short front4 (codes "end" ∷ [] ∷ []) refl w.short
-    (each (id_in-text version) c.short named.short) (subst IsAscending (sym (map-id c.short)) w.short_ascending)
-    (omega arith) in
     let read_end : line_in (last_in (is_wanted version (outline_of c))) (all_lines version c) (length front5)
     ≡ Ok tt = ap (λ ps. line_in (last_in (is_wanted version (outline_of c))) ps (length front5)) whole5
     ∙ line_in-at (last_in (is_wanted version (outline_of c))) front5 (codes "end") ([] ∷ []) (omega arith)
@@ -240,7 +222,19 @@ body_in-all_lines version c w named up_a up_o sets_a sets_o =
     let empty : get_or (all_lines version c) (length front5 + 1) [] ≡ [] = (λ i. get_or (whole6 i) (sym n6 i) []) ∙ at-front (front5 ++ codes "end" ∷ []) [] [] [] in
     let nothing : end_in (all_lines version c) (length front5 + 1) ≡ Ok tt = rw (eq-eqb (length (all_lines version c)) (length front5 + 1 + 1) size, empty) refl in
     body_in-lists version (all_lines version c) (map entry_parts A) (map entry_parts O) (map pair_parts c.plan) (map id_parts c.short) (length front2) (length front3)
-    (length front4) (length front5) read_a read_o read_f read_s (omega arith) (omega arith) (omega arith) (omega arith)
+    (length front4) (length front5)
+    (list_in-at (entry_in version) (λ x. x.id) entry_parts (λ x. x.id) (λ y. refl) entry_body (codes "abandoned") A front1 (owned_lines c) refl w.abandoned
+    (each_entry version named.classes A named.abandoned sets_a (recursion_from_All FitsClass A w.abandoned_fit)) up_a (omega arith))
+    (ap (λ ps. list_in (codes "owned") (entry_in version) (λ x. x.id) ps (length front2)) whole2
+    ∙ list_in-at (entry_in version) (λ x. x.id) entry_parts (λ x. x.id) (λ y. refl) entry_body (codes "owned") O front2 (fold_lines c) refl w.owned
+    (each_entry version named.classes O named.owned sets_o (recursion_from_All FitsClass O w.owned_fit)) up_o (omega arith))
+    (ap (λ ps. list_in (codes "folds") (pair_in version) (λ p. p.0) ps (length front3)) whole3
+    ∙ list_in-at (pair_in version) (λ p. p.0) pair_parts (λ p. p.0) (λ y. refl) pair_body (codes "folds") c.plan front3 (short_lines c) refl w.folds
+    (each (pair_in-body version) c.plan named.folds) w.folds_ascending (omega arith))
+    (ap (λ ps. list_in (codes "short") (id_in version) (λ id. id) ps (length front4)) whole4
+    ∙ list_in-at (id_in version) (λ id. id) id_parts (λ id. id) (λ y. refl) id_text (codes "short") c.short front4 (codes "end" ∷ [] ∷ []) refl w.short
+    (each (id_in-text version) c.short named.short) (subst IsAscending (sym (map-id c.short)) w.short_ascending) (omega arith))
+    (omega arith) (omega arith) (omega arith) (omega arith)
     ∙ rw (read_end, nothing) refl
 
 -- what is written is read again

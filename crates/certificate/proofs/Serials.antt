@@ -16,7 +16,7 @@ use Rattle.certificate.specs.Number.{number_in}
 use Rattle.certificate.specs.Words.{parts_of}
 use Rattle.certificate.proofs.ReadAgain.{HasNames, HasSerial}
 use Rattle.certificate.proofs.Rereading.{IsNamed}
-use Rattle.certificate.proofs.Spelling.{>>=-ok, both-ok, class_in-named, ending_in-same, entry_of-ok, id_of_numbers-ok, list_in-have}
+use Rattle.certificate.proofs.Spelling.{>>=-ok, both-ok, class_in-named, ending_in-ok, entry_of-ok, id_of_numbers-ok, list_in-have}
 
 -- ---- what is read
 
@@ -31,9 +31,6 @@ id_of_parts-serial : (version : Version) (parts : List (List ℕ)) (i : Id) → 
 id_of_parts-serial version (shard ∷ serial ∷ []) i h = (id_of_numbers-ok version (number_in shard) (number_in serial) i h).3
 id_of_parts-serial version parts i h = cc
 
-id_in-serial : (version : Version) (word : List ℕ) (i : Id) → id_in version word ≡ Ok i → HasNumber version i
-id_in-serial version word i h = id_of_parts-serial version (parts_of 46 word) i h
-
 -- the version names the serial and the class of a group
 abbrev HasListed : Version → Listed → Type 0
 HasListed version x = HasNumber version x.id × (names_class version x.class ≡ true)
@@ -42,24 +39,18 @@ entry_of_words-named : (version : Version) (words : List (List ℕ)) (x : Listed
 entry_of_words-named One (id ∷ set ∷ []) x h =
     let p = entry_of-ok (id_in One id) (Ok C16) set x h in
     let same : C16 ≡ x.class = cc p.1 in
-    (id_in-serial One id x.id p.0, ap (names_class One) (sym same))
+    (id_of_parts-serial One (parts_of 46 id) x.id p.0, ap (names_class One) (sym same))
 entry_of_words-named One (id ∷ class ∷ set ∷ []) x h = cc
 entry_of_words-named version (id ∷ class ∷ set ∷ []) x h =
     let p = entry_of-ok (id_in version id) (class_in version class) set x h in
-    (id_in-serial version id x.id p.0, class_in-named version class x.class p.1)
+    (id_of_parts-serial version (parts_of 46 id) x.id p.0, class_in-named version class x.class p.1)
 entry_of_words-named version words x h = cc
-
-entry_in-named : (version : Version) (line : List ℕ) (x : Listed) → entry_in version line ≡ Ok x → HasListed version x
-entry_in-named version line x h = entry_of_words-named version (parts_of 32 line) x h
 
 pair_of_words-serial : (version : Version) (words : List (List ℕ)) (p : Id × Id) → pair_of_words version words ≡ Ok p → HaveNumbers version p
 pair_of_words-serial version (a ∷ b ∷ []) p h =
     let q = both-ok (id_in version a) (id_in version b) p h in
-    (id_in-serial version a p.0 q.0, id_in-serial version b p.1 q.1)
+    (id_of_parts-serial version (parts_of 46 a) p.0 q.0, id_of_parts-serial version (parts_of 46 b) p.1 q.1)
 pair_of_words-serial version words p h = cc
-
-pair_in-serial : (version : Version) (line : List ℕ) (p : Id × Id) → pair_in version line ≡ Ok p → HaveNumbers version p
-pair_in-serial version line p h = pair_of_words-serial version (parts_of 32 line) p h
 
 -- a test that none of a list passes
 list_any-none : {X : Type 0} (P : X → Type 0) (test : X → Bool) → ((x : X) → P x → test x ≡ false) → (xs : List X) → AllByRecursion P xs → list_any test xs ≡ false
@@ -86,11 +77,12 @@ needs_version_three-read version parts o h small =
     let f = >>=-ok _ _ o w.2 in
     let s = >>=-ok _ _ o f.2 in
     let said : Outline = record { abandoned = a.0; owned = w.0; folds = f.0; short = s.0 } in
-    let same : said ≡ o = ending_in-same version said parts _ o s.2 in
-    let abandoned = list_in-have (entry_in version) (λ x. x.id) (HasListed version) (entry_in-named version) parts _ _ a.0 a.1 in
-    let owned = list_in-have (entry_in version) (λ x. x.id) (HasListed version) (entry_in-named version) parts _ _ w.0 w.1 in
-    let folds = list_in-have (pair_in version) (λ p. p.0) (HaveNumbers version) (pair_in-serial version) parts _ _ f.0 f.1 in
-    let short = list_in-have (id_in version) (λ id. id) (HasNumber version) (id_in-serial version) parts _ _ s.0 s.1 in
+    let same : said ≡ o = (ending_in-ok version said parts _ o s.2).same in
+    let named : (line : List ℕ) (x : Listed) → entry_in version line ≡ Ok x → HasListed version x = λ line. entry_of_words-named version (parts_of 32 line) in
+    let abandoned = list_in-have (entry_in version) (λ x. x.id) (HasListed version) named parts _ _ a.0 a.1 in
+    let owned = list_in-have (entry_in version) (λ x. x.id) (HasListed version) named parts _ _ w.0 w.1 in
+    let folds = list_in-have (pair_in version) (λ p. p.0) (HaveNumbers version) (λ line. pair_of_words-serial version (parts_of 32 line)) parts _ _ f.0 f.1 in
+    let short = list_in-have (id_in version) (λ id. id) (HasNumber version) (λ word. id_of_parts-serial version (parts_of 46 word)) parts _ _ s.0 s.1 in
     let no_abandoned : list_any is_beyond_version_two a.0 ≡ false = list_any-none (HasListed version) is_beyond_version_two (λ x n. small-listed version x small n) a.0 abandoned in
     let no_owned : list_any is_beyond_version_two w.0 ≡ false = list_any-none (HasListed version) is_beyond_version_two (λ x n. small-listed version x small n) w.0 owned in
     let no_folds : list_any (λ (p : Id × Id). is_large p.0 || is_large p.1) f.0

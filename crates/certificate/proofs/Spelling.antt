@@ -266,26 +266,14 @@ outline_lines version o =
     ++ title_body (codes "short") (length o.short) ∷ (map id_word o.short
     ++ codes "end" ∷ [] ∷ []))))
 
-third_place : (a o : ℕ) → 2 + a + 1 + o ≡ 3 + a + o
-third_place a o = omega arith
-
-fourth_place : (a o f : ℕ) → 3 + a + o + 1 + f ≡ 4 + a + o + f
-fourth_place a o f = omega arith
-
-fifth_place : (a o f s : ℕ) → 4 + a + o + f + 1 + s ≡ 5 + a + o + f + s
-fifth_place a o f s = omega arith
-
 -- the text ends at the place
-record IsEnding (version : Version) (said : Outline) (parts : List (List ℕ)) (at : ℕ) (o : Outline) : Type 0 where
-  lines : drop at parts ≡ codes "end" ∷ [] ∷ []
-  wanted : is_wanted version said ≡ true
-  same : said ≡ o
+pub record IsEnding (version : Version) (said : Outline) (parts : List (List ℕ)) (at : ℕ) (o : Outline) : Type 0 where
+  pub lines : drop at parts ≡ codes "end" ∷ [] ∷ []
+  pub wanted : is_wanted version said ≡ true
+  pub same : said ≡ o
 
-ending_in-ok : (version : Version) (said : Outline) (parts : List (List ℕ)) (at : ℕ) (o : Outline) → ending_in version said parts at ≡ Ok o → IsEnding version said parts at o
+pub ending_in-ok : (version : Version) (said : Outline) (parts : List (List ℕ)) (at : ℕ) (o : Outline) → ending_in version said parts at ≡ Ok o → IsEnding version said parts at o
 ending_in-ok version said parts at o h = grind (arith, common_steps, line_in-ok, at_line-ok, line_in-spells, last_in-spells, end_in-ok, last_in-ok, said-once)
-
-pub ending_in-same : (version : Version) (said : Outline) (parts : List (List ℕ)) (at : ℕ) (o : Outline) → ending_in version said parts at ≡ Ok o → said ≡ o
-ending_in-same version said parts at o h = (ending_in-ok version said parts at o h).same
 
 pub body_in-spells : (version : Version) (parts : List (List ℕ)) (o : Outline) → body_in version parts ≡ Ok o
     → (drop 1 parts ≡ outline_lines version o) × AllByRecursion (IsOfVersion version) o.abandoned × AllByRecursion (IsOfVersion version) o.owned × (is_wanted version o ≡ true)
@@ -295,20 +283,17 @@ body_in-spells version parts o h =
     let f = >>=-ok _ _ o w.2 in
     let s = >>=-ok _ _ o f.2 in
     let said : Outline = record { abandoned = a.0; owned = w.0; folds = f.0; short = s.0 } in
-    let at : ℕ = 5 + length a.0 + length w.0 + length f.0 + length s.0 in
-    let e = ending_in-ok version said parts at o s.2 in
-    let same : said ≡ o = e.same in
     let second : ℕ = 2 + length a.0 in
     let third : ℕ = 3 + length a.0 + length w.0 in
     let fourth : ℕ = 4 + length a.0 + length w.0 + length f.0 in
     let fifth : ℕ = 5 + length a.0 + length w.0 + length f.0 + length s.0 in
-    let to_third : second + 1 + length w.0 ≡ third = third_place (length a.0) (length w.0) in
-    let to_fourth : third + 1 + length f.0 ≡ fourth = fourth_place (length a.0) (length w.0) (length f.0) in
-    let to_fifth : fourth + 1 + length s.0 ≡ fifth = fifth_place (length a.0) (length w.0) (length f.0) (length s.0) in
-    let ends : drop fifth parts ≡ codes "end" ∷ [] ∷ [] = e.lines in
+    let e = ending_in-ok version said parts fifth o s.2 in
+    let to_third : second + 1 + length w.0 ≡ third = omega arith in
+    let to_fourth : third + 1 + length f.0 ≡ fourth = omega arith in
+    let to_fifth : fourth + 1 + length s.0 ≡ fifth = omega arith in
     let shorts : drop fourth parts ≡ title_body (codes "short") (length s.0) ∷ (map id_word s.0 ++ codes "end" ∷ [] ∷ []) =
     list_in-spells (id_in version) id_word (λ id. id) (word-id version) parts (codes "short") fourth s.0 s.1
-    ∙ ap (λ ps. title_body (codes "short") (length s.0) ∷ (map id_word s.0 ++ ps)) (ap (λ at. drop at parts) to_fifth ∙ ends) in
+    ∙ ap (λ ps. title_body (codes "short") (length s.0) ∷ (map id_word s.0 ++ ps)) (ap (λ at. drop at parts) to_fifth ∙ e.lines) in
     let folds : drop third parts ≡ title_body (codes "folds") (length f.0) ∷ (map pair_words f.0 ++ title_body (codes "short") (length s.0) ∷ (map id_word s.0 ++ codes "end" ∷ [] ∷ [])) =
     list_in-spells (pair_in version) pair_words (λ p. p.0) (pair_in-spells version) parts (codes "folds") third f.0 f.1
     ∙ ap (λ ps. title_body (codes "folds") (length f.0) ∷ (map pair_words f.0 ++ ps)) (ap (λ at. drop at parts) to_fourth ∙ shorts) in (
@@ -316,10 +301,10 @@ body_in-spells version parts o h =
           ∙ ap (λ ps. title_body (codes "abandoned") (length a.0) ∷ (map (entry_words version) a.0 ++ ps)) (
           list_in-spells (entry_in version) (entry_words version) (λ x. x.id) (entry_in-spells version) parts (codes "owned") second w.0 w.1
           ∙ ap (λ ps. title_body (codes "owned") (length w.0) ∷ (map (entry_words version) w.0 ++ ps)) (ap (λ at. drop at parts) to_third ∙ folds))
-          ∙ ap (outline_lines version) same,
-      subst (λ (o : Outline). AllByRecursion (IsOfVersion version) o.abandoned) same
+          ∙ ap (outline_lines version) e.same,
+      subst (λ (o : Outline). AllByRecursion (IsOfVersion version) o.abandoned) e.same
           (list_in-have (entry_in version) (λ x. x.id) (IsOfVersion version) (entry_in-version version) parts (codes "abandoned") 1 a.0 a.1),
-      subst (λ (o : Outline). AllByRecursion (IsOfVersion version) o.owned) same
+      subst (λ (o : Outline). AllByRecursion (IsOfVersion version) o.owned) e.same
           (list_in-have (entry_in version) (λ x. x.id) (IsOfVersion version) (entry_in-version version) parts (codes "owned") second w.0 w.1),
-      subst (λ (o : Outline). is_wanted version o ≡ true) same e.wanted,
+      subst (λ (o : Outline). is_wanted version o ≡ true) e.same e.wanted,
     )

@@ -3,6 +3,7 @@ use Rattle.std.proofs.Common.{ℕ, ◌<◌, ◌≤◌, ◌≡◌, ◌==◌, not,
 use Rattle.std.specs.List.{list_all}
 use Rattle.std.specs.Str.Parse.{AllDigits}
 use Rattle.std.proofs.lemmas.Bool.{and_parts, and_from, ne_eqb, not-true}
+use Rattle.std.proofs.lemmas.List.Folds.{list_all-append}
 use Rattle.std.proofs.lemmas.List.Splits.{slice_split-cons_no, slice_split-cons_yes}
 use Rattle.std.proofs.lemmas.Str.Parse.{digit_at}
 use Rattle.certificate.specs.Words.{parts_of}
@@ -12,10 +13,7 @@ abbrev pub lacks : ℕ → List ℕ → Bool
 lacks c xs = list_all (λ b. not (eqb b c)) xs
 
 pub lacks-append : (c : ℕ) (xs ys : List ℕ) → lacks c xs ≡ true → lacks c ys ≡ true → lacks c (xs ++ ys) ≡ true
-lacks-append c [] ys h k = k
-lacks-append c (x ∷ xs) ys h k =
-    let p : (not (eqb x c) ≡ true) × (lacks c xs ≡ true) = and_parts (not (eqb x c)) (lacks c xs) h in
-    and_from (not (eqb x c)) (lacks c (xs ++ ys)) p.0 (lacks-append c xs ys p.1 k)
+lacks-append c xs ys h k = list_all-append (λ b. not (eqb b c)) xs ys ∙ and_from (lacks c xs) (lacks c ys) h k
 
 -- the text before the first c
 pub parts-word : (c : ℕ) (xs ys : List ℕ) → lacks c xs ≡ true → parts_of c (xs ++ c ∷ ys) ≡ xs ∷ parts_of c ys

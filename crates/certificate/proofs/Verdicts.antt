@@ -1,9 +1,10 @@
 -- What the tests of the checker mean
 use Rattle.std.proofs.lemmas.Grind.{common_steps}
-use Rattle.std.proofs.Common.{ℕ, ◌+◌, ◌<◌, ◌≡◌, Bool, true, false, ◌&&◌, ◌||◌, List, [], ◌∷◌, length, map, get_or, refl, sym, ◌∙◌, inl, inr, arith, zero, suc, rules}
-use Rattle.std.specs.List.{All, AllByRecursion, IsDistinct, list_all, list_any}
+use Rattle.std.proofs.Common.{◌+◌, ◌≡◌, Bool, true, false, ◌&&◌, ◌||◌, List, [], ◌∷◌, length, map, refl, sym, ◌∙◌, inl, inr, arith, rules}
+use Rattle.std.specs.List.{All, IsDistinct, list_all, list_any}
 use Rattle.std.proofs.lemmas.Bool.{cases_Bool, both_ways, or_cases, or_left, or_right, and_parts, and_from}
-use Rattle.std.proofs.lemmas.List.Elements.{All-from_recursion, recursion_from_All}
+use Rattle.std.proofs.lemmas.List.Elements.{All-map, All-weaker}
+use Rattle.std.proofs.lemmas.List.Sums.{AllPass-from_list_all, list_all-from_AllPass}
 use Rattle.std.proofs.lemmas.List.{length-map}
 use Rattle.span.specs.declared.id.SpanId.{SpanId}
 use Rattle.span.specs.Ids.{same_span}
@@ -52,14 +53,10 @@ among_right s a b h = sym (among-ids s.owned b) ∙
 -- a list in which each passes
 module _ {X : Type 0} (test : X → Bool) (P : X → Type 0) where
   pub All-from_list_all : (xs : List X) → ((x : X) → test x ≡ true → P x) → list_all test xs ≡ true → All P xs
-  All-from_list_all xs h all = grind (arith, common_steps, All-from_recursion, and_parts)
+  All-from_list_all xs h all = All-weaker (λ x. test x ≡ true) P h xs (AllPass-from_list_all test xs all)
 
   pub list_all-from_All : (xs : List X) → ((x : X) → P x → test x ≡ true) → All P xs → list_all test xs ≡ true
-  list_all-from_All xs h all = each xs (recursion_from_All P xs all)
-    where
-      each : (ys : List X) → AllByRecursion P ys → list_all test ys ≡ true
-      each [] e = refl
-      each (y ∷ ys) e = and_from (test y) (list_all test ys) (h y e.0) (each ys e.1)
+  list_all-from_All xs h all = list_all-from_AllPass test xs (All-weaker P (λ x. test x ≡ true) h xs all)
 
 -- the ids of groups, none twice
 pub choice-from_tests : (entries : List Entry) (chosen : List SpanId) → list_all (λ id. has_id entries id) chosen ≡ true → IsDistinct same_span chosen → IsChoice same_span (ids entries) chosen
@@ -69,22 +66,9 @@ pub tests-from_choice : (entries : List Entry) (chosen : List SpanId) → IsChoi
 tests-from_choice entries chosen c =
     list_all-from_All (λ id. has_id entries id) (λ id. among same_span id (ids entries) ≡ true) chosen (λ id h. among-ids entries id ∙ h) c.within
 
--- each id of a list of which all are those of groups
-pub each_has_id : (entries : List Entry) (ids : List SpanId) → list_all (λ id. has_id entries id) ids ≡ true → (i : ℕ) (d : SpanId) → i < length ids → has_id entries (get_or ids i d) ≡ true
-each_has_id entries [] all i d within = absurd (omega arith)
-each_has_id entries (id ∷ ids) all zero d within = (and_parts (has_id entries id) (list_all (λ id. has_id entries id) ids) all).0
-each_has_id entries (id ∷ ids) all (suc i) d within = each_has_id entries ids (and_parts (has_id entries id) (list_all (λ id. has_id entries id) ids) all).1 i d (omega arith)
-
 -- the test whether each pair is compatible
 abbrev pub all_compatible : Groups → List (SpanId × SpanId) → Bool
 all_compatible s pairs = list_all (λ p. any_compatible s p.0 p.1) pairs
-
-each_side : {K : Type 0} (P : K → Type 0) (f : SpanId × SpanId → K) (pairs : List (SpanId × SpanId)) → AllByRecursion (λ p. P (f p)) pairs → AllByRecursion P (map f pairs)
-each_side P f [] h = tt
-each_side P f (p ∷ pairs) h = (h.0, each_side P f pairs h.1)
-
-all_side : {K : Type 0} (P : K → Type 0) (f : SpanId × SpanId → K) (pairs : List (SpanId × SpanId)) → All (λ p. P (f p)) pairs → All P (map f pairs)
-all_side P f pairs h = All-from_recursion P (map f pairs) (each_side P f pairs (recursion_from_All (λ p. P (f p)) pairs h))
 
 -- of compatible pairs each has its groups
 module _ (s : Groups) where
@@ -105,21 +89,21 @@ pub plan-from_tests : (s : Groups) (pairs : List (SpanId × SpanId)) → all_com
 unfolding sides_of
 plan-from_tests s pairs all left right = record {
   left = record {
-    within = all_side (λ a. among same_span a (ids s.abandoned) ≡ true) (λ p. p.0) pairs
+    within = All-map (λ a. among same_span a (ids s.abandoned) ≡ true) (λ p. p.0) pairs
         (All-from_list_all (λ p. any_compatible s p.0 p.1) (λ p. among same_span p.0 (ids s.abandoned) ≡ true) pairs (λ p h. among_left s p.0 p.1 h) all);
     distinct = left;
   };
   right = record {
-    within = all_side (λ b. among same_span b (ids s.owned) ≡ true) (λ p. p.1) pairs
+    within = All-map (λ b. among same_span b (ids s.owned) ≡ true) (λ p. p.1) pairs
         (All-from_list_all (λ p. any_compatible s p.0 p.1) (λ p. among same_span p.1 (ids s.owned) ≡ true) pairs (λ p h. among_right s p.0 p.1 h) all);
     distinct = right;
   };
-  compatible = All-from_list_all (λ p. any_compatible s p.0 p.1) (λ p. any_compatible s p.0 p.1 ≡ true) pairs (λ p h. h) all;
+  compatible = AllPass-from_list_all (λ p. any_compatible s p.0 p.1) pairs all;
 }
 
 pub tests-from_plan : (s : Groups) (pairs : List (SpanId × SpanId)) → IsPlanOf s pairs → all_compatible s pairs ≡ true
 unfolding sides_of
-tests-from_plan s pairs p = list_all-from_All (λ p. any_compatible s p.0 p.1) (λ p. any_compatible s p.0 p.1 ≡ true) pairs (λ p h. h) p.compatible
+tests-from_plan s pairs p = list_all-from_AllPass (λ p. any_compatible s p.0 p.1) pairs p.compatible
 
 -- the parts of a certificate
 pub certificate-from_tests : (s : Groups) (pairs : List (SpanId × SpanId)) (short : List SpanId) → IsPlanOf s pairs → IsChoice same_span (ids s.abandoned) short

@@ -1,16 +1,14 @@
-use Rattle.std.proofs.Common.{◌≡◌, ◌≤◌, ◌∙◌, Bool, true, false, ap, arith, cond, refl}
+use Rattle.std.proofs.Common.{◌≡◌, ◌≤◌, ◌∙◌, Bool, ap, arith, cond, rules}
 use Rattle.std.specs.Int.{from_bool}
 use Rattle.bitmap.specs.Slots.{has_bit}
 use Rattle.certificate.proofs.Places.{count-more}
 use Rattle.certificate.proofs.place_set.PlaceSet.count_below.Goals as goal
 
 byte : (b : Bool) → from_bool b ≡ cond b 1 0
-byte true = refl
-byte false = refl
+byte b = search rules
 
 few : (b : Bool) → cond b 1 0 ≤ 1
-few true = omega arith
-few false = omega arith
+few b = search rules
 
 pub loop-place-preserved : goal.loop-place-preserved
 loop-place-preserved c =
