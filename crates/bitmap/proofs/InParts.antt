@@ -1,17 +1,17 @@
 -- The numbers that parts of 256 have.
-use Rattle.std.proofs.Common.{◌≡◌, ℕ, ◌+◌, ◌-◌, ◌*◌, ◌/◌, ◌%◌, ◌<◌, ◌≤◌, ◌⊎◌, [], false, Option, Some, None, ◌&&◌, nat_lt, List, length, get_or, set, get_or-set_same, get_or-set_other, ◌∙◌, ap, sym, refl, inl, inr, arith, lt-ltb, le-ltb, rules}
+use Rattle.std.proofs.Common.{◌≡◌, ℕ, ◌+◌, ◌-◌, ◌*◌, ◌/◌, ◌%◌, ◌<◌, ◌≤◌, ◌⊎◌, [], false, Option, ◌&&◌, nat_lt, List, length, get_or, set, get_or-set_same, get_or-set_other, ◌∙◌, ap, sym, refl, inl, inr, arith, lt-ltb, le-ltb, rules}
 use Rattle.std.specs.Ordering.{nat_cmp}
-use Rattle.std.specs.FinSet.{contains, empty, insert, remove, contains-empty, contains-insert, contains-remove}
+use Rattle.std.specs.FinSet.{contains, empty, insert, remove, contains-empty}
 use Rattle.std.proofs.Math.Bool.{and-true}
 use Rattle.std.proofs.lemmas.Bool.{cases_eq, cases_lt, true≢false}
 use Rattle.std.proofs.lemmas.List.{get_or_past}
 use Rattle.std.proofs.lemmas.Option.{get_or_from_slice_get, slice_get-get_or}
-use Rattle.std.specs.Prelude.{IfSome, IsOk, MatchOption, Ok, Result, if◌then◌else◌, is_ok, replicate, take, ◌++◌}
+use Rattle.std.specs.Prelude.{IfSome, IsOk, MatchOption, Result, if◌then◌else◌, is_ok, replicate, take, ◌++◌}
 use Rattle.bitmap.specs.Parts.{HasNoneIn, IsLowestIn, has_number, numbers_in}
 use Rattle.bitmap.specs.Slots.{SlotSet, IsLowest}
 use Rattle.bitmap.specs.Words.{contains-slots_where, same_slots}
 use Rattle.bitmap.specs.declared.bits.TheConstants.{SLOTS}
-use Rattle.bitmap.proofs.Summaries.{contains-insert_other, contains-insert_same, contains-remove_other, contains-remove_same}
+use Rattle.bitmap.proofs.Summaries.{contains-insert_other, contains-insert_same, contains-remove_other, contains-remove_same, same_but_at}
 
 has_number-past : (parts : List SlotSet) (q : ℕ) → SLOTS * length parts ≤ q → has_number parts q ≡ false
 has_number-past parts q past = rw (get_or_past parts (q / SLOTS) empty (omega arith)) (contains-empty nat_cmp (q % SLOTS))
@@ -64,17 +64,13 @@ module _ (parts : List SlotSet) (index : ℕ) (within : index / SLOTS < length p
   changed : (new after : SlotSet) → contains new (index % SLOTS) ≡ contains after index
       → ((slot : ℕ) → (slot ≡ index % SLOTS → ⊥) → contains new slot ≡ contains part slot)
       → ((q : ℕ) → (q ≡ index → ⊥) → contains after q ≡ contains (numbers_in parts) q) → numbers_in (set parts (index / SLOTS) new) ≡ after
-  changed new after this others rest = same_slots _ _ (λ q. each q (cases_eq q index) (cases_eq (q / SLOTS) (index / SLOTS)))
+  changed new after this others rest = same_but_at _ _ (numbers_in parts) index (contains-set_same parts (index / SLOTS) within new index refl ∙ this) each rest
     where
-      each : (q : ℕ) → (q ≡ index) ⊎ (q ≡ index → ⊥) → (q / SLOTS ≡ index / SLOTS) ⊎ (q / SLOTS ≡ index / SLOTS → ⊥)
-          → contains (numbers_in (set parts (index / SLOTS) new)) q ≡ contains after q
-      each q (inl same) part_is =
-          ap (contains (numbers_in (set parts (index / SLOTS) new))) same
-          ∙ contains-set_same parts (index / SLOTS) within new index refl ∙ this ∙ ap (contains after) (sym same)
-      each q (inr other) (inl here) =
-          contains-set_same parts (index / SLOTS) within new q here ∙ others (q % SLOTS) (λ e. other (same_place q here e))
-          ∙ part_at q here ∙ sym (rest q other)
-      each q (inr other) (inr apart) = contains-set_other parts (index / SLOTS) within new q apart ∙ sym (rest q other)
+      each : (q : ℕ) → (q ≡ index → ⊥) → contains (numbers_in (set parts (index / SLOTS) new)) q ≡ contains (numbers_in parts) q
+      each q other = elim (cases_eq (q / SLOTS) (index / SLOTS)) [
+        | inl here ↦ contains-set_same parts (index / SLOTS) within new q here ∙ others (q % SLOTS) (λ e. other (same_place q here e)) ∙ part_at q here
+        | inr apart ↦ contains-set_other parts (index / SLOTS) within new q apart
+      ]
 
   pub numbers_in-insert : numbers_in (set parts (index / SLOTS) (insert part (index % SLOTS))) ≡ insert (numbers_in parts) index
   numbers_in-insert = changed _ _ (contains-insert_same part (index % SLOTS) ∙ sym (contains-insert_same (numbers_in parts) index))

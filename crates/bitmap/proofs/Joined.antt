@@ -1,14 +1,14 @@
 -- The numbers of a first part and of further ones.
-use Rattle.std.proofs.Common.{◌≡◌, ℕ, ◌+◌, ◌-◌, ◌/◌, ◌%◌, ◌<◌, ◌≤◌, ◌⊎◌, suc, min, Bool, true, false, nat_lt, List, ◌∷◌, ◌∙◌, ap, sym, refl, inl, inr, arith, lt-ltb, le-ltb, rules}
+use Rattle.std.proofs.Common.{◌≡◌, ℕ, ◌+◌, ◌-◌, ◌/◌, ◌%◌, ◌<◌, ◌≤◌, suc, min, Bool, true, false, nat_lt, List, ◌∷◌, ◌∙◌, ap, sym, refl, inl, inr, arith, lt-ltb, le-ltb, rules}
 use Rattle.std.specs.Bool.{if◌then◌else◌}
 use Rattle.std.specs.Ordering.{nat_cmp}
 use Rattle.std.specs.FinSet.{contains, empty, insert, remove, contains-empty}
-use Rattle.std.proofs.lemmas.Bool.{cases_eq, cases_lt, true≢false}
+use Rattle.std.proofs.lemmas.Bool.{cases_lt, true≢false}
 use Rattle.bitmap.specs.Parts.{numbers_in}
 use Rattle.bitmap.specs.Slots.{SlotSet, IsLowest}
 use Rattle.bitmap.specs.Words.{same_slots}
 use Rattle.bitmap.proofs.InParts.{contains-numbers_in}
-use Rattle.bitmap.proofs.Summaries.{contains-insert_other, contains-insert_same, contains-remove_other, contains-remove_same}
+use Rattle.bitmap.proofs.Summaries.{contains-insert_other, contains-insert_same, contains-remove_other, contains-remove_same, same_but_at}
 use Rattle.bitmap.specs.declared.bits.TheConstants.{SLOTS}
 
 pub contains-low : (low : SlotSet) (high : List SlotSet) (q : ℕ) → q < SLOTS → contains (numbers_in (low ∷ high)) q ≡ contains low q
@@ -31,62 +31,47 @@ joined-same low a b same = same_slots _ _ (λ q. elim (cases_lt q SLOTS) [
 ])
 
 module _ (low : SlotSet) (high : List SlotSet) (n : ℕ) where
+  -- where the first part changes at the number alone, no other number comes or goes
+  low-others : (now : SlotSet) → ((q : ℕ) → (q ≡ n → ⊥) → contains now q ≡ contains low q) → (q : ℕ) → (q ≡ n → ⊥)
+      → contains (numbers_in (now ∷ high)) q ≡ contains (numbers_in (low ∷ high)) q
+  low-others now others q other = elim (cases_lt q SLOTS) [
+    | inl small ↦ contains-low now high q small ∙ others q other ∙ sym (contains-low low high q small)
+    | inr large ↦ contains-high now high q large ∙ sym (contains-high low high q large)
+  ]
+
   pub insert-low : n < SLOTS → numbers_in (insert low n ∷ high) ≡ insert (numbers_in (low ∷ high)) n
-  insert-low within = same_slots _ _ (λ q. each q (cases_eq q n) (cases_lt q SLOTS))
-    where
-      each : (q : ℕ) → (q ≡ n) ⊎ (q ≡ n → ⊥) → (q < SLOTS) ⊎ (SLOTS ≤ q)
-          → contains (numbers_in (insert low n ∷ high)) q ≡ contains (insert (numbers_in (low ∷ high)) n) q
-      each q (inl same) (inl small) = contains-low (insert low n) high q small ∙ ap (contains (insert low n)) same ∙ contains-insert_same low n
-          ∙ sym (ap (contains (insert (numbers_in (low ∷ high)) n)) same ∙ contains-insert_same (numbers_in (low ∷ high)) n)
-      each q (inl same) (inr large) = absurd (omega arith)
-      each q (inr other) (inl small) = contains-low (insert low n) high q small ∙ contains-insert_other low n q other
-          ∙ sym (contains-insert_other (numbers_in (low ∷ high)) n q other ∙ contains-low low high q small)
-      each q (inr other) (inr large) = contains-high (insert low n) high q large ∙ sym (contains-insert_other (numbers_in (low ∷ high)) n q other ∙ contains-high low high q large)
+  insert-low within = same_but_at _ _ (numbers_in (low ∷ high)) n
+      (contains-low (insert low n) high n within ∙ contains-insert_same low n ∙ sym (contains-insert_same (numbers_in (low ∷ high)) n))
+      (low-others (insert low n) (contains-insert_other low n)) (contains-insert_other (numbers_in (low ∷ high)) n)
 
   pub remove-low : n < SLOTS → numbers_in (remove low n ∷ high) ≡ remove (numbers_in (low ∷ high)) n
-  remove-low within = same_slots _ _ (λ q. each q (cases_eq q n) (cases_lt q SLOTS))
-    where
-      each : (q : ℕ) → (q ≡ n) ⊎ (q ≡ n → ⊥) → (q < SLOTS) ⊎ (SLOTS ≤ q)
-          → contains (numbers_in (remove low n ∷ high)) q ≡ contains (remove (numbers_in (low ∷ high)) n) q
-      each q (inl same) (inl small) = contains-low (remove low n) high q small ∙ ap (contains (remove low n)) same ∙ contains-remove_same low n
-          ∙ sym (ap (contains (remove (numbers_in (low ∷ high)) n)) same ∙ contains-remove_same (numbers_in (low ∷ high)) n)
-      each q (inl same) (inr large) = absurd (omega arith)
-      each q (inr other) (inl small) = contains-low (remove low n) high q small ∙ contains-remove_other low n q other
-          ∙ sym (contains-remove_other (numbers_in (low ∷ high)) n q other ∙ contains-low low high q small)
-      each q (inr other) (inr large) = contains-high (remove low n) high q large ∙ sym (contains-remove_other (numbers_in (low ∷ high)) n q other ∙ contains-high low high q large)
+  remove-low within = same_but_at _ _ (numbers_in (low ∷ high)) n
+      (contains-low (remove low n) high n within ∙ contains-remove_same low n ∙ sym (contains-remove_same (numbers_in (low ∷ high)) n))
+      (low-others (remove low n) (contains-remove_other low n)) (contains-remove_other (numbers_in (low ∷ high)) n)
 
   pub remove_if-low : n < SLOTS → (out : Bool) → numbers_in ((if out then remove low n else low) ∷ high) ≡ if out then remove (numbers_in (low ∷ high)) n else numbers_in (low ∷ high)
   remove_if-low within true = remove-low within
   remove_if-low within false = refl
 
   module _ (after : List SlotSet) (large : SLOTS ≤ n) where
+    high-others : ((q : ℕ) → (q ≡ n - SLOTS → ⊥) → contains (numbers_in after) q ≡ contains (numbers_in high) q) → (q : ℕ) → (q ≡ n → ⊥)
+        → contains (numbers_in (low ∷ after)) q ≡ contains (numbers_in (low ∷ high)) q
+    high-others others q other = elim (cases_lt q SLOTS) [
+      | inl small ↦ contains-low low after q small ∙ sym (contains-low low high q small)
+      | inr past ↦ contains-high low after q past ∙ others (q - SLOTS) (λ e. other (omega (arith, e, past, large))) ∙ sym (contains-high low high q past)
+    ]
+
     pub insert-high : numbers_in after ≡ insert (numbers_in high) (n - SLOTS) → numbers_in (low ∷ after) ≡ insert (numbers_in (low ∷ high)) n
-    insert-high is = same_slots _ _ (λ q. each q (cases_eq q n) (cases_lt q SLOTS))
-      where
-        each : (q : ℕ) → (q ≡ n) ⊎ (q ≡ n → ⊥) → (q < SLOTS) ⊎ (SLOTS ≤ q)
-            → contains (numbers_in (low ∷ after)) q ≡ contains (insert (numbers_in (low ∷ high)) n) q
-        each q (inl same) (inl small) = absurd (omega arith)
-        each q (inl same) (inr past) = contains-high low after q past ∙ ap (λ s. contains s (q - SLOTS)) is
-            ∙ ap (λ k. contains (insert (numbers_in high) (n - SLOTS)) (k - SLOTS)) same ∙ contains-insert_same (numbers_in high) (n - SLOTS)
-            ∙ sym (ap (contains (insert (numbers_in (low ∷ high)) n)) same ∙ contains-insert_same (numbers_in (low ∷ high)) n)
-        each q (inr other) (inl small) = contains-low low after q small ∙ sym (contains-insert_other (numbers_in (low ∷ high)) n q other ∙ contains-low low high q small)
-        each q (inr other) (inr past) = contains-high low after q past ∙ ap (λ s. contains s (q - SLOTS)) is
-            ∙ contains-insert_other (numbers_in high) (n - SLOTS) (q - SLOTS) (λ e. other (omega (arith, e, past, large)))
-            ∙ sym (contains-insert_other (numbers_in (low ∷ high)) n q other ∙ contains-high low high q past)
+    insert-high is = same_but_at _ _ (numbers_in (low ∷ high)) n
+        (contains-high low after n large ∙ ap (λ s. contains s (n - SLOTS)) is ∙ contains-insert_same (numbers_in high) (n - SLOTS)
+        ∙ sym (contains-insert_same (numbers_in (low ∷ high)) n))
+        (high-others (λ q other. ap (λ s. contains s q) is ∙ contains-insert_other (numbers_in high) (n - SLOTS) q other)) (contains-insert_other (numbers_in (low ∷ high)) n)
 
     pub remove-high : numbers_in after ≡ remove (numbers_in high) (n - SLOTS) → numbers_in (low ∷ after) ≡ remove (numbers_in (low ∷ high)) n
-    remove-high is = same_slots _ _ (λ q. each q (cases_eq q n) (cases_lt q SLOTS))
-      where
-        each : (q : ℕ) → (q ≡ n) ⊎ (q ≡ n → ⊥) → (q < SLOTS) ⊎ (SLOTS ≤ q)
-            → contains (numbers_in (low ∷ after)) q ≡ contains (remove (numbers_in (low ∷ high)) n) q
-        each q (inl same) (inl small) = absurd (omega arith)
-        each q (inl same) (inr past) = contains-high low after q past ∙ ap (λ s. contains s (q - SLOTS)) is
-            ∙ ap (λ k. contains (remove (numbers_in high) (n - SLOTS)) (k - SLOTS)) same ∙ contains-remove_same (numbers_in high) (n - SLOTS)
-            ∙ sym (ap (contains (remove (numbers_in (low ∷ high)) n)) same ∙ contains-remove_same (numbers_in (low ∷ high)) n)
-        each q (inr other) (inl small) = contains-low low after q small ∙ sym (contains-remove_other (numbers_in (low ∷ high)) n q other ∙ contains-low low high q small)
-        each q (inr other) (inr past) = contains-high low after q past ∙ ap (λ s. contains s (q - SLOTS)) is
-            ∙ contains-remove_other (numbers_in high) (n - SLOTS) (q - SLOTS) (λ e. other (omega (arith, e, past, large)))
-            ∙ sym (contains-remove_other (numbers_in (low ∷ high)) n q other ∙ contains-high low high q past)
+    remove-high is = same_but_at _ _ (numbers_in (low ∷ high)) n
+        (contains-high low after n large ∙ ap (λ s. contains s (n - SLOTS)) is ∙ contains-remove_same (numbers_in high) (n - SLOTS)
+        ∙ sym (contains-remove_same (numbers_in (low ∷ high)) n))
+        (high-others (λ q other. ap (λ s. contains s q) is ∙ contains-remove_other (numbers_in high) (n - SLOTS) q other)) (contains-remove_other (numbers_in (low ∷ high)) n)
 
 -- the least number is the first part's, where it has one
 

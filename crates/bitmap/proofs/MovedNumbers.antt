@@ -1,5 +1,5 @@
 -- Numbers of a first part and of further ones, which move by one from a number on.
-use Rattle.std.proofs.Common.{◌≡◌, ℕ, ◌+◌, ◌-◌, ◌*◌, ◌<◌, ◌≤◌, true, false, List, ◌∷◌, length, sym, ◌∙◌, inl, inr, arith, rules}
+use Rattle.std.proofs.Common.{◌≡◌, ℕ, ◌+◌, ◌-◌, ◌*◌, ◌<◌, ◌≤◌, true, false, List, ◌∷◌, length, ◌∙◌, arith, rules}
 use Rattle.std.specs.FinSet.{contains}
 use Rattle.std.proofs.lemmas.Bool.{cases_eq, cases_lt, false_from_ne_true}
 use Rattle.bitmap.specs.Parts.{numbers_in}
@@ -44,10 +44,7 @@ module _ (low now_low : SlotSet) (high now_high : List SlotSet) (number : ℕ) (
       (high_below : (q : ℕ) → q < number - SLOTS → contains (numbers_in now_high) q ≡ contains (numbers_in high) q)
       (high_above : (q : ℕ) → number - SLOTS ≤ q → contains (numbers_in now_high) q ≡ contains (numbers_in high) (q + 1)) where
     pub shifted_down-below : (q : ℕ) → q < number → contains new q ≡ contains old q
-    shifted_down-below q less = elim (cases_lt q SLOTS) [
-      | inl small ↦ contains-low now_low now_high q small ∙ low_below q small less ∙ sym (contains-low low high q small)
-      | inr large ↦ contains-high now_low now_high q large ∙ high_below (q - SLOTS) (omega (arith, less, large)) ∙ sym (contains-high low high q large)
-    ]
+    shifted_down-below q less = search (rules, cases_lt, contains-low, contains-high)
 
     pub shifted_down-above : (q : ℕ) → number ≤ q → contains new q ≡ contains old (q + 1)
     shifted_down-above q from = search (rules, cases_lt, contains-low, contains-high)

@@ -1,5 +1,5 @@
 -- Parts whose slots move by one, from a limit on.
-use Rattle.std.proofs.Common.{◌≡◌, ℕ, zero, suc, ◌+◌, ◌-◌, ◌*◌, ◌/◌, ◌%◌, ◌<◌, ◌≤◌, ◌⊎◌, Option, Some, None, is_some, Bool, true, false, not, ◌&&◌, ◌||◌, nat_lt, List, length, get_or, set, ap, sym, subst, ◌∙◌, refl, inl, inr, arith, lt-ltb, le-ltb, rules}
+use Rattle.std.proofs.Common.{◌≡◌, ℕ, zero, suc, ◌+◌, ◌-◌, ◌*◌, ◌/◌, ◌%◌, ◌<◌, ◌≤◌, ◌⊎◌, Option, Some, None, is_some, Bool, true, false, not, ◌&&◌, ◌||◌, nat_lt, List, length, get_or, set, ap, sym, subst, ◌∙◌, inl, inr, arith, lt-ltb, le-ltb, rules}
 use Rattle.std.specs.Cmp.{nat_cmp_total}
 use Rattle.std.specs.Prelude.{MatchOption}
 use Rattle.std.specs.FinSet.{contains, insert, remove, union, difference, contains-union, contains-difference}
@@ -12,8 +12,7 @@ use Rattle.bitmap.proofs.InParts.{contains-past, contains-set_other, contains-se
 use Rattle.bitmap.proofs.Summaries.{contains-insert_other, contains-insert_same, contains-remove_other, contains-remove_same}
 
 apart : (b : Bool) → (b && not b) ≡ false
-apart true = refl
-apart false = refl
+apart b = search rules
 
 -- a set, its slots from the limit on, and those below
 module _ (part low high left : SlotSet) (limit : ℕ) (low_is : (q : ℕ) → contains low q ≡ nat_lt q limit) (high_is : high ≡ difference part low) (left_is : left ≡ difference part high) where
@@ -175,17 +174,11 @@ module _ (old : List SlotSet) (limit : ℕ) (parts : List SlotSet) (at : ℕ) (w
 -- where all parts have moved, no other number is in
 pub gathered_below : (old new : List SlotSet) (limit : ℕ) → length old ≡ length new → IsGathered old limit new (length new) → (q : ℕ) → q < limit
     → contains (numbers_in new) q ≡ contains (numbers_in old) q
-gathered_below old new limit long done q small = elim (cases_lt q (SLOTS * length new)) [
-  | inl low ↦ done.below q low small
-  | inr high ↦ done.rest q high
-]
+gathered_below old new limit long done q small = search (rules, cases_lt)
 
 pub gathered_above : (old new : List SlotSet) (limit : ℕ) → length old ≡ length new → IsGathered old limit new (length new) → (q : ℕ) → limit ≤ q
     → contains (numbers_in new) q ≡ contains (numbers_in old) (q + 1)
-gathered_above old new limit long done q from = elim (cases_lt q (SLOTS * length new)) [
-  | inl low ↦ done.above q low from
-  | inr high ↦ contains-past new q (omega (arith, high)) ∙ sym (contains-past old (q + 1) (omega (arith, high, long)))
-]
+gathered_above old new limit long done q from = search (rules, cases_lt, contains-past)
 
 -- the parts below a limit that have a number
 pub record AreNoted (numbers filled : SlotSet) (at : ℕ) : Type 0 where

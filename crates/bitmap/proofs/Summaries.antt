@@ -22,12 +22,17 @@ contains-remove_same s at = contains-remove nat_cmp_total s at at ∙ rw (unsign
 pub contains-remove_other : (s : SlotSet) (at q : ℕ) → (q ≡ at → ⊥) → contains (remove s at) q ≡ contains s q
 contains-remove_other s at q other = contains-remove nat_cmp_total s at q ∙ rw (unsigned_tied q at, ne_eqb q at other) refl
 
+-- sets that are alike at a number, and elsewhere as a third, are one
+pub same_but_at : (a b c : SlotSet) (n : ℕ) → contains a n ≡ contains b n → ((q : ℕ) → (q ≡ n → ⊥) → contains a q ≡ contains c q)
+    → ((q : ℕ) → (q ≡ n → ⊥) → contains b q ≡ contains c q) → a ≡ b
+same_but_at a b c n this left right = same_slots _ _ (λ q. elim (cases_eq q n) [
+  | inl same ↦ ap (contains a) same ∙ this ∙ ap (contains b) (sym same)
+  | inr other ↦ left q other ∙ sym (right q other)
+])
+
 -- what was in before is in
 kept : (s : SlotSet) (at q : ℕ) → contains s q ≡ true → contains (insert s at) q ≡ true
-kept s at q member = elim (cases_eq q at) [
-  | inl same ↦ ap (contains (insert s at)) same ∙ contains-insert_same s at
-  | inr other ↦ contains-insert_other s at q other ∙ member
-]
+kept s at q member = search (rules, cases_eq, contains-insert_same, contains-insert_other)
 
 -- what is left was in
 pub was : (s : SlotSet) (at q : ℕ) → contains (remove s at) q ≡ true → contains s q ≡ true
