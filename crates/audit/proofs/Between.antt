@@ -10,6 +10,8 @@ use Rattle.audit.specs.Agreement.{HaveOneSpanEach, RepliesAreRight, SectionsAreI
 use Rattle.audit.specs.Tables.{AreEntered, AreFull, IsBetween, IsLogAt, IsRowOf, MakesAt, StandsBetween}
 use Rattle.audit.proofs.Flat.{place, flat_at, flat_from}
 use Rattle.audit.proofs.LogTable.{find_log}
+use Rattle.audit.proofs.Orderly.{changes_after-low}
+use Rattle.audit.proofs.Rows.{section_in}
 
 -- how many changes stood after a call, by whether it made one
 changes_after-cases : (r : Receipt) → ((makes_change r ≡ true) × (changes_after r ≡ r.at + 1)) ⊎ (changes_after r ≡ r.at)
@@ -26,15 +28,11 @@ module _ {X : Type 0} (f : X → List Receipt) (xs : List X) (logs : List SpanLo
 
     -- the section of the change at a place, and its call
     maker : (at : ℕ) → at < length row → (s w i : ℕ) × (r : Receipt) × (get_or row at None ≡ Some s) × IsAt (map f xs) w i r × MakesAt log.span at r × (r.section ≡ s)
-    maker at inside = by_value (get_or row at None) refl
-      where
-        by_value : (found : Option ℕ) → get_or row at None ≡ found
-            → (s w i : ℕ) × (r : Receipt) × (get_or row at None ≡ Some s) × IsAt (map f xs) w i r × MakesAt log.span at r × (r.section ≡ s)
-        by_value None is = absurd (full j row at_row at inside is)
-        by_value (Some s) is =
-            let made = is_row.made at s is in
-            let listed = flat_from f xs made.0 made.1 made.2 in
-            (s, listed.0, listed.1, made.1, is, listed.2, made.3, made.4)
+    maker at inside =
+        let there = section_in row at inside (full j row at_row) in
+        let made = is_row.made at there.0 there.1 in
+        let listed = flat_from f xs made.0 made.1 made.2 in
+        (there.0, listed.0, listed.1, made.1, there.1, listed.2, made.3, made.4)
 
     after-change : (r : Receipt) (at : ℕ) → MakesAt log.span at r → changes_after r ≡ at + 1
     after-change r at makes = ap (λ b. cond b (r.at + 1) r.at) makes.makes ∙ ap (λ n. n + 1) makes.same_place
@@ -42,28 +40,21 @@ module _ {X : Type 0} (f : X → List Receipt) (xs : List X) (logs : List SpanLo
     -- where sections are in order, a call stands between
     pub between_here : SectionsAreInOrder (map f xs) → (w i : ℕ) (r : Receipt) → IsAt (map f xs) w i r → log.span ≡ r.key.span → IsBetween row r.at r.section
     between_here order w i r at spans = record {
-      after = λ s some there. elim (cases_lt r.section s) [
-        | inr fine ↦ fine
-        | inl back ↦
-            let made = is_row.made (r.at - 1) s there in
-            let listed = flat_from f xs made.0 made.1 made.2 in
-            let late = changes_after-cases r in
-            let p = order w i listed.0 listed.1 r made.1 at listed.2 (sym spans ∙ sym made.3.same_span) (omega (arith, made.4)) in
-            let low = elim late as (λ x. r.at ≤ changes_after r) [
-              | inl e ↦ omega (arith, e.1)
-              | inr e ↦ omega (arith, e)
-            ] in
-            absurd (omega (arith, made.3.same_place))
-      ];
-      before = λ s there. elim (cases_lt s r.section) [
-        | inr fine ↦ fine
-        | inl back ↦
-            let made = is_row.made r.at s there in
-            let listed = flat_from f xs made.0 made.1 made.2 in
-            let p = order listed.0 listed.1 w i made.1 r listed.2 at (made.3.same_span ∙ spans) (omega (arith, made.4)) in
-            let late = after-change made.1 r.at made.3 in
-            absurd (omega arith)
-      ];
+      after = λ s some there.
+          let no : r.section < s → ⊥ = λ back.
+          let made = is_row.made (r.at - 1) s there in
+          let listed = flat_from f xs made.0 made.1 made.2 in
+          let p = order w i listed.0 listed.1 r made.1 at listed.2 (sym spans ∙ sym made.3.same_span) (omega (arith, made.4)) in
+          omega (arith, made.3.same_place, changes_after-low r) in
+          omega arith;
+      before = λ s there.
+          let no : s < r.section → ⊥ = λ back.
+          let made = is_row.made r.at s there in
+          let listed = flat_from f xs made.0 made.1 made.2 in
+          let p = order listed.0 listed.1 w i made.1 r listed.2 at (made.3.same_span ∙ spans) (omega (arith, made.4)) in
+          let late = after-change made.1 r.at made.3 in
+          omega arith in
+          omega arith;
     }
 
     -- the sections of the changes rise with their places
@@ -106,12 +97,11 @@ module _ {X : Type 0} (f : X → List Receipt) (xs : List X) (logs : List SpanLo
         ]
       where
         read_inside : (a : Receipt) → MakesAt log.span a.at a → (v i : ℕ) → IsAt (map f xs) v i a → a.at < length row
-        read_inside a makes v i at_a = elim (cases_lt a.at (length row)) [
-          | inl inside ↦ inside
-          | inr past ↦
-              let e : None ≡ Some a.section = sym (get_or_past row a.at None past) ∙ is_row.marked (place f xs v i) a.at a (flat_at f xs v i a at_a) makes in
-              absurd cc
-        ]
+        read_inside a makes v i at_a =
+            let no : length row ≤ a.at → ⊥ = λ past.
+            let e : None ≡ Some a.section = sym (get_or_past row a.at None past) ∙ is_row.marked (place f xs v i) a.at a (flat_at f xs v i a at_a) makes in
+            cc in
+            omega arith
 
   pub between_all : SectionsAreInOrder (map f xs) → AllBetween
   between_all order w i r at j log row at_log spans at_row = between_here j log row at_log at_row order w i r at spans

@@ -66,16 +66,22 @@ HasChanges-moved changes xs ys permutation has = record {
       has.small before.0 x before.1;
 }
 
-module _ (changes : List Change) (found : List SlotChange) (by : IsBySlot changes found) (slot at n : ℕ) (small : at < 18446744073709551616)
-    (low : (k : ℕ) (x : SlotChange) → k < n → slice_get found k ≡ Some x → change_rank x < slot_rank slot at)
-    (high : (k : ℕ) (x : SlotChange) → n ≤ k → slice_get found k ≡ Some x → slot_rank slot at ≤ change_rank x) where
+-- changes in order that are split at the rank of the slot and the place
+module _ (changes : List Change) (found : List SlotChange) (by : IsBySlot changes found) (slot at n rank : ℕ) (small : at < 18446744073709551616)
+    (is : rank ≡ slot_rank slot at) (split : IsSplitAt found rank n) where
+  low : (k : ℕ) (x : SlotChange) → k < n → slice_get found k ≡ Some x → change_rank x < slot_rank slot at
+  low k x less at_x = let below = split.low k x less at_x in omega (arith, is)
+
+  high : (k : ℕ) (x : SlotChange) → n ≤ k → slice_get found k ≡ Some x → slot_rank slot at ≤ change_rank x
+  high k x from at_x = let above = split.high k x from at_x in omega (arith, is)
+
   -- a change of the slot before the place stands in the first n
   early : (q : ℕ) (change : Change) → q < at → slice_get changes q ≡ Some change → slot_of change ≡ slot
       → (k : ℕ) × (x : SlotChange) × (k < n) × (slice_get found k ≡ Some x) × (place_of x ≡ q) × (x.slot ≡ slot)
-  early q change less at_q same = search (rules, cases_lt)
+  early q change less at_q same = search (rules, cases_lt, low, high)
 
-  pub quiet_first : n ≡ 0 → IsQuiet changes slot 0 at
-  quiet_first none q change from to at_q same = let there = early q change to at_q same in omega (arith, there.2)
+  pub quiet_split : n ≡ 0 → IsQuiet changes slot 0 at
+  quiet_split none q change from to at_q same = let there = early q change to at_q same in omega (arith, there.2)
 
   module _ (x : SlotChange) (some : 1 ≤ n) (at_x : slice_get found (n - 1) ≡ Some x) where
     -- none of the first n stands after the last of them
@@ -86,29 +92,11 @@ module _ (changes : List Change) (found : List SlotChange) (by : IsBySlot change
         let is_x : get_or found (n - 1) x ≡ x = get_or_from_slice_get found (n - 1) x x at_x in
         rw (is_y, is_x) at up
 
-    pub quiet_other : (x.slot ≡ slot → ⊥) → IsQuiet changes slot 0 at
-    quiet_other other q change from to at_q same = search (rules, early, below_last)
+    pub quiet_split_other : (x.slot ≡ slot → ⊥) → IsQuiet changes slot 0 at
+    quiet_split_other other q change from to at_q same = search (rules, early, below_last, low)
 
-    pub last_here : x.slot ≡ slot → IsLast changes slot at (place_of x)
-    last_here is = search (rules, early, below_last)
-
--- the same, by a rank that is that of the slot and the place
-module _ (changes : List Change) (found : List SlotChange) (by : IsBySlot changes found) (slot at n rank : ℕ) (small : at < 18446744073709551616)
-    (is : rank ≡ slot_rank slot at) (split : IsSplitAt found rank n) where
-  low_split : (k : ℕ) (x : SlotChange) → k < n → slice_get found k ≡ Some x → change_rank x < slot_rank slot at
-  low_split k x less at_x = let below = split.low k x less at_x in omega (arith, is)
-
-  high_split : (k : ℕ) (x : SlotChange) → n ≤ k → slice_get found k ≡ Some x → slot_rank slot at ≤ change_rank x
-  high_split k x from at_x = let above = split.high k x from at_x in omega (arith, is)
-
-  pub quiet_split : n ≡ 0 → IsQuiet changes slot 0 at
-  quiet_split none = quiet_first changes found by slot at n small low_split high_split none
-
-  pub quiet_split_other : (x : SlotChange) → 1 ≤ n → slice_get found (n - 1) ≡ Some x → (x.slot ≡ slot → ⊥) → IsQuiet changes slot 0 at
-  quiet_split_other x some at_x other = quiet_other changes found by slot at n small low_split high_split x some at_x other
-
-  pub last_split : (x : SlotChange) → 1 ≤ n → slice_get found (n - 1) ≡ Some x → x.slot ≡ slot → IsLast changes slot at (place_of x)
-  last_split x some at_x same = last_here changes found by slot at n small low_split high_split x some at_x same
+    pub last_split : x.slot ≡ slot → IsLast changes slot at (place_of x)
+    last_split is = search (rules, early, below_last, low)
 
 -- changes in order are split where the rank stands between two neighbours
 pub IsSplitAt-between : (found : List SlotChange) (rank n : ℕ) → IsNonDecreasingBy change_rank found → n ≤ length found

@@ -14,10 +14,11 @@ use Rattle.span.specs.declared.span_log.SpanLog.{SpanLog}
 use Rattle.span.proofs.KeptReceipts.{get_left, get_right}
 use Rattle.audit.specs.Receipts.{log_of, makes_change}
 use Rattle.audit.specs.Agreement.{ChangesHaveReceipts, CallMakes, HaveOneSpanEach}
-use Rattle.audit.specs.Tables.{AreEntered, AreFull, IsFull, IsKnown, IsLogAt, IsRowOf, MakeChanges, WereEntered}
+use Rattle.audit.specs.Tables.{AreEntered, AreFull, IsKnown, IsLogAt, IsRowOf, MakeChanges, MakesAt, WereEntered}
 use Rattle.audit.proofs.Flat.{get_cases, place, flat_at, flat_from, flat_once}
 use Rattle.audit.proofs.LogTable.{find_log}
 use Rattle.audit.proofs.Replies.{take_more}
+use Rattle.audit.proofs.Rows.{section_in}
 
 -- a receipt of the calls with one more
 last_cases : (calls : List Receipt) (r : Receipt) (k : ℕ) (a : Receipt) → slice_get (calls ++ r ∷ []) k ≡ Some a
@@ -33,39 +34,31 @@ MakeChanges-front logs calls more all = record {
   once = λ k l a b at_k at_l. all.once k l a b (get_left calls more k a at_k) (get_left calls more l b at_l);
 }
 
+-- the row of a log of which the last call makes no change
+IsRowOf-kept : (calls : List Receipt) (r : Receipt) (log : SpanLog) (row : List (Option ℕ)) → ((at : ℕ) → MakesAt log.span at r → ⊥) → IsRowOf calls log row → IsRowOf (calls ++ r ∷ []) log row
+IsRowOf-kept calls r log row none is = record {
+  len = is.len;
+  marked = λ k at a at_k makes. elim (last_cases calls r k a at_k) [
+    | inl before ↦ is.marked k at a before.1 makes
+    | inr last ↦ absurd (none at (subst (MakesAt log.span at) (sym last.1) makes))
+  ];
+  made = λ at section there. let made = is.made at section there in (made.0, made.1, get_left calls (r ∷ []) made.0 made.1 made.2, made.3, made.4);
+}
+
 -- a call that makes no change
 module _ (logs : List SpanLog) (calls : List Receipt) (r : Receipt) (quiet : makes_change r ≡ false) where
   not_r : (a : Receipt) → r ≡ a → makes_change a ≡ true → ⊥
   not_r a same makes = let e : false ≡ true = sym quiet ∙ ap makes_change same ∙ makes in cc
 
-  IsRowOf-quiet : (log : SpanLog) (row : List (Option ℕ)) → IsRowOf calls log row → IsRowOf (calls ++ r ∷ []) log row
-  IsRowOf-quiet log row is = record {
-    len = is.len;
-    marked = λ k at a at_k makes. elim (last_cases calls r k a at_k) [
-      | inl before ↦ is.marked k at a before.1 makes
-      | inr last ↦ absurd (not_r a last.1 makes.makes)
-    ];
-    made = λ at section there. let made = is.made at section there in (made.0, made.1, get_left calls (r ∷ []) made.0 made.1 made.2, made.3, made.4);
-  }
+  MakeChanges-quiet : MakeChanges logs calls → MakeChanges logs (calls ++ r ∷ [])
+  MakeChanges-quiet good = search (rules, last_cases, not_r)
 
   pub AreEntered-quiet : (rows : List (List (Option ℕ))) → AreEntered logs calls rows → AreEntered logs (calls ++ r ∷ []) rows
   AreEntered-quiet rows are = record {
-    good = record {
-      known = λ k a at makes. elim (last_cases calls r k a at) [
-        | inl before ↦ are.good.known k a before.1 makes
-        | inr last ↦ absurd (not_r a last.1 makes)
-      ];
-      once = λ k l a b at_k at_l makes_a makes_b. elim (last_cases calls r k a at_k) [
-        | inr last ↦ absurd (not_r a last.1 makes_a)
-        | inl before_k ↦ elim (last_cases calls r l b at_l) [
-          | inr last ↦ absurd (not_r b last.1 makes_b)
-          | inl before_l ↦ are.good.once k l a b before_k.1 before_l.1 makes_a makes_b
-        ]
-      ];
-    };
+    good = MakeChanges-quiet are.good;
     rows_are = record {
       len = are.rows_are.len;
-      each = λ j log row at_log at_row. IsRowOf-quiet log row (are.rows_are.each j log row at_log at_row);
+      each = λ j log row at_log at_row. IsRowOf-kept calls r log row (λ at makes. not_r r refl makes.makes) (are.rows_are.each j log row at_log at_row);
     };
   }
 
@@ -120,17 +113,6 @@ module _ (logs : List SpanLog) (calls : List Receipt) (rows : List (List (Option
       ];
     }
 
-    -- the row of another span
-    IsRowOf-there : (other : SpanLog) (l : List (Option ℕ)) → (other.span ≡ r.key.span → ⊥) → IsRowOf calls other l → IsRowOf (calls ++ r ∷ []) other l
-    IsRowOf-there other l differs is = record {
-      len = is.len;
-      marked = λ k at a at_k makes_a. elim (last_cases calls r k a at_k) [
-        | inl before ↦ is.marked k at a before.1 makes_a
-        | inr last ↦ absurd (differs (sym makes_a.same_span ∙ sym (ap (λ (x : Receipt). x.key.span) last.1)))
-      ];
-      made = λ at section there. let made = is.made at section there in (made.0, made.1, get_left calls (r ∷ []) made.0 made.1 made.2, made.3, made.4);
-    }
-
     pub AreEntered-more : AreEntered logs (calls ++ r ∷ []) (set rows j (set row r.at (Some r.section)))
     AreEntered-more = record {
       good = MakeChanges-more;
@@ -149,7 +131,7 @@ module _ (logs : List SpanLog) (calls : List Receipt) (rows : List (List (Option
               let long = length-set rows j (set row r.at (Some r.section)) in omega arith in
               let read : l ≡ get_or rows i l = sym (get_or_from_slice_get (set rows j (set row r.at (Some r.section))) i l l at_l)
               ∙ get_or-set_other rows j i (set row r.at (Some r.section)) l other in
-              IsRowOf-there x l (λ spans. other (one i j x log at_x at_log (spans ∙ sym of_span)))
+              IsRowOf-kept calls r x l (λ at makes. other (one i j x log at_x at_log (sym makes.same_span ∙ sym of_span)))
               (are.rows_are.each i x l at_x (slice_get_read rows (length rows) i l refl within read))
         ];
       };
@@ -219,7 +201,7 @@ module _ {X : Type 0} (f : X → List Receipt) (xs : List X) (logs : List SpanLo
           (let within = slice_get_within logs found.0 found.1.0 found.1.1 in let len = are.rows_are.len in omega arith) in
           let is_row = are.rows_are.each found.0 found.1.0 row found.1.1 at_row in
           let inside : at < length row = let within = slice_get_within (kept_changes found.1.0.log) at change at_change in let len = is_row.len in omega arith in
-          let there = section_at row at inside (full found.0 row at_row) in
+          let there = section_in row at inside (full found.0 row at_row) in
           let made = is_row.made at there.0 there.1 in
           let r = made.1 in
           let listed = flat_from f xs made.0 r made.2 in
@@ -238,13 +220,6 @@ module _ {X : Type 0} (f : X → List Receipt) (xs : List X) (logs : List SpanLo
         (are.good.once (place f xs v i) (place f xs w j) a b (flat_at f xs v i a at_a) (flat_at f xs w j b at_b) makes_a makes_b spans places);
     known = λ w i r at makes. are.good.known (place f xs w i) r (flat_at f xs w i r at) makes;
   }
-    where
-      section_at : (row : List (Option ℕ)) (at : ℕ) → at < length row → IsFull row → (s : ℕ) × (get_or row at None ≡ Some s)
-      section_at row at inside full = by_value (get_or row at None) refl
-        where
-          by_value : (found : Option ℕ) → get_or row at None ≡ found → (s : ℕ) × (get_or row at None ≡ Some s)
-          by_value None is = absurd (full at inside is)
-          by_value (Some s) is = (s, is)
 
   pub MakeChanges-from : ChangesHaveReceipts logs (map f xs) → MakeChanges logs (flat_map f xs)
   MakeChanges-from all = search (rules, flat_from, place)

@@ -24,17 +24,14 @@ pub legal_at : (gens : ℕ) (changes : List Change) (at : ℕ) (change : Change)
 unfolding IsLegal
 legal_at gens changes at change legal is = legal at change is
 
-none_held : (n slot : ℕ) → get_or (replicate {A = Option ℕ} n None) slot None ≡ None
-none_held n slot = search (rules, cases_lt, get_or-replicate, get_or_past, length-replicate)
+read_same : {X : Type 0} (x : X) (n slot : ℕ) → get_or (replicate n x) slot x ≡ x
+read_same x n slot = search (rules, cases_lt, get_or-replicate, get_or_past, length-replicate)
 
 pub after_none : (n slot : ℕ) → get_or (replicate {A = Option ℕ} n None) slot None ≡ option_map generation_of (map.get (replay []) slot)
-after_none n slot = none_held n slot ∙ sym (ap (option_map generation_of) (get_none slot))
-
-read_zeros : (n slot : ℕ) → get_or (replicate {A = ℕ} n 0) slot 0 ≡ 0
-read_zeros n slot = search (rules, cases_lt, get_or-replicate, get_or_past, length-replicate)
+after_none n slot = read_same None n slot ∙ sym (ap (option_map generation_of) (get_none slot))
 
 pub issued_none : (n slot : ℕ) → get_or (replicate n 0) slot 0 ≡ puts_of slot []
-issued_none n slot = read_zeros n slot ∙ sym (puts_of-empty slot)
+issued_none n slot = read_same 0 n slot ∙ sym (puts_of-empty slot)
 
 pub AreAfter-more : (before : List Change) (c : Change) (held : List (Option ℕ)) (s : ℕ) (left : Option ℕ) → length held ≡ SLOTS → s ≡ slot_of c
     → left ≡ option_map generation_of (left_by c)

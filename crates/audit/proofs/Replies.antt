@@ -1,12 +1,12 @@
 -- What a slot holds after the changes of a log.
-use Rattle.std.proofs.Common.{suc, ◌≡◌, ℕ, ◌+◌, cond, eqb, List, [], ◌∷◌, ◌++◌, take, Some, None, option_map, slice_get, get_or, ap, ◌∙◌, arith, rules}
+use Rattle.std.proofs.Common.{◌≡◌, ℕ, ◌+◌, cond, eqb, List, [], ◌∷◌, ◌++◌, take, Some, None, option_map, slice_get, ap, ◌∙◌, rules}
 use Rattle.std.proofs.lemmas.Option.{slice_get_within, get_or_from_slice_get}
 use Rattle.span.specs.declared.change.Change.{Change}
 use Rattle.span.specs.Log.{replay}
 use Rattle.span.proofs.Changes.{get-put, get-set, get-free}
 use Rattle.std.specs.FinMap as map
 use Rattle.std.specs.Ordering.{nat_cmp}
-use Rattle.std.proofs.Math.Seq.{take-suc}
+use Rattle.std.proofs.lemmas.List.{take_more as take_read}
 use Rattle.audit.specs.Changes.{slot_of, left_by, generation_of}
 
 -- what a slot holds after one more change
@@ -25,10 +25,7 @@ unfolding replay
 get_none q = map.get-empty nat_cmp q
 
 pub take_more : {X : Type 0} (changes : List X) (n : ℕ) (change : X) → slice_get changes n ≡ Some change → take (n + 1) changes ≡ take n changes ++ change ∷ []
-take_more changes n change is =
-    let step : take (suc n) changes ≡ take n changes ++ get_or changes n change ∷ [] = take-suc changes n change (slice_get_within changes n change is) in
-    let one : n + 1 ≡ suc n = omega arith in
-    ap (λ k. take k changes) one ∙ step ∙ ap (λ c. take n changes ++ c ∷ []) (get_or_from_slice_get changes n change change is)
+take_more changes n change is = take_read changes n change (slice_get_within changes n change is) ∙ ap (λ c. take n changes ++ c ∷ []) (get_or_from_slice_get changes n change change is)
 
 -- what a slot holds after the changes up to a place, and the one at the place
 pub get_taken : (changes : List Change) (n : ℕ) (c : Change) (q : ℕ) → slice_get changes n ≡ Some c

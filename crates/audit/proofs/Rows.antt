@@ -1,6 +1,6 @@
 -- Rows of sections: what is told is set in both lists, and a full row has all of its sections.
 use Rattle.std.proofs.lemmas.Grind.{common_steps}
-use Rattle.std.proofs.Common.{zero, suc, ◌≡◌, ℕ, ◌<◌, Bool, true, false, if◌then◌else◌, List, [], ◌∷◌, map, length, replicate, set, get_or, Some, None, ap, refl, arith}
+use Rattle.std.proofs.Common.{zero, suc, ◌≡◌, ℕ, ◌<◌, Bool, true, false, if◌then◌else◌, List, [], ◌∷◌, map, length, replicate, set, get_or, Option, Some, None, ap, refl, arith}
 use Rattle.audit.specs.declared.row.Row.{Row}
 use Rattle.audit.specs.Tables.{AreFull, IsFull, filled_row, told_sections}
 
@@ -16,11 +16,10 @@ no_section_at sections told at is = refl
 
 pub has_section_at : (sections : List ℕ) (told : List Bool) (at : ℕ) → length told ≡ length sections → get_or told at false ≡ true
     → (s : ℕ) × (get_or (told_sections sections told) at None ≡ Some s)
-has_section_at [] [] at same is = absurd cc
-has_section_at [] (b ∷ told) at same is = absurd cc
-has_section_at (s ∷ sections) [] at same is = absurd cc
 has_section_at (s ∷ sections) (b ∷ told) zero same is = (s, ap (λ b. if b then Some s else None) is)
 has_section_at (s ∷ sections) (b ∷ told) (suc at) same is = has_section_at sections told at (omega (arith, same)) is
+has_section_at sections [] at same is = absurd cc
+has_section_at [] (b ∷ told) at same is = absurd cc
 
 pub told_sections-set : (sections : List ℕ) (told : List Bool) (at section : ℕ) → length told ≡ length sections
     → told_sections (set sections at section) (set told at true) ≡ set (told_sections sections told) at (Some section)
@@ -40,6 +39,14 @@ pub all_full : (rows : List Row) → AreFull (map filled_row rows) → map (λ (
 all_full [] full = refl
 all_full (row ∷ rows) full = λ i. all_told row.sections.items row.told.items row.same_len (full 0 (filled_row row) refl) i
     ∷ all_full rows (λ j other at. full (suc j) other at) i
+
+-- a full row has a section at each place
+pub section_in : (row : List (Option ℕ)) (at : ℕ) → at < length row → IsFull row → (s : ℕ) × (get_or row at None ≡ Some s)
+section_in row at inside full = some_of (get_or row at None) (full at inside)
+  where
+    some_of : (found : Option ℕ) → (found ≡ None → ⊥) → (s : ℕ) × (found ≡ Some s)
+    some_of None none = absurd (none refl)
+    some_of (Some s) none = (s, refl)
 
 -- at first nothing is told
 pub get_or-none_told : (told : List Bool) (n at : ℕ) → told ≡ replicate n false → get_or told at false ≡ false
