@@ -7,15 +7,14 @@ use Rattle.std.proofs.lemmas.List.{append-nil, append_assoc, length-append}
 use Rattle.std.proofs.lemmas.Option.{get_or_from_slice_get, same_Some, slice_get_within}
 use Rattle.span.specs.Classes.{width_of}
 use Rattle.span.specs.Stored.{run_from}
-use Rattle.span.specs.StoredReceipts.{AreRuns, CountsOn, CountsUp, Follows, GoesOn, HasCall, HasPlace, IsCountedOf, IsLast, IsNextOf, IsRunWithin, MayCount}
-use Rattle.span.specs.StoredReceipts.{call_in, call_width, call_words, counted_form, counted_up, first_in, key_in, next_start, receipt_in, receipts_in, run_receipts, stride, with_call, with_last_call}
+use Rattle.span.specs.StoredReceipts.{AreRuns, CountsOn, CountsUp, Follows, GoesOn, HasCall, HasPlace, IsCountedOf, IsLast, IsNextOf, IsRunWithin, MayCount, call_in, call_width, call_words, counted_form, counted_up, first_in, key_in, next_start, receipt_in, receipts_in, run_receipts, stride, with_call, with_last_call}
 use Rattle.span.proofs.Ids.{same_id}
 use Rattle.span.proofs.KeptWords.{run_from-last, run_from-more}
 use Rattle.span.proofs.Widths.{width_of-injective}
 use Rattle.span.specs.declared.limits.TheConstants.{MOST_SHARDS, MOST_SPANS}
 use Rattle.span.specs.declared.receipt.Receipt.{Receipt}
 use Rattle.span.specs.declared.stored_receipt.StoredCall.{StoredCall}
-use Rattle.span.specs.declared.stored_receipt.StoredCall.TheVariants.{Put, CountedPut, Found, Set, CountedSet}
+use Rattle.span.specs.declared.stored_receipt.StoredCall.TheVariants.{Put, CountedPut, Set, CountedSet}
 use Rattle.span.specs.declared.class.Class.{Class}
 use Rattle.span.specs.declared.class.Class.TheVariants.{C16}
 use Rattle.span.specs.declared.receipt.Call.TheVariants as call

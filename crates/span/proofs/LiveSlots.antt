@@ -1,8 +1,8 @@
 -- The live slots of a log of a class, and of marks that follow it.
-use Rattle.std.proofs.Common.{◌≡◌, ◌%◌, ◌<◌, ◌≤◌, ℕ, true, false, List, length, length-set, Option, Some, None, get_or, slice_set, is_some, ap, sym, subst, ◌∙◌, refl, inl, inr, eq-eqb, arith}
+use Rattle.std.proofs.Common.{◌≡◌, ◌%◌, ◌<◌, ◌≤◌, ℕ, true, List, length, length-set, Option, Some, None, get_or, slice_set, is_some, ap, sym, subst, ◌∙◌, refl, eq-eqb, arith}
 use Rattle.std.specs.FinMap as map
 use Rattle.std.specs.FinSet.{contains, empty, len, empty_of_len}
-use Rattle.std.proofs.lemmas.Bool.{cases_lt, false_from_ne_true}
+use Rattle.std.proofs.lemmas.Bool.{false_from_ne_true}
 use Rattle.bitmap.specs.Slots.{IsBelow, slots_where}
 use Rattle.bitmap.specs.declared.bits.TheConstants.{SLOTS}
 use Rattle.span.specs.Kept.{Follows}
@@ -51,10 +51,9 @@ module _ (class : Class) (gens : ℕ) (log : List Change) (marks : List ℕ) (of
   first-live from slot small first = record {
     inside = sym (follows.live_is slot small) ∙ eq-eqb (get_or marks slot 0 % 2) 1 first.live;
     not_below = first.not_below;
-    lower = λ other above inside. elim (cases_lt other slot) [
-      | inl before ↦ absurd (omega (arith, first.first other above before, live-at gens log marks follows other (IsBelow-live class log of_class other inside) inside))
-      | inr after ↦ after
-    ];
+    lower = λ other above inside.
+        let no : other < slot → ⊥ = λ before. omega (arith, first.first other above before, live-at gens log marks follows other (IsBelow-live class log of_class other inside) inside) in
+        omega arith;
   }
 
 -- where none is counted, none is live

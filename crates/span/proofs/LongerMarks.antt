@@ -1,16 +1,10 @@
 -- Lists of marks that get more places, or wider ones.
-use Rattle.std.proofs.Common.{◌≡◌, ◌+◌, ◌-◌, ◌<◌, ◌≤◌, ◌++◌, ℕ, List, length, take, replicate, get_or, ap, sym, ◌∙◌, refl, inl, inr, arith}
+use Rattle.std.proofs.Common.{◌≡◌, ◌-◌, ◌≤◌, ◌++◌, ℕ, List, length, take, replicate, get_or, ap, sym, ◌∙◌, refl, inl, inr, rules}
 use Rattle.std.proofs.lemmas.Bool.{cases_lt}
 use Rattle.std.proofs.lemmas.List.{get_or-append_right, get_or-replicate, get_or_append_left, get_or_past, length-replicate, take_all}
-use Rattle.span.specs.Marks.{HasRoom, IsNarrow, marks_of}
-use Rattle.span.specs.declared.marks.Marks.{Marks}
-use Rattle.span.specs.declared.marks.Marks.TheVariants.{Bytes, Words, Longs}
 
 get_or-all : {X : Type 0} (n : ℕ) (x : X) (index : ℕ) → get_or (replicate n x) index x ≡ x
-get_or-all {X} n x index = elim (cases_lt index n) [
-  | inl within ↦ get_or-replicate {A = X} n index x x within
-  | inr past ↦ get_or_past (replicate n x) index x (omega (arith, past, length-replicate {A = X} n x))
-]
+get_or-all n x index = search (rules, cases_lt, get_or-replicate, get_or_past, length-replicate)
 
 -- an item behind the end says there what was said by default
 pub get_or-lengthened : {X : Type 0} (xs : List X) (places : ℕ) (x : X) (index : ℕ) → length xs ≤ places
@@ -24,13 +18,3 @@ get_or-lengthened xs places x index few =
           ∙ get_or-all (places - length xs) x (index - length xs)
           ∙ sym (get_or_past xs index x past)
     ]
-
--- a place with no room is to be widened
-pub IsNarrow-full : (slot : ℕ) (marks : Marks) → slot < length (marks_of marks) → (HasRoom slot marks → ⊥) → IsNarrow marks
-IsNarrow-full slot (Bytes bytes) within full = tt
-IsNarrow-full slot (Words words) within full = tt
-IsNarrow-full slot (Longs longs) within full = full within
-
--- a new place has no mark
-pub none-new : (old new : List ℕ) (slot : ℕ) → length old ≤ slot → get_or new slot 0 ≡ get_or old slot 0 → get_or new slot 0 ≡ 0
-none-new old new slot past same = same ∙ get_or_past old slot 0 past

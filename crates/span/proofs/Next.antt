@@ -1,13 +1,12 @@
 -- The live key that comes first in a span.
-use Rattle.std.proofs.Common.{◌≡◌, ◌≤◌, ℕ, Bool, List, Option, Some, None, true, false, arith, ap, refl, sym, ◌∙◌, inl, inr, is_some}
+use Rattle.std.proofs.Common.{◌≡◌, ◌≤◌, ℕ, List, Option, Some, None, true, false, arith, ap, refl, sym, ◌∙◌, inl, inr, is_some}
 use Rattle.std.specs.Prelude.{IfSome, MatchOption}
-use Rattle.std.specs.FinMap as map
 use Rattle.std.specs.FinSet.{contains, len}
-use Rattle.std.proofs.lemmas.Bool.{cases_eq}
+use Rattle.std.proofs.lemmas.Bool.{cases_eq, false_from_ne_true}
 use mathlib.Core.HLevel.{is_prop→PathP}
 use native.Mathlib.Bridge.{le_prop}
 use Rattle.bitmap.specs.Slots.{SlotSet}
-use Rattle.span.specs.Log.{Held, Holds, IsLegal, Value, live_slots, puts_of, value_in}
+use Rattle.span.specs.Log.{Holds, IsLegal, Value, live_slots, puts_of, value_in}
 use Rattle.span.specs.Order.{HasNoMemberFrom, HasNoneFrom, HoldsNoneFrom, IsFirstFrom, IsFirstHeld, IsLowestFrom}
 use Rattle.span.specs.PlainMap.{PlainMap}
 use Rattle.span.specs.declared.change.Change.{Change}
@@ -19,11 +18,7 @@ use Rattle.span.proofs.Values.{Holds-value_in, is_some-value_in}
 
 -- an empty set has no member
 pub no_member : (s : SlotSet) (slot : ℕ) → len s ≡ 0 → contains s slot ≡ false
-no_member s slot none = by_test (contains s slot) refl
-  where
-    by_test : (b : Bool) → contains s slot ≡ b → b ≡ false
-    by_test true inside = absurd (omega (arith, some_member s slot inside))
-    by_test false outside = refl
+no_member s slot none = false_from_ne_true (contains s slot) (λ inside. omega (arith, some_member s slot inside))
 
 -- where no slot is live, none is at any generation
 pub HoldsNoneFrom-members : (log : List Change) (from : ℕ) → HasNoMemberFrom (live_slots log) from → HoldsNoneFrom log from

@@ -1,9 +1,9 @@
 -- Words of which an object is made are kept in the one way that such words are.
-use Rattle.std.proofs.Common.{◌≡◌, ℕ, ◌-◌, List, ◌++◌, length, replicate, take, ap, rules}
+use Rattle.std.proofs.Common.{◌≡◌, ℕ, ◌-◌, List, ◌++◌, length, replicate, rules}
 use Rattle.std.proofs.lemmas.Bool.{ne_eqb}
 use Rattle.std.proofs.Math.Seq.{take-append_seam}
-use Rattle.span.specs.Classes.{IsObject, class_of, width_of}
-use Rattle.span.specs.Objects.{IsKept, padded}
+use Rattle.span.specs.Classes.{width_of}
+use Rattle.span.specs.Objects.{IsKept}
 use Rattle.span.proofs.Widths.{IsObject-width, class_of-width}
 use Rattle.span.specs.declared.class.Class.{Class}
 use Rattle.span.specs.declared.object.Words.TheVariants.{More}

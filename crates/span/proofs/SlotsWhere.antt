@@ -1,5 +1,5 @@
 -- The slots below a number that pass a test.
-use Rattle.std.proofs.Common.{zero, suc, ◌+◌, if◌then◌else◌, ◌≡◌, ◌<◌, ◌≤◌, ◌⊎◌, ◌&&◌, ℕ, Bool, true, false, nat_lt, ap, sym, ◌∙◌, refl, subst, inl, inr, lt-ltb, le-ltb, arith}
+use Rattle.std.proofs.Common.{zero, suc, ◌+◌, if◌then◌else◌, ◌≡◌, ◌<◌, ◌≤◌, ◌⊎◌, ◌&&◌, ℕ, Bool, true, false, nat_lt, ap, sym, ◌∙◌, refl, subst, inl, inr, lt-ltb, le-ltb, arith, rules}
 use Rattle.std.specs.Ordering.{nat_cmp}
 use Rattle.std.specs.Cmp.{nat_cmp_total}
 use Rattle.std.specs.FinSet.{contains, len, len-empty, len-insert}
@@ -41,8 +41,7 @@ len-slots_where-le test (suc n) =
     subst (λ m. len (slots_where test m) ≤ m) more (by_test (test n) refl (len-slots_where-le test n))
   where
     one_more : (b : Bool) (k : ℕ) → (if b then k else k + 1) ≤ k + 1
-    one_more true k = omega arith
-    one_more false k = omega arith
+    one_more b k = search rules
 
     by_test : (b : Bool) → test n ≡ b → len (slots_where test n) ≤ n → len (slots_where test (n + 1)) ≤ n + 1
     by_test true passes few = rw (slots_where-insert test n passes, len-insert nat_cmp_total (slots_where test n) n)

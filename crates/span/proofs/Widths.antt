@@ -1,7 +1,6 @@
 -- Which class so many words are of, and what all classes have in common.
-use Rattle.std.proofs.Common.{zero, suc, ◌≡◌, ◌&&◌, Bool, true, eqb, eqb-true, inl, inr, ◌≤◌, ◌<◌, ◌+◌, ◌*◌, ℕ, List, length, ap, sym, ◌∙◌, refl, arith, rules}
-use Rattle.std.proofs.lemmas.Bool.{cases_eq}
-use Rattle.std.specs.Cmp.{first_so, second_so}
+use Rattle.std.proofs.Common.{zero, suc, ◌≡◌, true, eqb, eqb-true, ◌≤◌, ◌<◌, ◌+◌, ◌*◌, ℕ, List, length, ap, sym, ◌∙◌, refl, arith, rules}
+use Rattle.std.proofs.lemmas.Bool.{agree_below_at}
 use Rattle.std.proofs.Math.Nat.{mul-le-mul_right}
 use Rattle.span.specs.Classes.{IsObject, class_of, class_with, number_of, slots_in, width_of}
 use Rattle.span.specs.declared.class.Class.{Class}
@@ -9,23 +8,11 @@ use Rattle.span.specs.declared.class.Class.{Class}
 pub class_with-width : (class : Class) → class_with (width_of class) ≡ class
 class_with-width class = search rules
 
--- the test holds of each number below
-abbrev tests_below : (ℕ → Bool) → ℕ → Bool
-tests_below test zero = true
-tests_below test (suc n) = test n && tests_below test n
-
-tests_below-at : (test : ℕ → Bool) (n : ℕ) → tests_below test n ≡ true → (k : ℕ) → k < n → test k ≡ true
-tests_below-at test zero all k low = absurd (omega (arith, low))
-tests_below-at test (suc n) all k low = elim (cases_eq k n) [
-  | inl last ↦ ap test last ∙ first_so (test n) (tests_below test n) all
-  | inr other ↦ tests_below-at test n (second_so (test n) (tests_below test n) all) k (omega (arith, low, other))
-]
-
 -- each number of words from 1 to 16 is that of a class
 pub width_of-class_with : (words : ℕ) → 1 ≤ words → words ≤ 16 → width_of (class_with words) ≡ words
 width_of-class_with zero least most = absurd (omega (arith, least))
 width_of-class_with (suc words) least most =
-    eqb-true _ _ (tests_below-at (λ k. eqb (width_of (class_with (suc k))) (suc k)) 16 refl words (omega (arith, most)))
+    eqb-true _ _ (agree_below_at (λ k. eqb (width_of (class_with (suc k))) (suc k)) (λ k. true) 16 words refl (omega (arith, most)))
 
 pub class_of-width : (words : List ℕ) (class : Class) → length words ≡ width_of class → class_of words ≡ class
 class_of-width words class width = ap class_with width ∙ class_with-width class

@@ -1,6 +1,6 @@
 -- The function ends at once; the items of its result are chosen here, since no memory holds them.
 use mathlib.Core.Path.{refl}
-use mathlib.Core.List.{List, [], ◌∷◌}
+use mathlib.Core.List.{[], ◌∷◌}
 use seplogic.Ra.Ura.{Ura}
 use mir.Syntax.{Fn, a_type}
 use mir.Val.{Val, vstruct, vcons, vnil}

@@ -1,9 +1,9 @@
-use Rattle.std.proofs.Common.{rules, ◌≡◌, ◌+◌, ◌∙◌, ◌≤◌, ◌==◌, ◌/◌, ◌%◌, ℕ, Bool, false, sym, ap, get_or, length, arith, eq-eqb}
+use Rattle.std.proofs.Common.{◌≡◌, ◌∙◌, ◌≤◌, ◌%◌, ℕ, Bool, false, sym, ap, length, arith, eq-eqb}
 use Rattle.std.proofs.lemmas.Bool.{ne_eqb}
 use Rattle.std.proofs.lemmas.List.{get_or_past}
 use Rattle.bitmap.specs.declared.bits.TheConstants.{SLOTS}
 use Rattle.bitmap.proofs.Where.{slots_where-zero, slots_where-insert, slots_where-skip}
-use Rattle.span.specs.Marks.{is_live_at, last_given, marks_of}
+use Rattle.span.specs.Marks.{is_live_at, marks_of}
 use Rattle.span.proofs.SlotsWhere.{slots_where-more}
 use Rattle.span.proofs.marks.Marks.live.Goals as goal
 use Rattle.span.proofs.marks.Marks.live.Goals.{then-mark-eq1, else-mark-eq1}

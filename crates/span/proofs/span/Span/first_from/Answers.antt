@@ -1,4 +1,4 @@
-use Rattle.std.proofs.Common.{◌∙◌, ◌≡◌, ◌+◌, ◌*◌, ◌/◌, ◌%◌, ◌<◌, ◌^◌, get_or, arith, sym}
+use Rattle.std.proofs.Common.{◌∙◌, ◌<◌, arith, sym}
 use Rattle.span.specs.Log.{Holds}
 use Rattle.span.specs.Marks.{marks_of}
 use Rattle.span.proofs.Keeping.{kept-Holds}

@@ -1,6 +1,5 @@
-use Rattle.std.proofs.Common.{◌↔◌, ◌≡◌, ◌+◌, ◌*◌, Bool, true, false, ◌∙◌, get_or, sym, subst, refl}
+use Rattle.std.proofs.Common.{◌≡◌, Bool, true, false, refl}
 use Rattle.std.specs.Bool.{OnTrue}
-use Rattle.span.specs.Log.{Holds}
 use Rattle.span.specs.Marks.{marks_of}
 use Rattle.span.proofs.Keeping.{Holds-kept, kept-Holds}
 use Rattle.span.proofs.OfClass.{Holds-on_page}

@@ -1,7 +1,7 @@
 use Rattle.std.proofs.Common.{◌^◌, ◌<◌, ◌≤◌, ◌+◌, ◌/◌, ◌%◌, ◌≡◌, ◌∙◌, ℕ, List, length, length-append, ◌*◌, ◌++◌, ◌∷◌, [], get_or, ap, arith, sym, subst, false, Bool}
 use Rattle.std.proofs.lemmas.Bool.{true≢false}
 use Rattle.std.specs.FinSet as set
-use Rattle.span.specs.Log.{Value, puts_of, was_issued, worn_slots, live_slots, all_puts}
+use Rattle.span.specs.Log.{Value, was_issued, worn_slots, live_slots, all_puts}
 use Rattle.span.specs.Kept.{Follows, IsKept}
 use Rattle.span.specs.State.{SpanState}
 use Rattle.span.specs.declared.span.Span.TheInside.{Inside}
