@@ -55,10 +55,9 @@ module _ (logs : List SpanLog) (list : List Receipt) (n : ℕ) (left : List ℕ)
         let last : j ≡ n = omega arith in
         let same : r ≡ b = same_Some r b (sym at ∙ sym (ap (λ k. slice_get list k) last) ∙ at_j) in
         let most = is_left.most i a (omega arith) at_i in
-        let previous : (k : ℕ) (p : Receipt) → k + 1 ≡ n → slice_get list k ≡ Some p → p.section ≤ r.section = λ k p next at_k. elim (cases_lt r.section p.section) [
-          | inl back ↦ absurd (forward (k, p, r, next, at_k, at, back))
-          | inr here ↦ here
-        ] in
+        let previous : (k : ℕ) (p : Receipt) → k + 1 ≡ n → slice_get list k ≡ Some p → p.section ≤ r.section = λ k p next at_k.
+        let no : r.section < p.section → ⊥ = λ back. forward (k, p, r, next, at_k, at, back) in
+        omega arith in
         let sections : a.section ≤ r.section = elim (cases_eq (i + 1) n) [
           | inl next ↦ previous i a next at_i
           | inr farther ↦ before_previous i a at_i (omega arith) below previous

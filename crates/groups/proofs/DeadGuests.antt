@@ -1,5 +1,5 @@
 -- Spans without those in which no slot is live.
-use Rattle.std.proofs.Common.{zero, suc, ◌≡◌, ℕ, ◌+◌, Bool, true, false, not, cond, List, [], ◌∷◌, ◌++◌, Option, Some, MatchOption, filter, length, map, slice_get, ◌∙◌, ap, sym, refl, arith, rules}
+use Rattle.std.proofs.Common.{zero, suc, ◌≡◌, ℕ, ◌+◌, Bool, true, false, not, cond, List, [], ◌∷◌, ◌++◌, Some, MatchOption, filter, length, map, slice_get, ◌∙◌, ap, sym, refl, arith, rules}
 use Rattle.std.specs.FinSet.{contains, contains-empty, empty, empty_of_len, len, len-empty, union}
 use Rattle.std.specs.Ordering.{nat_cmp}
 use Rattle.std.specs.Prelude.{nat_lt}

@@ -2,7 +2,7 @@
 use Rattle.std.proofs.Common.{◌≡◌, ◌⊎◌, ◌∙◌, ℕ, Option, MatchOption, ap, is_some, inl, inr, true, rules}
 use Rattle.std.specs.Prelude.{◌≢◌}
 use Rattle.std.specs.Ordering.{nat_cmp}
-use Rattle.std.specs.FinSet.{contains, contains-empty, empty, empty_of_len, len, len-empty}
+use Rattle.std.specs.FinSet.{contains-empty, empty, empty_of_len, len, len-empty}
 use Rattle.std.proofs.lemmas.Bool.{cases_eq, false≢true}
 use Rattle.bitmap.specs.Slots.{IsLowest, SlotSet}
 

@@ -1,5 +1,5 @@
 -- The entries of a directory, before and after a change.
-use Rattle.std.proofs.Common.{suc, ◌≡◌, ℕ, ◌+◌, ◌-◌, ◌≤◌, Bool, true, false, not, cond, List, ◌∷◌, length, drop, slice_get, Some, is_some, ap, sym, ◌∙◌, refl, arith, eqb}
+use Rattle.std.proofs.Common.{suc, ◌≡◌, ℕ, ◌+◌, ◌≤◌, Bool, true, false, not, cond, List, ◌∷◌, length, drop, slice_get, Some, is_some, ap, sym, ◌∙◌, refl, arith, eqb}
 use Rattle.std.specs.FinMap as map
 use Rattle.std.proofs.lemmas.List.{drop_all}
 use Rattle.groups.proofs.Maps.{drop_step, get-insert}

@@ -21,7 +21,7 @@ use Rattle.span.specs.State.{SpanState}
 use Rattle.span.proofs.Ids.{same_id_from_test}
 use Rattle.span.proofs.Next.{first-held}
 use Rattle.groups.specs.FirstLive.{HasNoneIn, IsFirstAmong, IsLowestOfOne, IsSooner, rank_or_end}
-use Rattle.groups.specs.Group.{Group, IsHere, spans_in, spans_of}
+use Rattle.groups.specs.Group.{Group, IsHere, spans_in}
 use Rattle.groups.specs.Shown.{shown_by, span_named, value_by}
 use Rattle.groups.proofs.GroupSpans.{stands_in}
 use Rattle.groups.proofs.Lists.{found_at}

@@ -1,7 +1,7 @@
 -- Maps by numbers before and after a change, and the rest of a list.
-use Rattle.std.proofs.Common.{zero, suc, ◌≡◌, ◌≢◌, ℕ, cond, List, [], ◌∷◌, Option, Some, None, ap, sym, ◌∙◌, drop, eqb, eq-eqb, nat_eq, refl, slice_get, rules}
+use Rattle.std.proofs.Common.{zero, suc, ◌≡◌, ◌≢◌, ℕ, cond, List, [], ◌∷◌, Option, Some, None, ap, ◌∙◌, drop, eqb, eq-eqb, nat_eq, refl, slice_get, rules}
 use Rattle.std.specs.Ordering.{nat_cmp}
-use Rattle.std.specs.Prelude.{Result, Err, OnErr}
+use Rattle.std.specs.Prelude.{Result, OnErr}
 use Rattle.std.specs.Cmp.{nat_cmp_total, unsigned_tied}
 use Rattle.std.specs.FinMap as map
 use Rattle.std.specs.HashMap as hash

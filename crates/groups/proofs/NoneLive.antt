@@ -1,6 +1,6 @@
 -- Spans of which no slot is live.
-use Rattle.std.proofs.Common.{zero, suc, ◌≡◌, ◌+◌, ℕ, List, [], ◌∷◌, None, Some, get_or, slice_get, ◌∙◌, ap, sym, arith, rules}
-use Rattle.std.specs.FinSet.{contains, contains-empty, empty, empty_of_len, len}
+use Rattle.std.proofs.Common.{zero, suc, ◌≡◌, ◌+◌, ℕ, List, [], ◌∷◌, None, Some, slice_get, ◌∙◌, ap, sym, arith, rules}
+use Rattle.std.specs.FinSet.{contains-empty, empty, empty_of_len, len}
 use Rattle.std.proofs.lemmas.Bool.{false≢true}
 use Rattle.std.proofs.lemmas.List.Elements.{All-from_get_or}
 use Rattle.std.proofs.lemmas.List.Sums.{sum_by-cons}

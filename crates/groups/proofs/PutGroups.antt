@@ -1,6 +1,5 @@
 -- A group stays sound where its head takes a put.
 use Rattle.std.proofs.Common.{zero, suc, ◌≡◌, ℕ, ◌+◌, ◌<◌, length, true, false, Some, is_some, slice_get, ◌∙◌, ap, sym, subst, refl, inl, inr, eq-eqb, rules}
-use Rattle.std.specs.FinMap as map
 use Rattle.std.specs.FinSet.{contains}
 use Rattle.std.proofs.lemmas.Bool.{cases_eq, ne_eqb, true≢false}
 use Rattle.span.specs.Classes.{slots_in, width_of}

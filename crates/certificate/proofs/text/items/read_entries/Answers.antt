@@ -20,21 +20,16 @@ pub returns-in-Err-clause-read : goal.returns-in-Err-clause-read
 returns-in-Err-clause-read c =
     let place : c.args.lines.now.at + 1 + c.loop-k._k + 1 ≡ c.next_number-line.result = omega (arith, c.next_number-line.ensures, c.loop-k.invariant.place) in
     list_in-ok c.args.title.now (entry_in c.args.version) (λ x. x.id) (lines_of c.args.lines.now.text.now) c.args.lines.now.at c.in_ok-count.count c.in_ok-count.ensures.read
-    ∙ IsReading-refused (entry_in c.args.version) (λ x. x.id) entry_parts (λ x. x.id) (λ y. refl) (lines_of c.args.lines.now.text.now)
-    (c.args.lines.now.at + 1) c.in_ok-count.count c.loop-k.entries.items c.loop-k.last c.loop-k._k c.loop-k.invariant.reading c.in-Err.cause
-    c.loop-k-test.true (c.in-Err.ensures.line
-    ∙ (λ i. line_in (item_in (entry_in c.args.version) (λ x. x.id) (option_map id_parts c.loop-k.last)) (lines_of (c.loop-k.invariant.text i))
-    (c.loop-k.invariant.place i)))
+    ∙ IsReading-refused _ (λ x. x.id) entry_parts (λ x. x.id) (λ y. refl) _ _ _ _ _ _ c.loop-k.invariant.reading c.in-Err.cause c.loop-k-test.true (c.in-Err.ensures.line
+    ∙ (λ i. line_in (item_in (entry_in c.args.version) (λ x. x.id) (option_map id_parts c.loop-k.last)) (lines_of (c.loop-k.invariant.text i)) (c.loop-k.invariant.place i)))
     ∙ ap (λ m. Err (BadCertificate m c.in-Err.cause)) place
 
 pub loop-k-preserved : goal.loop-k-preserved
 loop-k-preserved c = record {
   reading = rw c.in_ok-push.ensures.items
-      (IsReading-more (entry_in c.args.version) (λ x. x.id) entry_parts (λ x. x.id) (λ y. refl) (lines_of c.args.lines.now.text.now)
-      (c.args.lines.now.at + 1) c.in_ok-count.count c.loop-k.entries.items c.loop-k.last c.loop-k._k c.loop-k.invariant.reading c.in-Ok.entry
-      c.loop-k-test.true (c.in-Ok.ensures.line
-      ∙ (λ i. line_in (item_in (entry_in c.args.version) (λ x. x.id) (option_map id_parts c.loop-k.last)) (lines_of (c.loop-k.invariant.text i))
-      (c.loop-k.invariant.place i))) c.in-Ok.ensures.after);
+      (IsReading-more _ (λ x. x.id) entry_parts (λ x. x.id) (λ y. refl) _ _ _ _ _ _ c.loop-k.invariant.reading c.in-Ok.entry c.loop-k-test.true
+      (c.in-Ok.ensures.line
+      ∙ (λ i. line_in (item_in (entry_in c.args.version) (λ x. x.id) (option_map id_parts c.loop-k.last)) (lines_of (c.loop-k.invariant.text i)) (c.loop-k.invariant.place i))) c.in-Ok.ensures.after);
   fit = rw c.in_ok-push.ensures.items (All-push FitsClass c.loop-k.entries.items c.in-Ok.entry c.loop-k.invariant.fit c.in-Ok.ensures.fits);
   text = c.in-Ok.ensures.text ∙ c.loop-k.invariant.text;
   place = omega (arith, c.in-Ok.ensures.passed, c.loop-k.invariant.place);
@@ -43,6 +38,4 @@ loop-k-preserved c = record {
 pub returns-clause-read : goal.returns-clause-read
 returns-clause-read c =
     list_in-ok c.args.title.now (entry_in c.args.version) (λ x. x.id) (lines_of c.args.lines.now.text.now) c.args.lines.now.at c.in_ok-count.count c.in_ok-count.ensures.read
-    ∙ IsReading-done (entry_in c.args.version) (λ x. x.id) entry_parts (λ x. x.id) (λ y. refl) (lines_of c.args.lines.now.text.now)
-    (c.args.lines.now.at + 1) c.in_ok-count.count c.loop-k.entries.items c.loop-k.last c.loop-k._k c.loop-k.invariant.reading
-    (omega (arith, c.loop-k-test.false))
+    ∙ IsReading-done _ (λ x. x.id) entry_parts (λ x. x.id) (λ y. refl) _ _ _ _ _ _ c.loop-k.invariant.reading (omega (arith, c.loop-k-test.false))

@@ -19,17 +19,14 @@ pub returns-in-Err-clause-read : goal.returns-in-Err-clause-read
 returns-in-Err-clause-read c =
     let place : c.args.lines.now.at + 1 + c.loop-k._k + 1 ≡ c.next_number-line.result = omega (arith, c.next_number-line.ensures, c.loop-k.invariant.place) in
     list_in-ok (codes "short") (id_in c.args.version) (λ id. id) (lines_of c.args.lines.now.text.now) c.args.lines.now.at c.in_ok-count.count c.in_ok-count.ensures.read
-    ∙ IsReading-refused (id_in c.args.version) (λ id. id) id_parts (λ id. id) (λ y. refl) (lines_of c.args.lines.now.text.now)
-    (c.args.lines.now.at + 1) c.in_ok-count.count c.loop-k.short.items c.loop-k.last c.loop-k._k c.loop-k.invariant.reading c.in-Err.cause
-    c.loop-k-test.true (c.in-Err.ensures.line
+    ∙ IsReading-refused _ (λ id. id) id_parts (λ id. id) (λ y. refl) _ _ _ _ _ _ c.loop-k.invariant.reading c.in-Err.cause c.loop-k-test.true (c.in-Err.ensures.line
     ∙ (λ i. line_in (item_in (id_in c.args.version) (λ id. id) (option_map id_parts c.loop-k.last)) (lines_of (c.loop-k.invariant.text i)) (c.loop-k.invariant.place i)))
     ∙ ap (λ m. Err (BadCertificate m c.in-Err.cause)) place
 
 pub loop-k-preserved : goal.loop-k-preserved
 loop-k-preserved c = record {
   reading = rw c.in_ok-push.ensures.items
-      (IsReading-more (id_in c.args.version) (λ id. id) id_parts (λ id. id) (λ y. refl) (lines_of c.args.lines.now.text.now)
-      (c.args.lines.now.at + 1) c.in_ok-count.count c.loop-k.short.items c.loop-k.last c.loop-k._k c.loop-k.invariant.reading c.in-Ok.id c.loop-k-test.true
+      (IsReading-more _ (λ id. id) id_parts (λ id. id) (λ y. refl) _ _ _ _ _ _ c.loop-k.invariant.reading c.in-Ok.id c.loop-k-test.true
       (c.in-Ok.ensures.line ∙ (λ i. line_in (item_in (id_in c.args.version) (λ id. id) (option_map id_parts c.loop-k.last)) (lines_of (c.loop-k.invariant.text i))
       (c.loop-k.invariant.place i))) c.in-Ok.ensures.after);
   text = c.in-Ok.ensures.text ∙ c.loop-k.invariant.text;
@@ -39,9 +36,7 @@ loop-k-preserved c = record {
 pub returns-clause-read : goal.returns-clause-read
 returns-clause-read c =
     list_in-ok (codes "short") (id_in c.args.version) (λ id. id) (lines_of c.args.lines.now.text.now) c.args.lines.now.at c.in_ok-count.count c.in_ok-count.ensures.read
-    ∙ IsReading-done (id_in c.args.version) (λ id. id) id_parts (λ id. id) (λ y. refl) (lines_of c.args.lines.now.text.now)
-    (c.args.lines.now.at + 1) c.in_ok-count.count c.loop-k.short.items c.loop-k.last c.loop-k._k c.loop-k.invariant.reading
-    (omega (arith, c.loop-k-test.false))
+    ∙ IsReading-done _ (λ id. id) id_parts (λ id. id) (λ y. refl) _ _ _ _ _ _ c.loop-k.invariant.reading (omega (arith, c.loop-k-test.false))
 
 pub returns-clause-ascending : goal.returns-clause-ascending
 returns-clause-ascending c = subst IsAscending (map-id c.loop-k.short.items) c.loop-k.invariant.reading.ascending
