@@ -28,10 +28,7 @@ IsRunWithin-more words more run n less within k low = let has = within k low in 
 
 -- one more call
 IsRunWithin-push : (words : ℕ) (run : ReceiptRun) (n : ℕ) → IsRunWithin words run n → HasCall words run n → IsRunWithin words run (n + 1)
-IsRunWithin-push words run n within has k low = elim (cases_lt k n) [
-  | inl before ↦ within k before
-  | inr last ↦ let same : n ≡ k = omega arith in subst (HasCall words run) same has
-]
+IsRunWithin-push words run n within has k low = search (rules, cases_lt)
 
 receipt_in-more : (words more : List ℕ) (run : ReceiptRun) (k : ℕ) → HasCall (length words) run k → receipt_in (words ++ more) run k ≡ receipt_in words run k
 receipt_in-more words more run k has = search (rules, run_from-more)

@@ -1,5 +1,5 @@
 -- A log's lists of words and of bases: what is added leaves the earlier changes as they were.
-use Rattle.std.proofs.Common.{zero, suc, ◌≡◌, ℕ, ◌+◌, ◌-◌, ◌*◌, ◌/◌, ◌<◌, ◌≤◌, List, [], ◌∷◌, ◌++◌, get_or, length, length-append, length-take, take, drop, Some, slice_get, ap, sym, subst, ◌∙◌, refl, inl, inr, arith}
+use Rattle.std.proofs.Common.{zero, suc, ◌≡◌, ℕ, ◌+◌, ◌-◌, ◌*◌, ◌/◌, ◌<◌, ◌≤◌, List, [], ◌∷◌, ◌++◌, get_or, length, length-append, length-take, take, drop, Some, slice_get, ap, sym, subst, ◌∙◌, refl, inl, inr, arith, rules}
 use Rattle.std.proofs.lemmas.Bool.{cases_lt}
 use Rattle.std.proofs.lemmas.List.{append-nil, drop-append-le, get_or_append_left, take-append-le, length-drop}
 use Rattle.std.proofs.Math.Seq.{drop-append_seam, get_or-append_seam, take-length}
@@ -40,10 +40,7 @@ base_of-last bases first (suc block) last =
 module _ (words more bases more_bases : List ℕ) where
   change_in-more : (place : ℕ) (stored : Stored) → place / BLOCK ≤ length bases → first_of bases place stored + width_in stored.kind ≤ length words
       → change_in (words ++ more) (bases ++ more_bases) place stored ≡ change_in words bases place stored
-  change_in-more place stored low within =
-      ap (λ n. change_of stored.kind stored.slot stored.generation (run_from (words ++ more) (n + stored.offset) (width_in stored.kind)))
-      (base_of-more bases more_bases (place / BLOCK) low)
-      ∙ ap (change_of stored.kind stored.slot stored.generation) (run_from-more words more (first_of bases place stored) (width_in stored.kind) within)
+  change_in-more place stored low within = search (rules, base_of-more, run_from-more)
 
   changes_in-more : (place : ℕ) (changes : List Stored) → place + length changes ≤ BLOCK * (length bases + 1)
       → ((at : ℕ) (stored : Stored) → slice_get changes at ≡ Some stored → first_of bases (place + at) stored + width_in stored.kind ≤ length words)
@@ -103,30 +100,7 @@ record HasBase (len : ℕ) (bases after : List ℕ) (changes : ℕ) : Type 0 whe
 
 HasBase-begun : (len : ℕ) (bases after : List ℕ) (changes block : ℕ) → block ≡ changes / BLOCK → AreBlocks len bases changes
     → (block ≤ length bases → after ≡ bases) → (length bases < block → after ≡ bases ++ len ∷ []) → HasBase len bases after changes
-HasBase-begun len bases after changes block is blocks noted new = elim (cases_lt (length bases) block) [
-  | inl next ↦
-      let last : changes / BLOCK ≡ length bases + 1 = omega (arith, is, next, blocks.count) in
-      let items : after ≡ bases ++ len ∷ [] = new next in
-      let base : base_of after (changes / BLOCK) ≡ len = ap (λ l. base_of l (changes / BLOCK)) items ∙ base_of-last bases len (changes / BLOCK) last in
-      record {
-        more = len ∷ [];
-        items = items;
-        count = omega (arith, last, ap length items, length-append bases (len ∷ []));
-        begun = omega (arith, base);
-        short = omega (arith, base);
-      }
-  | inr old ↦
-      let last : changes / BLOCK ≡ length bases = omega (arith, is, old, blocks.count) in
-      let items : after ≡ bases = noted (omega (arith, old)) in
-      let base : base_of after (changes / BLOCK) ≡ base_of bases (length bases) = λ i. base_of (items i) (last i) in
-      record {
-        more = [];
-        items = items ∙ sym (append-nil bases);
-        count = omega (arith, last, ap length items);
-        begun = omega (arith, base, blocks.begun);
-        short = omega (arith, base, blocks.short, last);
-      }
-]
+HasBase-begun len bases after changes block is blocks noted new = search (rules, cases_lt, base_of-last, length-append, append-nil)
 
 -- one more change, whose words stand last, behind its block's base
 module _ (words object bases after : List ℕ) (changes : List Stored) (kind : Kind) (slot generation offset : ℕ)
@@ -152,41 +126,11 @@ module _ (words object bases after : List ℕ) (changes : List Stored) (kind : K
   ]
 
   blocks-push : AreBlocks (length (words ++ object)) after (length (changes ++ stored ∷ []))
-  blocks-push = record {
-    count = omega (arith, has.count, length-append changes (stored ∷ []));
-    begun = omega (arith, ap (base_of after) has.count, has.begun, length-append words object);
-    short = omega (
-      arith,
-      ap (base_of after) has.count,
-      has.count,
-      has.short,
-      width_low kind,
-      long,
-      length-append words object,
-      length-append changes (stored ∷ []),
-    );
-  }
+  blocks-push = search (rules, length-append, width_low)
 
   changes_in-kept : changes_in (words ++ object) after 0 (changes ++ stored ∷ [])
       ≡ changes_in words bases 0 changes ++ change_of kind slot generation object ∷ []
-  changes_in-kept =
-      changes_in-push (words ++ object) after 0 changes stored
-      ∙ (λ i. changes_in-earlier i ++ last i ∷ [])
-    where
-      changes_in-earlier : changes_in (words ++ object) after 0 changes ≡ changes_in words bases 0 changes
-      changes_in-earlier =
-          ap (λ l. changes_in (words ++ object) l 0 changes) has.items
-          ∙ changes_in-more words object bases has.more 0 changes (omega (arith, blocks.count))
-          (λ at other there.
-          let here : at ≡ 0 + at = omega arith in
-          subst (λ n. first_of bases n other + width_in other.kind ≤ length words) here (within at other there))
-
-      last : change_in (words ++ object) after (0 + length changes) stored ≡ change_of kind slot generation object
-      last =
-          let here : 0 + length changes ≡ length changes = omega arith in
-          ap (λ n. change_in (words ++ object) after n stored) here
-          ∙ ap (λ n. change_of kind slot generation (run_from (words ++ object) n (width_in kind))) is
-          ∙ ap (change_of kind slot generation) (run_from-last words object (width_in kind) long)
+  changes_in-kept = search (rules, changes_in-push, changes_in-more, run_from-last)
 
 -- what a log's lists are once a change was added
 pub record IsPushed (words object bases after : List ℕ) (changes : List Stored) (stored : Stored) : Type 0 where

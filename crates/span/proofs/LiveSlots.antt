@@ -1,5 +1,5 @@
 -- The live slots of a log of a class, and of marks that follow it.
-use Rattle.std.proofs.Common.{◌≡◌, ◌%◌, ◌<◌, ◌≤◌, ℕ, true, List, length, length-set, Option, Some, None, get_or, slice_set, is_some, ap, sym, subst, ◌∙◌, refl, eq-eqb, arith}
+use Rattle.std.proofs.Common.{◌≡◌, ◌<◌, ◌≤◌, ℕ, true, List, length, length-set, Option, Some, None, slice_set, is_some, ap, sym, subst, ◌∙◌, refl, eq-eqb, arith, rules}
 use Rattle.std.specs.FinMap as map
 use Rattle.std.specs.FinSet.{contains, empty, len, empty_of_len}
 use Rattle.std.proofs.lemmas.Bool.{false_from_ne_true}
@@ -48,13 +48,7 @@ module _ (class : Class) (gens : ℕ) (log : List Change) (marks : List ℕ) (of
       absurd (omega (arith, none slot above, live-at gens log marks follows slot (IsBelow-live class log of_class slot inside) inside)))
 
   pub first-live : (from slot : ℕ) → slot < SLOTS → IsFirstLiveFrom marks from slot → IsLowestFrom (live_slots log) from slot
-  first-live from slot small first = record {
-    inside = sym (follows.live_is slot small) ∙ eq-eqb (get_or marks slot 0 % 2) 1 first.live;
-    not_below = first.not_below;
-    lower = λ other above inside.
-        let no : other < slot → ⊥ = λ before. omega (arith, first.first other above before, live-at gens log marks follows other (IsBelow-live class log of_class other inside) inside) in
-        omega arith;
-  }
+  first-live from slot small first = search (rules, eq-eqb, live-at)
 
 -- where none is counted, none is live
 pub live-none : (log : List Change) → len (live_slots log) ≡ 0 → live_slots log ≡ empty

@@ -1,5 +1,5 @@
 -- Lists of marks that get more places, or wider ones.
-use Rattle.std.proofs.Common.{◌≡◌, ◌-◌, ◌≤◌, ◌++◌, ℕ, List, length, take, replicate, get_or, ap, sym, ◌∙◌, refl, inl, inr, rules}
+use Rattle.std.proofs.Common.{◌≡◌, ◌-◌, ◌≤◌, ◌++◌, ℕ, List, length, take, replicate, get_or, rules}
 use Rattle.std.proofs.lemmas.Bool.{cases_lt}
 use Rattle.std.proofs.lemmas.List.{get_or-append_right, get_or-replicate, get_or_append_left, get_or_past, length-replicate, take_all}
 
@@ -9,12 +9,4 @@ get_or-all n x index = search (rules, cases_lt, get_or-replicate, get_or_past, l
 -- an item behind the end says there what was said by default
 pub get_or-lengthened : {X : Type 0} (xs : List X) (places : ℕ) (x : X) (index : ℕ) → length xs ≤ places
     → get_or (take places xs ++ replicate (places - length xs) x) index x ≡ get_or xs index x
-get_or-lengthened xs places x index few =
-    ap (λ front. get_or (front ++ replicate (places - length xs) x) index x) (take_all places xs few)
-    ∙ elim (cases_lt index (length xs)) [
-      | inl within ↦ get_or_append_left xs (replicate (places - length xs) x) x index within
-      | inr past ↦
-          get_or-append_right xs (replicate (places - length xs) x) (length xs) index x refl past
-          ∙ get_or-all (places - length xs) x (index - length xs)
-          ∙ sym (get_or_past xs index x past)
-    ]
+get_or-lengthened xs places x index few = search (rules, take_all, cases_lt, get_or_append_left, get_or-append_right, get_or-all, get_or_past)

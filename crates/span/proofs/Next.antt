@@ -1,12 +1,12 @@
 -- The live key that comes first in a span.
-use Rattle.std.proofs.Common.{◌≡◌, ◌≤◌, ℕ, List, Option, Some, None, true, false, arith, ap, refl, sym, ◌∙◌, inl, inr, is_some}
+use Rattle.std.proofs.Common.{◌≡◌, ◌≤◌, ℕ, List, Option, Some, None, true, false, arith, ap, refl, sym, ◌∙◌, is_some, rules}
 use Rattle.std.specs.Prelude.{IfSome, MatchOption}
 use Rattle.std.specs.FinSet.{contains, len}
 use Rattle.std.proofs.lemmas.Bool.{cases_eq, false_from_ne_true}
 use mathlib.Core.HLevel.{is_prop→PathP}
 use native.Mathlib.Bridge.{le_prop}
 use Rattle.bitmap.specs.Slots.{SlotSet}
-use Rattle.span.specs.Log.{Holds, IsLegal, Value, live_slots, puts_of, value_in}
+use Rattle.span.specs.Log.{Holds, IsLegal, Value, live_slots, value_in}
 use Rattle.span.specs.Order.{HasNoMemberFrom, HasNoneFrom, HoldsNoneFrom, IsFirstFrom, IsFirstHeld, IsLowestFrom}
 use Rattle.span.specs.PlainMap.{PlainMap}
 use Rattle.span.specs.declared.change.Change.{Change}
@@ -28,14 +28,7 @@ HoldsNoneFrom-members log from none slot generation above holds =
 -- the lowest live slot is the first that is live at a generation, of which it has one
 pub IsFirstHeld-lowest : (gens : ℕ) (log : List Change) (from : ℕ) (key : Key) → IsLegal gens log → IsLowestFrom (live_slots log) from key.slot
     → Holds log key.slot key.generation → IsFirstHeld log from key
-IsFirstHeld-lowest gens log from key legal lowest holds = record {
-  holds = holds;
-  not_below = lowest.not_below;
-  first = λ slot generation above other. elim (cases_eq slot key.slot) [
-    | inl same ↦ inl (same, Holds-generation gens log slot generation legal other ∙ ap (λ s. puts_of s log) same ∙ sym (Holds-generation gens log key.slot key.generation legal holds))
-    | inr differ ↦ inr (omega (arith, differ, lowest.lower slot above (live-if_held log slot generation other)))
-  ];
-}
+IsFirstHeld-lowest gens log from key legal lowest holds = search (rules, cases_eq, Holds-generation, live-if_held)
 
 -- a key is its parts
 pub same_key-parts : (a b : Key) → a.span ≡ b.span → a.slot ≡ b.slot → a.generation ≡ b.generation → a ≡ b
@@ -59,15 +52,7 @@ module _ (map : PlainMap) (id : SpanId) (log : List Change) (from : ℕ) (shows 
       by_value (Some value) is = absurd (none key.slot key.generation above (holds-shown key same (ap is_some is)))
 
   IsFirstFrom-held : (key : Key) → key.span ≡ id → IsFirstHeld log from key → IsFirstFrom map id from key
-  IsFirstFrom-held key same held = record {
-    live = shows key same ∙ is_some-value_in log key.slot key.generation held.holds;
-    span_is = same;
-    not_below = held.not_below;
-    first = λ other its above some. elim (held.first other.slot other.generation above (holds-shown other its some)) [
-      | inl parts ↦ inl (same_key-parts other key (its ∙ sym same) parts.0 parts.1)
-      | inr later ↦ inr later
-    ];
-  }
+  IsFirstFrom-held key same held = search (rules, is_some-value_in, holds-shown, same_key-parts)
 
   -- what the span answers is what the map has
   pub first-held : (o : Option Key) → MatchOption o (HoldsNoneFrom log from) (IsFirstHeld log from) → IfSome o (λ key. key.span ≡ id)

@@ -1,4 +1,4 @@
-use Rattle.std.proofs.Common.{arith}
+use Rattle.std.proofs.Common.{arith, rules}
 use Rattle.span.proofs.KeptWords.{length-changes_in, slice_get-changes_in, stored_at}
 use Rattle.span.proofs.log.Kept.view.Goals as goal
 
@@ -13,8 +13,4 @@ words_of-words-requires c =
     stored_at log.words.items log.bases.items log.changes.items c.args.place c.index-stored.result.now c.requires c.index-stored.ensures
 
 pub returns : goal.returns
-returns c =
-    let log = c.args.self.now in
-    rw (c.view.ensures, c.words_of-words.ensures.words)
-    (slice_get-changes_in log.words.items log.bases.items log.changes.items c.args.place c.index-stored.result.now
-    (stored_at log.words.items log.bases.items log.changes.items c.args.place c.index-stored.result.now c.requires c.index-stored.ensures))
+returns c = search (rules, slice_get-changes_in, stored_at)

@@ -1,4 +1,4 @@
-use Rattle.std.proofs.Common.{◌≡◌, ◌∙◌, ◌-◌, ℕ, Some, List, length, slice_get, sym, subst, ap, arith}
+use Rattle.std.proofs.Common.{◌≡◌, ◌∙◌, ◌-◌, ℕ, Some, List, length, slice_get, sym, subst, ap, rules}
 use Rattle.std.proofs.lemmas.Option.{slice_get_within}
 use Rattle.span.specs.StoredReceipts.{HasPlace, HasCall, receipt_in}
 use Rattle.span.specs.declared.stored_receipt.ReceiptRun.{ReceiptRun}
@@ -11,11 +11,7 @@ run_at-i-requires-clause-first c first at =
     first_low list.words.items (length list.words.items) list.len c.args.place list.runs.items first list.runs_are (subst (λ (l : List ReceiptRun). slice_get l 0 ≡ Some first) c.as_slice.ensures.value at)
 
 pub index-run-requires : goal.index-run-requires
-index-run-requires c =
-    let list = c.args.self.now in
-    let has = subst (λ (l : List ReceiptRun). HasPlace l c.args.place c.run_at-i.result) c.as_slice.ensures.value c.run_at-i.ensures in
-    let within = slice_get_within list.runs.items c.run_at-i.result has.run has.at in
-    omega (arith, list.runs.ok.0)
+index-run-requires c = search (rules, slice_get_within)
 
 pub overflow_sub-place : goal.overflow_sub-place
 overflow_sub-place c =

@@ -1,4 +1,4 @@
-use Rattle.std.proofs.Common.{◌∙◌, ◌<◌, arith, sym}
+use Rattle.std.proofs.Common.{◌∙◌, ◌<◌, arith, sym, rules}
 use Rattle.span.specs.Log.{Holds}
 use Rattle.span.specs.Marks.{marks_of}
 use Rattle.span.proofs.Keeping.{kept-Holds}
@@ -27,15 +27,7 @@ pub generation_of-generation-requires-clause-within : goal.generation_of-generat
 generation_of-generation-requires-clause-within g c = c.in-Some.ensures.within
 
 pub generation_of-generation-requires-clause-in_range : goal.generation_of-generation-requires-clause-in_range
-generation_of-generation-requires-clause-in_range g c =
-    let inside = c.self.inside in
-    let small : c.in-Some.slot < SLOTS = omega (arith, c.in-Some.ensures.within, few-marks inside.class inside.marks c.self.invariant.fit) in
-    omega (
-      arith,
-      c.self.invariant.gens_fit,
-      c.self.invariant.follows.generation_is c.in-Some.slot small,
-      puts_of-le inside.gens (g.L.Log.changes inside.log) c.in-Some.slot c.self.invariant.follows.legal,
-    )
+generation_of-generation-requires-clause-in_range g c = search (rules, few-marks, puts_of-le)
 
 pub invariant_of-result : goal.invariant_of-result
 invariant_of-result g c =

@@ -1,4 +1,4 @@
-use Rattle.std.proofs.Common.{◌≡◌, Bool, true, false, refl}
+use Rattle.std.proofs.Common.{◌≡◌, Bool, true, false, refl, rules}
 use Rattle.std.specs.Bool.{OnTrue}
 use Rattle.span.specs.Marks.{marks_of}
 use Rattle.span.proofs.Keeping.{Holds-kept, kept-Holds}
@@ -6,14 +6,7 @@ use Rattle.span.proofs.OfClass.{Holds-on_page}
 use Rattle.span.proofs.span.Span.holds.Goals as goal
 
 pub returns-clause-live : goal.returns-clause-live
-returns-clause-live g c =
-    let inside = c.self.inside in
-    let log = g.L.Log.changes inside.log in
-    let follows = c.self.invariant.follows in
-    rw (← c.self.view_is) (
-      λ yes. kept-Holds inside.gens log (marks_of inside.marks) follows c.args.slot c.ranges.slot.fits c.args.generation (c.is_at.ensures.0 yes),
-      λ holds. c.is_at.ensures.1 (Holds-kept inside.gens log (marks_of inside.marks) follows c.args.slot c.ranges.slot.fits c.args.generation holds),
-    )
+returns-clause-live g c = search (rules, kept-Holds, Holds-kept)
 
 on_true : (b : Bool) {P : Type 0} → (b ≡ true → P) → OnTrue b P
 on_true true p = p refl

@@ -110,37 +110,28 @@ invariant_of-self-2 g c =
     let counted = count_after_put c.self.invariant c.args.self.now c.self.view_is c.args.slot c.ranges.slot.fits c.requires.not_live c.requires.not_worn in
     let follows = before c.self.invariant c.args.self.now c.self.view_is c.args.slot c.ranges.slot.fits c.requires.not_live c.requires.not_worn marks c.in_ok-reserve_all.ensures.same in
     let long : c.args.slot < length marks = HasRoom-within c.args.slot c.reserve_all.new.self c.in_ok-reserve_all.ensures.ok in
+    let kept : (worn : Bool) → (worn ≡ false → worn_slots s.gens (g.L.Log.changes c.push_put.new.self) ≡ set.empty)
+    → IsKept s.class s.gens worn (s.live_count + 1) c.give_next-generation.new.self (g.L.Log.changes c.push_put.new.self) (g.L.Log.room c.push_put.new.self) = λ worn none. record {
+      some_generation = c.self.invariant.some_generation;
+      follows = rw (c.push_put.ensures.changes, c.in_ok-reserve.ensures.changes, c.give_next-generation.ensures.given, c.give_next-generation.ensures.next)
+          (Follows-put s.gens (g.L.Log.changes s.log) marks follows c.args.slot c.ranges.slot.fits long c.args.words.now not_live not_worn);
+      none_worn = none;
+      count_is = rw (c.push_put.ensures.changes, c.in_ok-reserve.ensures.changes) (sym (one _ c.args.words.now));
+      fit = FitInto-set s.class c.reserve_all.new.self c.give_next-generation.new.self c.args.slot _ c.in_ok-reserve_all.ensures.fit c.give_next-generation.ensures.given;
+      gens_fit = c.self.invariant.gens_fit;
+      of_class = rw (c.push_put.ensures.changes, c.in_ok-reserve.ensures.changes)
+          (IsOfClass-push s.class (g.L.Log.changes s.log) _ c.self.invariant.of_class
+          (put_fits {slot = c.args.slot} c.args.words.now c.self.view_is c.requires.on_page c.requires.width));
+      few_sets = rw (c.push_put.ensures.changes, c.in_ok-reserve.ensures.changes) (counted _ c.args.words.now);
+      room_for_frees = omega (arith, c.from.ensures, c.in_ok-reserve.ensures.ok, c.push_put.ensures.room);
+    } in
     elim c.if-generation-self.branch [
-      | then-generation-self w ↦ subst (λ (s : Inside g.row.L.Denot). IsKept s.class s.gens s.may_be_worn s.live_count s.marks (g.L.Log.changes s.log) (g.L.Log.room s.log)) (sym w.self-inside-is) (record {
-        some_generation = c.self.invariant.some_generation;
-        follows = rw (c.push_put.ensures.changes, c.in_ok-reserve.ensures.changes, c.give_next-generation.ensures.given, c.give_next-generation.ensures.next)
-            (Follows-put s.gens (g.L.Log.changes s.log) marks follows c.args.slot c.ranges.slot.fits long c.args.words.now not_live not_worn);
-        none_worn = λ none. absurd (true≢false none);
-        count_is = rw (c.push_put.ensures.changes, c.in_ok-reserve.ensures.changes) (sym (one _ c.args.words.now));
-        fit = FitInto-set s.class c.reserve_all.new.self c.give_next-generation.new.self c.args.slot _ c.in_ok-reserve_all.ensures.fit c.give_next-generation.ensures.given;
-        gens_fit = c.self.invariant.gens_fit;
-        of_class = rw (c.push_put.ensures.changes, c.in_ok-reserve.ensures.changes)
-            (IsOfClass-push s.class (g.L.Log.changes s.log) _ c.self.invariant.of_class
-            (put_fits {slot = c.args.slot} c.args.words.now c.self.view_is c.requires.on_page c.requires.width));
-        few_sets = rw (c.push_put.ensures.changes, c.in_ok-reserve.ensures.changes) (counted _ c.args.words.now);
-        room_for_frees = omega (arith, c.from.ensures, c.in_ok-reserve.ensures.ok, c.push_put.ensures.room);
-      })
-      | else-generation-self w ↦ subst (λ (s : Inside g.row.L.Denot). IsKept s.class s.gens s.may_be_worn s.live_count s.marks (g.L.Log.changes s.log) (g.L.Log.room s.log)) (sym w.self-inside-is) (record {
-        some_generation = c.self.invariant.some_generation;
-        follows = rw (c.push_put.ensures.changes, c.in_ok-reserve.ensures.changes, c.give_next-generation.ensures.given, c.give_next-generation.ensures.next)
-            (Follows-put s.gens (g.L.Log.changes s.log) marks follows c.args.slot c.ranges.slot.fits long c.args.words.now not_live not_worn);
-        none_worn = λ none. rw (c.push_put.ensures.changes, c.in_ok-reserve.ensures.changes, c.give_next-generation.ensures.next)
-            (none_worn-put s.gens (g.L.Log.changes s.log) marks follows c.args.slot c.ranges.slot.fits long c.args.words.now not_live not_worn
-            (λ e. w.if-generation-self.false (c.give_next-generation.ensures.next ∙ e)) (c.self.invariant.none_worn none));
-        count_is = rw (c.push_put.ensures.changes, c.in_ok-reserve.ensures.changes) (sym (one _ c.args.words.now));
-        fit = FitInto-set s.class c.reserve_all.new.self c.give_next-generation.new.self c.args.slot _ c.in_ok-reserve_all.ensures.fit c.give_next-generation.ensures.given;
-        gens_fit = c.self.invariant.gens_fit;
-        of_class = rw (c.push_put.ensures.changes, c.in_ok-reserve.ensures.changes)
-            (IsOfClass-push s.class (g.L.Log.changes s.log) _ c.self.invariant.of_class
-            (put_fits {slot = c.args.slot} c.args.words.now c.self.view_is c.requires.on_page c.requires.width));
-        few_sets = rw (c.push_put.ensures.changes, c.in_ok-reserve.ensures.changes) (counted _ c.args.words.now);
-        room_for_frees = omega (arith, c.from.ensures, c.in_ok-reserve.ensures.ok, c.push_put.ensures.room);
-      })
+      | then-generation-self w ↦ subst (λ (s : Inside g.row.L.Denot). IsKept s.class s.gens s.may_be_worn s.live_count s.marks (g.L.Log.changes s.log) (g.L.Log.room s.log)) (sym w.self-inside-is)
+          (kept _ (λ none. absurd (true≢false none)))
+      | else-generation-self w ↦ subst (λ (s : Inside g.row.L.Denot). IsKept s.class s.gens s.may_be_worn s.live_count s.marks (g.L.Log.changes s.log) (g.L.Log.room s.log)) (sym w.self-inside-is)
+          (kept _ (λ none. rw (c.push_put.ensures.changes, c.in_ok-reserve.ensures.changes, c.give_next-generation.ensures.next)
+          (none_worn-put s.gens (g.L.Log.changes s.log) marks follows c.args.slot c.ranges.slot.fits long c.args.words.now not_live not_worn
+          (λ e. w.if-generation-self.false (c.give_next-generation.ensures.next ∙ e)) (c.self.invariant.none_worn none))))
     ]
 
 pub returns-clause-at_most_gens : goal.returns-clause-at_most_gens
