@@ -1,5 +1,5 @@
 -- The entries of a directory, before and after a change.
-use Rattle.std.proofs.Common.{suc, ◌≡◌, ℕ, ◌+◌, ◌≤◌, Bool, true, false, not, cond, List, ◌∷◌, length, drop, slice_get, Some, is_some, ap, sym, ◌∙◌, refl, arith, eqb}
+use Rattle.std.proofs.Common.{suc, ◌≡◌, ℕ, ◌+◌, ◌≤◌, Bool, true, false, not, cond, List, ◌∷◌, length, drop, slice_get, Some, ap, sym, ◌∙◌, arith, rules}
 use Rattle.std.specs.FinMap as map
 use Rattle.std.proofs.lemmas.List.{drop_all}
 use Rattle.groups.proofs.Maps.{drop_step, get-insert}
@@ -26,19 +26,10 @@ pub record IsStriking (before now : DirectoryState) (spans : List SpanState) (in
 
 module _ (before now : DirectoryState) (spans : List SpanState) (index : ℕ) (is : IsStriking before now spans index) where
   pub IsStriking-next : (span : SpanState) → slice_get spans index ≡ Some span → IsStriking before (record now { entries = map.remove now.entries (rank span.id) }) spans (index + 1)
-  IsStriking-next span here = record {
-    entries =
-        let next : index + 1 ≡ suc index = omega arith in
-        ap (λ n. struck (map.remove now.entries (rank span.id)) (drop n spans)) next ∙ ap (struck now.entries) (sym (drop_step spans index span here)) ∙ is.entries;
-    room = is.room;
-  }
+  IsStriking-next span here = search (rules, drop_step)
 
   pub IsStriking-all : length spans ≤ index → index ≤ length spans → now ≡ record before { entries = struck before.entries spans }
-  IsStriking-all most least =
-      let at : index ≡ length spans = omega arith in
-      same_directory now (record before { entries = struck before.entries spans })
-      (ap (struck now.entries) (sym (ap (λ n. drop n spans) at ∙ drop_all (length spans) spans (omega arith))) ∙ is.entries)
-      is.room
+  IsStriking-all most least = search (rules, same_directory, drop_all)
 
 -- the dead ones of the spans before the index are struck; with the others it comes to all of them
 pub record IsStrikingDead (before now : DirectoryState) (spans : List SpanState) (index : ℕ) : Type 0 where
@@ -69,11 +60,7 @@ module _ (before now : DirectoryState) (spans : List SpanState) (index : ℕ) (i
     }
 
   pub IsStrikingDead-all : length spans ≤ index → index ≤ length spans → now ≡ record before { entries = struck before.entries (dead_among spans) }
-  IsStrikingDead-all most least =
-      let at : index ≡ length spans = omega arith in
-      same_directory now (record before { entries = struck before.entries (dead_among spans) })
-      (ap (λ left. struck now.entries (dead_among left)) (sym (ap (λ n. drop n spans) at ∙ drop_all (length spans) spans (omega arith))) ∙ is.entries)
-      is.room
+  IsStrikingDead-all most least = search (rules, same_directory, drop_all)
 
 -- the guests before the index are entered anew; with the others it comes to all of them, and each has an entry
 pub record IsMoving (before now : DirectoryState) (guests : List SpanState) (head : SpanId) (index : ℕ) : Type 0 where
@@ -84,23 +71,4 @@ pub record IsMoving (before now : DirectoryState) (guests : List SpanState) (hea
 module _ (before now : DirectoryState) (guests : List SpanState) (head : SpanId) (index : ℕ) (is : IsMoving before now guests head index) where
   pub IsMoving-next : (guest : SpanState) → slice_get guests index ≡ Some guest
       → IsMoving before (record now { entries = map.insert now.entries (rank guest.id) (record { head = head; place = index + 1 }) }) guests head (index + 1)
-  IsMoving-next guest here = record {
-    entries =
-        let next : index + 1 ≡ suc index = omega arith in
-        let after : index + 1 + 1 ≡ suc (index + 1) = omega arith in
-        let with_it = map.insert now.entries (rank guest.id) (record { head = head; place = index + 1 }) in
-        ap (entered with_it (drop (index + 1) guests) head) after
-        ∙ ap (λ n. entered with_it (drop n guests) head (suc (index + 1))) next
-        ∙ ap (λ rest. entered now.entries rest head (index + 1)) (sym (drop_step guests index guest here)) ∙ is.entries;
-    room = is.room;
-    there = λ place span at. still (rank span.id) (eqb (rank span.id) (rank guest.id)) refl (is.there place span at);
-  }
-    where
-      still : (number : ℕ) (b : Bool) → eqb number (rank guest.id) ≡ b → is_some (map.get now.entries number) ≡ true
-          → is_some (map.get (map.insert now.entries (rank guest.id) (record { head = head; place = index + 1 })) number) ≡ true
-      still number true same was = ap is_some
-          (get-insert now.entries (rank guest.id) (record { head = head; place = index + 1 }) number
-          ∙ ap (λ b. cond b (Some (record { head = head; place = index + 1 })) (map.get now.entries number)) same)
-      still number false other was = ap is_some
-          (get-insert now.entries (rank guest.id) (record { head = head; place = index + 1 }) number
-          ∙ ap (λ b. cond b (Some (record { head = head; place = index + 1 })) (map.get now.entries number)) other) ∙ was
+  IsMoving-next guest here = search (rules, after, drop_step, get-insert)

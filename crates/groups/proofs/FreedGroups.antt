@@ -1,6 +1,7 @@
 -- A group stays sound where a key of one of its spans is freed.
 use Rattle.std.proofs.Common.{◌≡◌, ℕ, Option, None, Some, MatchOption, slice_get, sym, subst, inl, inr, rules}
 use Rattle.std.specs.FinSet.{empty}
+use Rattle.span.proofs.Keeping.{live-if_held}
 use Rattle.span.proofs.Changes.{IsLegal-push}
 use Rattle.span.specs.Log.{Holds, IsLegal}
 use Rattle.span.specs.State.{SpanState}
@@ -13,7 +14,7 @@ use Rattle.groups.specs.Spans.{AreApart, union_of, with_free}
 use Rattle.groups.proofs.Logs.{was_held}
 use Rattle.groups.proofs.Standing.{AreSpansOf-with_span, IsSpanOf-with_free, cases-with_span, page-with_span, spans_of-with_span}
 use Rattle.groups.proofs.StoredObjects.{none_live}
-use Rattle.groups.proofs.Unions.{live_if_held, lose_held}
+use Rattle.groups.proofs.Unions.{lose_held}
 
 -- a group with no live slot needs no page
 pub IsSoundGroup-unpaged : {Closed : Type 0} (group : Group Closed) → IsSoundGroup group → union_of (spans_of group) ≡ empty → IsSoundGroup (record group { page = None })
@@ -29,7 +30,7 @@ module _ {Closed : Type 0} (group : Group Closed) (sound : IsSoundGroup group) (
 
   page_now : (page : Option Words) → MatchOption page (union_of (spans_of group) ≡ empty) (AreStored (spans_of group))
       → MatchOption page (union_of (spans_of after) ≡ empty) (AreStored (spans_of after))
-  page_now page none = search (rules, none_live, live_if_held, (cases-with_span group place changed), was_held)
+  page_now page none = search (rules, none_live, live-if_held, (cases-with_span group place changed), was_held)
 
   pub IsSoundGroup-free : IsSoundGroup after
   IsSoundGroup-free = record {

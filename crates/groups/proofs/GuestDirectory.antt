@@ -1,5 +1,5 @@
 -- A directory of guests, as groups change, come and go.
-use Rattle.std.proofs.Common.{zero, suc, ◌≡◌, ℕ, ◌+◌, ◌≤◌, ◌⊎◌, List, [], ◌∷◌, ◌++◌, length, insert, set, nat_cmp, Some, None, slice_get, ◌∙◌, ap, sym, refl, inl, inr, arith, rules}
+use Rattle.std.proofs.Common.{zero, suc, ◌≡◌, ℕ, ◌+◌, ◌≤◌, ◌⊎◌, List, [], ◌∷◌, ◌++◌, length, insert, set, Some, slice_get, ◌∙◌, ap, sym, refl, inl, inr, arith, rules}
 use Rattle.std.specs.FinMap as map
 use Rattle.std.specs.Prelude.{remove}
 use Rattle.std.proofs.lemmas.Bool.{cases_eq}
@@ -78,10 +78,7 @@ module _ {G : Type 0} (head_of : G → SpanId) (guests_of : G → List SpanState
       left_at number at was = let now = stay was.index was.place was.group was.guest was.group_is was.guest_is in stands_too groups left number at was now.0 now.1
 
   pub IsDirectory-none : (groups : List G) (entries : Entries) → groups ≡ [] → entries ≡ map.empty → IsDirectory head_of guests_of groups entries
-  IsDirectory-none groups entries none empty = record {
-    known = λ index place group guest here there. absurd (none-some group (ap (λ gs. slice_get gs index) (sym none) ∙ here));
-    only = λ number at is. absurd (let e : None ≡ Some at = sym (map.get-empty nat_cmp number) ∙ sym (ap (λ es. map.get es number) empty) ∙ is in cc);
-  }
+  IsDirectory-none groups entries none empty = search (rules, none-some, map.get-empty)
 
   module _ (groups : List G) (entries : Entries) (is : IsDirectory head_of guests_of groups entries) where
     -- a guest stays, in a group that is another now
@@ -99,16 +96,7 @@ module _ {G : Type 0} (head_of : G → SpanId) (guests_of : G → List SpanState
     -- a change of a group that leaves the ids of its spans
     pub IsDirectory-set : (index : ℕ) (before after : G) → slice_get groups index ≡ Some before → head_of after ≡ head_of before → HaveSameIds (guests_of before) (guests_of after)
         → IsDirectory head_of guests_of (set groups index after) entries
-    IsDirectory-set index before after here head ids = record {
-      known = λ other place group guest at there. elim (cases-set groups index after other group at) [
-        | inl now ↦
-            let was = ids.back place guest (ap (λ g. slice_get (guests_of g) place) now.1 ∙ there) in
-            ap (λ i. map.get entries (rank i)) (sym was.2) ∙ is.known index place before was.0 here was.1
-            ∙ ap (λ i. Some (record { head = i; place = suc place })) (sym head ∙ ap head_of now.1)
-        | inr old ↦ is.known other place group guest old.1 there
-      ];
-      only = λ number at found. still_there index before after here head ids.forth number at (is.only number at found);
-    }
+    IsDirectory-set index before after here head ids = search (rules, cases-set, still_there)
 
     -- a group comes, whose guests are elsewhere
     pub IsDirectory-insert : (index : ℕ) (group : G) → index ≤ length groups → HaveOwnRanks (guests_of group)

@@ -61,13 +61,7 @@ IsFullOutside-freed limit live worn words after slot full this others q below ou
 -- slots that come to be live
 pub IsFullOutside-joined : (words : WordSet) (limit : ℕ) (live more worn : SlotSet) → IsFullOutside words limit (union live worn)
     → IsFullOutside words limit (union (union live more) worn)
-IsFullOutside-joined words limit live more worn full q below out =
-    contains-union nat_cmp_total (union live more) worn q
-    ∙ ap (λ b. b || contains worn q) (contains-union nat_cmp_total live more q)
-    ∙ wider (contains live q) (contains more q) (contains worn q) (sym (contains-union nat_cmp_total live worn q) ∙ full q below out)
-  where
-    wider : (a b c : Bool) → (a || c) ≡ true → ((a || b) || c) ≡ true
-    wider a b c so = search rules
+IsFullOutside-joined words limit live more worn full q below out = search (rules, contains-union)
 
 -- what a search that found nothing says
 pub of-none : {A : Type 0} (B : ℕ → Type 0) (found : Option ℕ) (out : Bool) → is_some found ≡ not out → out ≡ true → MatchOption found A B → A

@@ -8,6 +8,7 @@ use Rattle.std.proofs.lemmas.Bool.{cases_eq, false_from_ne_true, ne_eqb}
 use Rattle.bitmap.specs.Slots.{SlotSet}
 use Rattle.bitmap.specs.declared.word_set.WordSet.{WordSet}
 use Rattle.bitmap.specs.Operations.{AreDisjoint-at}
+use Rattle.span.proofs.Keeping.{live-if_held}
 use Rattle.span.specs.Classes.{slots_in, width_of}
 use Rattle.span.specs.Log.{Held, Holds, IsLegal, IsOfClass, Value, live_slots, replay, value_if, value_in, worn_slots}
 use Rattle.span.specs.PlainMap.{has_as_many}
@@ -28,7 +29,7 @@ use Rattle.groups.specs.SpansKept.{IsFullOutside, IsKept}
 use Rattle.groups.specs.Spans.{AreApart, IsSpanOf, SpansState, all_spans, union_of, with_set_at, with_span_at}
 use Rattle.groups.proofs.Lists.{same_some, set-same}
 use Rattle.groups.proofs.Standing.{AreSpansOf-with_span, cases-with_span, spans_of-with_span}
-use Rattle.groups.proofs.Unions.{keep_held, live_if_held, member_of_union}
+use Rattle.groups.proofs.Unions.{keep_held, member_of_union}
 
 -- a slot is live in one of the spans alone
 apart_at : (spans : List SpanState) (i j : ℕ) (a b : SpanState) (q : ℕ) → AreApart spans → slice_get spans i ≡ Some a → slice_get spans j ≡ Some b → (i ≡ j → ⊥)
@@ -138,7 +139,7 @@ module _ {Closed : Type 0} (group : Group Closed) (sound : IsSoundGroup group)
   other_now : (at : ℕ) (other : SpanState) → (at ≡ place → ⊥) → slice_get (spans_of group) at ≡ Some other → IsStored page_now other
   other_now at other apart there q held is = stays_other at other there q held is (λ same. apart_at (spans_of group) at place other span q sound.apart there here apart
       (contains-live_slots other.log q ∙ ap is_some is)
-      (ap (contains (live_slots span.log)) same ∙ live_if_held span.log slot generation settable.0))
+      (ap (contains (live_slots span.log)) same ∙ live-if_held span.log slot generation settable.0))
 
   pub spans_of-set_group : spans_of after ≡ set (spans_of group) place changed
   spans_of-set_group = spans_of-with_span group place changed

@@ -1,5 +1,5 @@
 -- A group where one span is replaced.
-use Rattle.std.proofs.Common.{◌≡◌, ◌⊎◌, ℕ, Some, set, slice_get, ap, sym, subst, ◌∙◌, inl, inr, rules}
+use Rattle.std.proofs.Common.{◌≡◌, ◌⊎◌, ℕ, Some, set, slice_get, ap, sym, ◌∙◌, rules}
 use Rattle.span.proofs.OfClass.{IsOfClass-push}
 use Rattle.span.specs.State.{SpanState}
 use Rattle.span.specs.declared.change.Change.TheVariants.{Free}
@@ -34,8 +34,4 @@ module _ {Closed : Type 0} where
   -- the spans stay of the class of the head
   pub AreSpansOf-with_span : (group : Group Closed) (place : ℕ) (span : SpanState) → AreSpansOf group.head.class (spans_of group)
       → IsSpanOf group.head.class span → AreSpansOf (with_span group place span).head.class (spans_of (with_span group place span))
-  AreSpansOf-with_span group place span are its at other there = subst (λ c. IsSpanOf c other) (sym (class-with_span group place span its.class_is))
-      (elim (cases-with_span group place span at other there) [
-        | inl this ↦ subst (IsSpanOf group.head.class) this.1 its
-        | inr that ↦ are at other that.1
-      ])
+  AreSpansOf-with_span group place span are its at other there = search (rules, class-with_span, cases-with_span)

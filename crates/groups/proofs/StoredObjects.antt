@@ -5,6 +5,7 @@ use Rattle.std.specs.FinMap as map
 use Rattle.std.specs.FinSet.{contains, contains-empty, empty}
 use Rattle.std.specs.Ordering.{nat_cmp}
 use Rattle.std.proofs.lemmas.Bool.{false≢true}
+use Rattle.span.proofs.Keeping.{live-if_held}
 use Rattle.span.proofs.OfClass.{Fits-replay}
 use Rattle.span.proofs.Slots.{contains-live_slots}
 use Rattle.span.specs.Classes.{slots_in}
@@ -17,7 +18,7 @@ use Rattle.groups.specs.Group.{Group, spans_of}
 use Rattle.groups.specs.Pages.{object_at, words_of}
 use Rattle.groups.specs.Sound.{AreStored, IsSoundGroup}
 use Rattle.groups.specs.Spans.{union_of}
-use Rattle.groups.proofs.Unions.{live_if_held, member_of_union}
+use Rattle.groups.proofs.Unions.{member_of_union}
 
 module _ {Closed : Type 0} (group : Group Closed) (sound : IsSoundGroup group) (place : ℕ) (span : SpanState) (here : slice_get (spans_of group) place ≡ Some span) (slot : ℕ) where
   -- a slot of a group with no live slot is not live
@@ -56,7 +57,7 @@ module _ {Closed : Type 0} (group : Group Closed) (sound : IsSoundGroup group) (
   page_if_held = by_page group.page sound.page
     where
       by_page : (page : Option Words) → MatchOption page (union_of (spans_of group) ≡ empty) (AreStored (spans_of group)) → (words : Words) × (page ≡ Some words)
-      by_page None none = absurd (none_live group sound place span there slot none (live_if_held span.log slot generation holds))
+      by_page None none = absurd (none_live group sound place span there slot none (live-if_held span.log slot generation holds))
       by_page (Some words) stored = (words, refl)
 
   pub paged_if_held : IsSome group.page

@@ -1,5 +1,5 @@
 -- The union of the live sets of a group's spans.
-use Rattle.std.proofs.Common.{zero, suc, ◌≡◌, ℕ, true, false, not, ◌&&◌, ◌||◌, List, [], ◌∷◌, Option, Some, IsSomeAnd, is_some, slice_get, set, ap, sym, ◌∙◌, subst, eq-eqb, rules}
+use Rattle.std.proofs.Common.{zero, suc, ◌≡◌, ℕ, true, false, not, ◌&&◌, ◌||◌, List, [], ◌∷◌, Some, slice_get, set, ap, sym, ◌∙◌, subst, eq-eqb, rules}
 use Rattle.std.specs.Ordering.{nat_cmp, eq_by_cmp}
 use Rattle.std.specs.Cmp.{nat_cmp_total}
 use Rattle.std.specs.FinSet.{contains, insert, remove, union, empty, contains-insert, contains-remove, contains-union, contains-empty}
@@ -9,10 +9,9 @@ use Rattle.bitmap.specs.Slots.{SlotSet, AreDisjoint}
 use Rattle.bitmap.specs.Words.{same_slots}
 use Rattle.bitmap.specs.Operations.{AreDisjoint-at, AreDisjoint-by_slot}
 use Rattle.bitmap.proofs.Summaries.{was}
-use Rattle.span.specs.Log.{Value, live_slots, replay, Holds}
-use Rattle.std.specs.FinMap as map
-use Rattle.span.specs.declared.change.Change.{Change}
-use Rattle.span.proofs.Slots.{contains-live_slots, live_slots-free, live_slots-set}
+use Rattle.span.specs.Log.{Value, live_slots, Holds}
+use Rattle.span.proofs.Keeping.{live-if_held}
+use Rattle.span.proofs.Slots.{live_slots-free, live_slots-set}
 use Rattle.span.specs.State.{SpanState}
 use Rattle.groups.specs.Spans.{union_of, AreApart, with_free_at, with_set_at}
 
@@ -89,18 +88,11 @@ union-empty s = same_slots _ _ (λ q. contains-union nat_cmp_total s empty q ∙
 pub AreDisjoint-empty : (s : SlotSet) → AreDisjoint s empty
 AreDisjoint-empty s = AreDisjoint-by_slot _ _ (λ q inside other. false≢true (sym (contains-empty nat_cmp q) ∙ other))
 
-some_from_and : {X : Type 0} (o : Option X) (P : X → Type 0) → IsSomeAnd o P → is_some o ≡ true
-some_from_and o P h = search rules
-
--- a key that a span holds has a live slot
-pub live_if_held : (log : List Change) (slot generation : ℕ) → Holds log slot generation → contains (live_slots log) slot ≡ true
-live_if_held log slot generation holds = contains-live_slots log slot ∙ some_from_and (map.get (replay log) slot) (λ held. held.generation ≡ generation) holds
-
 -- after a free in one of the spans
 pub lose_held : (spans : List SpanState) (place : ℕ) (span : SpanState) (slot generation : ℕ) → slice_get spans place ≡ Some span → Holds span.log slot generation → AreApart spans
     → (union_of (set spans place (with_free_at span slot generation)) ≡ remove (union_of spans) slot) × AreApart (set spans place (with_free_at span slot generation))
 lose_held spans place span slot generation at holds apart =
-    lose_slot slot span (with_free_at span slot generation) (live_if_held span.log slot generation holds) (live_slots-free span.log slot generation) spans place at apart
+    lose_slot slot span (with_free_at span slot generation) (live-if_held span.log slot generation holds) (live_slots-free span.log slot generation) spans place at apart
 
 -- where the same slots of one span are live, the union is the same, and the spans stay apart
 pub keep_slots : (span after : SpanState) → live_slots after.log ≡ live_slots span.log → (spans : List SpanState) (place : ℕ) → slice_get spans place ≡ Some span → AreApart spans

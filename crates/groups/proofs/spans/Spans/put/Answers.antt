@@ -1,4 +1,4 @@
-use Rattle.std.proofs.Common.{◌≡◌, ◌<◌, ◌/◌, ◌∙◌, ap, refl, sym, subst, true, false}
+use Rattle.std.proofs.Common.{◌≡◌, ◌<◌, ◌/◌, ◌∙◌, ap, refl, sym, subst, true, false, rules}
 use Rattle.std.specs.FinSet as set
 use Rattle.bitmap.specs.Slots.{AreDisjoint, HasAllBelow, HasWord, SlotSet}
 use Rattle.span.specs.Classes.{slots_in}
@@ -16,20 +16,10 @@ use Rattle.groups.proofs.spans.Spans.put.Goals as goal
 
 -- the slot that is found for a put is live in no span, and not worn in the head
 pub put_at-requires-clause-not_live : goal.put_at-requires-clause-not_live
-put_at-requires-clause-not_live g c =
-    let spans : SpansState = record { head = c.self.inside.head; guests = c.self.inside.guests.items } in
-    let slot = c.in-Some.field-0.slot in
-    let same = taken-is spans c.self.inside.occupied (worn_slots c.self.inside.head.gens c.self.inside.head.log) c.self.invariant.occupied_is refl in
-    let free : set.contains (taken spans) slot ≡ false = ap (λ s. set.contains s slot) (sym same) ∙ c.in-Some.ensures.lowest.1.outside in
-    outside_left _ _ slot (outside_left _ _ slot free)
+put_at-requires-clause-not_live g c = search (rules, taken-is, outside_left)
 
 pub put_at-requires-clause-not_worn : goal.put_at-requires-clause-not_worn
-put_at-requires-clause-not_worn g c =
-    let spans : SpansState = record { head = c.self.inside.head; guests = c.self.inside.guests.items } in
-    let slot = c.in-Some.field-0.slot in
-    let same = taken-is spans c.self.inside.occupied (worn_slots c.self.inside.head.gens c.self.inside.head.log) c.self.invariant.occupied_is refl in
-    let free : set.contains (taken spans) slot ≡ false = ap (λ s. set.contains s slot) (sym same) ∙ c.in-Some.ensures.lowest.1.outside in
-    outside_right _ _ slot free
+put_at-requires-clause-not_worn g c = search (rules, taken-is, outside_right)
 
 pub returns-in_err-key-clause-room : goal.returns-in_err-key-clause-room
 returns-in_err-key-clause-room g c =

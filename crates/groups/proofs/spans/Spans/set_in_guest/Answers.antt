@@ -1,7 +1,6 @@
-use Rattle.std.proofs.Common.{◌<◌, length, ◌≡◌, ◌∙◌, Bool, true, false, ap, sym, refl, subst, suc, set, slice_get}
+use Rattle.std.proofs.Common.{◌<◌, length, Bool, true, false, sym, refl, subst, suc, set, rules}
 use Rattle.std.specs.Bool.{OnTrue}
 use Rattle.std.proofs.lemmas.Option.{slice_get_read}
-use Rattle.span.specs.State.{SpanState}
 use Rattle.groups.specs.Spans.{SpansState}
 use Rattle.groups.proofs.Lists.{same_some}
 use Rattle.groups.proofs.SetGroups.{IsKept-set}
@@ -22,16 +21,7 @@ invariant_of-self-2 g c =
     done.unknown
 
 pub returns-clause-found : goal.returns-clause-found
-returns-clause-found g c span at =
-    let here = slice_get_read c.self.inside.guests.items _ c.args.at c.index_mut.result.now refl
-    (subst (λ (g : SpansState). c.args.at < length g.guests) (sym c.self.view_is) c.requires) c.index_mut.ensures.value in
-    let same : c.index_mut.result.now ≡ span = same_some (sym here ∙ ap (λ (g : SpansState). slice_get g.guests c.args.at) c.self.view_is ∙ at) in
-    rw (← same) c.in_ok-done.ensures.found
+returns-clause-found g c span at = search (rules, slice_get_read, same_some)
 
 pub returns-clause-set : goal.returns-clause-set
-returns-clause-set g c span at =
-    let here = slice_get_read c.self.inside.guests.items _ c.args.at c.index_mut.result.now refl
-    (subst (λ (g : SpansState). c.args.at < length g.guests) (sym c.self.view_is) c.requires) c.index_mut.ensures.value in
-    let same : c.index_mut.result.now ≡ span = same_some (sym here ∙ ap (λ (g : SpansState). slice_get g.guests c.args.at) c.self.view_is ∙ at) in
-    rw (← same, ← c.self.view_is)
-    (map_true c.in_ok-done.done (λ e. ap (λ (s : SpanState). record { head = c.self.inside.head; guests = set c.self.inside.guests.items c.args.at s }) e) c.in_ok-done.ensures.set)
+returns-clause-set g c span at = search (rules, slice_get_read, same_some, map_true)
