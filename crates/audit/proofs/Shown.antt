@@ -1,6 +1,5 @@
 -- What the plain map holds beside a span's changes, and what one more change does to both.
-use Rattle.std.proofs.Common.{◌≡◌, ℕ, ◌+◌, ◌≤◌, Bool, true, false, cond, ◌&&◌, eqb, List, [], ◌∷◌, ◌++◌, length, Option, Some, None, IsSomeAnd, sym, ap, refl, arith, ◌∙◌, eq-eqb, eqb-true, rules}
-use Rattle.std.specs.Ordering.{nat_cmp}
+use Rattle.std.proofs.Common.{◌≡◌, ℕ, ◌+◌, ◌≤◌, Bool, true, false, cond, ◌&&◌, eqb, List, [], ◌∷◌, ◌++◌, length, Option, Some, None, IsSomeAnd, sym, refl, arith, ◌∙◌, eq-eqb, eqb-true, rules}
 use Rattle.std.specs.FinMap as map
 use Rattle.std.proofs.lemmas.Bool.{cases_eq, ne_eqb}
 use Rattle.span.proofs.Ids.{test_from_same_id}
@@ -22,10 +21,7 @@ pub record Shows (span : SpanId) (changes : List Change) (m : PlainMap) : Type 0
 
 pub Shows-empty : (span : SpanId) → Shows span [] empty_map
 unfolding replay
-Shows-empty span = record {
-  values = λ key same. ap (value_if key.generation) (sym (map.get-empty nat_cmp key.slot));
-  issued = λ key same is. absurd cc;
-}
+Shows-empty span = search (rules, map.get-empty)
 
 -- the value of a key after a change at a slot
 value_after_change : (before after : List Change) (slot : ℕ) (left : Option Held)
