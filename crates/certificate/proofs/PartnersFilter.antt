@@ -212,7 +212,4 @@ partners_of-filter s short up =
     filter-map (λ b. list_any (λ a. any_compatible s a b) short) (λ (y : Entry). y.id) (λ y. fits_any s.abandoned short y) s.owned (λ j y l at. is_partner-at s short j y up l at)
 
 pub partners_of-count : (s : Groups) (short : List SpanId) → IsAscending (ids s.owned) → count_by (λ y. fits_any s.abandoned short y) s.owned ≡ length (partners_of s short)
-partners_of-count s short up =
-    count-filter (λ y. fits_any s.abandoned short y) s.owned
-    ∙ sym (length-map (filter (λ y. fits_any s.abandoned short y) s.owned) (λ (y : Entry). y.id))
-    ∙ ap length (sym (partners_of-filter s short up))
+partners_of-count s short up = search (rules, count-filter, length-map, partners_of-filter)

@@ -242,10 +242,4 @@ pub certificate_in-text : (c : Certificate) → IsWritable c → IsNamed (versio
     → AllByRecursion IsReadable c.snapshot.abandoned → AllByRecursion IsReadable c.snapshot.owned
     → certificate_in (certificate_text c) ≡ Ok (outline_of c)
 unfolding certificate_in
-certificate_in-text c w named up_a up_o sets_a sets_o =
-    let version : Version = version_of (outline_of c) in
-    let more : List (List ℕ) = title_body (codes "abandoned") (length c.snapshot.abandoned) ∷ (map entry_body c.snapshot.abandoned ++ owned_lines c) in
-    let opening : line_in version_in (all_lines version c) 0 ≡ Ok version = line_in-at version_in [] (opening_of version) more (omega arith) ∙ named.opening in
-    ap (λ ps. at_line 0 (line_in version_in ps 0) >>= (λ version. body_in version ps)) (parts_of-text c w)
-    ∙ ap (λ r. at_line 0 r >>= (λ v. body_in v (all_lines version c))) opening
-    ∙ body_in-all_lines version c w named up_a up_o sets_a sets_o
+certificate_in-text c w named up_a up_o sets_a sets_o = search (rules, title_body, entry_body, line_in-at, parts_of-text, body_in-all_lines)

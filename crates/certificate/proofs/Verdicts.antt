@@ -109,11 +109,7 @@ tests-from_plan s pairs p = list_all-from_AllPass (λ p. any_compatible s p.0 p.
 pub certificate-from_tests : (s : Groups) (pairs : List (SpanId × SpanId)) (short : List SpanId) → IsPlanOf s pairs → IsChoice same_span (ids s.abandoned) short
     → length pairs + length short ≡ length s.abandoned + length (partners_of s short) → IsCertificateOf s pairs short
 unfolding sides_of
-certificate-from_tests s pairs short plan chosen equal = record {
-  plan = plan;
-  chosen = chosen;
-  equation = let left : length (ids s.abandoned) ≡ length s.abandoned = length-map s.abandoned (λ (x : Entry). x.id) in equal ∙ (λ i. sym left i + length (partners_of s short));
-}
+certificate-from_tests s pairs short plan chosen equal = search (rules, length-map)
 
 pub equation-from_certificate : (s : Groups) (pairs : List (SpanId × SpanId)) (short : List SpanId) → IsCertificateOf s pairs short
     → length pairs + length short ≡ length s.abandoned + length (partners_of s short)

@@ -1,4 +1,4 @@
-use Rattle.std.proofs.Common.{false, refl, ◌≡◌, ◌+◌, length, IsTrue, eqb, eqb-true, eq-eqb}
+use Rattle.std.proofs.Common.{false, ◌≡◌, ◌+◌, length, IsTrue, eqb, eqb-true, eq-eqb, rules}
 use Rattle.std.proofs.lemmas.Bool.{both_ways}
 use Rattle.span.specs.Ids.{same_span}
 use Rattle.certificate.specs.Plans.{IsCertificateOf, partners_of, sides_of}
@@ -8,10 +8,7 @@ use Rattle.certificate.proofs.checking.check.Goals as goal
 
 pub returns-then-not-is_choice-clause-exact : goal.returns-then-not-is_choice-clause-exact
 unfolding sides_of
-returns-then-not-is_choice-clause-exact c = (
-  λ none. absurd (both_ways false refl none),
-  λ shown. absurd (both_ways c.is_choice.result c.if-not-is_choice.true (c.is_choice.ensures.1 (rw c.ids.ensures shown.chosen))),
-)
+returns-then-not-is_choice-clause-exact c = search (rules, both_ways)
 
 sums : (c : goal.After-partner_count) → length c.pairs-2.result.now + length c.ids-2.result.now ≡ length c.abandoned.result.now + c.partner_count.result
     → length c.args.plan.now + length c.args.short.now ≡ length c.args.snapshot.now.abandoned + length (partners_of c.args.snapshot.now c.args.short.now)

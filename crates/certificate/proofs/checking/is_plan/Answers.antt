@@ -1,4 +1,4 @@
-use Rattle.std.proofs.Common.{◌≡◌, false, map, refl, sym, true, ◌∙◌}
+use Rattle.std.proofs.Common.{◌≡◌, false, map, refl, sym, true, ◌∙◌, rules}
 use Rattle.std.specs.List.{IsDistinct, list_all}
 use Rattle.std.proofs.lemmas.Bool.{both_ways}
 use Rattle.std.proofs.lemmas.List.Sums.{AllPass-from_list_all}
@@ -15,10 +15,7 @@ returns-then-not-are_compatible c = (
 )
 
 pub returns-then-not-are_once : goal.returns-then-not-are_once
-returns-then-not-are_once c = (
-  λ none. absurd (both_ways false refl none),
-  λ plan. absurd (both_ways c.are_once.result c.if-not-are_once.true (c.are_once.ensures.1 (once-from_distinct c.abandoned.result.now (map (λ p. p.0) c.args.pairs.now) plan.left.distinct))),
-)
+returns-then-not-are_once c = search (rules, both_ways, once-from_distinct)
 
 pub returns : goal.returns
 returns c =

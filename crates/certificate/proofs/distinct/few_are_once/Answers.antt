@@ -1,7 +1,7 @@
-use Rattle.std.proofs.Common.{◌∙◌, subst, sym, ◌<◌, arith, false, length, refl, take}
+use Rattle.std.proofs.Common.{◌∙◌, sym, ◌<◌, arith, false, length, refl, take, rules}
 use Rattle.std.proofs.lemmas.Bool.{both_ways, not-false, not-true}
 use Rattle.std.proofs.lemmas.List.{take_all}
-use Rattle.certificate.specs.Chosen.{AreOnce, ids_in}
+use Rattle.certificate.specs.Chosen.{ids_in}
 use Rattle.certificate.proofs.Places.{AreOnce-more, AreOnce-refuted, HasSeen-next}
 use Rattle.certificate.proofs.distinct.few_are_once.Goals as goal
 
@@ -30,7 +30,4 @@ loop-k-preserved c =
     }
 
 pub returns : goal.returns
-returns c = (
-  λ yes. subst (AreOnce c.args.entries.now) (take_all c.loop-k.k (ids_in c.args.list.now) (omega (arith, c.loop-k-test.false, c.len-k-end.ensures))) c.loop-k.invariant.once,
-  λ once. refl,
-)
+returns c = search (rules, take_all)

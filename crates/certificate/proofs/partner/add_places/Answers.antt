@@ -1,4 +1,4 @@
-use Rattle.std.proofs.Common.{◌≡◌, ◌∙◌, ◌&&◌, ◌||◌, ap, arith, eqb, false, sym, true}
+use Rattle.std.proofs.Common.{◌≡◌, ◌∙◌, ◌&&◌, ◌||◌, ap, arith, eqb, false, sym, true, rules}
 use Rattle.bitmap.specs.Slots.{has_bit}
 use Rattle.certificate.specs.Chosen.{fits_among, is_of_class}
 use Rattle.certificate.proofs.Places.{HasAdded-more, HasAdded-skip}
@@ -7,10 +7,7 @@ use Rattle.certificate.proofs.partner.add_places.Goals as goal
 use Rattle.certificate.proofs.partner.add_places.Goals.{else-is_of, then-is_of}
 
 pub add_by_row-requires-clause-within : goal.add_by_row-requires-clause-within
-add_by_row-requires-clause-within c =
-    let a = c.args in
-    row-within a.sets.now a.number a.owned.now a.rows.now c.loop-place.place c.index-owned-place.result c.requires.rows c.loop-place-test.true c.index-owned-place.is
-    (sym c.is_of.ensures ∙ c.if-is_of.true) c.row_words-words.result c.loop-place.row c.row_words-words.ensures c.loop-place.invariant.before
+add_by_row-requires-clause-within c = search (rules, row-within)
 
 pub loop-place-preserved : goal.loop-place-preserved
 loop-place-preserved c =

@@ -1,4 +1,4 @@
-use Rattle.std.proofs.Common.{◌++◌, ◌∙◌, ap, sym}
+use Rattle.std.proofs.Common.{◌++◌, ◌∙◌, ap, sym, rules}
 use Rattle.std.proofs.lemmas.List.{append-nil}
 use Rattle.certificate.proofs.PartnersFilter.{groups_with-at, groups_with-none}
 use Rattle.certificate.proofs.partner.push_group.Goals as goal
@@ -8,7 +8,4 @@ returns-in_default c =
     sym (append-nil c.args.groups.now.items) ∙ ap (λ more. c.args.groups.now.items ++ more) (sym (groups_with-none c.args.abandoned.now c.args.id c.in_default.ensures.none))
 
 pub returns : goal.returns
-returns c =
-    let x = c.index-abandoned-place.result in
-    rw (groups_with-at c.args.abandoned.now c.args.id c.in-Some.place x c.requires c.in-Some.ensures.within c.index-abandoned-place.is
-    (rw (← c.index-abandoned-place.is) at (c.in-Some.ensures.found x))) c.in_ok-push.ensures.items
+returns c = search (rules, groups_with-at)

@@ -1,6 +1,5 @@
-use Rattle.std.proofs.Common.{option_map, ◌≡◌, ◌+◌, ◌∙◌, refl, Err, Global, Vec, ap, arith, codes, map}
+use Rattle.std.proofs.Common.{option_map, ◌≡◌, ◌+◌, ◌∙◌, refl, Err, ap, arith, codes, rules}
 use Rattle.std.proofs.lemmas.Result.{err_from_is_err_and}
-use Rattle.span.specs.declared.id.SpanId.{SpanId}
 use Rattle.certificate.specs.declared.text.cause.ReadError.TheVariants.{BadCertificate}
 use Rattle.certificate.specs.Grammar.{id_parts, item_in, line_in, pair_in, pair_parts}
 use Rattle.certificate.specs.Words.{lines_of}
@@ -8,10 +7,7 @@ use Rattle.certificate.proofs.Items.{IsReading-done, IsReading-more, IsReading-r
 use Rattle.certificate.proofs.text.items.read_folds.Goals as goal
 
 pub returns-in_err-count-clause-read : goal.returns-in_err-count-clause-read
-returns-in_err-count-clause-read c =
-    let p = err_from_is_err_and c.from_residual.result c.from_residual.ensures.1 in
-    rw (p.1, p.2) (Reads-err {X = Vec (SpanId × SpanId) Global} (λ pairs. map pair_parts pairs.items) _ _
-    (list_in-err (codes "folds") (pair_in c.args.version) (λ p. p.0) (lines_of c.args.lines.now.text.now) c.args.lines.now.at _ c.in_err-count.ensures.read))
+returns-in_err-count-clause-read c = search (rules, err_from_is_err_and, Reads-err, list_in-err)
 
 pub returns-in-Err-clause-read : goal.returns-in-Err-clause-read
 returns-in-Err-clause-read c =
@@ -33,6 +29,4 @@ loop-k-preserved c = record {
 }
 
 pub returns-clause-read : goal.returns-clause-read
-returns-clause-read c =
-    list_in-ok (codes "folds") (pair_in c.args.version) (λ p. p.0) (lines_of c.args.lines.now.text.now) c.args.lines.now.at c.in_ok-count.count c.in_ok-count.ensures.read
-    ∙ IsReading-done _ (λ p. p.0) pair_parts (λ p. p.0) (λ y. refl) _ _ _ _ _ _ c.loop-k.invariant.reading (omega (arith, c.loop-k-test.false))
+returns-clause-read c = search (rules, list_in-ok, IsReading-done)

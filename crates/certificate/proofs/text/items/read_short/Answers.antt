@@ -1,7 +1,6 @@
-use Rattle.std.proofs.Common.{option_map, ◌≡◌, ◌+◌, ◌∙◌, refl, Err, Global, Vec, ap, arith, codes, map, subst}
+use Rattle.std.proofs.Common.{option_map, ◌≡◌, ◌+◌, ◌∙◌, refl, Err, ap, arith, codes, subst, rules}
 use Rattle.std.proofs.lemmas.List.{map-id}
 use Rattle.std.proofs.lemmas.Result.{err_from_is_err_and}
-use Rattle.span.specs.declared.id.SpanId.{SpanId}
 use Rattle.mesh_graph.specs.Groups.{IsAscending}
 use Rattle.certificate.specs.declared.text.cause.ReadError.TheVariants.{BadCertificate}
 use Rattle.certificate.specs.Grammar.{id_in, id_parts, item_in, line_in}
@@ -10,10 +9,7 @@ use Rattle.certificate.proofs.Items.{IsReading-done, IsReading-more, IsReading-r
 use Rattle.certificate.proofs.text.items.read_short.Goals as goal
 
 pub returns-in_err-count-clause-read : goal.returns-in_err-count-clause-read
-returns-in_err-count-clause-read c =
-    let p = err_from_is_err_and c.from_residual.result c.from_residual.ensures.1 in
-    rw (p.1, p.2) (Reads-err {X = Vec SpanId Global} (λ short. map id_parts short.items) _ _
-    (list_in-err (codes "short") (id_in c.args.version) (λ id. id) (lines_of c.args.lines.now.text.now) c.args.lines.now.at _ c.in_err-count.ensures.read))
+returns-in_err-count-clause-read c = search (rules, err_from_is_err_and, Reads-err, list_in-err)
 
 pub returns-in-Err-clause-read : goal.returns-in-Err-clause-read
 returns-in-Err-clause-read c =
@@ -34,9 +30,7 @@ loop-k-preserved c = record {
 }
 
 pub returns-clause-read : goal.returns-clause-read
-returns-clause-read c =
-    list_in-ok (codes "short") (id_in c.args.version) (λ id. id) (lines_of c.args.lines.now.text.now) c.args.lines.now.at c.in_ok-count.count c.in_ok-count.ensures.read
-    ∙ IsReading-done _ (λ id. id) id_parts (λ id. id) (λ y. refl) _ _ _ _ _ _ c.loop-k.invariant.reading (omega (arith, c.loop-k-test.false))
+returns-clause-read c = search (rules, list_in-ok, IsReading-done)
 
 pub returns-clause-ascending : goal.returns-clause-ascending
 returns-clause-ascending c = subst IsAscending (map-id c.loop-k.short.items) c.loop-k.invariant.reading.ascending

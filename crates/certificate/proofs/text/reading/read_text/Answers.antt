@@ -1,8 +1,7 @@
-use Rattle.std.proofs.Common.{◌∙◌, sym, subst}
+use Rattle.std.proofs.Common.{rules}
 use Rattle.std.proofs.lemmas.Result.{err_from_is_err_and}
 use Rattle.certificate.specs.declared.certificate.Certificate.{Certificate}
-use Rattle.certificate.specs.Grammar.{Reads, body_in, certificate_in, outline_of}
-use Rattle.certificate.specs.Words.{lines_of}
+use Rattle.certificate.specs.Grammar.{certificate_in, outline_of}
 use Rattle.certificate.proofs.Items.{Reads-err, then-err, then-ok}
 use Rattle.certificate.proofs.text.reading.read_text.Goals as goal
 
@@ -14,7 +13,4 @@ returns-in_err-version-clause-read c =
 
 pub returns-clause-read : goal.returns-clause-read
 unfolding certificate_in
-returns-clause-read c =
-    subst (Reads outline_of c.read_body.result) (sym (then-ok _ _ _ (rw (c.new-lines.ensures.text) at c.in_ok-version.ensures.read)))
-    (subst (λ t. Reads outline_of c.read_body.result (body_in c.in_ok-version.version (lines_of t)))
-    (c.in_ok-version.ensures.text ∙ c.new-lines.ensures.text) c.read_body.ensures.read)
+returns-clause-read c = search (rules, then-ok)
