@@ -1,5 +1,5 @@
 -- The numbers that parts of 256 have.
-use Rattle.std.proofs.Common.{◌≡◌, ℕ, ◌+◌, ◌-◌, ◌*◌, ◌/◌, ◌%◌, ◌<◌, ◌≤◌, ◌⊎◌, [], false, Option, ◌&&◌, nat_lt, List, length, get_or, set, get_or-set_same, get_or-set_other, ◌∙◌, ap, sym, refl, inl, inr, arith, lt-ltb, le-ltb, rules}
+use Rattle.std.proofs.Common.{◌≡◌, ℕ, ◌+◌, ◌-◌, ◌*◌, ◌/◌, ◌%◌, ◌<◌, ◌≤◌, [], false, Option, nat_lt, List, length, get_or, set, get_or-set_same, get_or-set_other, ◌∙◌, ap, sym, refl, inl, inr, arith, lt-ltb, le-ltb, rules}
 use Rattle.std.specs.Ordering.{nat_cmp}
 use Rattle.std.specs.FinSet.{contains, empty, insert, remove, contains-empty}
 use Rattle.std.proofs.Math.Bool.{and-true}
@@ -18,11 +18,7 @@ has_number-past parts q past = rw (get_or_past parts (q / SLOTS) empty (omega ar
 
 pub contains-numbers_in : (parts : List SlotSet) (q : ℕ) → contains (numbers_in parts) q ≡ has_number parts q
 unfolding numbers_in
-contains-numbers_in parts q = contains-slots_where (has_number parts) (SLOTS * length parts) q ∙ each (cases_lt q (SLOTS * length parts))
-  where
-    each : (q < SLOTS * length parts) ⊎ (SLOTS * length parts ≤ q) → (has_number parts q && nat_lt q (SLOTS * length parts)) ≡ has_number parts q
-    each (inl low) = rw (lt-ltb q (SLOTS * length parts) low) (and-true (has_number parts q))
-    each (inr high) = rw (has_number-past parts q high) refl
+contains-numbers_in parts q = search (rules, contains-slots_where, cases_lt, lt-ltb, and-true, has_number-past)
 
 -- a number past the last part is in none
 pub contains-past : (parts : List SlotSet) (q : ℕ) → length parts ≤ q / SLOTS → contains (numbers_in parts) q ≡ false
@@ -120,10 +116,7 @@ below-part parts at count new within new_is before q less = search (rules, cases
 -- where all parts have the numbers below the count, no other has one
 pub below-all : (parts : List SlotSet) (count : ℕ) → count ≤ SLOTS * length parts
     → ((q : ℕ) → q < SLOTS * length parts → contains (numbers_in parts) q ≡ nat_lt q count) → (q : ℕ) → contains (numbers_in parts) q ≡ nat_lt q count
-below-all parts count few each q = elim (cases_lt q (SLOTS * length parts)) [
-  | inl low ↦ each q low
-  | inr past ↦ contains-past parts q (omega (arith, past)) ∙ sym (le-ltb q count (omega (arith, past, few)))
-]
+below-all parts count few each q = search (rules, cases_lt, contains-past, le-ltb)
 
 -- parts that come, with no number
 pub numbers_in-grown : (parts after : List SlotSet) → length parts ≤ length after

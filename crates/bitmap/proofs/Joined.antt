@@ -1,5 +1,5 @@
 -- The numbers of a first part and of further ones.
-use Rattle.std.proofs.Common.{◌≡◌, ℕ, ◌+◌, ◌-◌, ◌/◌, ◌%◌, ◌<◌, ◌≤◌, suc, min, Bool, true, false, nat_lt, List, ◌∷◌, ◌∙◌, ap, sym, refl, inl, inr, arith, lt-ltb, le-ltb, rules}
+use Rattle.std.proofs.Common.{◌≡◌, ℕ, ◌+◌, ◌-◌, ◌<◌, ◌≤◌, min, Bool, true, false, nat_lt, List, ◌∷◌, ◌∙◌, ap, sym, refl, inl, inr, lt-ltb, le-ltb, rules}
 use Rattle.std.specs.Bool.{if◌then◌else◌}
 use Rattle.std.specs.Ordering.{nat_cmp}
 use Rattle.std.specs.FinSet.{contains, empty, insert, remove, contains-empty}
@@ -12,16 +12,10 @@ use Rattle.bitmap.proofs.Summaries.{contains-insert_other, contains-insert_same,
 use Rattle.bitmap.specs.declared.bits.TheConstants.{SLOTS}
 
 pub contains-low : (low : SlotSet) (high : List SlotSet) (q : ℕ) → q < SLOTS → contains (numbers_in (low ∷ high)) q ≡ contains low q
-contains-low low high q small =
-    let place : q / SLOTS ≡ 0 = omega arith in
-    let slot : q % SLOTS ≡ q = omega arith in
-    contains-numbers_in (low ∷ high) q ∙ rw (place, slot) refl
+contains-low low high q small = search (rules, contains-numbers_in)
 
 pub contains-high : (low : SlotSet) (high : List SlotSet) (q : ℕ) → SLOTS ≤ q → contains (numbers_in (low ∷ high)) q ≡ contains (numbers_in high) (q - SLOTS)
-contains-high low high q large =
-    let place : q / SLOTS ≡ suc ((q - SLOTS) / SLOTS) = omega arith in
-    let slot : q % SLOTS ≡ (q - SLOTS) % SLOTS = omega arith in
-    contains-numbers_in (low ∷ high) q ∙ rw (place, slot) refl ∙ sym (contains-numbers_in high (q - SLOTS))
+contains-high low high q large = search (rules, contains-numbers_in)
 
 -- two lists have the same numbers where their first parts and the others have
 pub joined-same : (low : SlotSet) (a b : List SlotSet) → numbers_in a ≡ numbers_in b → numbers_in (low ∷ a) ≡ numbers_in (low ∷ b)
@@ -34,10 +28,7 @@ module _ (low : SlotSet) (high : List SlotSet) (n : ℕ) where
   -- where the first part changes at the number alone, no other number comes or goes
   low-others : (now : SlotSet) → ((q : ℕ) → (q ≡ n → ⊥) → contains now q ≡ contains low q) → (q : ℕ) → (q ≡ n → ⊥)
       → contains (numbers_in (now ∷ high)) q ≡ contains (numbers_in (low ∷ high)) q
-  low-others now others q other = elim (cases_lt q SLOTS) [
-    | inl small ↦ contains-low now high q small ∙ others q other ∙ sym (contains-low low high q small)
-    | inr large ↦ contains-high now high q large ∙ sym (contains-high low high q large)
-  ]
+  low-others now others q other = search (rules, cases_lt, contains-low, contains-high)
 
   pub insert-low : n < SLOTS → numbers_in (insert low n ∷ high) ≡ insert (numbers_in (low ∷ high)) n
   insert-low within = same_but_at _ _ (numbers_in (low ∷ high)) n
@@ -56,10 +47,7 @@ module _ (low : SlotSet) (high : List SlotSet) (n : ℕ) where
   module _ (after : List SlotSet) (large : SLOTS ≤ n) where
     high-others : ((q : ℕ) → (q ≡ n - SLOTS → ⊥) → contains (numbers_in after) q ≡ contains (numbers_in high) q) → (q : ℕ) → (q ≡ n → ⊥)
         → contains (numbers_in (low ∷ after)) q ≡ contains (numbers_in (low ∷ high)) q
-    high-others others q other = elim (cases_lt q SLOTS) [
-      | inl small ↦ contains-low low after q small ∙ sym (contains-low low high q small)
-      | inr past ↦ contains-high low after q past ∙ others (q - SLOTS) (λ e. other (omega (arith, e, past, large))) ∙ sym (contains-high low high q past)
-    ]
+    high-others others q other = search (rules, cases_lt, contains-low, contains-high)
 
     pub insert-high : numbers_in after ≡ insert (numbers_in high) (n - SLOTS) → numbers_in (low ∷ after) ≡ insert (numbers_in (low ∷ high)) n
     insert-high is = same_but_at _ _ (numbers_in (low ∷ high)) n
@@ -76,25 +64,13 @@ module _ (low : SlotSet) (high : List SlotSet) (n : ℕ) where
 -- the least number is the first part's, where it has one
 
 pub IsLowest-low : (low : SlotSet) (high : List SlotSet) (n : ℕ) → n < SLOTS → IsLowest low n → IsLowest (numbers_in (low ∷ high)) n
-IsLowest-low low high n small least = record {
-  inside = contains-low low high n small ∙ least.inside;
-  lower = λ other member. elim (cases_lt other SLOTS) [
-    | inl below ↦ least.lower other (sym (contains-low low high other below) ∙ member)
-    | inr past ↦ omega (arith, small, past)
-  ];
-}
+IsLowest-low low high n small least = search (rules, contains-low, cases_lt)
 
 no_low : (low : SlotSet) (high : List SlotSet) (q : ℕ) → low ≡ empty → q < SLOTS → contains (numbers_in (low ∷ high)) q ≡ false
 no_low low high q none small = contains-low low high q small ∙ ap (λ s. contains s q) none ∙ contains-empty nat_cmp q
 
 pub IsLowest-high : (low : SlotSet) (high : List SlotSet) (n : ℕ) → low ≡ empty → IsLowest (numbers_in high) n → IsLowest (numbers_in (low ∷ high)) (SLOTS + n)
-IsLowest-high low high n none least = record {
-  inside = contains-high low high (SLOTS + n) (omega arith) ∙ ap (contains (numbers_in high)) (omega arith) ∙ least.inside;
-  lower = λ other member. elim (cases_lt other SLOTS) [
-    | inl below ↦ absurd (true≢false (sym member ∙ no_low low high other none below))
-    | inr past ↦ let above : n ≤ other - SLOTS = least.lower (other - SLOTS) (sym (contains-high low high other past) ∙ member) in omega (arith, above, past)
-  ];
-}
+IsLowest-high low high n none least = search (rules, contains-high, cases_lt, true≢false, no_low)
 
 pub joined-empty : (low : SlotSet) (high : List SlotSet) → low ≡ empty → numbers_in high ≡ empty → numbers_in (low ∷ high) ≡ empty
 joined-empty low high none no_high = same_slots _ _ (λ q. elim (cases_lt q SLOTS) [

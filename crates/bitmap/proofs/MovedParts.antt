@@ -59,10 +59,7 @@ module _ (part low high left : SlotSet) (limit : ℕ) (low_is : (q : ℕ) → co
       rest-at q other = ap (λ s. contains s q) rest_is ∙ contains-remove_other high limit q other
 
       rest-below : (q : ℕ) → q ≤ limit → contains rest q ≡ false
-      rest-below q small = elim (cases_eq q limit) [
-        | inl same ↦ ap (λ s. contains s q) rest_is ∙ ap (contains (remove high limit)) same ∙ contains-remove_same high limit
-        | inr other ↦ rest-at q other ∙ high-below q (omega (arith, small, other))
-      ]
+      rest-below q small = search (rules, cases_eq, contains-remove_same, rest-at, high-below)
 
       pub gather-below : (q : ℕ) → q < 256 → q < limit → contains result q ≡ contains part q
       gather-below q fits small =
@@ -186,10 +183,7 @@ pub record AreNoted (numbers filled : SlotSet) (at : ℕ) : Type 0 where
   pub some : (part : ℕ) → contains filled part ≡ true → (n : ℕ) × (n / SLOTS ≡ part) × (contains numbers n ≡ true)
 
 pub AreNoted-none : (numbers filled : SlotSet) → ((q : ℕ) → contains filled q ≡ false) → AreNoted numbers filled 0
-AreNoted-none numbers filled none = record {
-  has = λ n member low. absurd (omega (arith, low));
-  some = λ part member. absurd (true≢false (sym member ∙ none part));
-}
+AreNoted-none numbers filled none = search (rules, true≢false)
 
 module _ (numbers filled : SlotSet) (at : ℕ) (noted : AreNoted numbers filled at) where
   pub AreNoted-found : (n : ℕ) → IsLowestIn numbers at n → AreNoted numbers (insert filled at) (at + 1)

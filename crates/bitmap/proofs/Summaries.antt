@@ -39,10 +39,7 @@ pub was : (s : SlotSet) (at q : ℕ) → contains (remove s at) q ≡ true → c
 was s at q member = second_so (not (eq_by_cmp nat_cmp q at)) (contains s q) (sym (contains-remove nat_cmp_total s at q) ∙ member)
 
 pub IsSummary-empty : (numbers filled : SlotSet) → numbers ≡ empty → filled ≡ empty → IsSummary numbers filled
-IsSummary-empty numbers filled none no_part = record {
-  has = λ n member. absurd (true≢false (sym member ∙ ap (λ s. contains s n) none ∙ contains-empty nat_cmp n));
-  some = λ part member. absurd (true≢false (sym member ∙ ap (λ s. contains s part) no_part ∙ contains-empty nat_cmp part));
-}
+IsSummary-empty numbers filled none no_part = search (rules, true≢false, contains-empty)
 
 module _ (numbers filled : SlotSet) (summary : IsSummary numbers filled) where
   pub IsSummary-insert : (at : ℕ) → IsSummary (insert numbers at) (insert filled (at / SLOTS))

@@ -1,15 +1,9 @@
-use Rattle.std.proofs.Common.{◌≡◌, length, arith, subst}
+use Rattle.std.proofs.Common.{◌≡◌, length, arith, subst, rules}
 use Rattle.bitmap.proofs.MovedParts.{IsGathered, IsGathered-next, gathered_above, gathered_below}
 use Rattle.bitmap.proofs.parts.gather_all.Goals as goal
 
 pub loop-part-preserved : goal.loop-part-preserved
-loop-part-preserved c = (
-  c.loop-part.invariant.0,
-  IsGathered-next c.args.parts.now.items c.args.limit c.loop-part.parts.items c.loop-part.part (omega (arith, c.loop-part.invariant.0))
-      c.loop-part.invariant.1 c.part_at-after.result c.index.result.now c.gather.result c.index.ensures c.part_at-after.ensures
-      (rw (← c.saturating_sub.ensures) c.gather.ensures.below) (rw (← c.saturating_sub.ensures) c.gather.ensures.above)
-      (rw (← c.saturating_sub.ensures) c.gather.ensures.last),
-)
+loop-part-preserved c = search (rules, IsGathered-next)
 
 long : (c : goal.After-loop-part) → length c.args.parts.now.items ≡ length c.loop-part.parts.items
 long c = omega (arith, c.loop-part.invariant.0, c.args.parts.now.ok.0, c.loop-part.parts.ok.0)

@@ -1,5 +1,4 @@
-use Rattle.std.proofs.Common.{◌∙◌, arith, subst, sym}
-use Rattle.bitmap.specs.Slots.{SlotSet, IsLowest}
+use Rattle.std.proofs.Common.{◌∙◌, arith, sym, rules}
 use Rattle.bitmap.proofs.InParts.{HasNoneIn-empty, HasNoneIn-past, IsLowestIn-slot}
 use Rattle.bitmap.proofs.parts.lowest_in.Goals as goal
 
@@ -10,7 +9,4 @@ pub returns-in_default : goal.returns-in_default
 returns-in_default c = HasNoneIn-empty c.args.parts.now.items c.args.part (omega arith) c.index.result.now (sym c.index.ensures ∙ c.in_default.ensures.lowest)
 
 pub returns : goal.returns
-returns c =
-    rw c.from.ensures
-    (IsLowestIn-slot c.args.parts.now.items c.args.part (omega arith) c.index.result.now c.in-Some.slot c.in-Some.ensures.in_range
-    (subst (λ (s : SlotSet). IsLowest s c.in-Some.slot) c.index.ensures c.in-Some.ensures.lowest))
+returns c = search (rules, IsLowestIn-slot)

@@ -1,4 +1,4 @@
-use Rattle.std.proofs.Common.{◌≡◌, ◌∙◌, length, arith, ap, subst, sym}
+use Rattle.std.proofs.Common.{◌≡◌, ◌∙◌, length, arith, ap, subst, rules}
 use Rattle.std.specs.Ordering.{nat_cmp}
 use Rattle.std.specs.FinSet.{contains, contains-empty}
 use Rattle.bitmap.specs.Parts.{numbers_in}
@@ -10,12 +10,7 @@ pub loop-part-init : goal.loop-part-init
 loop-part-init c = AreNoted-none _ _ (λ q. ap (λ s. contains s q) c.empty-filled.ensures ∙ contains-empty nat_cmp q)
 
 pub loop-part-preserved : goal.loop-part-preserved
-loop-part-preserved c = elim c.if-is_some.branch [
-  | then-is_some w ↦ AreNoted-some _ _ c.loop-part.part c.loop-part.invariant c.lowest_in.result c.lowest_in.ensures (sym c.is_some.ensures ∙ w.if-is_some.true) _
-      (w.filled-is ∙ w.insert.ensures)
-  | else-is_some w ↦ AreNoted-other _ _ c.loop-part.part c.loop-part.invariant c.lowest_in.result c.lowest_in.ensures (sym c.is_some.ensures ∙ w.if-is_some.false) _
-      w.filled-is
-]
+loop-part-preserved c = search (rules, then-is_some, AreNoted-some, else-is_some, AreNoted-other)
 
 pub returns : goal.returns
 returns c =

@@ -1,4 +1,4 @@
-use Rattle.std.proofs.Common.{◌∙◌, arith, eq-eqb, eqb-true}
+use Rattle.std.proofs.Common.{eq-eqb, eqb-true, rules}
 use Rattle.bitmap.proofs.WordVacancy.{first-lt, HasWord-full, HasWord-last, IsLowestOutsideIn-first, last-HasWord}
 use Rattle.bitmap.proofs.bits.Bits256.lowest_outside_both_in.Goals as goal
 
@@ -8,21 +8,10 @@ returns-then-both-clause-lowest c =
     (HasWord-full c.self.inside.words c.other.inside.words c.self.invariant c.other.invariant c.args.word c.requires c.if-both.true)
 
 pub overflow_cast-result : goal.overflow_cast-result
-overflow_cast-result c =
-    omega (
-      arith,
-      c.requires,
-      c.trailing_ones-low.ensures,
-      first-lt c.self.inside.words c.other.inside.words c.self.invariant c.other.invariant c.args.word c.requires c.if-both.false,
-    )
+overflow_cast-result c = search (rules, first-lt)
 
 pub overflow_shl-result : goal.overflow_shl-result
-overflow_shl-result c =
-    omega (
-      arith,
-      c.trailing_ones-low.ensures,
-      first-lt c.self.inside.words c.other.inside.words c.self.invariant c.other.invariant c.args.word c.requires c.if-both.false,
-    )
+overflow_shl-result c = search (rules, first-lt)
 
 pub returns-clause-lowest : goal.returns-clause-lowest
 returns-clause-lowest c =
@@ -30,19 +19,7 @@ returns-clause-lowest c =
     (IsLowestOutsideIn-first c.self.inside.words c.other.inside.words c.self.invariant c.other.invariant c.args.word c.requires c.if-both.false)
 
 pub returns-clause-last : goal.returns-clause-last
-returns-clause-last c =
-    let a = c.self.inside.words in
-    let b = c.other.inside.words in
-    rw (← c.self.view_is, ← c.other.view_is, c.trailing_ones-low.ensures) (
-      (λ last. HasWord-last a b c.self.invariant c.other.invariant c.args.word c.requires c.if-both.false (eqb-true _ _ last)),
-      (λ all. eq-eqb _ _ (last-HasWord a b c.self.invariant c.other.invariant c.args.word c.requires c.if-both.false all)),
-    )
+returns-clause-last c = search (rules, HasWord-last, eqb-true, eq-eqb, last-HasWord)
 
 pub returns-clause-in_range : goal.returns-clause-in_range
-returns-clause-in_range c =
-    omega (
-      arith,
-      c.requires,
-      c.trailing_ones-low.ensures,
-      first-lt c.self.inside.words c.other.inside.words c.self.invariant c.other.invariant c.args.word c.requires c.if-both.false,
-    )
+returns-clause-in_range c = search (rules, first-lt)

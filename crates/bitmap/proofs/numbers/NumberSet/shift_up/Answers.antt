@@ -1,4 +1,4 @@
-use Rattle.std.proofs.Common.{◌≡◌, ◌<◌, ◌≤◌, ℕ, ◌∙◌, ◌+◌, ◌*◌, ◌∷◌, true, ap, arith, length, sym}
+use Rattle.std.proofs.Common.{◌≡◌, ◌<◌, ◌≤◌, ℕ, ◌∙◌, ◌+◌, ◌*◌, ◌∷◌, true, ap, arith, length, sym, rules}
 use Rattle.std.specs.FinSet.{contains}
 use Rattle.bitmap.specs.Numbers.{NumbersState}
 use Rattle.bitmap.specs.Parts.{numbers_in}
@@ -44,7 +44,4 @@ pub returns-clause-this : goal.returns-clause-this
 returns-clause-this c = ap (λ (s : NumbersState). contains s.numbers c.args.number) c.remove.ensures ∙ contains-remove_same _ c.args.number
 
 pub returns-clause-above : goal.returns-clause-above
-returns-clause-above c q from =
-    ap (λ (s : NumbersState). contains s.numbers (q + 1)) c.remove.ensures
-    ∙ contains-remove_other _ c.args.number (q + 1) (λ e. absurd (omega (arith, e, from)))
-    ∙ moved_above c q from ∙ ap (λ (s : NumbersState). contains s.numbers q) c.self.view_is
+returns-clause-above c q from = search (rules, contains-remove_other, moved_above)
