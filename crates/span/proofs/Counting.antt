@@ -1,5 +1,5 @@
 -- A log has a put for each generation that it gave out, so it has at most two changes for each generation of each slot.
-use Rattle.std.proofs.Common.{zero, suc, ◌≡◌, ℕ, ◌+◌, ◌*◌, ◌<◌, ◌≤◌, List, [], ◌∷◌, ◌++◌, sym, inl, inr, arith}
+use Rattle.std.proofs.Common.{zero, suc, ◌≡◌, ℕ, ◌+◌, ◌*◌, ◌<◌, ◌≤◌, List, [], ◌∷◌, ◌++◌, sym, arith, rules}
 use Rattle.std.specs.Int.{sum_through}
 use Rattle.std.proofs.lemmas.Bool.{cases_eq}
 use Rattle.span.specs.declared.change.Change.{Change}
@@ -16,13 +16,7 @@ sum_through-same f g (suc n) same = omega (arith, sum_through-same f g n (λ q s
 -- one more at one of the numbers is one more in all
 sum_through-more : (f g : ℕ → ℕ) (n at : ℕ) → at ≤ n → g at ≡ f at + 1 → ((q : ℕ) → (q ≡ at → ⊥) → g q ≡ f q) → sum_through g n ≡ sum_through f n + 1
 sum_through-more f g zero at within more same = let first : at ≡ 0 = omega (arith, within) in rw (← first) more
-sum_through-more f g (suc n) at within more same = elim (cases_eq at (suc n)) [
-  | inl last ↦
-      let before : sum_through g n ≡ sum_through f n = sum_through-same f g n (λ q small. same q (λ e. omega (arith, small, e, last))) in
-      let here : g (suc n) ≡ f (suc n) + 1 = rw (← last) more in
-      omega (arith, before, here)
-  | inr earlier ↦ omega (arith, sum_through-more f g n at (omega (arith, within, earlier)) more same, same (suc n) (λ e. earlier (sym e)))
-]
+sum_through-more f g (suc n) at within more same = search (rules, cases_eq, sum_through-same, (sum_through-more f g n at))
 
 sum_through-le : (f : ℕ → ℕ) (n most : ℕ) → ((q : ℕ) → f q ≤ most) → sum_through f n ≤ (n + 1) * most
 sum_through-le f zero most low = omega (arith, low 0)

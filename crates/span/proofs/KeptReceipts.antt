@@ -14,7 +14,7 @@ use Rattle.span.proofs.Widths.{width_of-injective}
 use Rattle.span.specs.declared.limits.TheConstants.{MOST_SHARDS, MOST_SPANS}
 use Rattle.span.specs.declared.receipt.Receipt.{Receipt}
 use Rattle.span.specs.declared.stored_receipt.StoredCall.{StoredCall}
-use Rattle.span.specs.declared.stored_receipt.StoredCall.TheVariants.{Put, CountedPut, Set, CountedSet}
+use Rattle.span.specs.declared.stored_receipt.StoredCall.TheVariants.{Put, Set}
 use Rattle.span.specs.declared.class.Class.{Class}
 use Rattle.span.specs.declared.class.Class.TheVariants.{C16}
 use Rattle.span.specs.declared.receipt.Call.TheVariants as call
@@ -174,11 +174,7 @@ receipts_in-last words wide len start zero (first ∷ []) run call are is before
     ∙ (λ i. before i ++ receipt_in words (with_call run call) (len - run.start) ∷ [])
     ∙ (λ i. sym (append-nil (run_receipts words (sym same i) (len - (sym same i).start))) i ++ receipt_in words (with_call run call) (len - run.start) ∷ [])
 receipts_in-last words wide len start zero (first ∷ second ∷ runs) run call are is before = absurd (let count = is.count in omega arith)
-receipts_in-last words wide len start (suc last) (first ∷ second ∷ runs) run call are is before =
-    let rest : IsLast (second ∷ runs) len run last = record { count = let count = is.count in omega arith; at = is.at; from = is.from } in
-    (λ i. run_receipts words first (next_start-last (len + 1) len second runs call i - first.start)
-    ++ receipts_in-last words wide len second.start last (second ∷ runs) run call are.1 rest before i)
-    ∙ sym (append_assoc (run_receipts words first (second.start - first.start)) (receipts_in words len (second ∷ runs)) (receipt_in words (with_call run call) (len - run.start) ∷ []))
+receipts_in-last words wide len start (suc last) (first ∷ second ∷ runs) run call are is before = search (rules, next_start-last, append_assoc, (receipts_in-last words wide len second.start last (second ∷ runs) run call are.1))
 receipts_in-last words wide len start last runs run call are is before = absurd (let at = is.at in cc)
 
 next_start-push : (more len : ℕ) (runs : List ReceiptRun) (run : ReceiptRun) → run.start ≡ len → next_start more (runs ++ run ∷ []) ≡ next_start len runs
@@ -188,9 +184,7 @@ next_start-push more len (first ∷ runs) run last = refl
 -- one more run that starts where the others end
 receipts_in-push : (words : List ℕ) (wide len start : ℕ) (runs : List ReceiptRun) (run : ReceiptRun) → AreRuns wide len start runs → run.start ≡ len
     → receipts_in words (len + 1) (runs ++ run ∷ []) ≡ receipts_in words len runs ++ receipt_in words run 0 ∷ []
-receipts_in-push words wide len start [] run are last =
-    let one : (len + 1) - run.start ≡ suc 0 = omega arith in
-    append-nil (run_receipts words run ((len + 1) - run.start)) ∙ ap (run_receipts words run) one
+receipts_in-push words wide len start [] run are last = search (rules, append-nil)
 receipts_in-push words wide len start (first ∷ runs) run are last =
     (λ i. run_receipts words first (next_start-push (len + 1) len runs run last i - first.start) ++ receipts_in-push words wide len (next_start len runs) runs run are.1 last i)
     ∙ sym (append_assoc (run_receipts words first (next_start len runs - first.start)) (receipts_in words len runs) (receipt_in words run 0 ∷ []))
@@ -374,32 +368,8 @@ form_of_one class call counted form = by_test (eqb (width_of class) 1) refl form
 -- a run of one call, or a counted one, is counted where the next word counts up
 pub counted_if : (words : List ℕ) (run : ReceiptRun) (k : ℕ) (call counted : StoredCall) (receipt : Receipt) → counted_form call ≡ Some counted → MayCount run.call k call counted
     → call_in call k (call_words receipt.call) ≡ receipt.call → CountsUp words run.first k (call_words receipt.call) → Follows run k receipt → IsCountedOf words run k counted receipt
-counted_if words run k (Put class) counted receipt form may is up follows =
-    let counts = form_of_one class CountedPut counted form in
-    let own : call_in CountedPut 0 (run_from words (first_in (with_call run CountedPut) 0) 1) ≡ call_in (Put C16) 0 (run_from words (first_in (with_call run (Put C16)) 0) 1) =
-    ap call.Put (own_at words run.first up.own) in
-    let may_one : MayCount run.call k (Put C16) CountedPut = subst (λ class. MayCount run.call k (Put class) CountedPut) counts.1 (subst (λ c. MayCount run.call k (Put class) c) (sym counts.0) may) in
-    subst (λ c. IsCountedOf words run k c receipt) counts.0 (record {
-      follows = follows;
-      before = before_shown words run k (Put C16) CountedPut may_one own;
-      one = refl;
-      same = refl;
-      inside = up.inside;
-      told = ap call.Put up.word ∙ is;
-    })
-counted_if words run k (Set class) counted receipt form may is up follows =
-    let counts = form_of_one class CountedSet counted form in
-    let own : call_in CountedSet 0 (run_from words (first_in (with_call run CountedSet) 0) 1) ≡ call_in (Set C16) 0 (run_from words (first_in (with_call run (Set C16)) 0) 1) =
-    ap call.Set (own_at words run.first up.own) in
-    let may_one : MayCount run.call k (Set C16) CountedSet = subst (λ class. MayCount run.call k (Set class) CountedSet) counts.1 (subst (λ c. MayCount run.call k (Set class) c) (sym counts.0) may) in
-    subst (λ c. IsCountedOf words run k c receipt) counts.0 (record {
-      follows = follows;
-      before = before_shown words run k (Set C16) CountedSet may_one own;
-      one = refl;
-      same = refl;
-      inside = up.inside;
-      told = ap call.Set up.word ∙ is;
-    })
+counted_if words run k (Put class) counted receipt form may is up follows = search (rules, form_of_one, own_at, before_shown)
+counted_if words run k (Set class) counted receipt form may is up follows = search (rules, form_of_one, own_at, before_shown)
 counted_if words run k call counted receipt form may is up follows = absurd cc
 
 -- the receipt at a place, by the run that was read at the number that has it

@@ -58,10 +58,7 @@ module _ (words more bases more_bases : List ℕ) where
 changes_in-push : (words bases : List ℕ) (place : ℕ) (changes : List Stored) (stored : Stored)
     → changes_in words bases place (changes ++ stored ∷ []) ≡ changes_in words bases place changes ++ change_in words bases (place + length changes) stored ∷ []
 changes_in-push words bases place [] stored = let here : place ≡ place + 0 = omega arith in ap (λ n. change_in words bases n stored ∷ []) here
-changes_in-push words bases place (first ∷ changes) stored =
-    let next : (place + 1) + length changes ≡ place + length (first ∷ changes) = omega arith in
-    ap (λ l. change_in words bases place first ∷ l) (changes_in-push words bases (place + 1) changes stored
-    ∙ ap (λ n. changes_in words bases (place + 1) changes ++ change_in words bases n stored ∷ []) next)
+changes_in-push words bases place (first ∷ changes) stored = search (rules, (changes_in-push words bases (place + 1) changes stored))
 
 pub length-changes_in : (words bases : List ℕ) (place : ℕ) (changes : List Stored) → length (changes_in words bases place changes) ≡ length changes
 length-changes_in words bases place [] = refl
@@ -70,12 +67,8 @@ length-changes_in words bases place (stored ∷ changes) = ap suc (length-change
 slice_get-from : (words bases : List ℕ) (place : ℕ) (changes : List Stored) (at : ℕ) (stored : Stored) → slice_get changes at ≡ Some stored
     → slice_get (changes_in words bases place changes) at ≡ Some (change_in words bases (place + at) stored)
 slice_get-from words bases place [] at stored is = absurd cc
-slice_get-from words bases place (first ∷ changes) zero stored is =
-    let here : place ≡ place + 0 = omega arith in
-    ap (λ n. Some (change_in words bases n first)) here ∙ ap (λ c. Some (change_in words bases (place + 0) c)) (same_Some first stored is)
-slice_get-from words bases place (first ∷ changes) (suc at) stored is =
-    let next : (place + 1) + at ≡ place + suc at = omega arith in
-    slice_get-from words bases (place + 1) changes at stored is ∙ ap (λ n. Some (change_in words bases n stored)) next
+slice_get-from words bases place (first ∷ changes) zero stored is = search (rules, same_Some)
+slice_get-from words bases place (first ∷ changes) (suc at) stored is = search (rules, (slice_get-from words bases (place + 1) changes at stored is))
 
 -- the change at a place is the one that is stored there
 pub slice_get-changes_in : (words bases : List ℕ) (changes : List Stored) (place : ℕ) (stored : Stored) → slice_get changes place ≡ Some stored
