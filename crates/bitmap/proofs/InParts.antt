@@ -43,8 +43,7 @@ module _ (parts : List SlotSet) (at : ℕ) (within : at < length parts) (new : S
   contains-set_same q here = contains-numbers_in (set parts at new) q ∙ rw (here, get_or-set_same parts at new empty within) refl
 
   pub contains-set_other : (q : ℕ) → (q / SLOTS ≡ at → ⊥) → contains (numbers_in (set parts at new)) q ≡ contains (numbers_in parts) q
-  contains-set_other q apart = contains-numbers_in (set parts at new) q ∙ rw (get_or-set_other parts at (q / SLOTS) new empty apart) refl
-      ∙ sym (contains-numbers_in parts q)
+  contains-set_other q apart = search (rules, contains-numbers_in, get_or-set_other)
 
 module _ (parts : List SlotSet) (index : ℕ) (within : index / SLOTS < length parts) (past : SlotSet) where
   abbrev part : SlotSet
@@ -69,12 +68,10 @@ module _ (parts : List SlotSet) (index : ℕ) (within : index / SLOTS < length p
       ]
 
   pub numbers_in-insert : numbers_in (set parts (index / SLOTS) (insert part (index % SLOTS))) ≡ insert (numbers_in parts) index
-  numbers_in-insert = changed _ _ (contains-insert_same part (index % SLOTS) ∙ sym (contains-insert_same (numbers_in parts) index))
-      (contains-insert_other part (index % SLOTS)) (contains-insert_other (numbers_in parts) index)
+  numbers_in-insert = search (rules, changed, contains-insert_same, contains-insert_other)
 
   pub numbers_in-remove : numbers_in (set parts (index / SLOTS) (remove part (index % SLOTS))) ≡ remove (numbers_in parts) index
-  numbers_in-remove = changed _ _ (contains-remove_same part (index % SLOTS) ∙ sym (contains-remove_same (numbers_in parts) index))
-      (contains-remove_other part (index % SLOTS)) (contains-remove_other (numbers_in parts) index)
+  numbers_in-remove = search (rules, changed, contains-remove_same, contains-remove_other)
 
 -- the least number of a part
 

@@ -17,24 +17,16 @@ apart b = search rules
 -- a set, its slots from the limit on, and those below
 module _ (part low high left : SlotSet) (limit : ℕ) (low_is : (q : ℕ) → contains low q ≡ nat_lt q limit) (high_is : high ≡ difference part low) (left_is : left ≡ difference part high) where
   high-below : (q : ℕ) → q < limit → contains high q ≡ false
-  high-below q small =
-      ap (λ s. contains s q) high_is ∙ contains-difference nat_cmp_total part low q
-      ∙ rw (low_is q, lt-ltb q limit small) (and-false (contains part q))
+  high-below q small = search (rules, contains-difference, lt-ltb, and-false)
 
   high-above : (q : ℕ) → limit ≤ q → contains high q ≡ contains part q
-  high-above q large =
-      ap (λ s. contains s q) high_is ∙ contains-difference nat_cmp_total part low q
-      ∙ rw (low_is q, le-ltb q limit large) (and-true (contains part q))
+  high-above q large = search (rules, contains-difference, le-ltb, and-true)
 
   left-below : (q : ℕ) → q < limit → contains left q ≡ contains part q
-  left-below q small =
-      ap (λ s. contains s q) left_is ∙ contains-difference nat_cmp_total part high q
-      ∙ rw (high-below q small) (and-true (contains part q))
+  left-below q small = search (rules, contains-difference, high-below, and-true)
 
   left-above : (q : ℕ) → limit ≤ q → contains left q ≡ false
-  left-above q large =
-      ap (λ s. contains s q) left_is ∙ contains-difference nat_cmp_total part high q
-      ∙ rw (high-above q large) (apart (contains part q))
+  left-above q large = search (rules, contains-difference, high-above, apart)
 
   module _ (moved result : SlotSet) (result_is : result ≡ union left moved) where
     either : (q : ℕ) → contains result q ≡ (contains left q || contains moved q)
@@ -62,12 +54,10 @@ module _ (part low high left : SlotSet) (limit : ℕ) (low_is : (q : ℕ) → co
       rest-below q small = search (rules, cases_eq, contains-remove_same, rest-at, high-below)
 
       pub gather-below : (q : ℕ) → q < 256 → q < limit → contains result q ≡ contains part q
-      gather-below q fits small =
-          either q ∙ rw (left-below q small, others q (omega (arith, within)), rest-below (q + 1) (omega arith)) (or-false (contains part q))
+      gather-below q fits small = search (rules, either, left-below, rest-below, or-false)
 
       pub gather-above : (q : ℕ) → q + 1 < 256 → limit ≤ q → contains result q ≡ contains part (q + 1)
-      gather-above q fits large =
-          either q ∙ rw (left-above q large, others q fits, rest-at (q + 1) (λ e. absurd (omega arith))) (high-above (q + 1) (omega arith))
+      gather-above q fits large = search (rules, either, left-above, rest-at, high-above)
 
       pub gather-last : contains result 255 ≡ after
       gather-last = either 255 ∙ rw (left-above 255 (omega arith)) last

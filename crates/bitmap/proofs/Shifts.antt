@@ -1,5 +1,5 @@
 -- Words whose bits move by one, and sets whose slots do.
-use Rattle.std.proofs.Common.{◌≡◌, ◌==◌, ℕ, zero, suc, ◌+◌, ◌*◌, ◌/◌, ◌%◌, ◌^◌, ◌<◌, max, bit_or, List, [], ◌∷◌, length, get_or, ap, sym, ◌∙◌, refl, inl, inr, arith}
+use Rattle.std.proofs.Common.{◌≡◌, ◌==◌, ℕ, zero, suc, ◌+◌, ◌*◌, ◌/◌, ◌%◌, ◌^◌, ◌<◌, max, bit_or, List, [], ◌∷◌, length, get_or, ap, sym, ◌∙◌, refl, inl, inr, arith, rules}
 use Rattle.std.specs.FinSet.{contains}
 use Rattle.std.proofs.lemmas.Bool.{cases_lt}
 use Rattle.bitmap.specs.Slots.{slots_of_words}
@@ -78,8 +78,7 @@ module _ (a p : List ℕ) (four_a : length a ≡ 4) (four_p : length p ≡ 4) (w
   moved = w ∷ x ∷ y ∷ z ∷ []
 
   bit_of : (words : List ℕ) → length words ≡ 4 → (k i q : ℕ) → q ≡ 64 * k + i → i < 64 → contains (slots_of_words words) q ≡ (bit_at (get_or words k 0) i == 1)
-  bit_of words four k i q is small =
-      ap (contains (slots_of_words words)) is ∙ contains-slots_of_words words (omega (arith, four)) (64 * k + i) ∙ has_bit-place words k i small
+  bit_of words four k i q is small = search (rules, contains-slots_of_words, has_bit-place)
 
   module _ (first : bit_at w 0 ≡ bit_at (get_or p 3 0) 63) (others : (i : ℕ) → i + 1 < 64 → bit_at w (i + 1) ≡ bit_at (get_or a 0 0) i)
       (first-2 : bit_at x 0 ≡ bit_at (get_or a 0 0) 63) (others-2 : (i : ℕ) → i + 1 < 64 → bit_at x (i + 1) ≡ bit_at (get_or a 1 0) i)

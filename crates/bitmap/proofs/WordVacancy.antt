@@ -1,5 +1,5 @@
 -- The lowest slot of one word that is outside of two sets.
-use Rattle.std.proofs.Common.{◌≡◌, ℕ, ◌+◌, ◌*◌, ◌/◌, ◌%◌, ◌^◌, ◌<◌, ◌-◌, ◌==◌, true, List, get_or, bit_or, ap, sym, ◌∙◌, refl, inl, inr, arith, eq-eqb, eqb-true, w64}
+use Rattle.std.proofs.Common.{◌≡◌, ℕ, ◌+◌, ◌*◌, ◌/◌, ◌%◌, ◌^◌, ◌<◌, ◌-◌, ◌==◌, true, List, get_or, bit_or, ap, sym, ◌∙◌, refl, inl, inr, arith, eq-eqb, eqb-true, w64, rules}
 use Rattle.std.specs.Int.{bit_at, trailing_ones}
 use Rattle.std.specs.Simd.Lanes.{zip2}
 use Rattle.std.specs.FinSet.{contains, insert, union}
@@ -25,8 +25,7 @@ module _ (a b : List ℕ) (are_a : AreWords a) (are_b : AreWords b) (k : ℕ) (l
   are = AreWords-lanes a b are_a are_b bit_or (or_lt 64)
 
   slots_are : slots_of_words lanes ≡ both
-  slots_are = slots_of_words-union a b lanes (omega (arith, are_a.four)) (omega (arith, are_b.four)) (omega (arith, length-lanes a b are_a are_b bit_or))
-      (get_or-lanes a b are_a are_b bit_or)
+  slots_are = search (rules, slots_of_words-union, length-lanes, get_or-lanes)
 
   -- the slots of the word are the bits of both joined
   contains-both : (slot : ℕ) → slot / 64 ≡ k → contains both slot ≡ (bit_at word (slot % 64) == 1)

@@ -1,4 +1,4 @@
-use Rattle.std.proofs.Common.{◌∙◌, sym}
+use Rattle.std.proofs.Common.{◌∙◌, sym, rules}
 use Rattle.bitmap.proofs.Summaries.{IsSummary-left, IsSummary-left_none}
 use Rattle.bitmap.proofs.numbers.strike.Goals as goal
 
@@ -6,6 +6,4 @@ pub returns-then-is_some-clause-parts : goal.returns-then-is_some-clause-parts
 returns-then-is_some-clause-parts c = IsSummary-left _ _ c.requires.parts c.args.number _ c.remove_in.ensures.numbers c.lowest_in.result c.lowest_in.ensures (sym c.is_some.ensures ∙ c.if-is_some.true)
 
 pub returns-clause-parts : goal.returns-clause-parts
-returns-clause-parts c = rw c.strike_part.ensures.numbers
-    (IsSummary-left_none _ _ c.requires.parts c.args.number _ c.remove_in.ensures.numbers c.lowest_in.result c.lowest_in.ensures
-    (sym c.is_some.ensures ∙ c.if-is_some.false))
+returns-clause-parts c = search (rules, IsSummary-left_none)

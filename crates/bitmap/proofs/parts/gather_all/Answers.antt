@@ -1,4 +1,4 @@
-use Rattle.std.proofs.Common.{◌≡◌, length, arith, subst, rules}
+use Rattle.std.proofs.Common.{◌≡◌, length, arith, rules}
 use Rattle.bitmap.proofs.MovedParts.{IsGathered, IsGathered-next, gathered_above, gathered_below}
 use Rattle.bitmap.proofs.parts.gather_all.Goals as goal
 
@@ -9,9 +9,7 @@ long : (c : goal.After-loop-part) → length c.args.parts.now.items ≡ length c
 long c = omega (arith, c.loop-part.invariant.0, c.args.parts.now.ok.0, c.loop-part.parts.ok.0)
 
 all : (c : goal.After-loop-part) → IsGathered c.args.parts.now.items c.args.limit c.loop-part.parts.items (length c.loop-part.parts.items)
-all c =
-    let last : c.loop-part.part ≡ length c.loop-part.parts.items = omega (arith, c.loop-part.invariant.0, c.loop-part.parts.ok.0, c.loop-part-test.false, c.loop-part.auto.part-end, c.len-part-end.ensures) in
-    subst (IsGathered c.args.parts.now.items c.args.limit c.loop-part.parts.items) last c.loop-part.invariant.1
+all c = search (rules, IsGathered)
 
 pub returns-clause-below : goal.returns-clause-below
 returns-clause-below c = gathered_below c.args.parts.now.items c.loop-part.parts.items c.args.limit (long c) (all c)

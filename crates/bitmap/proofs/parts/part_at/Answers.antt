@@ -1,5 +1,4 @@
-use Rattle.std.proofs.Common.{◌≡◌, ◌+◌, ◌*◌, ◌%◌, ◌∙◌, ap, sym, arith}
-use Rattle.std.specs.Ordering.{nat_cmp}
+use Rattle.std.proofs.Common.{◌≡◌, ◌+◌, ◌*◌, ◌%◌, ◌∙◌, ap, arith, rules}
 use Rattle.std.specs.FinSet.{contains, contains-empty}
 use Rattle.bitmap.proofs.InParts.{contains-past, slot_at}
 use Rattle.bitmap.proofs.parts.part_at.Goals as goal
@@ -11,6 +10,4 @@ returns-then-part-len c slot small =
     ∙ slot_at c.args.parts.now.items c.args.part (omega (arith, c.if-part-len.true, c.len.ensures)) c.index.result.now (256 * c.args.part + slot) (omega (arith, small))
 
 pub returns-else-part-len : goal.returns-else-part-len
-returns-else-part-len c slot small =
-    ap (λ s. contains s slot) c.empty.ensures ∙ contains-empty nat_cmp slot
-    ∙ sym (contains-past c.args.parts.now.items (256 * c.args.part + slot) (omega (arith, c.if-part-len.false, c.len.ensures)))
+returns-else-part-len c slot small = search (rules, contains-empty, contains-past)

@@ -3,9 +3,7 @@ use Rattle.bitmap.proofs.WordVacancy.{first-lt, HasWord-full, HasWord-last, IsLo
 use Rattle.bitmap.proofs.bits.Bits256.lowest_outside_both_in.Goals as goal
 
 pub returns-then-both-clause-lowest : goal.returns-then-both-clause-lowest
-returns-then-both-clause-lowest c =
-    rw (← c.self.view_is, ← c.other.view_is)
-    (HasWord-full c.self.inside.words c.other.inside.words c.self.invariant c.other.invariant c.args.word c.requires c.if-both.true)
+returns-then-both-clause-lowest c = search (rules, HasWord-full)
 
 pub overflow_cast-result : goal.overflow_cast-result
 overflow_cast-result c = search (rules, first-lt)

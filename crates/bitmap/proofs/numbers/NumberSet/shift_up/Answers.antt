@@ -36,9 +36,7 @@ moved_above c =
     (omega (arith, c.requires.within, room_is c)) (fits c)
 
 pub returns-clause-below : goal.returns-clause-below
-returns-clause-below c q less =
-    ap (λ (s : NumbersState). contains s.numbers q) c.remove.ensures ∙ contains-remove_other _ c.args.number q (λ e. absurd (omega (arith, e, less)))
-    ∙ moved_below c q less ∙ ap (λ (s : NumbersState). contains s.numbers q) c.self.view_is
+returns-clause-below c q less = search (rules, contains-remove_other, moved_below)
 
 pub returns-clause-this : goal.returns-clause-this
 returns-clause-this c = ap (λ (s : NumbersState). contains s.numbers c.args.number) c.remove.ensures ∙ contains-remove_same _ c.args.number
