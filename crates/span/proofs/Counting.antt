@@ -40,8 +40,7 @@ all_puts-put log slot generation value within =
 
 pub all_puts-free : (log : List Change) (slot generation : ℕ) → all_puts (log ++ Free slot generation ∷ []) ≡ all_puts log
 unfolding all_puts
-all_puts-free log slot generation =
-    sum_through-same (λ q. puts_of q log) (λ q. puts_of q (log ++ Free slot generation ∷ [])) 255 (λ q small. puts_of-free log slot generation q)
+all_puts-free log slot generation = search (rules, sum_through-same, puts_of-free)
 
 pub all_puts-le : (gens : ℕ) (log : List Change) → IsLegal gens log → all_puts log ≤ SLOTS * gens
 unfolding all_puts

@@ -275,8 +275,7 @@ AreRuns-push wide more len start (first ∷ runs) run are low last within =
 -- the call whose words were added last
 told_last : (words : List ℕ) (k first : ℕ) (call : StoredCall) (receipt : Receipt) → first ≡ length words → call_width call ≡ length (call_words receipt.call)
     → call_in call k (call_words receipt.call) ≡ receipt.call → call_in call k (run_from (words ++ call_words receipt.call) first (call_width call)) ≡ receipt.call
-told_last words k first call receipt last wide is =
-    ap (call_in call k) (ap (λ n. run_from (words ++ call_words receipt.call) n (call_width call)) last ∙ run_from-last words (call_words receipt.call) (call_width call) (sym wide)) ∙ is
+told_last words k first call receipt last wide is = search (rules, run_from-last)
 
 -- a receipt with words of its own, which are added
 module _ (words : List ℕ) (len first : ℕ) (runs : List ReceiptRun) (call : StoredCall) (receipt : Receipt) (are : AreRuns (length words) len 0 runs) (last : first ≡ length words)
@@ -317,17 +316,13 @@ module _ (words : List ℕ) (len first : ℕ) (runs : List ReceiptRun) (call : S
         (IsRunWithin-push (length all_words) run 0 (λ k low. absurd (omega arith)) (has_next run 0 next))
 
     pub receipts-push : receipts_in (words ++ call_words receipt.call) (len + 1) (runs ++ run ∷ []) ≡ receipts_in words len runs ++ receipt ∷ []
-    receipts-push =
-        receipts_in-push all_words (length words) len 0 runs run are start
-        ∙ (λ i. receipts_in-more words (call_words receipt.call) len 0 runs are i ++ shown run 0 next i ∷ [])
+    receipts-push = search (rules, receipts_in-push, receipts_in-more, shown)
 
 -- a receipt whose word counts up: no word is added
 module _ (words : List ℕ) (len : ℕ) (runs : List ReceiptRun) (call : StoredCall) (receipt : Receipt) (are : AreRuns (length words) len 0 runs) (on : CountsOn words runs len call receipt) where
   -- the words of a counted run are the first alone
   has_counted : (k : ℕ) → on.run.slot + k < 256 → on.run.at + k < 2 ^ 64 → HasCall (length words) (with_call on.run call) k
-  has_counted k slot place =
-      let none : k * stride call ≡ 0 = ap (λ n. k * n) on.next.same ∙ omega arith in
-      (slot, place, let one = on.next.one in let inside = on.next.inside in omega arith)
+  has_counted k slot place = search rules
 
   pub runs-counted : AreRuns (length words) (len + 1) 0 (with_last_call runs call)
   runs-counted =

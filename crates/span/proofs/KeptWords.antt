@@ -1,5 +1,5 @@
 -- A log's lists of words and of bases: what is added leaves the earlier changes as they were.
-use Rattle.std.proofs.Common.{zero, suc, ◌≡◌, ℕ, ◌+◌, ◌-◌, ◌*◌, ◌/◌, ◌<◌, ◌≤◌, List, [], ◌∷◌, ◌++◌, get_or, length, length-append, length-take, take, drop, Some, slice_get, ap, sym, subst, ◌∙◌, refl, inl, inr, arith, rules}
+use Rattle.std.proofs.Common.{zero, suc, ◌≡◌, ℕ, ◌+◌, ◌-◌, ◌*◌, ◌/◌, ◌<◌, ◌≤◌, List, [], ◌∷◌, ◌++◌, get_or, length, length-append, length-take, take, Some, slice_get, ap, sym, subst, ◌∙◌, refl, inl, inr, arith, rules}
 use Rattle.std.proofs.lemmas.Bool.{cases_lt}
 use Rattle.std.proofs.lemmas.List.{append-nil, drop-append-le, get_or_append_left, take-append-le, length-drop}
 use Rattle.std.proofs.Math.Seq.{drop-append_seam, get_or-append_seam, take-length}
@@ -13,9 +13,7 @@ use Rattle.span.specs.declared.stored.Stored.{Stored}
 use Rattle.span.specs.declared.stored.TheConstants.{BLOCK}
 
 pub run_from-more : (words more : List ℕ) (first width : ℕ) → first + width ≤ length words → run_from (words ++ more) first width ≡ run_from words first width
-run_from-more words more first width within =
-    ap (take width) (drop-append-le first words more (omega (arith, within)))
-    ∙ take-append-le width (drop first words) more (omega (arith, within, length-drop first words))
+run_from-more words more first width within = search (rules, drop-append-le, take-append-le, length-drop)
 
 pub run_from-last : (words more : List ℕ) (width : ℕ) → length more ≡ width → run_from (words ++ more) (length words) width ≡ more
 run_from-last words more width long = ap (take width) (drop-append_seam words more) ∙ ap (λ n. take n more) (sym long) ∙ take-length more
@@ -80,8 +78,7 @@ slice_get-changes_in words bases changes place stored is =
 -- the change that is read at a place
 pub stored_at : (words bases : List ℕ) (changes : List Stored) (place : ℕ) (stored : Stored) → place < length (changes_in words bases 0 changes)
     → stored ≡ get_or changes place stored → slice_get changes place ≡ Some stored
-stored_at words bases changes place stored inside is =
-    slice_get_read changes (length changes) place stored refl (omega (arith, inside, length-changes_in words bases 0 changes)) is
+stored_at words bases changes place stored inside is = search (rules, slice_get_read, length-changes_in)
 
 -- the bases once the next change's block has one, as it is noted where it is new
 record HasBase (len : ℕ) (bases after : List ℕ) (changes : ℕ) : Type 0 where
@@ -104,9 +101,7 @@ module _ (words object bases after : List ℕ) (changes : List Stored) (kind : K
   stored = record { kind = kind; slot = slot; offset = offset; generation = generation }
 
   earlier : (at : ℕ) (other : Stored) → slice_get changes at ≡ Some other → first_of after at other ≡ first_of bases at other
-  earlier at other there =
-      let inside = slice_get_within changes at other there in
-      ap (λ l. first_of l at other) has.items ∙ ap (λ n. n + other.offset) (base_of-more bases has.more (at / BLOCK) (omega (arith, inside, blocks.count)))
+  earlier at other there = search (rules, slice_get_within, base_of-more)
 
   within-push : AreWithin (length (words ++ object)) after (changes ++ stored ∷ [])
   within-push at other there = elim (slice_get-push changes stored other at there) [

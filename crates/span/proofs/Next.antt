@@ -22,8 +22,7 @@ no_member s slot none = false_from_ne_true (contains s slot) (λ inside. omega (
 
 -- where no slot is live, none is at any generation
 pub HoldsNoneFrom-members : (log : List Change) (from : ℕ) → HasNoMemberFrom (live_slots log) from → HoldsNoneFrom log from
-HoldsNoneFrom-members log from none slot generation above holds =
-    let e : true ≡ false = sym (live-if_held log slot generation holds) ∙ none slot above in cc
+HoldsNoneFrom-members log from none slot generation above holds = search (rules, live-if_held)
 
 -- the lowest live slot is the first that is live at a generation, of which it has one
 pub IsFirstHeld-lowest : (gens : ℕ) (log : List Change) (from : ℕ) (key : Key) → IsLegal gens log → IsLowestFrom (live_slots log) from key.slot

@@ -1,16 +1,12 @@
-use Rattle.std.proofs.Common.{arith, rules}
+use Rattle.std.proofs.Common.{rules}
 use Rattle.span.proofs.KeptWords.{length-changes_in, slice_get-changes_in, stored_at}
 use Rattle.span.proofs.log.Kept.view.Goals as goal
 
 pub index-stored-requires : goal.index-stored-requires
-index-stored-requires c =
-    let log = c.args.self.now in
-    omega (arith, length-changes_in log.words.items log.bases.items 0 log.changes.items)
+index-stored-requires c = search (rules, length-changes_in)
 
 pub words_of-words-requires : goal.words_of-words-requires
-words_of-words-requires c =
-    let log = c.args.self.now in
-    stored_at log.words.items log.bases.items log.changes.items c.args.place c.index-stored.result.now c.requires c.index-stored.ensures
+words_of-words-requires c = search (rules, stored_at)
 
 pub returns : goal.returns
 returns c = search (rules, slice_get-changes_in, stored_at)

@@ -1,4 +1,4 @@
-use Rattle.std.proofs.Common.{ℕ, ◌^◌, ◌≡◌, ◌+◌, ◌-◌, ◌%◌, ◌∙◌, ap, get_or, ◌≤◌, ◌<◌, true, arith, sym, subst, List, length, length-append, ◌*◌, ◌++◌, ◌∷◌, [], Bool}
+use Rattle.std.proofs.Common.{ℕ, ◌^◌, ◌≡◌, ◌+◌, ◌-◌, ◌%◌, ◌∙◌, ap, get_or, ◌≤◌, ◌<◌, true, arith, sym, subst, List, length, length-append, ◌*◌, ◌++◌, ◌∷◌, [], Bool, rules}
 use Rattle.std.specs.FinSet as set
 use Rattle.span.specs.Log.{Holds, all_puts, live_slots}
 use Rattle.span.specs.State.{SpanState}
@@ -43,8 +43,7 @@ module _ {id : SpanId} {class : Class} {gens : ℕ} {worn : Bool} {count : ℕ} 
   count_after_free = omega (arith, kept.few_sets, some_live, all_puts-free log slot generation, length-append log (Free slot generation ∷ []))
 
 pub push_free-requires-clause-in_range : goal.push_free-requires-clause-in_range
-push_free-requires-clause-in_range g c =
-    omega (arith, c.self.invariant.few_sets, c.self.invariant.gens_fit, all_puts-le _ _ c.self.invariant.follows.legal)
+push_free-requires-clause-in_range g c = search (rules, all_puts-le)
 
 pub push_free-requires-clause-room : goal.push_free-requires-clause-room
 push_free-requires-clause-room g c =

@@ -1,4 +1,4 @@
-use Rattle.std.proofs.Common.{◌≡◌, ◌∙◌, ◌||◌, ◌↔◌, Bool, true, false, ap, refl, subst, sym}
+use Rattle.std.proofs.Common.{◌≡◌, ◌∙◌, ◌||◌, ◌↔◌, Bool, true, false, ap, refl, subst, sym, rules}
 use Rattle.std.specs.Prelude.{IfSome, IsTrue, MatchOption}
 use Rattle.std.specs.Cmp.{nat_cmp_total}
 use Rattle.std.specs.FinSet.{contains, contains-empty, contains-union, empty, insert, union}
@@ -7,7 +7,6 @@ use Rattle.bitmap.specs.Slots.{HasWord, IsLowestOutsideIn, SlotSet}
 use Rattle.bitmap.specs.Words.{same_slots}
 use Rattle.bitmap.specs.declared.bits.Vacancy.{Vacancy}
 use Rattle.span.specs.Log.{worn_slots}
-use Rattle.span.specs.State.{SpanState}
 use Rattle.span.proofs.span.Span.lowest_unused_in.Goals as goal
 
 or_self : (b : Bool) → (b || b) ≡ (b || false)
@@ -20,8 +19,7 @@ union-self used none is = same_slots _ _ (λ q. contains-union nat_cmp_total use
     ∙ sym (contains-union nat_cmp_total used none q ∙ ap (λ s. contains used q || contains s q) is ∙ ap (λ b. contains used q || b) (contains-empty nat_cmp q)))
 
 unused : (g : _) (c : goal.After-lowest_outside_both_in-2 g) → union c.args.used.now c.args.used.now ≡ union c.args.used.now (worn_slots c.args.self.now.gens c.args.self.now.log)
-unused g c = subst (λ (s : SpanState). union c.args.used.now c.args.used.now ≡ union c.args.used.now (worn_slots s.gens s.log)) c.self.view_is
-    (union-self c.args.used.now _ (c.self.invariant.none_worn c.if-self.false))
+unused g c = search (rules, union-self)
 
 pub returns-clause-lowest : goal.returns-clause-lowest
 returns-clause-lowest g c = subst (λ slots. MatchOption c.lowest_outside_both_in-2.result (HasWord slots c.args.word) (λ (found : Vacancy). IsLowestOutsideIn slots c.args.word found.slot))
