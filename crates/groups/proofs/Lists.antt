@@ -207,10 +207,7 @@ module _ {X : Type 0} (p : X → Bool) where
 
   pub find-none : (xs : List X) → count_by p xs ≡ 0 → find p xs ≡ None
   find-none [] none = refl
-  find-none (x ∷ xs) none = by_test (p x) refl (find-none xs)
-    where
-      by_test : (b : Bool) → p x ≡ b → (count_by p xs ≡ 0 → find p xs ≡ None) → cond b (Some x) (find p xs) ≡ None
-      by_test b passes rest = search (rules, count-cons, one_where)
+  find-none (x ∷ xs) none = search (rules, count-cons, one_where, (find-none xs))
 
   pub find-here : (xs ys : List X) (x : X) → p x ≡ true → count_by p xs ≡ 0 → find p (xs ++ x ∷ ys) ≡ Some x
   find-here xs ys x passes none = find-append p xs (x ∷ ys) ∙ rw (find-none xs none, passes) refl

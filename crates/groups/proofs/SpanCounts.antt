@@ -1,5 +1,5 @@
 -- How many spans groups have: no more than there are ids, where none stands twice.
-use Rattle.std.proofs.Common.{zero, suc, ◌≡◌, ℕ, ◌<◌, ◌≤◌, ◌+◌, ◌||◌, Bool, true, false, List, [], ◌∷◌, length, map, get_or, take, slice_get, Some, ap, ◌∙◌, refl, arith, eqb, eqb-true, rules, sym}
+use Rattle.std.proofs.Common.{zero, suc, ◌≡◌, ℕ, ◌<◌, ◌≤◌, ◌+◌, true, false, List, [], ◌∷◌, length, map, get_or, take, slice_get, Some, ap, ◌∙◌, refl, arith, eqb, eqb-true, rules, sym}
 use Rattle.std.specs.Prelude.{count_by}
 use Rattle.std.specs.List.{flat_map, list_any}
 use Rattle.std.proofs.lemmas.Bool.{false_from_ne_true}
@@ -25,14 +25,7 @@ ranked_at (span ∷ spans) (suc at) d low = ranked_at spans at d (omega arith)
 
 ranks_below : (spans : List SpanState) (number : ℕ) → list_any (eqb number) (map span_rank spans) ≡ true → number < ALL_IDS
 ranks_below [] number among = absurd cc
-ranks_below (span ∷ spans) number among = by_test (eqb number (rank span.id)) refl (ranks_below spans number) among
-  where
-    rank_fits : rank span.id < ALL_IDS
-    rank_fits = search rules
-
-    by_test : (b : Bool) → eqb number (rank span.id) ≡ b → (list_any (eqb number) (map span_rank spans) ≡ true → number < ALL_IDS)
-        → (b || list_any (eqb number) (map span_rank spans)) ≡ true → number < ALL_IDS
-    by_test b e rest any = search (rules, eqb-true, rank_fits)
+ranks_below (span ∷ spans) number among = search (rules, eqb-true, (ranks_below spans number))
 
 -- spans of which none stands twice are at most as many as there are ids
 pub at_most_ids : (spans : List SpanState) → ((id : SpanId) → count_by (λ span. same_span span.id id) spans ≤ 1) → length spans ≤ ALL_IDS

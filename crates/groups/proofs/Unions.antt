@@ -99,11 +99,7 @@ pub keep_slots : (span after : SpanState) → live_slots after.log ≡ live_slot
     → (union_of (set spans place after) ≡ union_of spans) × AreApart (set spans place after)
 keep_slots span after same [] place at apart = absurd cc
 keep_slots span after same (first ∷ rest) zero at apart = search rules
-keep_slots span after same (first ∷ rest) (suc place) at apart =
-    let later = keep_slots span after same rest place at apart.1 in (
-      ap (union (live_slots first.log)) later.0,
-      (subst (AreDisjoint (live_slots first.log)) (sym later.0) apart.0, later.1),
-    )
+keep_slots span after same (first ∷ rest) (suc place) at apart = search (rules, (keep_slots span after same rest place at apart.1))
 
 -- after a set in one of the spans
 pub keep_held : (spans : List SpanState) (place : ℕ) (span : SpanState) (slot generation : ℕ) (value : Value) → slice_get spans place ≡ Some span → Holds span.log slot generation → AreApart spans

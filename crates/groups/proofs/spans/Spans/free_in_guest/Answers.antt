@@ -1,4 +1,4 @@
-use Rattle.std.proofs.Common.{◌<◌, length, ◌≡◌, ◌∙◌, ◌∷◌, Some, ap, sym, refl, subst, suc, slice_get, set}
+use Rattle.std.proofs.Common.{◌≡◌, ◌∙◌, ◌∷◌, Some, ap, sym, refl, subst, suc, slice_get, set, rules}
 use Rattle.std.specs.FinSet as finset
 use Rattle.std.proofs.lemmas.Option.{slice_get_read}
 use Rattle.span.specs.State.{SpanState}
@@ -12,8 +12,7 @@ use Rattle.groups.proofs.Unions.{lose_held}
 use Rattle.groups.proofs.spans.Spans.free_in_guest.Goals as goal
 
 here : (g : _) (c : goal.After-insert g) → slice_get c.self.inside.guests.items c.args.at ≡ Some c.index_mut.result.now
-here g c = slice_get_read c.self.inside.guests.items _ c.args.at c.index_mut.result.now refl
-    (subst (λ (g : SpansState). c.args.at < length g.guests) (sym c.self.view_is) c.requires) c.index_mut.ensures.value
+here g c = search (rules, slice_get_read)
 
 same_span : (g : _) (c : goal.After-insert g) (span : SpanState) → slice_get c.args.self.now.guests c.args.at ≡ Some span → c.index_mut.result.now ≡ span
 same_span g c span at = same_some (sym (here g c) ∙ ap (λ (g : SpansState). slice_get g.guests c.args.at) c.self.view_is ∙ at)
