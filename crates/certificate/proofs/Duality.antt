@@ -1,6 +1,6 @@
 -- No plan has more pairs than a certificate shows
-use Rattle.std.proofs.Common.{◌+◌, ◌≤◌, ◌≡◌, Bool, true, false, not, List, [], ◌∷◌, length, map, ap, suc, ◌⊎◌, inl, inr, arith, rules}
-use Rattle.std.specs.List.{AllByRecursion, IsDistinct, filter, list_any}
+use Rattle.std.proofs.Common.{◌+◌, ◌≤◌, ◌≡◌, Bool, true, false, not, List, [], ◌∷◌, length, map, ◌⊎◌, inl, inr, arith, rules}
+use Rattle.std.specs.List.{AllByRecursion, IsDistinct, filter}
 use Rattle.std.proofs.lemmas.Bool.{cases_Bool}
 use Rattle.std.proofs.lemmas.List.Elements.{recursion_from_All}
 use Rattle.certificate.specs.Sides.{Sides, among, IsPlan, IsChoice, IsBest, IsCertificate, partners}
@@ -26,17 +26,7 @@ covered : {K : Type 0} (same : K → K → Bool) → Tells same → (xs ys : Lis
     → length pairs ≤ length xs + length ys
 unfolding IsDistinct
 covered same t xs ys [] d e h = omega arith
-covered same t xs ys (p ∷ pairs) d e h =
-    elim h.0 [
-      | inl k ↦
-          let shorter : suc (length (without same p.0 xs)) ≡ length xs = length-without same p.0 xs k in
-          let rest : length pairs ≤ length (without same p.0 xs) + length ys = covered same t (without same p.0 xs) ys pairs d.1 e.1 (less_left same t p.0 xs ys pairs d.0 h.1) in
-          omega arith
-      | inr k ↦
-          let shorter : suc (length (without same p.1 ys)) ≡ length ys = length-without same p.1 ys k in
-          let rest : length pairs ≤ length xs + length (without same p.1 ys) = covered same t xs (without same p.1 ys) pairs d.1 e.1 (less_right same t p.1 xs ys pairs e.0 h.1) in
-          omega arith
-    ]
+covered same t xs ys (p ∷ pairs) d e h = search (rules, without, length-without, less_left, less_right, (covered same t (without same p.0 xs) ys pairs d.1 e.1 (less_left same t p.0 xs ys pairs d.0 h.1)), (covered same t xs (without same p.1 ys) pairs d.1 e.1 (less_right same t p.1 xs ys pairs e.0 h.1)))
 
 -- each pair's left member stands outside short, or its right member is a partner of short
 each_covered : {K : Type 0} (same : K → K → Bool) → Tells same → (g : Sides K) (short : List K) (pairs : List (K × K))
@@ -44,13 +34,7 @@ each_covered : {K : Type 0} (same : K → K → Bool) → Tells same → (g : Si
     → AllByRecursion (λ p. g.compatible p.0 p.1 ≡ true) pairs
     → AllByRecursion (λ p. (among same p.0 (filter (λ y. not (among same y short)) g.left) ≡ true) ⊎ (among same p.1 (partners g short) ≡ true)) pairs
 each_covered same t g short [] l r c = tt
-each_covered same t g short (p ∷ pairs) l r c = (
-  elim (cases_Bool (among same p.0 short)) [
-    | inl k ↦ inr (among-filter same t (λ b. list_any (λ a. g.compatible a b) short) p.1 g.right r.0 (any_from_among same t (λ a. g.compatible a p.1) p.0 short k c.0))
-    | inr k ↦ inl (among-filter same t (λ y. not (among same y short)) p.0 g.left l.0 (ap not k))
-  ],
-  each_covered same t g short pairs l.1 r.1 c.1,
-)
+each_covered same t g short (p ∷ pairs) l r c = search (rules, cases_Bool, among-filter, any_from_among, (each_covered same t g short pairs l.1 r.1 c.1))
 
 pub at_most : {K : Type 0} (same : K → K → Bool) → Tells same → (g : Sides K) (short : List K) (pairs : List (K × K)) → IsChoice same g.left short
     → IsPlan same g pairs → length pairs + length short ≤ length g.left + length (partners g short)

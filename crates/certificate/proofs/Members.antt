@@ -1,5 +1,5 @@
 -- Membership by a test, lists without repeats, and how long they can be
-use Rattle.std.proofs.Common.{◌+◌, ◌≤◌, ◌≡◌, Bool, true, false, cond, not, List, [], ◌∷◌, length, refl, sym, ap, subst, suc, inl, inr, arith}
+use Rattle.std.proofs.Common.{◌+◌, ◌≤◌, ◌≡◌, Bool, true, false, cond, not, List, [], ◌∷◌, length, refl, suc, arith, rules}
 use Rattle.std.specs.List.{AllByRecursion, IsDistinct, filter, list_any}
 use Rattle.std.proofs.lemmas.Bool.{cases_Bool, both_ways, or_cases, or_left, or_right}
 use Rattle.std.proofs.lemmas.List.Filters.{length-filter_both}
@@ -18,26 +18,12 @@ without same x (y ∷ ys) = cond (same x y) ys (y ∷ without same x ys)
 pub length-without : {K : Type 0} (same : K → K → Bool) (x : K) (ys : List K) → among same x ys ≡ true → suc (length (without same x ys)) ≡ length ys
 unfolding without
 length-without same x [] h = absurd (both_ways false refl h)
-length-without same x (y ∷ ys) h =
-    elim (cases_Bool (same x y)) [
-      | inl e ↦ rw e
-      | inr e ↦ let k : among same x ys ≡ true = rw e at h in rw e (ap suc (length-without same x ys k))
-    ]
+length-without same x (y ∷ ys) h = search (rules, cases_Bool, (length-without same x ys))
 
 pub among-without : {K : Type 0} (same : K → K → Bool) → Tells same → (x q : K) (ys : List K) → same x q ≡ false → among same q ys ≡ true → among same q (without same x ys) ≡ true
 unfolding without
 among-without same t x q [] n h = h
-among-without same t x q (y ∷ ys) n h =
-    elim (cases_Bool (same x y)) [
-      | inl e ↦ elim (or_cases (same q y) (among same q ys) h) [
-        | inl f ↦ absurd (both_ways (same x q) n (subst (λ z. same x z ≡ true) (sym (t.one q y f)) e))
-        | inr f ↦ rw e f
-      ]
-      | inr e ↦ elim (or_cases (same q y) (among same q ys) h) [
-        | inl f ↦ rw e (or_left (same q y) _ f)
-        | inr f ↦ rw e (or_right (same q y) _ (among-without same t x q ys n f))
-      ]
-    ]
+among-without same t x q (y ∷ ys) n h = search (rules, cases_Bool, or_cases, both_ways, or_left, or_right, (among-without same t x q ys n))
 
 -- what follows of each from two facts of each
 both : {K : Type 0} (P Q R : K → Type 0) → ((x : K) → P x → Q x → R x) → (xs : List K) → AllByRecursion P xs → AllByRecursion Q xs → AllByRecursion R xs
@@ -56,23 +42,12 @@ length-le_from_distinct same t (x ∷ xs) ys d h =
 -- a member that passes stands in the filter
 pub among-filter : {K : Type 0} (same : K → K → Bool) → Tells same → (test : K → Bool) (x : K) (ys : List K) → among same x ys ≡ true → test x ≡ true → among same x (filter test ys) ≡ true
 among-filter same t test x [] h p = h
-among-filter same t test x (y ∷ ys) h p =
-    elim (or_cases (same x y) (among same x ys) h) [
-      | inl f ↦ let q : test y ≡ true = subst (λ z. test z ≡ true) (t.one x y f) p in rw q (or_left (same x y) _ f)
-      | inr f ↦ elim (cases_Bool (test y)) [
-        | inl e ↦ rw e (or_right (same x y) _ (among-filter same t test x ys f p))
-        | inr e ↦ rw e (among-filter same t test x ys f p)
-      ]
-    ]
+among-filter same t test x (y ∷ ys) h p = search (rules, or_cases, or_left, cases_Bool, or_right, (among-filter same t test x ys))
 
 -- a test that holds of a member holds of some member
 pub any_from_among : {K : Type 0} (same : K → K → Bool) → Tells same → (test : K → Bool) (x : K) (ys : List K) → among same x ys ≡ true → test x ≡ true → list_any test ys ≡ true
 any_from_among same t test x [] h p = h
-any_from_among same t test x (y ∷ ys) h p =
-    elim (or_cases (same x y) (among same x ys) h) [
-      | inl f ↦ or_left (test y) _ (subst (λ z. test z ≡ true) (t.one x y f) p)
-      | inr f ↦ or_right (test y) _ (any_from_among same t test x ys f p)
-    ]
+any_from_among same t test x (y ∷ ys) h p = search (rules, or_cases, or_left, or_right, (any_from_among same t test x ys))
 
 all_more : {K : Type 0} (same : K → K → Bool) (y : K) (ys xs : List K) → AllByRecursion (λ x. among same x ys ≡ true) xs → AllByRecursion (λ x. among same x (y ∷ ys) ≡ true) xs
 all_more same y ys [] h = tt

@@ -62,7 +62,7 @@ count-filter test (x ∷ xs) = grind (arith, common_steps, sum_by-cons, (count-f
 -- some member of a filter
 any-filter : {X : Type 0} (p q : X → Bool) (xs : List X) → list_any q (filter p xs) ≡ list_any (λ x. p x && q x) xs
 any-filter p q [] = refl
-any-filter p q (x ∷ xs) = search (rules, cases_Bool, (any-filter p q xs), (any-filter p q xs))
+any-filter p q (x ∷ xs) = search (rules, cases_Bool, (any-filter p q xs))
 
 any-flat_map : {X Y : Type 0} (test : Y → Bool) (f : X → List Y) (xs : List X) → list_any test (flat_map f xs) ≡ list_any (λ x. list_any test (f x)) xs
 any-flat_map test f [] = refl
@@ -88,9 +88,7 @@ filter-members members abandoned owned chosen are k = filter (λ y. fits_some-me
 -- the groups with an id: none where no group has it
 pub groups_with-none : (abandoned : List Entry) (id : SpanId) → has_id abandoned id ≡ false → groups_with abandoned id ≡ []
 groups_with-none [] id none = refl
-groups_with-none (x ∷ xs) id none =
-    let p : (same_span x.id id ≡ false) × (has_id xs id ≡ false) = or_parts (same_span x.id id) (list_any (λ (y : Entry). same_span y.id id) xs) none in
-    rw p.0 (groups_with-none xs id p.1)
+groups_with-none (x ∷ xs) id none = search (rules, or_parts, (groups_with-none xs id))
 
 -- and else the one that has it
 pub groups_with-at : (abandoned : List Entry) (id : SpanId) (p : ℕ) (x : Entry) → IsAscending (ids abandoned) → p < length abandoned → x ≡ get_or abandoned p x → same_span x.id id ≡ true
@@ -141,7 +139,7 @@ module _ {X : Type 0} (test : X → Bool) where
       → get_or (filter test xs) (length (filter test (take i xs))) d ≡ get_or xs i d
   filter_at [] i d low passes = absurd (omega arith)
   filter_at (x ∷ xs) zero d low passes = rw passes refl
-  filter_at (x ∷ xs) (suc i) d low passes = search (rules, cases_Bool, (filter_at xs i d (omega arith) passes), (filter_at xs i d (omega arith) passes))
+  filter_at (x ∷ xs) (suc i) d low passes = search (rules, cases_Bool, (filter_at xs i d (omega arith) passes))
 
   pub filter_below : (xs : List X) (i : ℕ) (d : X) → i < length xs → test (get_or xs i d) ≡ true
       → length (filter test (take i xs)) < length (filter test xs)

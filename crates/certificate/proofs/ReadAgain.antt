@@ -1,6 +1,6 @@
 -- What is written of an item is read again.
 use Rattle.std.proofs.lemmas.Grind.{common_steps}
-use Rattle.std.proofs.Common.{ℕ, ◌+◌, ◌*◌, ◌/◌, ◌^◌, ◌<◌, ◌≤◌, ◌≡◌, true, List, [], ◌∷◌, ◌++◌, codes, length, get_or, Bool, Option, None, Some, Err, Ok, option_map, nat_eq, refl, sym, ◌∙◌, ap, arith, rules, zero, suc, inl, inr, nat_lt, nat_le, lt-ltb, eq-eqb}
+use Rattle.std.proofs.Common.{ℕ, ◌+◌, ◌*◌, ◌/◌, ◌^◌, ◌<◌, ◌≤◌, ◌≡◌, true, List, [], ◌∷◌, ◌++◌, codes, length, get_or, Bool, Option, None, Some, Err, Ok, option_map, nat_eq, refl, sym, ◌∙◌, ap, arith, rules, zero, suc, nat_lt, nat_le, lt-ltb, eq-eqb}
 use Rattle.std.specs.Char.{is_ascii_digit}
 use Rattle.std.specs.Fmt.{decimal}
 use Rattle.std.specs.FinSet.{contains}
@@ -100,7 +100,7 @@ lacks-class_text c class low = lacks-decimal c (slot_bytes class) low (slot_byte
 -- what holds of the members of a filter
 all-filter : (p q : ℕ → Bool) (xs : List ℕ) → ((x : ℕ) → q x ≡ true → p x ≡ true) → list_all p (filter q xs) ≡ true
 all-filter p q [] h = refl
-all-filter p q (x ∷ xs) h = search (rules, cases_Bool, and_from, (all-filter p q xs h), (all-filter p q xs h))
+all-filter p q (x ∷ xs) h = search (rules, cases_Bool, and_from, (all-filter p q xs h))
 
 is_on_page-below : (class : Class) (slots : SlotSet) → IsBelow slots (slots_in class) → is_on_page class slots ≡ true
 unfolding members_below
@@ -110,18 +110,7 @@ is_on_page-below class slots below = all-filter (λ slot. nat_lt slot (slots_in 
 -- what holds of a member of a range that passes
 range-filter : (p q : ℕ → Bool) (first n x : ℕ) → list_all p (filter q (range_with_len first n)) ≡ true → first ≤ x → x < first + n → q x ≡ true → p x ≡ true
 range-filter p q first zero x all low high inside = absurd (omega arith)
-range-filter p q first (suc n) x all low high inside = elim (cases_Bool (q first)) [
-  | inl e ↦
-      let both = and_parts (p first) (list_all p (filter q (range_with_len (first + 1) n))) (rw e at all) in
-      elim (cases_eq x first) [
-        | inl same ↦ ap p same ∙ both.0
-        | inr other ↦ range-filter p q (first + 1) n x both.1 (omega arith) (omega arith) inside
-      ]
-  | inr e ↦ elim (cases_eq x first) [
-    | inl same ↦ absurd (both_ways (q first) e (ap q (sym same) ∙ inside))
-    | inr other ↦ range-filter p q (first + 1) n x (rw e at all) (omega arith) (omega arith) inside
-  ]
-]
+range-filter p q first (suc n) x all low high inside = search (rules, cases_Bool, and_parts, cases_eq, both_ways, (range-filter p q (first + 1) n x))
 
 -- a set that was read has slots of its class
 pub IsBelow-is_on_page : (class : Class) (word : List ℕ) (slots : SlotSet) → slots ≡ slots_of_text word → is_on_page class slots ≡ true → IsBelow slots (slots_in class)

@@ -4,7 +4,6 @@ use Rattle.std.specs.List.{AllByRecursion, list_any}
 use Rattle.std.proofs.lemmas.Bool.{cases_Bool, leb-false, lt-leb, not-false, or_left, or_parts}
 use Rattle.span.specs.Classes.{width_of}
 use Rattle.span.specs.declared.class.Class.{Class}
-use Rattle.span.specs.declared.class.Class.TheVariants.{C16}
 use Rattle.span.specs.declared.entry.Entry.{Entry}
 use Rattle.span.specs.declared.id.SpanId.{SpanId}
 use Rattle.certificate.specs.declared.certificate.Certificate.{Certificate}
@@ -36,10 +35,7 @@ abbrev HasListed : Version → Listed → Type 0
 HasListed version x = HasNumber version x.id × (names_class version x.class ≡ true)
 
 entry_of_words-named : (version : Version) (words : List (List ℕ)) (x : Listed) → entry_of_words version words ≡ Ok x → HasListed version x
-entry_of_words-named One (id ∷ set ∷ []) x h =
-    let p = entry_of-ok (id_in One id) (Ok C16) set x h in
-    let same : C16 ≡ x.class = cc p.1 in
-    (id_of_parts-serial One (parts_of 46 id) x.id p.0, ap (names_class One) (sym same))
+entry_of_words-named One (id ∷ set ∷ []) x h = search (rules, entry_of-ok, id_of_parts-serial)
 entry_of_words-named One (id ∷ class ∷ set ∷ []) x h = cc
 entry_of_words-named version (id ∷ class ∷ set ∷ []) x h =
     let p = entry_of-ok (id_in version id) (class_in version class) set x h in
@@ -96,9 +92,7 @@ needs_version_three-read version parts o h small =
 -- what holds of all that fail the test, of a list of which none passes
 none-passes : {X Y : Type 0} (f : Y → X) (test : X → Bool) (P : Y → Type 0) → ((y : Y) → test (f y) ≡ false → P y) → (ys : List Y) → list_any test (map f ys) ≡ false → AllByRecursion P ys
 none-passes f test P has [] none = tt
-none-passes f test P has (y ∷ ys) none =
-    let both = or_parts (test (f y)) (list_any test (map f ys)) none in
-    (has y both.0, none-passes f test P has ys both.1)
+none-passes f test P has (y ∷ ys) none = search (rules, or_parts, (none-passes f test P has ys))
 
 -- what holds of each holds of all
 each-one : {Y : Type 0} (P : Y → Type 0) → ((y : Y) → P y) → (ys : List Y) → AllByRecursion P ys

@@ -1,5 +1,5 @@
 -- Texts that are cut at a byte, from the words that were joined.
-use Rattle.std.proofs.Common.{ℕ, ◌<◌, ◌≤◌, ◌≡◌, ◌==◌, not, Bool, true, List, [], ◌∷◌, ◌++◌, length, get_or, refl, ◌∙◌, ap, arith, suc, eqb, eq-eqb}
+use Rattle.std.proofs.Common.{ℕ, ◌<◌, ◌≤◌, ◌≡◌, ◌==◌, not, Bool, true, List, [], ◌∷◌, ◌++◌, length, get_or, refl, ◌∙◌, ap, arith, suc, eqb, eq-eqb, rules}
 use Rattle.std.specs.List.{list_all}
 use Rattle.std.specs.Str.Parse.{AllDigits}
 use Rattle.std.proofs.lemmas.Bool.{and_parts, and_from, ne_eqb, not-true}
@@ -18,15 +18,11 @@ lacks-append c xs ys h k = list_all-append (λ b. not (eqb b c)) xs ys ∙ and_f
 -- the text before the first c
 pub parts-word : (c : ℕ) (xs ys : List ℕ) → lacks c xs ≡ true → parts_of c (xs ++ c ∷ ys) ≡ xs ∷ parts_of c ys
 parts-word c [] ys h = slice_split-cons_yes (λ b. b == c) c ys (eq-eqb c c refl)
-parts-word c (x ∷ xs) ys h =
-    let p : (not (eqb x c) ≡ true) × (lacks c xs ≡ true) = and_parts (not (eqb x c)) (lacks c xs) h in
-    slice_split-cons_no (λ b. b == c) x (xs ++ c ∷ ys) (not-true (eqb x c) p.0) ∙ rw (parts-word c xs ys p.1) refl
+parts-word c (x ∷ xs) ys h = search (rules, and_parts, slice_split-cons_no, not-true, (parts-word c xs ys))
 
 pub parts-last : (c : ℕ) (xs : List ℕ) → lacks c xs ≡ true → parts_of c xs ≡ xs ∷ []
 parts-last c [] h = refl
-parts-last c (x ∷ xs) h =
-    let p : (not (eqb x c) ≡ true) × (lacks c xs ≡ true) = and_parts (not (eqb x c)) (lacks c xs) h in
-    slice_split-cons_no (λ b. b == c) x xs (not-true (eqb x c) p.0) ∙ rw (parts-last c xs p.1) refl
+parts-last c (x ∷ xs) h = search (rules, and_parts, slice_split-cons_no, not-true, (parts-last c xs))
 
 -- a byte at or above 48 is no separator below it
 pub lacks-high : (c : ℕ) (xs : List ℕ) → c < 48 → ((i : ℕ) → i < length xs → 48 ≤ get_or xs i 0) → lacks c xs ≡ true

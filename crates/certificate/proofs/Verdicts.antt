@@ -1,6 +1,6 @@
 -- What the tests of the checker mean
 use Rattle.std.proofs.lemmas.Grind.{common_steps}
-use Rattle.std.proofs.Common.{◌+◌, ◌≡◌, Bool, true, false, ◌&&◌, ◌||◌, List, [], ◌∷◌, length, map, refl, sym, ◌∙◌, inl, inr, arith, rules}
+use Rattle.std.proofs.Common.{◌+◌, ◌≡◌, Bool, true, false, ◌&&◌, ◌||◌, List, [], ◌∷◌, length, map, refl, sym, ◌∙◌, arith, rules}
 use Rattle.std.specs.List.{All, IsDistinct, list_all, list_any}
 use Rattle.std.proofs.lemmas.Bool.{cases_Bool, both_ways, or_cases, or_left, or_right, and_parts, and_from}
 use Rattle.std.proofs.lemmas.List.Elements.{All-map, All-weaker}
@@ -25,17 +25,11 @@ flip same t x y = search (rules, cases_Bool, both_ways)
 -- what each member that passes shows, the list's test shows
 any_elim : {X : Type 0} (test : X → Bool) (r : Bool) (xs : List X) → ((x : X) → test x ≡ true → r ≡ true) → list_any test xs ≡ true → r ≡ true
 any_elim test r [] h e = absurd (both_ways false refl e)
-any_elim test r (x ∷ xs) h e = elim (or_cases (test x) (list_any test xs) e) [
-  | inl f ↦ h x f
-  | inr f ↦ any_elim test r xs h f
-]
+any_elim test r (x ∷ xs) h e = search (rules, or_cases, (any_elim test r xs h))
 
 any_less : {X : Type 0} (p q : X → Bool) (xs : List X) → list_any (λ x. p x && q x) xs ≡ true → list_any p xs ≡ true
 any_less p q [] h = h
-any_less p q (x ∷ xs) h = elim (or_cases (p x && q x) (list_any (λ y. p y && q y) xs) h) [
-  | inl e ↦ or_left (p x) _ (and_parts (p x) (q x) e).0
-  | inr e ↦ or_right (p x) _ (any_less p q xs e)
-]
+any_less p q (x ∷ xs) h = search (rules, or_cases, or_left, and_parts, or_right, (any_less p q xs))
 
 -- an id that some group has is among the ids
 pub among-ids : (xs : List Entry) (a : SpanId) → list_any (λ x. same_span x.id a) xs ≡ among same_span a (ids xs)
@@ -80,9 +74,7 @@ module _ (s : Groups) where
 
   pub right_have_ids : (pairs : List (SpanId × SpanId)) → all_compatible s pairs ≡ true → list_all (λ id. has_id s.owned id) (map (λ p. p.1) pairs) ≡ true
   right_have_ids [] all = refl
-  right_have_ids (p ∷ pairs) all =
-      let both = and_parts (any_compatible s p.0 p.1) (all_compatible s pairs) all in
-      and_from (has_id s.owned p.1) _ (among-ids s.owned p.1 ∙ among_right s p.0 p.1 both.0) (right_have_ids pairs both.1)
+  right_have_ids (p ∷ pairs) all = search (rules, and_parts, and_from, among-ids, among_right, (right_have_ids pairs))
 
 pub plan-from_tests : (s : Groups) (pairs : List (SpanId × SpanId)) → all_compatible s pairs ≡ true → IsDistinct same_span (map (λ p. p.0) pairs)
     → IsDistinct same_span (map (λ p. p.1) pairs) → IsPlanOf s pairs
