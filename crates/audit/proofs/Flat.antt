@@ -1,5 +1,5 @@
 -- The receipts of all lists, list after list.
-use Rattle.std.proofs.Common.{zero, suc, ◌≡◌, ℕ, ◌+◌, List, [], ◌∷◌, ◌++◌, map, flat_map, length, get_or, Some, slice_get, ap, refl, inl, inr, ◌⊎◌, arith, rules}
+use Rattle.std.proofs.Common.{zero, suc, ◌≡◌, ℕ, ◌+◌, List, [], ◌∷◌, ◌++◌, map, flat_map, length, get_or, Some, slice_get, refl, inl, inr, ◌⊎◌, arith, rules}
 use Rattle.std.proofs.lemmas.Option.{slice_get_within}
 use Rattle.span.proofs.KeptReceipts.{get_left, get_right}
 
@@ -35,6 +35,4 @@ module _ {X Y : Type 0} (f : X → List Y) where
   flat_once (x ∷ xs) zero i zero j a b at_i at_j same = (refl, same)
   flat_once (x ∷ xs) zero i (suc w) j a b at_i at_j same = absurd (let within = slice_get_within (f x) i a at_i in omega arith)
   flat_once (x ∷ xs) (suc v) i zero j a b at_i at_j same = absurd (let within = slice_get_within (f x) j b at_j in omega arith)
-  flat_once (x ∷ xs) (suc v) i (suc w) j a b at_i at_j same =
-      let one = flat_once xs v i w j a b at_i at_j (omega arith) in
-      (ap suc one.0, one.1)
+  flat_once (x ∷ xs) (suc v) i (suc w) j a b at_i at_j same = search (rules, (flat_once xs v i w j a b at_i at_j))

@@ -47,9 +47,6 @@ AreVerdicts-each f xs logs rows verdicts long each = search (rules, length-map)
 
 module _ {X : Type 0} (f : X → List Receipt) (xs : List X) (logs : List SpanLog) (rows : List (List (Option ℕ))) (verdicts : List Verdict)
     (are : AreVerdicts logs rows (map f xs) verdicts) where
-  lists : List (List Receipt)
-  lists = map f xs
-
   -- what holds of each list that has a verdict holds of each list
   all_of : (P : List Receipt → Type 0) → P [] → ((w : ℕ) → w < length verdicts → P (get_or (map f xs) w [])) → (w : ℕ) → P (get_or (map f xs) w [])
   all_of P none each = lists_all f P xs (length xs) (λ w less. each w (let same = length-map xs f in let long = are.len in omega arith)) (omega arith) none

@@ -36,8 +36,7 @@ issued_none n slot = read_same 0 n slot ∙ sym (puts_of-empty slot)
 pub AreAfter-more : (before : List Change) (c : Change) (held : List (Option ℕ)) (s : ℕ) (left : Option ℕ) → length held ≡ SLOTS → s ≡ slot_of c
     → left ≡ option_map generation_of (left_by c)
     → AreAfter before held → AreAfter (before ++ c ∷ []) (set held s left)
-AreAfter-more before c held s left long is_slot is_left after q fits =
-    search (rules, cases_eq, get_or-set_same, generation_more, option_map, eq-eqb, get_or-set_other, ne_eqb)
+AreAfter-more before c held s left long is_slot is_left after q fits = search (rules, cases_eq, get_or-set_same, generation_more, eq-eqb, get_or-set_other, ne_eqb)
 
 -- a set to an object of the class is legal after changes of the class where its slot holds something of its generation
 pub set_legal : (gens : ℕ) (class : Class) (before : List Change) (slot generation : ℕ) (value : Value) (here : Option ℕ) → IsOfClass class before → length value ≡ width_of class
@@ -70,5 +69,4 @@ puts_more gens before (Change.Free slot generation) legal q = puts_of-free befor
 pub AreIssued-more : (gens : ℕ) (before : List Change) (c : Change) (issued : List ℕ) (s last next : ℕ) → length issued ≡ SLOTS → s < SLOTS → s ≡ slot_of c
     → last ≡ get_or issued s 0 → next ≡ issued_by c last
     → AreIssued before issued → IsLegalAfter gens before c → AreIssued (before ++ c ∷ []) (set issued s next)
-AreIssued-more gens before c issued s last next long small is_slot is_last is_next is legal q fits =
-    search (rules, cases_eq, get_or-set_same, puts_more, eq-eqb, get_or-set_other, ne_eqb)
+AreIssued-more gens before c issued s last next long small is_slot is_last is_next is legal q fits = search (rules, cases_eq, get_or-set_same, puts_more, eq-eqb, get_or-set_other, ne_eqb)

@@ -184,10 +184,7 @@ AreByRank-sorted places up apart i j d less within =
 
 pub place_in-le : (logs : List SpanLog) (span : SpanId) → place_in logs span ≤ length logs
 place_in-le [] span = omega arith
-place_in-le (x ∷ xs) span = elim (same_span x.span span) as (λ b. cond b 0 (suc (place_in xs span)) ≤ suc (length xs)) [
-  | true ↦ omega arith
-  | false ↦ let rest = place_in-le xs span in omega arith
-]
+place_in-le (x ∷ xs) span = search (rules, cases_Bool, (place_in-le xs span))
 
 pub place_in-none : (logs : List SpanLog) (span : SpanId) → ((j : ℕ) (log : SpanLog) → slice_get logs j ≡ Some log → log.span ≡ span → ⊥) → place_in logs span ≡ length logs
 place_in-none [] span none = refl
@@ -212,30 +209,12 @@ place_in-found (x ∷ xs) span j log one at is = elim (cases_Bool (same_span x.s
 -- spans with logs at one place are one
 pub place_in-same : (logs : List SpanLog) (a b : SpanId) → place_in logs a ≡ place_in logs b → place_in logs a < length logs → a ≡ b
 place_in-same [] a b same low = absurd (omega arith)
-place_in-same (x ∷ xs) a b same low = elim (cases_Bool (same_span x.span a)) [
-  | inl here ↦ elim (cases_Bool (same_span x.span b)) [
-    | inl there ↦ sym (same_id_from_test x.span a here) ∙ same_id_from_test x.span b there
-    | inr other ↦ absurd (let e : 0 ≡ suc (place_in xs b) = sym (ap (λ t. cond t 0 (suc (place_in xs a))) here) ∙ same ∙ ap (λ t. cond t 0 (suc (place_in xs b))) other in omega arith)
-  ]
-  | inr elsewhere ↦
-      let own : place_in (x ∷ xs) a ≡ suc (place_in xs a) = ap (λ t. cond t 0 (suc (place_in xs a))) elsewhere in
-      elim (cases_Bool (same_span x.span b)) [
-        | inl there ↦ absurd (let e : suc (place_in xs a) ≡ 0 = sym own ∙ same ∙ ap (λ t. cond t 0 (suc (place_in xs b))) there in omega arith)
-        | inr other ↦
-            let e : suc (place_in xs a) ≡ suc (place_in xs b) = sym own ∙ same ∙ ap (λ t. cond t 0 (suc (place_in xs b))) other in
-            place_in-same xs a b (omega arith) (let few : place_in (x ∷ xs) a < suc (length xs) = low in omega arith)
-      ]
-]
+place_in-same (x ∷ xs) a b same low = search (rules, cases_Bool, same_id_from_test, (place_in-same xs a b))
 
 -- past all logs no change is the span's
 pub log_of-past : (logs : List SpanLog) (span : SpanId) → place_in logs span ≡ length logs → log_of logs span ≡ []
 log_of-past [] span past = refl
-log_of-past (x ∷ xs) span past = elim (cases_Bool (same_span x.span span)) [
-  | inl here ↦ absurd (let e : 0 ≡ suc (length xs) = sym (ap (λ t. cond t 0 (suc (place_in xs span))) here) ∙ past in omega arith)
-  | inr other ↦
-      let e : suc (place_in xs span) ≡ suc (length xs) = sym (ap (λ t. cond t 0 (suc (place_in xs span))) other) ∙ past in
-      ap (λ t. cond t (kept_changes x.log) (log_of xs span)) other ∙ log_of-past xs span (omega arith)
-]
+log_of-past (x ∷ xs) span past = search (rules, cases_Bool, (log_of-past xs span))
 
 -- the changes of a log that was read at an index
 pub log_items : (logs : List SpanLog) (j : ℕ) (d log : SpanLog) → slice_get logs j ≡ Some log → kept_changes (get_or logs j d).log ≡ kept_changes log.log

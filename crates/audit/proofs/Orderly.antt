@@ -18,9 +18,6 @@ IsInOrderBelow list n = (i j : ℕ) (a b : Receipt) → slice_get list i ≡ Som
 pub changes_after-low : (r : Receipt) → r.at ≤ changes_after r
 changes_after-low r = search (rules)
 
-pub goes_back : (list : List Receipt) (i : ℕ) → GoesBack list i → IsInOrder list → ⊥
-goes_back list i back order = let p = (order back.0 i back.1 back.2 back.4 back.5 (omega (arith, back.3))).0 in omega (arith, back.6)
-
 -- two calls that the table has at one place are on one span: those on spans without a log leave nothing
 pub too_early : (logs : List SpanLog) (list : List Receipt) (n : ℕ) (left : List ℕ) (r : Receipt) → LeaveNothing logs list → IsLeftBelow logs list n left → slice_get list n ≡ Some r
     → r.at < get_or left (place_in logs r.key.span) 0 → IsInOrder list → ⊥
