@@ -23,7 +23,7 @@ pub(crate) enum Stage {
 }
 
 /// Which round of a compaction it is, and what comes next in it. It stands in a box that comes with
-/// the first mark and goes with the end, so that a core that is not compacted has no room for it.
+/// the first mark and goes with the compaction: a core that is not compacted has no room for it.
 #[derive(Drop)]
 pub(crate) struct Work {
     stage: Stage,

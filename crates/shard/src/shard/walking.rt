@@ -28,8 +28,8 @@ impl<L: Log> Shard<L> {
     }
 
     /// At least so many slots are live in the group at the index, by ascending head. It reads no
-    /// group. It is 0 for a closed group, and for one in which a key was freed since
-    /// [`Shard::reopen`] was called last.
+    /// group. 0 says nothing: a closed group has it, and one that came, took spans in or lost a key
+    /// since [`Shard::reopen`] was called last. The clause allows any lower number as well.
     #[inline]
     pub fn least_live(&self, index: usize) -> usize
         requires { index < length self.now.groups }
