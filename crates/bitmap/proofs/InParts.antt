@@ -6,8 +6,8 @@ use Rattle.std.proofs.Math.Bool.{and-true}
 use Rattle.std.proofs.lemmas.Bool.{cases_eq, cases_lt, true≢false}
 use Rattle.std.proofs.lemmas.List.{get_or_past}
 use Rattle.std.proofs.lemmas.Option.{get_or_from_slice_get, slice_get-get_or}
-use Rattle.std.specs.Prelude.{IfSome, IsOk, MatchOption, Result, if◌then◌else◌, is_ok, replicate, take, ◌++◌}
-use Rattle.bitmap.specs.Parts.{HasNoneIn, IsLowestIn, has_number, numbers_in}
+use Rattle.std.specs.Prelude.{None, option_map, IfSome, IsOk, MatchOption, Result, if◌then◌else◌, is_ok, replicate, take, ◌++◌}
+use Rattle.bitmap.specs.Parts.{HasNoneIn, IsLowestIn, has_number, numbers_in, parts_in}
 use Rattle.bitmap.specs.Slots.{SlotSet, IsLowest}
 use Rattle.bitmap.specs.Words.{contains-slots_where, same_slots}
 use Rattle.bitmap.specs.declared.bits.TheConstants.{SLOTS}
@@ -102,6 +102,13 @@ in_room parts part found none = search (rules, cases_lt, true≢false, contains-
 
 pub numbers_in-none : (parts : List SlotSet) → parts ≡ [] → numbers_in parts ≡ empty
 numbers_in-none parts none = same_slots _ _ (λ q. contains-past parts q (omega (arith, ap length none)) ∙ sym (contains-empty nat_cmp q))
+
+pub in_none : (parts : List SlotSet) → parts ≡ [] → (q : ℕ) → contains (numbers_in parts) q ≡ false
+in_none parts none q = contains-past parts q (omega (arith, ap length none))
+
+-- parts that have no memory yet are none
+pub parts-none : {B : Type 0} (made : Option B) (parts : B → List SlotSet) → made ≡ None → parts_in (option_map parts made) ≡ []
+parts-none made parts none = ap (λ o. parts_in (option_map parts o)) none
 
 -- one part more has the numbers below the count
 pub below-part : (parts : List SlotSet) (at count : ℕ) (new : SlotSet) → at < length parts

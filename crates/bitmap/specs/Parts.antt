@@ -1,11 +1,9 @@
 -- Numbers by parts of 256, and the set of the parts that have one. No public clause cites this
 -- module.
-use Rattle.std.specs.Prelude.{◌≡◌, ℕ, ◌*◌, ◌+◌, ◌≤◌, ◌/◌, ◌%◌, Bool, true, false, List, ◌∷◌, length, vec_len}
+use Rattle.std.specs.Prelude.{◌≡◌, ℕ, ◌*◌, ◌≤◌, ◌/◌, ◌%◌, Bool, true, false, List, [], Option, Some, None, length}
 use Rattle.std.specs.List.{slice_index_or}
 use Rattle.std.specs.FinSet as set
-use Rattle.bitmap.specs.Numbers.{NumbersState}
 use Rattle.bitmap.specs.Slots.{SlotSet, slots_where}
-use Rattle.bitmap.specs.declared.numbers.NumberSet.TheInside.{Inside}
 use Rattle.bitmap.specs.declared.bits.TheConstants.{SLOTS}
 
 -- whether the parts have the number: slot j of part k is number 256 k + j
@@ -36,15 +34,7 @@ pub record IsSummary (numbers filled : SlotSet) : Type 0 where
   pub some : (part : ℕ) → set.contains filled part ≡ true → (n : ℕ) × (n / SLOTS ≡ part)
       × (set.contains numbers n ≡ true)
 
--- what contracts see of the fields: the first part stands apart from the others
-abbrev pub state_of : Inside → NumbersState
-state_of s =
-    record { numbers = numbers_in (s.low ∷ s.high.items); room = SLOTS + SLOTS * vec_len s.high }
-
--- what a set of numbers keeps
-pub record IsKept (s : Inside) : Type 0 where
-  pub parts_known : IsSummary (numbers_in s.high.items) (numbers_in s.filled.items)
-  pub top_known : IsSummary (numbers_in s.filled.items) s.top
-  -- the parts of each level have places on the next
-  pub places : vec_len s.high ≤ SLOTS * vec_len s.filled
-  pub top_places : vec_len s.filled ≤ SLOTS
+-- the parts of levels that may have no memory yet
+abbrev pub parts_in : Option (List SlotSet) → List SlotSet
+parts_in None = []
+parts_in (Some parts) = parts

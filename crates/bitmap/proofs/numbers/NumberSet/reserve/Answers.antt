@@ -4,7 +4,7 @@ use Rattle.bitmap.proofs.Joined.{joined-same}
 use Rattle.bitmap.proofs.numbers.NumberSet.reserve.Goals as goal
 
 pub returns-clause-numbers : goal.returns-clause-numbers
-returns-clause-numbers c = rw (← c.self.view_is) (joined-same c.self.inside.low c.grow-2.new.parts.items c.self.inside.high.items c.grow-2.ensures.numbers)
+returns-clause-numbers c = rw (← c.self.view_is) (joined-same c.self.inside.low c.reserve.new.self c.self.inside.high c.reserve.ensures.numbers)
 
 pub returns-clause-err : goal.returns-clause-err
 returns-clause-err c = search (rules, on_err_weaker, joined-same)

@@ -1,7 +1,7 @@
 use Rattle.std.proofs.Common.{rules}
 use Rattle.bitmap.proofs.InParts.{in_room}
 use Rattle.bitmap.proofs.Summaries.{IsLowest-part, empty-summary, lowest-part}
-use Rattle.bitmap.proofs.numbers.lowest_of.Goals as goal
+use Rattle.bitmap.proofs.levels.lowest_of.Goals as goal
 
 pub returns-in_default-clause-lowest : goal.returns-in_default-clause-lowest
 returns-in_default-clause-lowest c = empty-summary _ _ c.requires.parts (empty-summary _ _ c.requires.top c.in_default.ensures.lowest)
