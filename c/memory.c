@@ -287,7 +287,7 @@ static void little(void) {
     QUIETLY(teurlaks_retire(&many, 63, 1).status == TEURLAKS_OK);
     QUIETLY(teurlaks_begin(&many, 63) == TEURLAKS_RUNNING);
     WANT(teurlaks_put(&many, 0, (struct teurlaks_word){1, 2}).status == TEURLAKS_OK);
-    WANT(bytes - before <= PAGE + 864);
+    WANT(bytes - before <= PAGE + 800);
     teurlaks_drop(&many);
 }
 
