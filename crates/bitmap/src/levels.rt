@@ -94,7 +94,7 @@ impl Levels {
     }
 
     /// The least number.
-    #[inline(never)]
+    #[inline(always)]
     pub(crate) fn lowest(&self) -> Option<usize>
         ensures lowest { MatchOption result (numbers_in self.now ≡ set.empty)
             (IsLowest (numbers_in self.now)) }
@@ -105,7 +105,7 @@ impl Levels {
     }
 
     /// Takes the number in, which may be in already.
-    #[inline(never)]
+    #[inline(always)]
     pub(crate) fn insert(&mut self, number: usize)
         requires { number < SLOTS * length self.old }
         ensures numbers { numbers_in self.new ≡ set.insert (numbers_in self.old) number }
@@ -115,7 +115,7 @@ impl Levels {
     }
 
     /// Takes the number out, which may not be in.
-    #[inline(never)]
+    #[inline(always)]
     pub(crate) fn remove(&mut self, number: usize)
         requires { number < SLOTS * length self.old }
         ensures numbers { numbers_in self.new ≡ set.remove (numbers_in self.old) number }
@@ -169,6 +169,7 @@ impl Levels {
 }
 
 // The least number of `high`.
+#[inline(never)]
 fn lowest_of(high: &Vec<Bits256>, filled: &Vec<Bits256>, top: &Bits256) -> Option<usize>
     requires places { vec_len high.now ≤ 256 * vec_len filled.now }
     requires top_places { vec_len filled.now ≤ 256 }
@@ -188,6 +189,7 @@ fn lowest_of(high: &Vec<Bits256>, filled: &Vec<Bits256>, top: &Bits256) -> Optio
 }
 
 // Takes the number into `high`, and its part into the sets above.
+#[inline(never)]
 fn enter(high: &mut Vec<Bits256>, filled: &mut Vec<Bits256>, top: &mut Bits256, number: usize)
     requires within { number < 256 * vec_len high.old }
     requires places { vec_len high.old ≤ 256 * vec_len filled.old }
@@ -207,6 +209,7 @@ fn enter(high: &mut Vec<Bits256>, filled: &mut Vec<Bits256>, top: &mut Bits256, 
 }
 
 // Takes the number out of `high`, and its part out of the sets above where it was the last.
+#[inline(never)]
 fn strike(high: &mut Vec<Bits256>, filled: &mut Vec<Bits256>, top: &mut Bits256, number: usize)
     requires within { number < 256 * vec_len high.old }
     requires places { vec_len high.old ≤ 256 * vec_len filled.old }
