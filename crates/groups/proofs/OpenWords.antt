@@ -1,10 +1,10 @@
 -- Which words of a page may have a usable slot.
-use Rattle.std.proofs.Common.{zero, suc, ◌≡◌, ℕ, ◌+◌, ◌/◌, ◌<◌, Bool, true, false, not, cond, ◌||◌, Option, Some, None, is_some, ap, sym, ◌∙◌, inl, inr, arith, rules}
+use Rattle.std.proofs.Common.{zero, suc, ◌≡◌, ℕ, ◌+◌, ◌*◌, ◌/◌, ◌<◌, min, Bool, true, false, not, cond, ◌||◌, Option, Some, None, is_some, ap, sym, ◌∙◌, inl, inr, arith, rules}
 use Rattle.std.specs.Prelude.{MatchOption}
 use Rattle.std.specs.Cmp.{nat_cmp_total}
 use Rattle.std.specs.FinSet.{contains, remove, union, contains-union}
 use Rattle.std.proofs.lemmas.Bool.{cases_eq, true≢false}
-use Rattle.bitmap.specs.Slots.{HasAllBelow, SlotSet}
+use Rattle.bitmap.specs.Slots.{SlotSet}
 use Rattle.bitmap.specs.WordSets.{has_word}
 use Rattle.bitmap.specs.declared.word_set.WordSet.{WordSet}
 use Rattle.bitmap.proofs.Summaries.{contains-remove_other}
@@ -12,7 +12,7 @@ use Rattle.span.proofs.Widths.{slots_in-most}
 use Rattle.span.specs.Classes.{slots_in}
 use Rattle.span.specs.declared.class.Class.{Class}
 use Rattle.span.specs.Log.{worn_slots}
-use Rattle.groups.specs.Spans.{SpansState, all_spans, taken, union_of}
+use Rattle.groups.specs.Spans.{HasAllOf, SpansState, all_spans, slots_for, taken, union_of}
 use Rattle.groups.specs.SpansKept.{IsFullOutside}
 use Rattle.groups.proofs.Lists.{none_where, one_where}
 
@@ -39,10 +39,11 @@ pub taken-is : (spans : SpansState) (occupied worn : SlotSet) → occupied ≡ u
     → union occupied worn ≡ taken spans
 taken-is spans occupied worn live worn_is = ap (λ s. union s worn) live ∙ ap (union (union_of (all_spans spans))) worn_is
 
--- with no word there is none
-pub HasAllBelow-none : (class : Class) (slots : SlotSet) (words : WordSet) → IsFullOutside words (slots_in class) slots
-    → ((word : ℕ) → word < 4 → has_word words word ≡ false) → HasAllBelow slots (slots_in class)
-HasAllBelow-none class slots words full none q below = full q below (none (q / 64) (omega (arith, below, slots_in-most class)))
+-- with no word that has a slot for a put there is none
+pub HasAllOf-none : (slot_limit : ℕ) (class : Class) (slots : SlotSet) (words : WordSet) → IsFullOutside words (slots_in class) slots
+    → ((word : ℕ) → word < 4 → 64 * word < slots_for slot_limit class → has_word words word ≡ false) → HasAllOf slot_limit class slots
+HasAllOf-none slot_limit class slots words full none q below =
+    full q (omega (arith, below)) (none (q / 64) (omega (arith, below, slots_in-most class)) (omega (arith, below)))
 
 -- a slot that is given up comes into its word
 pub IsFullOutside-freed : (limit : ℕ) (live worn : SlotSet) (words after : WordSet) (slot : ℕ) → IsFullOutside words limit (union live worn)

@@ -1,5 +1,5 @@
 // A head and its guests, whose live slots differ.
-ghost use Rattle.std.specs.Prelude.{[], ◌∷◌, ◌++◌, ◌≡◌, ◌<◌, ◌≤◌, ◌+◌, ◌/◌, ℕ, IfOk, IfSome, OnOk, OnErr, MatchOption, Some, IsTrue, ◌↔◌, slice_get, length, map, false, vec_len, vec_capacity};
+ghost use Rattle.std.specs.Prelude.{[], ◌∷◌, ◌++◌, ◌≡◌, ◌<◌, ◌≤◌, ◌+◌, ◌*◌, ◌/◌, ℕ, IfOk, IfSome, OnOk, OnErr, MatchOption, Some, IsTrue, ◌↔◌, slice_get, length, map, false, vec_len, vec_capacity};
 ghost use Rattle.std.specs.Bool.{OnTrue, OnFalse};
 ghost use Rattle.std.specs.FinSet as set;
 ghost use Rattle.bitmap.specs.Slots.{AreDisjoint, HasWord};
@@ -10,7 +10,7 @@ ghost use Rattle.span.specs.SpanLogs.{AreLegal, room_for_logs, span_of_log};
 ghost use Rattle.span.specs.State.{IsSettable};
 ghost use Rattle.groups.specs.Dead.{live_among};
 ghost use Rattle.groups.specs.SpansKept.{IsFullOutside};
-ghost use Rattle.groups.specs.Spans.{HasAllOf, IsFull, IsLowestLeft, IsLowestUsable, IsNextKey, OfSpanAt, all_spans, live_count, set_spans, summary_of, union_of, with_free_at, with_guest_at, with_head, with_more_guests, with_put, with_set_at, with_span_at, with_worn};
+ghost use Rattle.groups.specs.Spans.{HasAllOf, IsFull, IsLowestLeft, IsLowestUsable, IsNextKey, OfSpanAt, all_spans, live_count, set_spans, slots_for, summary_of, union_of, with_free_at, with_guest_at, with_head, with_more_guests, with_put, with_set_at, with_span_at, with_worn};
 ghost use Rattle.bitmap.specs.declared.bits.TheConstants.{SLOTS};
 
 use crate::live::is_live;
@@ -168,44 +168,45 @@ impl<L: Log> Spans<L> {
     }
 
     /// Puts an object of the head's class, given by its words, at the lowest slot of the page that
-    /// is live in no span, and not worn in the head, which gives out the key. `None` where there is
-    /// no such slot. The spans are then as they were.
+    /// is live in no span, and not worn in the head, which gives out the key. `None` where no slot
+    /// below `slot_limit` is such a slot. The spans are then as they were.
     ///
     /// # Errors
     ///
     /// `AllocError` where there is such a slot, and the head's log could not grow. The spans are
     /// then as they were.
     #[inline(always)]
-    pub fn put(&mut self, words: &[u128]) -> Result<Option<Placed>, AllocError>
+    pub fn put(&mut self, slot_limit: u16, words: &[u128]) -> Result<Option<Placed>, AllocError>
         requires { length words.now ≡ width_of self.old.head.class }
-        ensures slot { IfOk result (λ made. MatchOption made (IsFull self.old) (λ placed.
-            IsLowestUsable self.old placed.key.slot)) }
+        ensures slot { IfOk result (λ made. MatchOption made (IsFull slot_limit self.old)
+            (λ placed. IsLowestUsable slot_limit self.old placed.key.slot)) }
         ensures key { IfOk result (λ made. IfSome made (λ placed.
             IsNextKey self.old.head placed.key)) }
         ensures ok { IfOk result (λ made. MatchOption made (self.new ≡ self.old) (λ placed.
             self.new ≡ with_head self.old (with_put self.old.head placed.key.slot words.now))) }
         ensures full { IfOk result (λ made. IfSome made (λ placed. IsTrue placed.is_full
-            → IsFull self.new)) }
-        ensures room { OnErr result (IsFull self.old → ⊥) }
+            → IsFull slot_limit self.new)) }
+        ensures room { OnErr result (IsFull slot_limit self.old → ⊥) }
         ensures err { OnErr result (self.new ≡ self.old) }
     {
-        let found = lowest_usable(&mut self.open_words, &self.occupied, &self.head);
+        let found = lowest_usable(&mut self.open_words, &self.occupied, &self.head, slot_limit);
         let Some(Vacancy { slot, is_last }) = found else {
             return Ok(None);
         };
         let key = self.head.put_at(slot, words)?;
         self.occupied.insert(slot);
-        let is_full = shut(&mut self.open_words, usize::from(slot / 64), is_last);
+        let word = usize::from(slot / 64);
+        let is_full = shut(&mut self.open_words, word, is_last, self.head.class(), slot_limit);
         Ok(Some(Placed { key, is_full }))
     }
 
-    /// Whether a put of an object of the head's class has a slot: one that is live in no span, and
-    /// not worn in the head.
-    pub fn has_usable(&mut self) -> bool
-        ensures usable { IsTrue result ↔ (IsFull self.old → ⊥) }
+    /// Whether a put of an object of the head's class has a slot: one below `slot_limit` that is
+    /// live in no span, and not worn in the head.
+    pub fn has_usable(&mut self, slot_limit: u16) -> bool
+        ensures usable { IsTrue result ↔ (IsFull slot_limit self.old → ⊥) }
         ensures same { self.new ≡ self.old }
     {
-        lowest_usable(&mut self.open_words, &self.occupied, &self.head).is_some()
+        lowest_usable(&mut self.open_words, &self.occupied, &self.head, slot_limit).is_some()
     }
 
     /// Sets the object of the slot in the span at the place to these words, where the slot is live
@@ -356,19 +357,21 @@ impl Spans<Counted> {
     }
 }
 
-// The lowest slot of the head's class that is neither occupied nor worn in the head; the words
-// outside of `open_words` have none. A word in which none is found leaves it, so that the next
-// search does not look there.
+// The lowest slot that is neither occupied nor worn in the head, if a put of its class may take it;
+// the words outside of `open_words` have none of the class. A word in which none is found leaves
+// it, so that the next search does not look there.
 #[inline(always)]
 fn lowest_usable<L: Log>(
     open_words: &mut WordSet,
     occupied: &Bits256,
     head: &Span<L>,
+    slot_limit: u16,
 ) -> Option<Vacancy>
     requires { IsFullOutside open_words.old (slots_in head.now.class)
         (with_worn occupied.now head.now) }
-    ensures lowest { MatchOption result (HasAllOf head.now.class (with_worn occupied.now head.now))
-        (λ found. IsLowestLeft head.now.class (with_worn occupied.now head.now) found.slot) }
+    ensures lowest { MatchOption result
+        (HasAllOf slot_limit head.now.class (with_worn occupied.now head.now)) (λ found.
+        IsLowestLeft slot_limit head.now.class (with_worn occupied.now head.now) found.slot) }
     ensures last { IfSome result (λ found. IsTrue found.is_last
         → HasWord (set.insert (with_worn occupied.now head.now) found.slot) (found.slot / 64)) }
     ensures shut { IsFullOutside open_words.new (slots_in head.now.class)
@@ -377,20 +380,31 @@ fn lowest_usable<L: Log>(
     let class = head.class();
     while let Some(word) = open_words.first() {
         if let Some(found) = head.lowest_unused_in(occupied, word) {
-            if u16::from(found.slot) < class.slots() {
+            if is_offered(class, slot_limit, found.slot) {
                 return Some(found);
             }
+            return None;
         }
         open_words.remove(word);
     }
     None
 }
 
-// Takes the word out if `out` says so, and says whether none is left then.
+// Whether a put of the class may take the slot.
 #[inline(always)]
-fn shut(open_words: &mut WordSet, word: usize, out: bool) -> bool
+fn is_offered(class: Class, slot_limit: u16, slot: u8) -> bool
+    ensures { IsTrue result ↔ (slot < slots_for slot_limit class) }
+{
+    u16::from(slot) < class.slots() && u16::from(slot) < slot_limit
+}
+
+// Takes the word out if `out` says so, and says whether none is left then that has a slot which a
+// put of the class may take.
+#[inline(always)]
+fn shut(open_words: &mut WordSet, word: usize, out: bool, class: Class, slot_limit: u16) -> bool
     requires { word < 4 }
-    ensures none { IsTrue result → (other : ℕ) → other < 4 → has_word open_words.new other ≡ false }
+    ensures none { IsTrue result → (other : ℕ) → other < 4
+        → 64 * other < slots_for slot_limit class → has_word open_words.new other ≡ false }
     ensures others { (other : ℕ) → other < 4 → (IsTrue out → other ≡ word → ⊥)
         → has_word open_words.new other ≡ has_word open_words.old other }
 {
@@ -398,7 +412,19 @@ fn shut(open_words: &mut WordSet, word: usize, out: bool) -> bool
         return false;
     }
     open_words.remove(word);
-    open_words.first().is_none()
+    !has_offered(*open_words, class, slot_limit)
+}
+
+// Whether one of the words has a slot that a put of the class may take.
+#[inline(always)]
+fn has_offered(words: WordSet, class: Class, slot_limit: u16) -> bool
+    ensures { result ≡ false → (word : ℕ) → word < 4
+        → 64 * word < slots_for slot_limit class → has_word words word ≡ false }
+{
+    let Some(first) = words.first() else {
+        return false;
+    };
+    is_offered(class, slot_limit, 64 * first as u8)
 }
 
 // Drops the guests in which no slot is live.

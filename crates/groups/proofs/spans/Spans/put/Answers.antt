@@ -1,15 +1,15 @@
-use Rattle.std.proofs.Common.{◌≡◌, ◌<◌, ◌/◌, ◌∙◌, ap, refl, sym, subst, true, false, rules}
+use Rattle.std.proofs.Common.{◌≡◌, ◌*◌, ◌<◌, ◌/◌, ◌∙◌, ap, refl, sym, subst, true, false, rules}
 use Rattle.std.specs.FinSet as set
-use Rattle.bitmap.specs.Slots.{AreDisjoint, HasAllBelow, HasWord, SlotSet}
+use Rattle.bitmap.specs.Slots.{AreDisjoint, HasWord, SlotSet}
 use Rattle.span.specs.Classes.{slots_in}
 use Rattle.span.specs.Log.{live_slots, worn_slots}
 use Rattle.span.specs.State.{SpanState}
 use Rattle.span.proofs.Slots.{live_slots-put}
-use Rattle.groups.specs.Spans.{SpansState, taken, union_of, with_put}
+use Rattle.groups.specs.Spans.{HasAllOf, SpansState, slots_for, taken, union_of, with_put}
 use Rattle.groups.specs.SpansKept.{IsFullOutside}
 use Rattle.groups.proofs.FilledBy.{IsFullOutside-put}
 use Rattle.groups.proofs.Maps.{at_err}
-use Rattle.groups.proofs.OpenWords.{HasAllBelow-none, taken-is}
+use Rattle.groups.proofs.OpenWords.{HasAllOf-none, taken-is}
 use Rattle.span.proofs.Widths.{slots_in-most}
 use Rattle.groups.proofs.Unions.{outside_left, outside_right, union-insert, AreDisjoint-insert}
 use Rattle.groups.proofs.spans.Spans.put.Goals as goal
@@ -27,9 +27,9 @@ returns-in_err-key-clause-room g c =
     let slot = c.in-Some.field-0.slot in
     let same = taken-is spans c.self.inside.occupied (worn_slots c.self.inside.head.gens c.self.inside.head.log) c.self.invariant.occupied_is refl in
     let free : set.contains (taken spans) slot ≡ false = ap (λ s. set.contains s slot) (sym same) ∙ c.in-Some.ensures.lowest.1.outside in
-    let low : slot < slots_in spans.head.class = c.in-Some.ensures.lowest.0 in
+    let low : slot < slots_for c.args.slot_limit spans.head.class = c.in-Some.ensures.lowest.0 in
     at_err c.from_residual.result (λ full.
-    let all : HasAllBelow (taken spans) (slots_in spans.head.class) = subst (λ (s : SpansState). HasAllBelow (taken s) (slots_in s.head.class)) (sym c.self.view_is) full in
+    let all : HasAllOf c.args.slot_limit spans.head.class (taken spans) = subst (λ (s : SpansState). HasAllOf c.args.slot_limit s.head.class (taken s)) (sym c.self.view_is) full in
     let both : false ≡ true = sym free ∙ all slot low in
     cc)
 
@@ -55,9 +55,10 @@ invariant_of-self-2 g c =
       shut = subst (λ (h : SpanState). IsFullOutside c.shut-is_full.new.open_words (slots_in h.class) (taken (record spans { head = h }))) (sym put)
           (IsFullOutside-put spans slot words (slots_in inside.head.class) c.lowest_usable-found.new.open_words c.shut-is_full.new.open_words c.in-Some.field-0.is_last
           (slots_in-most inside.head.class) shut (λ last. subst (λ s. HasWord (set.insert s slot) (slot / 64)) same (c.in-Some.ensures.last last))
-          (λ other few apart. c.shut-is_full.ensures.others other few (λ last e. apart last (e ∙ c.from.ensures))));
+          (λ other few apart. c.shut-is_full.ensures.others other few (λ last e. apart last (e ∙ c.from-word.ensures))));
     }
 
 pub returns-clause-full : goal.returns-clause-full
 returns-clause-full g c none =
-    HasAllBelow-none c.put_at.new.self.class _ c.shut-is_full.new.open_words (invariant_of-self-2 g c).shut (c.shut-is_full.ensures.none none)
+    HasAllOf-none c.args.slot_limit c.put_at.new.self.class _ c.shut-is_full.new.open_words (invariant_of-self-2 g c).shut
+    (λ word few low. c.shut-is_full.ensures.none none word few (subst (λ class. 64 * word < slots_for c.args.slot_limit class) (sym c.class.ensures.class) low))
