@@ -65,8 +65,8 @@ module _ (groups : List GroupState) (rooms : List NumbersState) (count : ℕ) (h
   ]
 
   -- a class of which an index is noted is that of a group
-  pub HaveRoom-noted : (class : Class) → HasRooms class groups (rooms_of rooms class) → (n : ℕ) → contains (rooms_of rooms class) n ≡ true → count ≤ room_of rooms class
-  HaveRoom-noted class noted n member =
+  pub HaveRoom-noted : {slot_limit : ℕ} (class : Class) → HasRooms slot_limit class groups (rooms_of rooms class) → (n : ℕ) → contains (rooms_of rooms class) n ≡ true → count ≤ room_of rooms class
+  HaveRoom-noted {slot_limit} class noted n member =
       let it = some_here groups n (noted.within n member) in
       omega (arith, has n it.0 it.1, ap (room_of rooms) (noted.of_class n it.0 it.1 member))
 

@@ -27,15 +27,15 @@ use Rattle.shard.proofs.AlikeGroups.{AreSoundGroups-map}
 use Rattle.shard.proofs.ChangedBelow.{changed_below}
 
 -- a group that takes no put takes none afterwards
-HasNoRoom-without_dead : (class : Class) (group : GroupState) → HasNoRoom class group → HasNoRoom class (without_dead group)
-HasNoRoom-without_dead class group n = search (rules, occupied-without_dead)
+HasNoRoom-without_dead : (slot_limit : ℕ) (class : Class) (group : GroupState) → HasNoRoom slot_limit class group → HasNoRoom slot_limit class (without_dead group)
+HasNoRoom-without_dead slot_limit class group n = search (rules, occupied-without_dead)
 
-pub HasRooms-without_dead : (class : Class) (groups : List GroupState) (rooms : SlotSet) → HasRooms class groups rooms → HasRooms class (map_list without_dead groups) rooms
-HasRooms-without_dead class groups rooms has = record {
+pub HasRooms-without_dead : {slot_limit : ℕ} (class : Class) (groups : List GroupState) (rooms : SlotSet) → HasRooms slot_limit class groups rooms → HasRooms slot_limit class (map_list without_dead groups) rooms
+HasRooms-without_dead {slot_limit} class groups rooms has = record {
   within = λ q member. rw (length-map groups (without_dead {Closed = _})) (has.within q member);
   others = λ q other there out.
       let before = before-map without_dead groups q other there in
-      subst (HasNoRoom class) before.2 (HasNoRoom-without_dead class before.0 (has.others q before.0 before.1 out));
+      subst (HasNoRoom slot_limit class) before.2 (HasNoRoom-without_dead slot_limit class before.0 (has.others q before.0 before.1 out));
   of_class = λ q other there member.
       let before = before-map without_dead groups q other there in
       ap (λ (g : GroupState). g.head.class) (sym before.2) ∙ has.of_class q before.0 before.1 member;

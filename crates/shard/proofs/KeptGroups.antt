@@ -28,7 +28,7 @@ module _ {L : Type 0} (s : Inside L) (kept : IsKept s) (groups : Vec GroupState)
 
   -- the groups are as they were
   pub IsKept-same : groups.items ≡ s.groups.items → vec_capacity s.groups ≤ vec_capacity groups
-      → ((class : Class) → HasRooms class s.groups.items (rooms_of rooms class)) → ((class : Class) → room_of s.rooms class ≤ room_of rooms class)
+      → ((class : Class) → HasRooms s.slot_limit class s.groups.items (rooms_of rooms class)) → ((class : Class) → room_of s.rooms class ≤ room_of rooms class)
       → IsKept after
   IsKept-same same room has more = record {
     number_fits = kept.number_fits;
@@ -55,7 +55,7 @@ module _ {L : Type 0} (s : Inside L) (kept : IsKept s) (groups : Vec GroupState)
   pub IsKept-replaced : (least : Vec ℕ) → vec_len s.least ≤ vec_len least → (index : ℕ) (group now : GroupState) → slice_get s.groups.items index ≡ Some group → AreAlike group now → now.head.class ≡ group.head.class
       → groups.items ≡ set s.groups.items index now → vec_capacity s.groups ≡ vec_capacity groups
       → IsSound (record (state_of s) { groups = set s.groups.items index now })
-      → ((class : Class) → HasRooms class (set s.groups.items index now) (rooms_of rooms class))
+      → ((class : Class) → HasRooms s.slot_limit class (set s.groups.items index now) (rooms_of rooms class))
       → ((class : Class) → room_of s.rooms class ≤ room_of rooms class)
       → KnowsLeast (set s.groups.items index now) least.items → IsKept (record after { least = least })
   IsKept-replaced least bytes index group now here ids class_is same room sound has more known = record {
@@ -83,7 +83,7 @@ module _ {L : Type 0} (s : Inside L) (kept : IsKept s) (groups : Vec GroupState)
   -- only flags and pages change
   pub IsKept-alike : (least : Vec ℕ) → vec_len s.least ≤ vec_len least → (f : GroupState → GroupState) → ((group : GroupState) → (f group).head.class ≡ group.head.class) → groups.items ≡ map_list f s.groups.items
       → map_list bare groups.items ≡ map_list bare s.groups.items → vec_capacity s.groups ≤ vec_capacity groups → AreSoundGroups groups.items
-      → ((class : Class) → HasRooms class groups.items (rooms_of rooms class)) → ((class : Class) → room_of s.rooms class ≤ room_of rooms class)
+      → ((class : Class) → HasRooms s.slot_limit class groups.items (rooms_of rooms class)) → ((class : Class) → room_of s.rooms class ≤ room_of rooms class)
       → KnowsLeast groups.items least.items → IsKept (record after { least = least })
   IsKept-alike least bytes f class_is is same capacity sound has more known =
       let many = (alike s.groups.items groups.items same).many in

@@ -1,5 +1,5 @@
 -- A shard stays sound where one of its groups is replaced by a sound group of the same ids: so it is at a free, a set and a put.
-use Rattle.std.proofs.Common.{◌≡◌, ℕ, length-set, length, Some, set, slice_get, ◌∙◌, ap, sym, refl}
+use Rattle.std.proofs.Common.{◌≡◌, ℕ, length-set, length, Some, set, slice_get, ◌∙◌, ap, sym, refl, arith}
 use Rattle.std.proofs.lemmas.Option.{none-some}
 use Rattle.span.specs.Classes.{width_of}
 use Rattle.span.specs.Log.{Holds, Value}
@@ -42,10 +42,10 @@ module _ (old : ShardState) (sound : IsSound old) (index : ℕ) (group : GroupSt
     }
 
   -- a put into the group
-  module _ (class : Class) (slot : ℕ) (value : Value) (width : length value ≡ width_of class) (room : IsLowestRoom class old.groups index group slot) where
+  module _ (class : Class) (slot : ℕ) (value : Value) (width : length value ≡ width_of class) {slot_limit : ℕ} (room : IsLowestRoom slot_limit class old.groups index group slot) where
     pub IsSound-put : IsSound (record old { groups = set old.groups index (put_group group class slot value) })
     IsSound-put = IsSound-replaced (put_group group class slot value) (HaveSameIds-set (spans_of group) 0 group.head (with_put group.head slot value) refl refl)
-        (IsSoundGroup-put group (sound.groups index group here) class room.slot_is.class_is slot room.slot_is.on_page value width
+        (IsSoundGroup-put group (sound.groups index group here) class room.slot_is.class_is slot (omega (arith, room.slot_is.on_page)) value width
         (outside_left _ _ slot room.slot_is.lowest.outside) (outside_right _ _ slot room.slot_is.lowest.outside))
 
   module _ (place : ℕ) (span : SpanState) (there : slice_get (spans_of group) place ≡ Some span) where

@@ -36,5 +36,5 @@ module _ (group : GroupState) (span : SpanState) (slot generation : ℕ) (value 
         λ i. union (live i) (worn-set_group place here i)
 
     -- a group with no room has none after the set
-    pub HasNoRoom-set : (class : Class) → HasNoRoom class group → HasNoRoom class (after place)
-    HasNoRoom-set class n = search (rules, closed-set_group, class-set_group, unusable-set_group)
+    pub HasNoRoom-set : (slot_limit : ℕ) (class : Class) → HasNoRoom slot_limit class group → HasNoRoom slot_limit class (after place)
+    HasNoRoom-set slot_limit class n = search (rules, closed-set_group, class-set_group, unusable-set_group)

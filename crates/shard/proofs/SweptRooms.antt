@@ -36,20 +36,20 @@ cases-last (z ∷ xs) x (suc at) y there = elim (cases-last xs x at y there) [
 ]
 
 -- of the groups below the index, those that have stayed have their new indexes, and the others none
-pub record IsSwept (class : Class) (groups : List GroupState) (old now : SlotSet) (index next : ℕ) : Type 0 where
+pub record IsSwept (slot_limit : ℕ) (class : Class) (groups : List GroupState) (old now : SlotSet) (index next : ℕ) : Type 0 where
   pub done : List GroupState
   pub all : filter has_stayed groups ≡ done ++ filter has_stayed (drop index groups)
   pub count : next ≡ length done
   pub few : next ≤ index
-  pub others : (q : ℕ) (group : GroupState) → slice_get done q ≡ Some group → contains now q ≡ false → HasNoRoom class group
+  pub others : (q : ℕ) (group : GroupState) → slice_get done q ≡ Some group → contains now q ≡ false → HasNoRoom slot_limit class group
   pub of_class : (q : ℕ) (group : GroupState) → slice_get done q ≡ Some group → contains now q ≡ true → group.head.class ≡ class
   pub between : (q : ℕ) → next ≤ q → q < index → contains now q ≡ false
   pub rest : (q : ℕ) → index ≤ q → contains now q ≡ contains old q
 
-pub HasRooms-swept : (class : Class) (groups : List GroupState) (old now : SlotSet) → HasRooms class groups old → (index next : ℕ) → length groups ≤ index
-    → IsSwept class groups old now index next → HasRooms class (filter has_stayed groups) now
-HasRooms-swept class groups old now has index next end swept =
-    subst (λ gs. HasRooms class gs now) (sym (swept.all ∙ ap (λ gs. swept.done ++ filter has_stayed gs) (drop_all index groups end) ∙ joined-none swept.done))
+pub HasRooms-swept : {slot_limit : ℕ} (class : Class) (groups : List GroupState) (old now : SlotSet) → HasRooms slot_limit class groups old → (index next : ℕ) → length groups ≤ index
+    → IsSwept slot_limit class groups old now index next → HasRooms slot_limit class (filter has_stayed groups) now
+HasRooms-swept {slot_limit} class groups old now has index next end swept =
+    subst (λ gs. HasRooms slot_limit class gs now) (sym (swept.all ∙ ap (λ gs. swept.done ++ filter has_stayed gs) (drop_all index groups end) ∙ joined-none swept.done))
     (record {
       within = λ q member. elim (cases_lt q next) [
         | inl low ↦ omega (arith, low, swept.count)
@@ -62,7 +62,7 @@ HasRooms-swept class groups old now has index next end swept =
       of_class = swept.of_class;
     })
 
-module _ (class : Class) (groups : List GroupState) (old now : SlotSet) (has : HasRooms class groups old) (index next : ℕ) (swept : IsSwept class groups old now index next)
+module _ {slot_limit : ℕ} (class : Class) (groups : List GroupState) (old now : SlotSet) (has : HasRooms slot_limit class groups old) (index next : ℕ) (swept : IsSwept slot_limit class groups old now index next)
     (group : GroupState) (here : slice_get groups index ≡ Some group) where
   -- a group of another class has no index here
   pub none_here : (group.head.class ≡ class → ⊥) → contains now index ≡ false
@@ -73,7 +73,7 @@ module _ (class : Class) (groups : List GroupState) (old now : SlotSet) (has : H
 
   module _ (after : SlotSet) (same : (q : ℕ) → (q ≡ index → ⊥) → contains after q ≡ contains now q) (none : contains after index ≡ false) where
     -- one that has left
-    pub IsSwept-left : has_stayed group ≡ false → IsSwept class groups old after (index + 1) next
+    pub IsSwept-left : has_stayed group ≡ false → IsSwept slot_limit class groups old after (index + 1) next
     IsSwept-left left = record {
       done = swept.done;
       all = swept.all ∙ ap (λ gs. swept.done ++ filter has_stayed gs) (drop_step groups index group here)
@@ -99,7 +99,7 @@ module _ (class : Class) (groups : List GroupState) (old now : SlotSet) (has : H
 
     -- one that has stayed
     pub IsSwept-stayed : has_stayed group ≡ true → (last : SlotSet) → ((q : ℕ) → (q ≡ next → ⊥) → contains last q ≡ contains after q)
-        → (contains last next ≡ false → HasNoRoom class group) → (contains last next ≡ true → group.head.class ≡ class) → IsSwept class groups old last (index + 1) (next + 1)
+        → (contains last next ≡ false → HasNoRoom slot_limit class group) → (contains last next ≡ true → group.head.class ≡ class) → IsSwept slot_limit class groups old last (index + 1) (next + 1)
     IsSwept-stayed stayed last kept out_is member_is = record {
       done = swept.done ++ group ∷ [];
       all = swept.all ∙ ap (λ gs. swept.done ++ filter has_stayed gs) (drop_step groups index group here)
@@ -110,7 +110,7 @@ module _ (class : Class) (groups : List GroupState) (old now : SlotSet) (has : H
       few = let few = swept.few in omega arith;
       others = λ q g there out. elim (cases-last swept.done group q g there) [
         | inl low ↦ swept.others q g low.1 (sym (kept q (λ e. absurd (omega (arith, e, low.0, swept.count))) ∙ same q (λ e. absurd (omega (arith, e, low.0, swept.count, swept.few)))) ∙ out)
-        | inr is ↦ subst (HasNoRoom class) is.1 (out_is (ap (contains last) (swept.count ∙ sym is.0) ∙ out))
+        | inr is ↦ subst (HasNoRoom slot_limit class) is.1 (out_is (ap (contains last) (swept.count ∙ sym is.0) ∙ out))
       ];
       of_class = λ q g there member. elim (cases-last swept.done group q g there) [
         | inl low ↦ swept.of_class q g low.1 (sym (kept q (λ e. absurd (omega (arith, e, low.0, swept.count))) ∙ same q (λ e. absurd (omega (arith, e, low.0, swept.count, swept.few)))) ∙ member)
@@ -136,15 +136,15 @@ module _ (rooms after : List NumbersState) (mine : Class) (index : ℕ) (this : 
   out-everywhere class elsewhere = search (rules, cases_class, out-same)
 
 -- the sets at one more index
-module _ (groups : List GroupState) (old rooms after : List NumbersState) (has : (class : Class) → HasRooms class groups (rooms_of old class)) (index next : ℕ)
-    (swept : (class : Class) → IsSwept class groups (rooms_of old class) (rooms_of rooms class) index next) (group : GroupState) (here : slice_get groups index ≡ Some group)
+module _ {slot_limit : ℕ} (groups : List GroupState) (old rooms after : List NumbersState) (has : (class : Class) → HasRooms slot_limit class groups (rooms_of old class)) (index next : ℕ)
+    (swept : (class : Class) → IsSwept slot_limit class groups (rooms_of old class) (rooms_of rooms class) index next) (group : GroupState) (here : slice_get groups index ≡ Some group)
     (mine : Class) (mine_is : mine ≡ group.head.class) (this : rooms_of after mine ≡ finset.remove (rooms_of rooms mine) index)
     (others : (other : Class) → (other ≡ mine → ⊥) → rooms_of after other ≡ rooms_of rooms other) where
   out : (class : Class) → contains (rooms_of after class) index ≡ false
   out class = out-everywhere rooms after mine index this others class
       (λ differs. none_here class groups (rooms_of old class) (rooms_of rooms class) (has class) index next (swept class) group here (λ e. differs (mine_is ∙ e)))
 
-  pub sweep-left : has_left group ≡ true → (class : Class) → IsSwept class groups (rooms_of old class) (rooms_of after class) (index + 1) next
+  pub sweep-left : has_left group ≡ true → (class : Class) → IsSwept slot_limit class groups (rooms_of old class) (rooms_of after class) (index + 1) next
   sweep-left left class =
       IsSwept-left class groups (rooms_of old class) (rooms_of rooms class) (has class) index next (swept class) group here (rooms_of after class)
       (kept-apart rooms after mine index this others class) (out class) (ap not left)
@@ -163,13 +163,13 @@ module _ (groups : List GroupState) (old rooms after : List NumbersState) (has :
     no_bit : (class : Class) → (class ≡ mine → ⊥) → contains (rooms_of last class) next ≡ false
     no_bit class differs = search (rules, free_next, kept-apart, out)
 
-    out_is : (class : Class) → contains (rooms_of last class) next ≡ false → HasNoRoom class group
+    out_is : (class : Class) → contains (rooms_of last class) next ≡ false → HasNoRoom slot_limit class group
     out_is class none = search (rules, cases_class, bit)
 
     member_is : (class : Class) → contains (rooms_of last class) next ≡ true → group.head.class ≡ class
     member_is class member = search (rules, cases_class, true≢false, no_bit)
 
-    pub sweep-stayed : (class : Class) → IsSwept class groups (rooms_of old class) (rooms_of last class) (index + 1) (next + 1)
+    pub sweep-stayed : (class : Class) → IsSwept slot_limit class groups (rooms_of old class) (rooms_of last class) (index + 1) (next + 1)
     sweep-stayed class =
         IsSwept-stayed class groups (rooms_of old class) (rooms_of rooms class) (has class) index next (swept class) group here (rooms_of after class)
         (kept-apart rooms after mine index this others class) (out class) (ap not stayed) (rooms_of last class) (kept_in class) (out_is class) (member_is class)

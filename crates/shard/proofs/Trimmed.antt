@@ -1,5 +1,5 @@
 -- What stays where groups with no live slot give their pages back.
-use Rattle.std.proofs.Common.{◌≡◌, true, ◌&&◌, List, None, not, nat_eq, is_some, eqb-true, ◌∙◌, ap, sym, subst, rules}
+use Rattle.std.proofs.Common.{◌≡◌, ℕ, true, ◌&&◌, List, None, not, nat_eq, is_some, eqb-true, ◌∙◌, ap, sym, subst, rules}
 use Rattle.std.specs.Prelude.{map as map_list}
 use Rattle.std.specs.FinSet.{empty, empty_of_len}
 use Rattle.std.proofs.lemmas.Bool.{and_parts}
@@ -44,15 +44,15 @@ pub AreSoundGroups-trimmed : (groups : List GroupState) → AreSoundGroups group
 AreSoundGroups-trimmed groups sound = AreSoundGroups-map trimmed IsSoundGroup-trimmed groups sound
 
 -- a group that takes no put takes none afterwards
-HasNoRoom-trimmed : (class : Class) (group : GroupState) → HasNoRoom class group → HasNoRoom class (trimmed group)
-HasNoRoom-trimmed class group none = search rules
+HasNoRoom-trimmed : (slot_limit : ℕ) (class : Class) (group : GroupState) → HasNoRoom slot_limit class group → HasNoRoom slot_limit class (trimmed group)
+HasNoRoom-trimmed slot_limit class group none = search rules
 
-pub HasRooms-trimmed : (class : Class) (groups : List GroupState) (rooms : SlotSet) → HasRooms class groups rooms → HasRooms class (map_list trimmed groups) rooms
-HasRooms-trimmed class groups rooms has = record {
+pub HasRooms-trimmed : {slot_limit : ℕ} (class : Class) (groups : List GroupState) (rooms : SlotSet) → HasRooms slot_limit class groups rooms → HasRooms slot_limit class (map_list trimmed groups) rooms
+HasRooms-trimmed {slot_limit} class groups rooms has = record {
   within = λ q member. rw (length-map groups trimmed) (has.within q member);
   others = λ q other there out.
       let before = before-map trimmed groups q other there in
-      subst (HasNoRoom class) before.2 (HasNoRoom-trimmed class before.0 (has.others q before.0 before.1 out));
+      subst (HasNoRoom slot_limit class) before.2 (HasNoRoom-trimmed slot_limit class before.0 (has.others q before.0 before.1 out));
   of_class = λ q other there member.
       let before = before-map trimmed groups q other there in
       ap (λ (g : GroupState). g.head.class) (sym before.2) ∙ class-trimmed before.0 ∙ has.of_class q before.0 before.1 member;

@@ -6,7 +6,7 @@ ghost use Rattle.shard.specs.Group.{GroupState};
 ghost use Rattle.groups.specs.Group.{Ascend, HasNoHead, IsHeadOf, live_in, paged_in, summary};
 ghost use Rattle.span.specs.declared.class.Class.{Class};
 ghost use Rattle.shard.specs.Sound.{IsSound};
-ghost use Rattle.shard.specs.State.{IsInRange, empty_shard};
+ghost use Rattle.shard.specs.State.{IsInRange, empty_shard, empty_with};
 ghost use Rattle.bitmap.specs.declared.bits.TheConstants.{SLOTS};
 ghost use Rattle.span.specs.declared.limits.TheConstants.{MOST_PAGES, MOST_SHARDS, MOST_SPANS};
 
@@ -15,6 +15,7 @@ use crate::error::Config;
 use crate::group::Group;
 use crate::guest_notes::GuestNotes;
 use crate::head_indexes::HeadIndexes;
+use bitmap::SLOTS;
 use groups::Directory;
 use span::names::{Entry, MOST_PAGES, MOST_SHARDS, MOST_SPANS, SpanId};
 use span::spans::{Kept, Log, Span};
@@ -71,6 +72,7 @@ pub struct Shard<L: Log = Kept> {
     number: u32,
     page_limit: usize,
     span_limit: u32,
+    slot_limit: u16,
     gens: u32,
     opened: u32,
     ended: bool,
@@ -136,9 +138,33 @@ impl<L: Log> Shard<L> {
             shard ≡ empty_shard number page_limit span_limit gens) }
         ensures sound { IfOk result IsSound }
     {
+        Shard::with_slots(alloc, number, page_limit, span_limit, SLOTS as u16, gens)
+    }
+
+    /// The same, but that a put takes only the lowest `slot_limit` slots of a page: refused also
+    /// where that is not 1 to 256.
+    ///
+    /// Pages of fewer live slots fold together more often. A group from another shard may have live
+    /// slots above.
+    pub fn with_slots(
+        alloc: Global,
+        number: u32,
+        page_limit: usize,
+        span_limit: u32,
+        slot_limit: u16,
+        gens: u32,
+    ) -> Result<Shard<L>, Config>
+        ensures in_range { IsOk result ↔ (IsInRange number page_limit span_limit gens
+            × (1 ≤ slot_limit) × (slot_limit ≤ SLOTS)) }
+        ensures empty { IfOk result (λ shard.
+            shard ≡ empty_with number page_limit span_limit slot_limit gens) }
+        ensures sound { IfOk result IsSound }
+    {
         if number >= MOST_SHARDS
             || !matches!(page_limit, 1..=MOST_PAGES)
             || !matches!(span_limit, 1..=MOST_SPANS)
+            || slot_limit == 0
+            || usize::from(slot_limit) > SLOTS
             || gens == 0
         {
             return Err(Config);
@@ -148,6 +174,7 @@ impl<L: Log> Shard<L> {
             number,
             page_limit,
             span_limit,
+            slot_limit,
             gens,
             opened: 0,
             ended: false,

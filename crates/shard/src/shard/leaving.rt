@@ -2,7 +2,7 @@
 ghost use Rattle.std.specs.Prelude.{◌≡◌, ◌≤◌, filter, length, vec_capacity};
 ghost use Rattle.shard.specs.Leaving.{has_stayed, swept};
 ghost use Rattle.shard.specs.Moves.{Lifts};
-ghost use Rattle.shard.specs.Rooms.{HasRooms, HaveRoom, room_of, rooms_of};
+ghost use Rattle.shard.specs.Rooms.{HaveRoom, RoomsFollow, room_of};
 ghost use Rattle.shard.specs.Sound.{IsSound};
 ghost use Rattle.span.specs.declared.class.Class.{Class};
 
@@ -55,10 +55,8 @@ impl<L: Log> Shard<L> {
 // Has the sets name the groups that have not left by the indexes that they get where the others'
 // places go.
 fn sweep_rooms<L: Log>(groups: &[Group<L>], rooms: &mut ClassRooms)
-    requires has { (class : Class) → HasRooms class groups.now (rooms_of rooms.old class) }
-    requires room { HaveRoom groups.now rooms.old (length groups.now) }
-    ensures has { (class : Class) →
-        HasRooms class (filter has_stayed groups.now) (rooms_of rooms.new class) }
+    requires { HaveRoom groups.now rooms.old (length groups.now) }
+    ensures has { RoomsFollow groups.now (filter has_stayed groups.now) rooms.old rooms.new }
     ensures room { (class : Class) → room_of rooms.new class ≡ room_of rooms.old class }
 {
     let mut next = 0;

@@ -66,7 +66,7 @@ impl<L: Log> Shard<L> {
         };
         let group = &mut self.groups[index];
         let at = group.span_at(0).changes();
-        let Some(Placed { key, is_full }) = group.put(self.alloc, class, words)? else {
+        let Some(Placed { key, is_full }) = group.put(self.alloc, class, self.slot_limit, words)? else {
             return self.put_otherwise(class, words);
         };
         // A group that is full now leaves the set at once, by what is known of it in registers and
@@ -115,7 +115,7 @@ impl<L: Log> Shard<L> {
         while let Some(index) = self.rooms.lowest(class) {
             let group = &mut self.groups[index];
             let at = group.span_at(0).changes();
-            if let Some(Placed { key, is_full }) = group.put(self.alloc, class, words)? {
+            if let Some(Placed { key, is_full }) = group.put(self.alloc, class, self.slot_limit, words)? {
                 self.rooms.remove_if(class, index, is_full);
                 return Ok((key, at));
             }
@@ -134,7 +134,7 @@ impl<L: Log> Shard<L> {
     #[inline(never)]
     fn put_in_new(&mut self, class: Class, words: &[u128]) -> Result<Key, PutError>
         requires width { length words.now ≡ width_of class }
-        requires full { IsFull class self.old.groups }
+        requires full { IsFull self.old.slot_limit class self.old.groups }
         requires pages { length self.old.groups < self.old.page_limit }
         requires opened { self.old.opened < self.old.span_limit }
         requires running { self.old.ended ≡ false }

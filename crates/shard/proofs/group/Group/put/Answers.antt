@@ -10,8 +10,8 @@ use Rattle.shard.proofs.group.Group.put.Goals as goal
 pub returns-in_err-placed-clause-room : goal.returns-in_err-placed-clause-room
 returns-in_err-placed-clause-room g c =
     let same : c.class.result ≡ c.args.class = search rules in
-    at_err c.from_residual.result (subst (λ group. HasNoRoom c.args.class group → ⊥) c.self.view_is
-    (HasNoRoom-open c.args.class (group_of c.self.inside.spans (page_of c.self.inside.words c.self.inside.blank) c.self.inside.closed) c.if-self.false (sym c.class.ensures ∙ same) (c.in_err-placed.ensures {u = tt}).room))
+    at_err c.from_residual.result (subst (λ group. HasNoRoom c.args.slot_limit c.args.class group → ⊥) c.self.view_is
+    (HasNoRoom-open c.args.slot_limit c.args.class (group_of c.self.inside.spans (page_of c.self.inside.words c.self.inside.blank) c.self.inside.closed) c.if-self.false (sym c.class.ensures ∙ same) (c.in_err-placed.ensures {u = tt}).room))
 
 pub set_on-requires-clause-room : goal.set_on-requires-clause-room
 set_on-requires-clause-room g c = λ none. (c.takes_as_is.ensures.yes c.if-not-takes_as_is.false none).1

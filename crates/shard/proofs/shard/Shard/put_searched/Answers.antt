@@ -58,7 +58,7 @@ returns-in_err-key-clause-spent g c =
     let refused = err_from_is_err_and c.from_residual.result c.from_residual.ensures.1 in (
       (λ e. absurd (let spent = sym e ∙ refused.1 in search rules)),
       λ spent. absurd ((c.in_err-key.ensures {u = tt}).room
-          (subst (λ (shard : ShardState). IsFull c.args.class shard.groups) (sym c.loop-index.invariant.same) spent.1.0 c.in-Some.index group here)),
+          (subst (λ (shard : ShardState). IsFull shard.slot_limit c.args.class shard.groups) (sym c.loop-index.invariant.same) spent.1.0 c.in-Some.index group here)),
     )
 
 -- the group took the put, and leaves the set where it is full then
@@ -73,11 +73,11 @@ invariant_of-self-in-Some-2 g c =
     let key = c.in-Some-2.field-0.key in
     let made = c.in_ok-key.ensures {u = tt} in
     let here = group_here s c.loop-index.invariant.kept c.args.class c.in-Some.index group c.in-Some.ensures.lowest c.index_mut-group.ensures.value in
-    let usable : IsLowestUsable c.args.class group key.slot = rw c.in-Some-2.is at made.slot in
+    let usable : IsLowestUsable c.loop-index.self-inside.slot_limit c.args.class group key.slot = rw c.in-Some-2.is at made.slot in
     let put : c.put.new.self ≡ put_group group c.args.class key.slot c.args.words.now = rw c.in-Some-2.is at made.ok in
     IsKept-put_full s kept c.args.class c.in-Some.index group here c.in-Some.ensures.lowest key c.args.words.now usable c.requires
     _ (ap (set s.groups.items c.in-Some.index) put) refl
-    c.remove_if.new.self c.in-Some-2.field-0.is_full (λ full. subst (HasNoRoom c.args.class) put ((rw c.in-Some-2.is at made.full) full))
+    c.remove_if.new.self c.in-Some-2.field-0.is_full (λ full. subst (HasNoRoom c.loop-index.self-inside.slot_limit c.args.class) put ((rw c.in-Some-2.is at made.full) full))
     c.remove_if.ensures.this c.remove_if.ensures.others c.remove_if.ensures.room
 
 puts : (g : _) (c : goal.After-remove_if g)
@@ -117,11 +117,11 @@ pub returns-in-Some-2-clause-spent : goal.returns-in-Some-2-clause-spent
 returns-in-Some-2-clause-spent g c =
     let s = c.loop-index.self-inside in
     let group = c.index_mut-group.result.now in
-    let usable : IsLowestUsable c.args.class group c.in-Some-2.field-0.key.slot = rw c.in-Some-2.is at (c.in_ok-key.ensures {u = tt}).slot in
+    let usable : IsLowestUsable c.loop-index.self-inside.slot_limit c.args.class group c.in-Some-2.field-0.key.slot = rw c.in-Some-2.is at (c.in_ok-key.ensures {u = tt}).slot in
     let here = group_here s c.loop-index.invariant.kept c.args.class c.in-Some.index group c.in-Some.ensures.lowest c.index_mut-group.ensures.value in (
       (λ e. absurd (search rules)),
       λ spent. absurd (HasNoRoom-usable c.args.class group c.in-Some-2.field-0.key.slot usable
-          (subst (λ (shard : ShardState). IsFull c.args.class shard.groups) (sym c.loop-index.invariant.same) spent.1.0 c.in-Some.index group here)),
+          (subst (λ (shard : ShardState). IsFull shard.slot_limit c.args.class shard.groups) (sym c.loop-index.invariant.same) spent.1.0 c.in-Some.index group here)),
     )
 
 -- the group has no usable slot
@@ -136,7 +136,7 @@ loop-index-preserved g c =
     let group = c.index_mut-group.result.now in
     let made = c.in_ok-key.ensures {u = tt} in
     let here = group_here s c.loop-index.invariant.kept c.args.class c.in-Some.index group c.in-Some.ensures.lowest c.index_mut-group.ensures.value in
-    let none : HasNoRoom c.args.class group = rw c.in_default-2.is at made.slot in
+    let none : HasNoRoom c.loop-index.self-inside.slot_limit c.args.class group = rw c.in_default-2.is at made.slot in
     let back = set-kept s.groups.items c.in-Some.index group c.put.new.self here (rw c.in_default-2.is at made.ok) in
     record {
       kept = IsKept-passed s kept c.args.class c.in-Some.index group here _ back refl none c.remove.new.self c.remove.ensures.this c.remove.ensures.others
@@ -158,7 +158,7 @@ pub returns-then-len-self-clause-spent : goal.returns-then-len-self-clause-spent
 returns-then-len-self-clause-spent g c =
     let s = c.loop-index.self-inside in
     let same = c.loop-index.invariant.same in
-    let full : IsFull c.args.class s.groups.items =
+    let full : IsFull s.slot_limit c.args.class s.groups.items =
     IsFull-empty c.args.class s.groups.items (rooms_of s.rooms c.args.class) (c.loop-index.invariant.kept.rooms c.args.class) c.in_default.ensures.lowest in
     let spent : (c.args.self.now.page_limit ≤ length c.args.self.now.groups)
     ⊎ (c.args.self.now.span_limit ≤ c.args.self.now.opened) = elim c.then-len-self.branch [
@@ -168,7 +168,7 @@ returns-then-len-self-clause-spent g c =
     ] in (
       (λ e. (
         ap (λ (s : ShardState). s.ended) (sym c.self.view_is) ∙ c.if-self.false,
-        (subst (λ (s : ShardState). IsFull c.args.class s.groups) same full, spent),
+        (subst (λ (s : ShardState). IsFull s.slot_limit c.args.class s.groups) same full, spent),
       )),
       λ e. refl,
     )
@@ -206,11 +206,11 @@ new_one : (g : _) (c : goal.In_ok-key-2 g) → Puts c.args.self.now c.args.class
 new_one g c =
     let s = c.loop-index.self-inside in
     let same = c.loop-index.invariant.same in
-    let full : IsFull c.args.class s.groups.items =
+    let full : IsFull s.slot_limit c.args.class s.groups.items =
     IsFull-empty c.args.class s.groups.items (rooms_of s.rooms c.args.class) (c.loop-index.invariant.kept.rooms c.args.class) c.in_default.ensures.lowest in (
       ap (λ (s : ShardState). s.ended) (sym c.self.view_is) ∙ c.if-self.false,
       inr (
-        subst (λ (s : ShardState). IsFull c.args.class s.groups) same full,
+        subst (λ (s : ShardState). IsFull s.slot_limit c.args.class s.groups) same full,
         subst (λ (s : ShardState). length s.groups < s.page_limit) same (omega (arith, c.if-len-self.false, s.groups.ok.0, c.len.ensures)),
         subst (λ (s : ShardState). s.opened < s.span_limit) same (omega (arith, c.if-self-2.false)),
         subst (λ (s : ShardState). PutsInNew s c.args.class c.args.words.now c.in_ok-key-2.key 0 c.put_in_new.new.self) same

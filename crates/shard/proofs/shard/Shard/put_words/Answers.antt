@@ -56,7 +56,7 @@ returns-in_err-key-clause-spent g c =
     let refused = err_from_is_err_and c.from_residual.result c.from_residual.ensures.1 in (
       (λ e. absurd (let spent = sym e ∙ refused.1 in search rules)),
       λ spent. absurd ((c.in_err-key.ensures {u = tt}).room
-          (subst (λ (shard : ShardState). IsFull c.args.class shard.groups) (sym c.self.view_is) spent.1.0 c.in-Some.index group here)),
+          (subst (λ (shard : ShardState). IsFull shard.slot_limit c.args.class shard.groups) (sym c.self.view_is) spent.1.0 c.in-Some.index group here)),
     )
 
 -- the group took the put, and leaves the set where it is full then
@@ -71,11 +71,11 @@ invariant_of-self-2 g c =
     let key = c.in-Some-2.field-0.key in
     let made = c.in_ok-key.ensures {u = tt} in
     let here = group_here s c.self.invariant c.args.class c.in-Some.index group c.in-Some.ensures.lowest c.index_mut-group.ensures.value in
-    let usable : IsLowestUsable c.args.class group key.slot = rw c.in-Some-2.is at made.slot in
+    let usable : IsLowestUsable c.self.inside.slot_limit c.args.class group key.slot = rw c.in-Some-2.is at made.slot in
     let put : c.put.new.self ≡ put_group group c.args.class key.slot c.args.words.now = rw c.in-Some-2.is at made.ok in
     IsKept-put_full s kept c.args.class c.in-Some.index group here c.in-Some.ensures.lowest key c.args.words.now usable c.requires
     _ (ap (set s.groups.items c.in-Some.index) put) refl
-    c.remove_if.new.self c.in-Some-2.field-0.is_full (λ full. subst (HasNoRoom c.args.class) put ((rw c.in-Some-2.is at made.full) full))
+    c.remove_if.new.self c.in-Some-2.field-0.is_full (λ full. subst (HasNoRoom c.self.inside.slot_limit c.args.class) put ((rw c.in-Some-2.is at made.full) full))
     c.remove_if.ensures.this c.remove_if.ensures.others c.remove_if.ensures.room
 
 puts : (g : _) (c : goal.After-remove_if g)
@@ -115,11 +115,11 @@ pub returns-clause-spent : goal.returns-clause-spent
 returns-clause-spent g c =
     let s = c.self.inside in
     let group = c.index_mut-group.result.now in
-    let usable : IsLowestUsable c.args.class group c.in-Some-2.field-0.key.slot = rw c.in-Some-2.is at (c.in_ok-key.ensures {u = tt}).slot in
+    let usable : IsLowestUsable c.self.inside.slot_limit c.args.class group c.in-Some-2.field-0.key.slot = rw c.in-Some-2.is at (c.in_ok-key.ensures {u = tt}).slot in
     let here = group_here s c.self.invariant c.args.class c.in-Some.index group c.in-Some.ensures.lowest c.index_mut-group.ensures.value in (
       (λ e. absurd (search rules)),
       λ spent. absurd (HasNoRoom-usable c.args.class group c.in-Some-2.field-0.key.slot usable
-          (subst (λ (shard : ShardState). IsFull c.args.class shard.groups) (sym c.self.view_is) spent.1.0 c.in-Some.index group here)),
+          (subst (λ (shard : ShardState). IsFull shard.slot_limit c.args.class shard.groups) (sym c.self.view_is) spent.1.0 c.in-Some.index group here)),
     )
 
 -- the group takes none, and is as it was

@@ -145,7 +145,7 @@ invariant_of-self-2 g c =
     (λ class. HasRooms-full class c.self.inside.groups.items (rooms_of c.self.inside.rooms class) (kept.rooms class) c.args.index
     (set_group group place span key.slot key.generation words) group here.group_is
     (class-with_span group place span (with_set_at span key.slot key.generation words) here.span_is refl)
-    (HasNoRoom-set group span key.slot key.generation words place here.span_is (kept.sound.groups c.args.index group here.group_is).apart (settable_now g c) class))
+    (HasNoRoom-set group span key.slot key.generation words place here.span_is (kept.sound.groups c.args.index group here.group_is).apart (settable_now g c) c.self.inside.slot_limit class))
     (λ class. omega arith)
     (KnowsLeast-set c.self.inside.groups.items c.self.inside.least.items kept.least_known c.args.index group (set_group group place span key.slot key.generation words) here.group_is
     (IsLeast-set group (kept.sound.groups c.args.index group here.group_is) place span here.span_is key.slot key.generation words (settable_now g c).0))

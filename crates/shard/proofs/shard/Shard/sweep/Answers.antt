@@ -7,11 +7,8 @@ use Rattle.shard.proofs.KnownHeads.{AreReady-swept}
 use Rattle.shard.proofs.Left.{HasGuestRoom-swept, IsSound-swept, KnowsGuests-swept, length-stayed}
 use Rattle.shard.proofs.shard.Shard.sweep.Goals as goal
 
-pub sweep_rooms-requires-clause-has : goal.sweep_rooms-requires-clause-has
-sweep_rooms-requires-clause-has g c = rw c.as_slice.ensures.value c.self.invariant.rooms
-
-pub sweep_rooms-requires-clause-room : goal.sweep_rooms-requires-clause-room
-sweep_rooms-requires-clause-room g c =
+pub sweep_rooms-requires : goal.sweep_rooms-requires
+sweep_rooms-requires g c =
     HaveRoom-same c.self.inside.groups.items c.self.inside.rooms _ c.self.invariant.room_for_rooms _ c.as_slice.ensures.value c.self.inside.rooms _
     (omega (arith, ap length c.as_slice.ensures.value, c.self.inside.groups.ok.0)) (λ class. omega arith)
 
@@ -24,7 +21,7 @@ invariant_of-self g c =
       pages_fit = c.self.invariant.pages_fit;
       gens_fit = c.self.invariant.gens_fit;
       sound = rw c.drop_places.ensures.items (IsSound-swept (state_of c.self.inside) c.self.invariant.sound);
-      rooms = λ class. rw (c.drop_places.ensures.items, ← c.as_slice.ensures.value) (c.sweep_rooms.ensures.has class);
+      rooms = λ class. rw (c.drop_places.ensures.items, ← c.as_slice.ensures.value) (c.sweep_rooms.ensures.has c.self.inside.slot_limit (rw c.as_slice.ensures.value c.self.invariant.rooms) class);
       room_for_groups = omega (arith, fewer, c.self.invariant.room_for_groups, c.drop_places.ensures.capacity);
       room_for_rooms = rw c.drop_places.ensures.items
           (HaveRoom-swept c.self.inside.groups.items c.self.inside.rooms _ c.self.invariant.room_for_rooms c.sweep_rooms.new.rooms _

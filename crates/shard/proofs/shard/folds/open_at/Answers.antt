@@ -8,7 +8,8 @@ use Rattle.shard.proofs.RoomBits.{HasRooms-free, HasRooms-other}
 use Rattle.shard.proofs.shard.folds.open_at.Goals as goal
 
 pub returns-clause-has : goal.returns-clause-has
-returns-clause-has g c groups here class has =
+returns-clause-has g c groups here slot_limit noted class =
+    let has = noted class in
     elim (cases_class class c.class.result) [
       | inl same ↦ rw (same, c.insert.ensures.this)
           (HasRooms-free c.class.result groups (rooms_of c.args.rooms.now c.class.result) (rw (← same) has) c.args.index c.reopen.new.self
@@ -19,5 +20,5 @@ returns-clause-has g c groups here class has =
     ]
 
 pub returns-then-not-is_closed-clause-has : goal.returns-then-not-is_closed-clause-has
-returns-then-not-is_closed-clause-has g c groups here class has =
-    subst (λ (gs : List GroupState). HasRooms class gs (rooms_of c.args.rooms.now class)) (sym (set-same groups c.args.index c.args.group.now here)) has
+returns-then-not-is_closed-clause-has g c groups here slot_limit noted class =
+    subst (λ (gs : List GroupState). HasRooms slot_limit class gs (rooms_of c.args.rooms.now class)) (sym (set-same groups c.args.index c.args.group.now here)) (noted class)
