@@ -31,6 +31,7 @@ pub record IsMoving (pool₀ : PoolState) (shard₀ : ShardState) (pool : PoolSt
   pub number : shard.number ≡ shard₀.number
   pub page_limit : shard.page_limit ≡ shard₀.page_limit
   pub span_limit : shard.span_limit ≡ shard₀.span_limit
+  pub slot_limit : shard.slot_limit ≡ shard₀.slot_limit
   pub gens : shard.gens ≡ shard₀.gens
   pub opened : shard.opened ≡ shard₀.opened
   pub ended : shard.ended ≡ shard₀.ended
@@ -88,6 +89,7 @@ module _ (pool₀ pool next : PoolState) (shard₀ shard left : ShardState) (who
     number = ap (λ (s : ShardState). s.number) lifted.4 ∙ is.number;
     page_limit = ap (λ (s : ShardState). s.page_limit) lifted.4 ∙ is.page_limit;
     span_limit = ap (λ (s : ShardState). s.span_limit) lifted.4 ∙ is.span_limit;
+    slot_limit = ap (λ (s : ShardState). s.slot_limit) lifted.4 ∙ is.slot_limit;
     gens = ap (λ (s : ShardState). s.gens) lifted.4 ∙ is.gens;
     opened = ap (λ (s : ShardState). s.opened) lifted.4 ∙ is.opened;
     ended = ap (λ (s : ShardState). s.ended) lifted.4 ∙ is.ended;

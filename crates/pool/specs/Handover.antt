@@ -33,6 +33,7 @@ pub record HasLetAllGo (old new : ShardState) : Type 0 where
   pub number : new.number ≡ old.number
   pub page_limit : new.page_limit ≡ old.page_limit
   pub span_limit : new.span_limit ≡ old.span_limit
+  pub slot_limit : new.slot_limit ≡ old.slot_limit
   pub gens : new.gens ≡ old.gens
   pub opened : new.opened ≡ old.opened
   pub ended : new.ended ≡ old.ended
