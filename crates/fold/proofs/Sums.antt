@@ -55,6 +55,9 @@ module _ (pool : PoolState) (shard : ShardState) (a b : SpanId) (pool_new : Pool
   pub span_limit-Folds : shard_new.span_limit ≡ shard.span_limit
   span_limit-Folds = ap (λ (s : ShardState). s.span_limit) folds.grafts.after
 
+  pub slot_limit-Folds : shard_new.slot_limit ≡ shard.slot_limit
+  slot_limit-Folds = ap (λ (s : ShardState). s.slot_limit) folds.grafts.after
+
   pub gens-Folds : shard_new.gens ≡ shard.gens
   gens-Folds = ap (λ (s : ShardState). s.gens) folds.grafts.after
 

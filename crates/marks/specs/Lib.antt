@@ -1,5 +1,6 @@
 pub mod Apart
 pub mod Closings
+pub mod LimitsKept
 pub mod Numbers
 pub mod OneShard
 pub mod Opening

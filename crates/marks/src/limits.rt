@@ -1,8 +1,10 @@
 // The numbers of a core or an arena.
 ghost use Rattle.std.specs.Prelude.{◌≡◌, ◌↔◌, ◌≤◌, IfSome, IsSome};
-ghost use Rattle.marks.specs.Numbers.{AreWithin, limits_of, with_span_limit};
+ghost use Rattle.bitmap.specs.declared.bits.TheConstants.{SLOTS};
+ghost use Rattle.marks.specs.Numbers.{AreWithin, limits_of, with_slot_limit, with_span_limit};
 ghost use Rattle.span.specs.declared.limits.TheConstants.{MOST_SPANS};
 
+use bitmap::SLOTS;
 use span::names::{MOST_PAGES, MOST_RING_KEYS, MOST_SHARDS, MOST_SPANS};
 use std::marker::Model;
 
@@ -13,26 +15,27 @@ pub struct Limits {
     shards: u32,
     page_limit: usize,
     span_limit: u32,
+    slot_limit: u16,
     ring_capacity: usize,
     gens: u32,
 }
 
 impl Model for Limits {
-    ghost use Rattle.marks.specs.Numbers.{AreWithin, Limits as Numbers, limits_of, with_span_limit};
+    ghost use Rattle.marks.specs.Numbers.{AreWithin, Limits as Numbers};
 
     ghost Value = { Numbers };
 
-    ghost view = { λ limits. with_span_limit
-        (limits_of limits.shards limits.page_limit limits.ring_capacity limits.gens)
-        limits.span_limit };
+    ghost use Rattle.marks.specs.LimitsKept.{numbers_in};
 
-    ghost invariant = { λ limits. AreWithin (with_span_limit (limits_of limits.shards
-        limits.page_limit limits.ring_capacity limits.gens) limits.span_limit) };
+    ghost view = { numbers_in };
+
+    ghost invariant = { λ limits. AreWithin (numbers_in limits) };
 
     ghost inverse = { λ numbers. record {
       shards = numbers.shards;
       page_limit = numbers.page_limit;
       span_limit = numbers.span_limit;
+      slot_limit = numbers.slot_limit;
       ring_capacity = numbers.ring_capacity;
       gens = numbers.gens;
     } };
@@ -40,7 +43,8 @@ impl Model for Limits {
 
 impl Limits {
     /// The numbers, or `None` exactly where one is out of its range. A shard may open as many spans
-    /// as there are serials; [`Limits::with_span_limit`] gives another number.
+    /// as there are serials, and a put may take all slots of a page; [`Limits::with_span_limit`] and
+    /// [`Limits::with_slot_limit`] give other numbers.
     pub fn new(shards: u32, page_limit: usize, ring_capacity: usize, gens: u32) -> Option<Limits>
         ensures in_range { IsSome result
             ↔ AreWithin (limits_of shards page_limit ring_capacity gens) }
@@ -56,6 +60,7 @@ impl Limits {
                 shards,
                 page_limit,
                 span_limit: MOST_SPANS,
+                slot_limit: SLOTS as u16,
                 ring_capacity,
                 gens,
             })
@@ -75,6 +80,18 @@ impl Limits {
         } else {
             None
         }
+    }
+
+    /// The same numbers, but that a put may take only the lowest `slot_limit` slots of a page, or
+    /// `None` exactly where that is not 1 to [`SLOTS`].
+    pub fn with_slot_limit(self, slot_limit: u16) -> Option<Limits>
+        ensures in_range { IsSome result ↔ ((1 ≤ slot_limit) × (slot_limit ≤ SLOTS)) }
+        ensures parts { IfSome result (λ limits. limits ≡ with_slot_limit self slot_limit) }
+    {
+        if slot_limit == 0 || usize::from(slot_limit) > SLOTS {
+            return None;
+        }
+        Some(Limits { slot_limit, ..self })
     }
 
     /// How many shards there are, each with one worker: 1 to 64.
@@ -102,6 +119,15 @@ impl Limits {
         ensures within { AreWithin self.now }
     {
         self.span_limit
+    }
+
+    /// How many slots of a page a put may take, the lowest: 1 to [`SLOTS`].
+    #[inline]
+    pub fn slot_limit(&self) -> u16
+        ensures slot_limit { result ≡ self.now.slot_limit }
+        ensures within { AreWithin self.now }
+    {
+        self.slot_limit
     }
 
     /// How many keys a ring of deferred frees holds: 1 to 1,024.
