@@ -11,7 +11,7 @@ use Rattle.bitmap.specs.Slots.{IsBelow, SlotSet, ascending, members_below}
 use Rattle.span.specs.Classes.{slots_in, width_of}
 use Rattle.span.specs.declared.class.Class.{Class}
 use Rattle.span.proofs.Widths.{width_of-least}
-use Rattle.page.specs.Words.{Words, copied, object_in, same_words, set_object}
+use Rattle.page.specs.Words.{PageState, Words, copied, object_in, same_words, set_object}
 use Rattle.page.proofs.Words.{get_or-object_in, get_or-set_object, length-object_in, object_in-from, on_page, slot_of_word}
 use Rattle.bitmap.specs.declared.bits.TheConstants.{SLOTS}
 
@@ -137,3 +137,8 @@ module _ (before now : Words) (class : Class) (others : Words) where
 
   pub IsCopying-all : (slots : SlotSet) (left : List ℕ) → left ≡ [] → IsCopying before now class others left (ascending slots) → now ≡ copied before class slots others
   IsCopying-all slots left none is = ap (written now class others) (sym none) ∙ is.words ∙ copied-written before others class slots
+
+-- the same of pages, the second of which has no more words in memory
+pub record IsPageCopying (before now : PageState) (class : Class) (others : PageState) (left all : List ℕ) : Type 0 where
+  pub words : IsCopying before.words now.words class others.words left all
+  pub room : now.room ≡ before.room

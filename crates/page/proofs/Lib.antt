@@ -1,3 +1,4 @@
 pub mod Copied
+pub mod Padded
 pub mod Words
 pub mod Zeros

@@ -1,5 +1,5 @@
 -- What contracts see of a page's words.
-use Rattle.std.specs.Prelude.{◌≡◌, ℕ, ◌+◌, ◌*◌, ◌/◌, ◌%◌, ◌==◌, Bool, List, Option, None, Some, if◌then◌else◌, length, map, replicate, slice_index}
+use Rattle.std.specs.Prelude.{◌≡◌, ℕ, ◌+◌, ◌*◌, ◌/◌, ◌%◌, ◌≤◌, ◌⊎◌, ◌==◌, Bool, false, true, List, Option, None, Some, if◌then◌else◌, length, map, replicate, slice_index}
 use Rattle.std.specs.List.{list_all, range_with_len}
 use Rattle.std.specs.FinSet as set
 use Rattle.std.proofs.lemmas.List.FromFn.{length-map-range_with_len}
@@ -61,7 +61,54 @@ copied words class slots others = record {
 abbrev pub is_zeros : List ℕ → Bool
 is_zeros object = list_all (λ word. word == 0) object
 
--- what a group has of a page: one with words in memory, or else one of zeros, or none
-abbrev pub page_of : Option Words → Bool → Option Words
-page_of (Some words) blank = Some words
-page_of None blank = if blank then Some blank_page else None
+-- the words of a list, and zeros after them
+unfoldable pub padded : List ℕ → Words
+padded items = record {
+  items = map (λ j. slice_index items j) (range_with_len 0 SLOTS);
+  whole = length-map-range_with_len (λ j. slice_index items j) 0 SLOTS;
+}
+
+-- a page: its words, and how many of them it has in memory, from the first on; the others are 0
+pub record PageState : Type 0 where
+  pub words : Words
+  pub room : ℕ
+
+-- the page that has the words of a list in memory
+abbrev pub page_with : List ℕ → PageState
+page_with items = record { words = padded items; room = length items }
+
+-- a page of zeros, with no word in memory
+abbrev pub empty_page : PageState
+empty_page = record { words = blank_page; room = 0 }
+
+-- the words in memory end with an object of the class
+abbrev pub IsInObjects : Class → ℕ → Type 0
+IsInObjects class room = room % width_of class ≡ 0
+
+-- the object at the slot is in memory
+abbrev pub Reaches : PageState → Class → ℕ → Type 0
+Reaches page class slot = width_of class * slot + width_of class ≤ page.room
+
+-- the object needs no more words in memory at the slot: it is in memory there, or zeros
+abbrev pub Takes : PageState → Class → ℕ → List ℕ → Type 0
+Takes page class slot object = Reaches page class slot ⊎ (is_zeros object ≡ true)
+
+-- the page with another object at the slot
+abbrev pub with_object : PageState → Class → ℕ → List ℕ → PageState
+with_object page class slot object =
+    record page { words = set_object page.words class slot object }
+
+-- the words of a page, if there is one
+abbrev pub page_of : Bool → Words → Option Words
+page_of is_paged words = if is_paged then Some words else None
+
+-- what a group has of a page, of which it may have none: no word is in memory then
+pub record MaybeState : Type 0 where
+  pub page : Option Words
+  pub room : ℕ
+
+-- what a group of the class keeps of its page: the words in memory end with an object, and if there
+-- is no page, the words are zeros
+pub record IsPageOf (class : Class) (is_paged : Bool) (page : PageState) : Type 0 where
+  pub whole : IsInObjects class page.room
+  pub none : is_paged ≡ false → page.words ≡ blank_page

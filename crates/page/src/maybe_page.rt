@@ -1,57 +1,62 @@
 // A page on its way from one owner to another, or none.
-ghost use Rattle.std.specs.Prelude.{◌≡◌, None, is_some};
-ghost use Rattle.page.specs.Words.{page_of};
+ghost use Rattle.std.specs.Prelude.{◌≡◌, None, false, is_some};
+ghost use Rattle.page.specs.Words.{blank_page, page_of};
 
 use crate::page::Page;
+use std::alloc::Global;
 use std::marker::Model;
 
-/// What a group has of a page: one with words in memory, one of zeros, which takes no memory, or
-/// none. Contracts see the words, if there is a page, and not whether they are in memory.
+/// What a group has of a page: one whose words are in memory as far as needed, or none. Contracts
+/// see the words, if there is a page, and how many are in memory.
 #[derive(Drop)]
 pub struct MaybePage {
-    words: Option<Page>,
-    // Whether there is a page where there are no words in memory.
-    blank: bool,
+    words: Page,
+    is_paged: bool,
 }
 
 impl Model for MaybePage {
-    ghost use Rattle.std.specs.Prelude.{Option};
-    ghost use Rattle.page.specs.Words.{Words, page_of};
+    ghost use Rattle.std.specs.Prelude.{◌≡◌, false};
+    ghost use Rattle.page.specs.Words.{MaybeState, blank_page, page_of};
 
-    ghost Value = { Option Words };
+    ghost Value = { MaybeState };
 
-    ghost view = { λ page. page_of page.words page.blank };
+    ghost view = { λ a. record { page = page_of a.is_paged a.words.words; room = a.words.room } };
+
+    ghost invariant = { λ a. a.is_paged ≡ false → a.words.words ≡ blank_page };
 }
 
 impl MaybePage {
     /// No page.
-    pub fn none() -> MaybePage
-        ensures { result ≡ None }
+    pub fn none(alloc: Global) -> MaybePage
+        ensures { result ≡ record { page = None; room = 0 } }
     {
         MaybePage {
-            words: None,
-            blank: false,
+            words: Page::blank(alloc),
+            is_paged: false,
         }
     }
 
-    /// The page of the words, and without words a page of zeros if it is `blank`, or else none.
-    pub fn new(words: Option<Page>, blank: bool) -> MaybePage
-        ensures { result ≡ page_of words blank }
+    /// The page, if `is_paged`, or else none, for which it has to be one of zeros.
+    pub fn new(words: Page, is_paged: bool) -> MaybePage
+        requires { is_paged ≡ false → words.words ≡ blank_page }
+        ensures { result ≡ record { page = page_of is_paged words.words; room = words.room } }
     {
-        MaybePage { words, blank }
+        MaybePage { words, is_paged }
     }
 
     /// Whether there is a page.
     pub fn is_some(&self) -> bool
-        ensures { result ≡ is_some self.now }
+        ensures { result ≡ is_some self.now.page }
     {
-        self.words.is_some() || self.blank
+        self.is_paged
     }
 
-    /// Its words in memory, and whether there is a page where it has none there.
-    pub fn into_parts(self) -> (Option<Page>, bool)
-        ensures { self ≡ page_of result.0 result.1 }
+    /// Its words, and whether there is a page: they are zeros if there is none.
+    pub fn into_parts(self) -> (Page, bool)
+        ensures page { self.page ≡ page_of result.1 result.0.words }
+        ensures room { self.room ≡ result.0.room }
+        ensures none { result.1 ≡ false → result.0.words ≡ blank_page }
     {
-        (self.words, self.blank)
+        (self.words, self.is_paged)
     }
 }
