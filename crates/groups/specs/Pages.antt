@@ -1,5 +1,5 @@
 -- What stands on the page of a group, and a group after a put and a set.
-use Rattle.std.specs.Prelude.{◌≡◌, ℕ, MatchOption, Option, Some, unwrap_or}
+use Rattle.std.specs.Prelude.{◌≡◌, ℕ, Option, Some, unwrap_or}
 use Rattle.span.specs.Log.{Value}
 use Rattle.span.specs.State.{SpanState}
 use Rattle.span.specs.declared.class.Class.{Class}
@@ -36,11 +36,3 @@ set_group group place span slot generation value =
       page =
           with_object group.page span.class slot value;
     }
-
--- what a set of spans does whose page had only zeros: it makes the words of the page, which have
--- the value at the slot, and the span at the place has it too; or it makes none, and all stays
-abbrev pub SetsOnZeros : SpansState → ℕ → SpanState → ℕ → ℕ → Value → Option Words → SpansState
-    → Type 0
-SetsOnZeros old place span slot generation value made new = MatchOption made (new ≡ old) (λ words.
-    (words ≡ set_object blank_page span.class slot value)
-    × (new ≡ set_spans old place span slot generation value))

@@ -1,49 +1,59 @@
-// A set in spans whose page has no words in memory yet.
-ghost use Rattle.std.specs.Prelude.{◌≡◌, ◌<◌, ◌↔◌, IfOk, IsSome, OnErr, length};
+// A set in spans whose page takes more words in memory for it.
+ghost use Rattle.std.specs.Prelude.{◌≡◌, ◌<◌, ◌↔◌, IfOk, IsTrue, OnErr, length};
+ghost use Rattle.std.specs.Bool.{OnTrue, OnFalse};
 ghost use Rattle.span.specs.State.{IsSettable};
-ghost use Rattle.groups.specs.Pages.{SetsOnZeros};
-ghost use Rattle.groups.specs.Spans.{OfSpanAt, all_spans};
+ghost use Rattle.page.specs.Words.{IsInObjects, set_object};
+ghost use Rattle.groups.specs.Spans.{OfSpanAt, all_spans, set_spans};
 
 use crate::spans::Spans;
 use page::Page;
 use span::spans::Log;
 use std::alloc::{AllocError, Global};
 
-/// Sets the object of the slot in the span at the place as [`Spans::set`] does, and gives its page,
-/// which had only zeros and no words in memory: the object's words stand on it now. `None` where
-/// the slot is not live there at the generation, or its object has not as many words.
+/// Sets the object of the slot in the span at the place as [`Spans::set`] does, and on the page,
+/// which takes more words in memory if the object needs them.
 ///
 /// # Errors
 ///
-/// `AllocError` in place of a page, where memory is refused for it or for the span's log. The spans
-/// are then as they were.
+/// `AllocError` in place of `true`, where memory is refused for the page or for the span's log. The
+/// spans and the page's words are then as they were.
 #[inline(never)]
-pub fn set_on_zeros<L: Log>(
+pub fn set_growing<L: Log>(
     alloc: Global,
     spans: &mut Spans<L>,
+    page: &mut Page,
     place: usize,
     slot: u8,
     generation: u32,
     words: &[u128],
-) -> Result<Option<Page>, AllocError>
-    requires { place < length (all_spans spans.old) }
-    ensures found { OfSpanAt (all_spans spans.old) place (λ span. IfOk result (λ page.
-        IsSome page ↔ IsSettable span slot generation words.now)) }
-    ensures set { OfSpanAt (all_spans spans.old) place (λ span. IfOk result (λ page.
-        SetsOnZeros spans.old place span slot generation words.now page spans.new)) }
+) -> Result<bool, AllocError>
+    requires place { place < length (all_spans spans.old) }
+    requires whole { OfSpanAt (all_spans spans.old) place (λ span.
+        IsInObjects span.class page.old.room) }
+    ensures found { OfSpanAt (all_spans spans.old) place (λ span. IfOk result (λ done.
+        IsTrue done ↔ IsSettable span slot generation words.now)) }
+    ensures set { OfSpanAt (all_spans spans.old) place (λ span. IfOk result (λ done. OnTrue done
+        (spans.new ≡ set_spans spans.old place span slot generation words.now))) }
+    ensures page { OfSpanAt (all_spans spans.old) place (λ span. IfOk result (λ done. OnTrue done
+        (page.new.words ≡ set_object page.old.words span.class slot words.now))) }
+    ensures unknown { IfOk result (λ done. OnFalse done (spans.new ≡ spans.old)) }
+    ensures kept { IfOk result (λ done. OnFalse done (page.new.words ≡ page.old.words)) }
+    ensures whole { OfSpanAt (all_spans spans.old) place (λ span.
+        IsInObjects span.class page.new.room) }
     ensures refused { OfSpanAt (all_spans spans.old) place (λ span.
         OnErr result (IsSettable span slot generation words.now)) }
     ensures err { OnErr result (spans.new ≡ spans.old) }
+    ensures same { OnErr result (page.new.words ≡ page.old.words) }
 {
     let span = spans.span_at(place);
     let class = span.class();
     if words.len() != class.words() || !span.holds(slot, generation) {
-        return Ok(None);
+        return Ok(false);
     }
-    let mut page = Page::blank(alloc)?;
+    page.reserve(alloc, class, slot)?;
     if !spans.set(place, slot, generation, words)? {
-        return Ok(None);
+        return Ok(false);
     }
     page.set_at(class, slot, words);
-    Ok(Some(page))
+    Ok(true)
 }

@@ -10,7 +10,7 @@ ghost use Rattle.span.specs.SpanLogs.{AreLegal, room_for_logs, span_of_log};
 ghost use Rattle.span.specs.State.{IsSettable};
 ghost use Rattle.groups.specs.Dead.{live_among};
 ghost use Rattle.groups.specs.SpansKept.{IsFullOutside};
-ghost use Rattle.groups.specs.Spans.{HasAllOf, IsFull, IsLowestLeft, IsLowestUsable, IsNextKey, OfSpanAt, all_spans, live_count, set_spans, slots_for, summary_of, union_of, with_free_at, with_guest_at, with_head, with_more_guests, with_put, with_set_at, with_span_at, with_worn};
+ghost use Rattle.groups.specs.Spans.{HasAllOf, IsFull, IsLowestLeft, IsNextKey, IsVacant, OfSpanAt, all_spans, live_count, set_spans, slots_for, summary_of, union_of, with_free_at, with_guest_at, with_head, with_more_guests, with_put, with_set_at, with_span_at, with_worn};
 ghost use Rattle.bitmap.specs.declared.bits.TheConstants.{SLOTS};
 
 use crate::live::is_live;
@@ -167,46 +167,45 @@ impl<L: Log> Spans<L> {
         }
     }
 
-    /// Puts an object of the head's class, given by its words, at the lowest slot of the page that
-    /// is live in no span, and not worn in the head, which gives out the key. `None` where no slot
-    /// below `slot_limit` is such a slot. The spans are then as they were.
+    /// Where a put of an object of the head's class goes: the lowest slot that is live in no span,
+    /// and not worn in the head. `None` where no slot below `slot_limit` is such a slot.
+    #[inline(always)]
+    pub fn find(&mut self, slot_limit: u16) -> Option<Vacancy>
+        ensures found { MatchOption result (IsFull slot_limit self.old)
+            (λ found. IsVacant slot_limit self.old found) }
+        ensures same { self.new ≡ self.old }
+    {
+        lowest_usable(&mut self.open_words, &self.occupied, &self.head, slot_limit)
+    }
+
+    /// Puts an object of the head's class, given by its words, at the slot that was found for it.
+    /// The head gives out the key.
     ///
     /// # Errors
     ///
-    /// `AllocError` where there is such a slot, and the head's log could not grow. The spans are
-    /// then as they were.
+    /// `AllocError` where the head's log could not grow. The spans are then as they were.
     #[inline(always)]
-    pub fn put(&mut self, slot_limit: u16, words: &[u128]) -> Result<Option<Placed>, AllocError>
-        requires { length words.now ≡ width_of self.old.head.class }
-        ensures slot { IfOk result (λ made. MatchOption made (IsFull slot_limit self.old)
-            (λ placed. IsLowestUsable slot_limit self.old placed.key.slot)) }
-        ensures key { IfOk result (λ made. IfSome made (λ placed.
-            IsNextKey self.old.head placed.key)) }
-        ensures ok { IfOk result (λ made. MatchOption made (self.new ≡ self.old) (λ placed.
-            self.new ≡ with_head self.old (with_put self.old.head placed.key.slot words.now))) }
-        ensures full { IfOk result (λ made. IfSome made (λ placed. IsTrue placed.is_full
-            → IsFull slot_limit self.new)) }
-        ensures room { OnErr result (IsFull slot_limit self.old → ⊥) }
+    pub fn put_at(
+        &mut self,
+        slot_limit: u16,
+        found: Vacancy,
+        words: &[u128],
+    ) -> Result<Placed, AllocError>
+        requires width { length words.now ≡ width_of self.old.head.class }
+        requires found { IsVacant slot_limit self.old found }
+        ensures slot { IfOk result (λ placed. placed.key.slot ≡ found.slot) }
+        ensures key { IfOk result (λ placed. IsNextKey self.old.head placed.key) }
+        ensures ok { IfOk result (λ placed.
+            self.new ≡ with_head self.old (with_put self.old.head found.slot words.now)) }
+        ensures full { IfOk result (λ placed. IsTrue placed.is_full → IsFull slot_limit self.new) }
         ensures err { OnErr result (self.new ≡ self.old) }
     {
-        let found = lowest_usable(&mut self.open_words, &self.occupied, &self.head, slot_limit);
-        let Some(Vacancy { slot, is_last }) = found else {
-            return Ok(None);
-        };
+        let Vacancy { slot, is_last } = found;
         let key = self.head.put_at(slot, words)?;
         self.occupied.insert(slot);
         let word = usize::from(slot / 64);
         let is_full = shut(&mut self.open_words, word, is_last, self.head.class(), slot_limit);
-        Ok(Some(Placed { key, is_full }))
-    }
-
-    /// Whether a put of an object of the head's class has a slot: one below `slot_limit` that is
-    /// live in no span, and not worn in the head.
-    pub fn has_usable(&mut self, slot_limit: u16) -> bool
-        ensures usable { IsTrue result ↔ (IsFull slot_limit self.old → ⊥) }
-        ensures same { self.new ≡ self.old }
-    {
-        lowest_usable(&mut self.open_words, &self.occupied, &self.head, slot_limit).is_some()
+        Ok(Placed { key, is_full })
     }
 
     /// Sets the object of the slot in the span at the place to these words, where the slot is live

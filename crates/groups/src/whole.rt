@@ -1,5 +1,6 @@
 // A group on its way from one owner to another.
 ghost use Rattle.std.specs.Prelude.{◌≡◌};
+ghost use Rattle.page.specs.Words.{IsInObjects};
 ghost use Rattle.groups.specs.Whole.{IsSoundWhole, whole_with};
 
 use crate::spans::Spans;
@@ -20,20 +21,23 @@ pub struct Whole<L: Log = Kept> {
 }
 
 impl<L: Log> Model for Whole<L> {
+    ghost use Rattle.page.specs.Words.{IsInObjects};
     ghost use Rattle.groups.specs.Whole.{WholeState, IsSoundWhole, whole_with};
 
     ghost Value = { WholeState };
 
-    ghost view = { λ w. whole_with w.spans w.words };
+    ghost view = { λ w. whole_with w.spans w.words.page };
 
-    ghost invariant = { λ w. IsSoundWhole (whole_with w.spans w.words) };
+    ghost invariant = { λ w. IsSoundWhole (whole_with w.spans w.words.page)
+        × IsInObjects w.spans.head.class w.words.room };
 }
 
 impl<L: Log> Whole<L> {
-    /// The group of spans that are sound on the words.
+    /// The group of spans that are sound on the words, of which those in memory end with an object.
     pub fn new(spans: Spans<L>, words: MaybePage) -> Whole<L>
-        requires { IsSoundWhole (whole_with spans words) }
-        ensures { result ≡ whole_with spans words }
+        requires sound { IsSoundWhole (whole_with spans words.page) }
+        requires whole { IsInObjects spans.head.class words.room }
+        ensures { result ≡ whole_with spans words.page }
     {
         Whole { spans, words }
     }
@@ -55,8 +59,9 @@ impl<L: Log> Whole<L> {
 
     /// The spans, and the words of their page.
     pub fn into_parts(self) -> (Spans<L>, MaybePage)
-        ensures parts { self ≡ whole_with result.0 result.1 }
+        ensures parts { self ≡ whole_with result.0 result.1.page }
         ensures sound { IsSoundWhole self }
+        ensures whole { IsInObjects self.head.class result.1.room }
     {
         (self.spans, self.words)
     }
