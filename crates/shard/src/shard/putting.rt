@@ -1,20 +1,21 @@
 // Puts: into the lowest group that has a usable slot, or into a new one.
 ghost use Rattle.std.specs.Prelude.{◌+◌, ◌≡◌, ◌≤◌, ◌<◌, ◌↔◌, Err, IfOk, IsOkUnless, OnErr, OnOk, false, length, true, vec_capacity, vec_len};
-ghost use Rattle.span.specs.Classes.{class_of, width_of};
+ghost use Rattle.span.specs.Classes.{class_of, slots_in, width_of};
 ghost use Rattle.span.specs.PlainMap as plain;
+ghost use Rattle.page.specs.Words.{IsInObjects, blank_page, set_object};
 ghost use Rattle.shard.specs.Calls.{IsFull, IsSpent, Puts, PutsInNew};
 ghost use Rattle.shard.specs.Shown.{shown};
 ghost use Rattle.shard.specs.Sound.{IsSound};
 
 use super::{Shard, insert_reserved, lower_heads};
 use crate::error::PutError;
-use crate::group::Group;
+use crate::group::{Group, make_room};
 use crate::least_live::{add_byte, reserve_bytes};
 use groups::{Placed, Spans};
-use page::{MaybePage, Page, set_on};
+use page::{MaybePage, Page};
 use span::names::{Class, Key, Object, SpanId};
 use span::spans::{Log, Span};
-use std::alloc::AllocError;
+use std::alloc::{AllocError, Global};
 
 impl<L: Log> Shard<L> {
     /// Keeps the object at the lowest usable slot of the open group of its class of lowest head
@@ -147,13 +148,13 @@ impl<L: Log> Shard<L> {
         };
         let mut head = Span::with_log(self.alloc, id, class, self.gens);
         let key = head.put_at(0, words)?;
-        let mut page = Page::room_for(self.alloc, words)?;
+        let reach = first_reach(class, self.groups.len(), self.slot_limit);
+        let page = page_of_first(self.alloc, class, reach, words)?;
         reserve_group(&mut self.groups)?;
         self.rooms.reserve(class, self.groups.len() + 1)?;
         self.heads
             .reserve(self.opened as usize + 1, self.groups.len() + 1)?;
         reserve_bytes(&mut self.least, &self.groups, 1)?;
-        set_on(&mut page, class, 0, words);
         let index = lower_heads(self.groups.as_slice(), id);
         insert_reserved(
             &mut self.groups,
@@ -171,7 +172,38 @@ impl<L: Log> Shard<L> {
     }
 }
 
-// How many groups come one by one.
+// Up to which slot a new page of a shard with so many groups has words in memory from the first
+// object on. The pages of a shard that has few grow with what is put there; of those of a large one
+// each is soon full, and to grow costs copies.
+fn first_reach(class: Class, groups: usize, slot_limit: u16) -> u8
+    ensures { result < slots_in class }
+{
+    if groups < FEW {
+        return 0;
+    }
+    let slots = class.slots().min(slot_limit);
+    slots.saturating_sub(1) as u8
+}
+
+// A page with the object at its first slot, and words in memory up to another, if it needs any.
+fn page_of_first(
+    alloc: Global,
+    class: Class,
+    reach: u8,
+    words: &[u128],
+) -> Result<Page, AllocError>
+    requires reach { reach < slots_in class }
+    requires width { length words.now ≡ width_of class }
+    ensures words { IfOk result (λ page. page.words ≡ set_object blank_page class 0 words.now) }
+    ensures whole { IfOk result (λ page. IsInObjects class page.room) }
+{
+    let mut page = Page::blank(alloc);
+    make_room(&mut page, alloc, class, reach, words)?;
+    page.set_at(class, 0, words);
+    Ok(page)
+}
+
+// How many groups come one by one, with pages that grow.
 const FEW: usize = 4;
 
 // Makes room for one more group. Of the first few each gets its own room, so that a shard of one

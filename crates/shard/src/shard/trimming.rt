@@ -9,7 +9,7 @@ ghost use Rattle.shard.specs.Trims.{Trims, is_idle, trimmed};
 use super::Shard;
 use crate::group::Group;
 use span::spans::Log;
-use std::alloc::AllocError;
+use std::alloc::{AllocError, Global};
 
 impl<L: Log> Shard<L> {
     /// Gives back the page of each open group in which no slot is live, and answers how many went.
@@ -20,7 +20,7 @@ impl<L: Log> Shard<L> {
         ensures plain { shown self.new ≡ shown self.old }
         ensures sound { IsSound self.new }
     {
-        trim_all(&mut self.groups)
+        trim_all(&mut self.groups, self.alloc)
     }
 
     /// Moves the page of the group at the index, if it has one, to a block that it asks for now,
@@ -49,14 +49,14 @@ impl<L: Log> Shard<L> {
 }
 
 // Trims the groups, and says how many gave their page back.
-fn trim_all<L: Log>(groups: &mut Vec<Group<L>>) -> usize
+fn trim_all<L: Log>(groups: &mut Vec<Group<L>>, alloc: Global) -> usize
     ensures items { groups.new.items ≡ map trimmed groups.old.items }
     ensures count { result ≡ length (filter is_idle groups.old.items) }
     ensures capacity { vec_capacity groups.new ≡ vec_capacity groups.old }
 {
     let mut count = 0;
     for index in 0..groups.len() {
-        if groups[index].trim() {
+        if groups[index].trim(alloc) {
             count += 1;
         }
     }

@@ -1,22 +1,12 @@
-use Rattle.std.proofs.Common.{ap, refl, subst, sym}
+use Rattle.std.proofs.Common.{◌∙◌, ap, refl, subst, sym}
 use Rattle.std.proofs.lemmas.Bool.{true≢false}
 use Rattle.shard.specs.State.{ShardState}
 use Rattle.groups.specs.Group.{IsHere}
 use Rattle.shard.specs.Sound.{IsSound}
 use Rattle.shard.specs.declared.shard.Found.TheVariants.{Gone, Value}
-use Rattle.groups.proofs.StoredObjects.{paged_if_held}
 use Rattle.shard.proofs.Here.{found_in, here_read, read_is}
 use Rattle.shard.proofs.ShownLogs.{value_found-Gets}
 use Rattle.shard.proofs.shard.Shard.get_at.Goals as goal
-
-pub value_at-words-requires-clause-paged : goal.value_at-words-requires-clause-paged
-value_at-words-requires-clause-paged g c =
-    let found = found_in c.args.self.now.groups c.self.inside.groups.items c.args.key.now.span c.args.index c.args.place
-    (ap (λ (s : ShardState). s.groups) (sym c.self.view_is)) c.requires in
-    let group = c.index-group.result.now in
-    let read = read_is _ _ _ _ found.0 found.1 found.2 group c.index-group.ensures in
-    paged_if_held group (c.self.invariant.sound.groups c.args.index group read) c.args.place c.span_at-span.result.now c.args.key.now.slot
-    c.args.key.now.generation c.span_at-span.ensures (c.if-holds.ensures.live.0 refl)
 
 pub returns-then-holds-clause-found : goal.returns-then-holds-clause-found
 returns-then-holds-clause-found g c =
@@ -55,3 +45,11 @@ returns-else-holds-clause-plain g c = value_found-Gets c.args.self.now (subst Is
 
 pub value_at-words-requires-clause-on_page : goal.value_at-words-requires-clause-on_page
 value_at-words-requires-clause-on_page g c = rw c.class-class.ensures.class c.if-holds.ensures.on_page
+
+pub value_at-words-requires-clause-class : goal.value_at-words-requires-clause-class
+value_at-words-requires-clause-class g c =
+    let found = found_in c.args.self.now.groups c.self.inside.groups.items c.args.key.now.span c.args.index c.args.place
+    (ap (λ (s : ShardState). s.groups) (sym c.self.view_is)) c.requires in
+    let group = c.index-group.result.now in
+    let read = read_is _ _ _ _ found.0 found.1 found.2 group c.index-group.ensures in
+    c.class-class.ensures.class ∙ ((c.self.invariant.sound.groups c.args.index group read).classes c.args.place c.span_at-span.result.now c.span_at-span.ensures).class_is

@@ -44,8 +44,8 @@ returns-then-has_left-clause-lifts g c =
           (set-same c.self.inside.groups.items c.in-Some.index group head_here.here) ∙ ap swept c.self.view_is,
     )
 
-pub new-requires : goal.new-requires
-new-requires g c =
+pub new-requires-clause-sound : goal.new-requires-clause-sound
+new-requires-clause-sound g c =
     let head_here = head_read c.self.inside.groups.items c.args.self.now.groups
     (ap (λ (s : ShardState). s.groups) c.self.view_is) c.args.head c.in-Some.index c.in-Some.ensures.head c.index_mut-group.result.now
     c.index_mut-group.ensures.value in

@@ -12,6 +12,7 @@ use Rattle.span.specs.declared.id.SpanId.{SpanId}
 use Rattle.page.specs.Words.{blank_page, set_object}
 use Rattle.groups.specs.Group.{IsPlaceFor}
 use Rattle.groups.specs.Spans.{new_span, with_put}
+use Rattle.groups.proofs.Maps.{at_err}
 use Rattle.groups.proofs.HeadPlaces.{IsLower}
 use Rattle.groups.proofs.Logs.{contains-live_slots-empty, contains-worn_slots-empty}
 use Rattle.groups.proofs.Standing.{head_id}
@@ -31,7 +32,6 @@ use Rattle.shard.proofs.KnownGuests.{KnowsGuests-alone}
 use Rattle.shard.proofs.NotedGuests.{AreNoted-come}
 use Rattle.shard.proofs.PutInNew.{IsSound-put_in_new}
 use Rattle.shard.proofs.RoomBits.{HasRooms-arrived, HasRooms-arrived_other}
-use Rattle.shard.proofs.ZeroPages.{page_made, room_made}
 use Rattle.shard.proofs.shard.Shard.put_in_new.Goals as goal
 
 pub put_at-requires-clause-not_live : goal.put_at-requires-clause-not_live
@@ -58,7 +58,7 @@ made g c = new_group c.in-Some.id c.args.class c.self.inside.gens c.args.words.n
 group_now : (g : _) (c : goal.After-self-3-1 g) → c.of-2.result ≡ made g c
 group_now g c =
     c.of-2.ensures
-    ∙ rw (c.of.ensures, c.new-2.ensures, page_made c.args.class 0 c.args.words.now _ c.in_ok-page.page c.in_ok-page.ensures c.set_on.new.words c.set_on.ensures.words)
+    ∙ rw (c.of.ensures, c.new-2.ensures, (c.in_ok-page.ensures {u = tt}).words)
     (ap (λ (head : SpanState). group_of (record { head = head; guests = [] }) (Some (set_object blank_page c.args.class 0 c.args.words.now)) false)
     (head_now g c))
 
@@ -268,6 +268,13 @@ add_byte-requires g c =
       c.in_ok-reserve_bytes.ensures.ok,
     )
 
--- words are made where the object needs them
-pub set_on-requires-clause-room : goal.set_on-requires-clause-room
-set_on-requires-clause-room g c none = room_made _ c.in_ok-page.page c.in_ok-page.ensures none
+-- where the lists of the last steps could not grow, the state is what it was
+pub returns-in_err-reserve-2-clause-err : goal.returns-in_err-reserve-2-clause-err
+returns-in_err-reserve-2-clause-err g c =
+    at_err c.from_residual-in_err-reserve-2.result
+    (ap (λ (groups : List GroupState). record (state_of c.self.inside) { groups = groups }) c.in_ok-reserve_group.ensures.items ∙ c.self.view_is)
+
+pub returns-in_err-reserve_bytes-clause-err : goal.returns-in_err-reserve_bytes-clause-err
+returns-in_err-reserve_bytes-clause-err g c =
+    at_err c.from_residual-in_err-reserve_bytes.result
+    (ap (λ (groups : List GroupState). record (state_of c.self.inside) { groups = groups }) c.in_ok-reserve_group.ensures.items ∙ c.self.view_is)
