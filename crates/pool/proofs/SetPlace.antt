@@ -6,8 +6,7 @@ use Rattle.span.specs.Classes.{slots_in, width_of}
 use Rattle.span.specs.Log.{IsOfClass, Value}
 use Rattle.span.specs.State.{IsSettable, SpanState}
 use Rattle.span.specs.declared.class.Class.{Class}
-use Rattle.page.specs.Words.{Words, blank_page, page_of, set_object}
-use Rattle.page.proofs.Zeros.{page_of-stays, words_of-page_of}
+use Rattle.page.specs.Words.{PageState, Words, page_of, set_object}
 use Rattle.groups.specs.Group.{spans_of}
 use Rattle.groups.specs.Pages.{set_group, with_object}
 use Rattle.groups.specs.Sound.{IsSoundGroup}
@@ -15,37 +14,30 @@ use Rattle.groups.specs.Spans.{IsSpanOf, SpansState, all_spans, with_set_at, wit
 use Rattle.groups.proofs.Lists.{there_at}
 use Rattle.groups.proofs.ReplacedGroups.{AreAlike-with_span, head-alike}
 use Rattle.groups.proofs.StoredObjects.{paged_if_held}
-use Rattle.shard.proofs.ZeroPages.{page_written, zeros_alone}
+use Rattle.shard.proofs.ZeroPages.{page_set}
+use Rattle.pool.specs.Groups.{OnDone}
 use Rattle.pool.specs.State.{PooledState, group_of}
 use Rattle.std.proofs.lemmas.Bool.{OnTrue_at}
 
 -- where a set is done, the group has a page, and the object fits it
 module _ (spans : SpansState) (page : Option Words) (sound : IsSoundGroup (group_of spans page)) (place : ℕ) (within : place < length (all_spans spans))
-    (slot generation : ℕ) (value : Value) (done : Bool) (is_done : done ≡ true) (new : SpansState)
-    (found : (span : SpanState) → slice_get (all_spans spans) place ≡ Some span → IsTrue done ↔ IsSettable span slot generation value)
-    (sets : (span : SpanState) → slice_get (all_spans spans) place ≡ Some span → OnTrue done (new ≡ with_span_at spans place (with_set_at span slot generation value))) where
-  span_there : (span : SpanState) × (slice_get (all_spans spans) place ≡ Some span)
+    (slot generation : ℕ) (value : Value) where
+  pub span_there : (span : SpanState) × (slice_get (all_spans spans) place ≡ Some span)
   span_there = there_at (all_spans spans) place within
 
-  its : IsSpanOf spans.head.class span_there.0
-  its = sound.classes place span_there.0 span_there.1
+  module _ (done : Bool) (is_done : done ≡ true) (found : (span : SpanState) → slice_get (all_spans spans) place ≡ Some span → IsTrue done ↔ IsSettable span slot generation value) where
+    its : IsSpanOf spans.head.class span_there.0
+    its = sound.classes place span_there.0 span_there.1
 
-  settable : IsSettable span_there.0 slot generation value
-  settable = (found span_there.0 span_there.1).0 is_done
+    settable : IsSettable span_there.0 slot generation value
+    settable = (found span_there.0 span_there.1).0 is_done
 
-  class_now : new.head.class ≡ span_there.0.class
-  class_now = ap (λ (s : SpansState). s.head.class) (OnTrue_at is_done (sets span_there.0 span_there.1)) ∙ at_place place
-    where
-      at_place : (place : ℕ) → (with_span_at spans place (with_set_at span_there.0 slot generation value)).head.class ≡ span_there.0.class
-      at_place zero = refl
-      at_place (suc place) = sym its.class_is
+    pub fits_page : (slot < slots_in spans.head.class) × (length value ≡ width_of spans.head.class)
+    fits_page = subst (λ (c : Class). (slot < slots_in c) × (length value ≡ width_of c)) its.class_is
+        (Holds-on_page span_there.0.class span_there.0.log slot generation (subst (λ (c : Class). IsOfClass c span_there.0.log) (sym its.class_is) its.of_class) settable.0, settable.1)
 
-  pub fits_page : (slot < slots_in new.head.class) × (length value ≡ width_of new.head.class)
-  fits_page = subst (λ (c : Class). (slot < slots_in c) × (length value ≡ width_of c)) (sym class_now)
-      (Holds-on_page span_there.0.class span_there.0.log slot generation (subst (λ (c : Class). IsOfClass c span_there.0.log) (sym its.class_is) its.of_class) settable.0, settable.1)
-
-  pub page_to_set : IsSome page
-  page_to_set = paged_if_held (group_of spans page) sound place span_there.0 slot generation span_there.1 settable.0
+    pub page_to_set : IsSome page
+    page_to_set = paged_if_held (group_of spans page) sound place span_there.0 slot generation span_there.1 settable.0
 
 -- a group of which a span and the page changed
 set_in_group : (spans new : SpansState) (page now : Option Words) (place : ℕ) (span : SpanState) (slot generation : ℕ) (value : Value)
@@ -54,21 +46,23 @@ set_in_group : (spans new : SpansState) (page now : Option Words) (place : ℕ) 
 set_in_group spans new page now zero span slot generation value new_is now_is = λ i. group_of (new_is i) (now_is i)
 set_in_group spans new page now (suc place) span slot generation value new_is now_is = λ i. group_of (new_is i) (now_is i)
 
--- where the words were in memory, or the object is zeros
-pub set_in_place : (spans new : SpansState) (words now : Option Words) (blank : Bool) → IsSoundGroup (group_of spans (page_of words blank)) → (place : ℕ) (span : SpanState)
-    → slice_get (all_spans spans) place ≡ Some span → (slot generation : ℕ) (value : Value) (class : Class) → class ≡ new.head.class
-    → new ≡ with_span_at spans place (with_set_at span slot generation value)
-    → unwrap_or now blank_page ≡ set_object (unwrap_or words blank_page) class slot value → is_some now ≡ is_some words → IsSome (page_of words blank)
-    → group_of new (page_of now blank) ≡ set_group (group_of spans (page_of words blank)) place span slot generation value
-set_in_place spans new words now blank sound place span here slot generation value class class_is new_is set same there = search (rules, set_in_group, page_written, page_of-stays)
+-- where a set was done, on a page that is there
+pub set_on_page : (spans new : SpansState) (words now : Words) (is_paged : Bool) → IsSome (page_of is_paged words) → (place : ℕ) (span : SpanState) (slot generation : ℕ) (value : Value)
+    → new ≡ with_span_at spans place (with_set_at span slot generation value) → now ≡ set_object words span.class slot value
+    → group_of new (page_of is_paged now) ≡ set_group (group_of spans (page_of is_paged words)) place span slot generation value
+set_on_page spans new words now is_paged there place span slot generation value new_is now_is =
+    set_in_group spans new (page_of is_paged words) (page_of is_paged now) place span slot generation value new_is (page_set is_paged words now span.class slot value there now_is)
 
--- where they were not
-pub set_on_new_page : (spans new : SpansState) (words : Option Words) (page : Words) (blank : Bool) (place : ℕ) (span : SpanState) (slot generation : ℕ) (value : Value)
-    → is_some words ≡ false → page ≡ set_object blank_page span.class slot value → new ≡ with_span_at spans place (with_set_at span slot generation value)
-    → group_of new (Some page) ≡ set_group (group_of spans (page_of words blank)) place span slot generation value
-set_on_new_page spans new words page blank place span slot generation value none page_is new_is =
-    set_in_group spans new (page_of words blank) (Some page) place span slot generation value new_is
-    (ap Some (page_is ∙ ap (λ (w : Words). set_object w span.class slot value) (sym (words_of-page_of words blank ∙ zeros_alone words none))))
+-- a set for which the page may have grown: where it was done the page has the object
+pub set_grown : {E : Type 0} (spans new : SpansState) (is_paged : Bool) (page now : PageState) (place : ℕ) (span : SpanState) (slot generation : ℕ) (value : Value)
+    → (IsSettable span slot generation value → is_paged ≡ true) → (result : Result Bool E) → IfOk result (λ done. IsTrue done ↔ IsSettable span slot generation value)
+    → IfOk result (λ done. OnTrue done (new ≡ with_span_at spans place (with_set_at span slot generation value)))
+    → IfOk result (λ done. OnTrue done (now.words ≡ set_object page.words span.class slot value))
+    → OnDone result (group_of new (page_of is_paged now.words) ≡ set_group (group_of spans (page_of is_paged page.words)) place span slot generation value)
+set_grown spans new is_paged page now place span slot generation value paged (Ok true) found sets writes =
+    set_on_page spans new page.words now.words is_paged (subst (λ b. IsSome (page_of b page.words)) (sym (paged (found.0 refl))) refl) place span slot generation value sets writes
+set_grown spans new is_paged page now place span slot generation value paged (Ok false) found sets writes = tt
+set_grown spans new is_paged page now place span slot generation value paged (Err e) found sets writes = tt
 
 module _ (group : PooledState) (place : ℕ) (span : SpanState) (here : slice_get (spans_of group) place ≡ Some span) (slot generation : ℕ) (value : Value) where
   head-set_group : (set_group group place span slot generation value).head.id ≡ group.head.id

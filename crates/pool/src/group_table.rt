@@ -174,7 +174,14 @@ impl<L: Log> GroupTable<L> {
 
     /// Frees the slot in the span at the place of the head's group, where it is live there at the
     /// generation, and gives up the page of a group that it empties.
-    pub(crate) fn free(&mut self, head: SpanId, place: usize, slot: u8, generation: u32) -> bool
+    pub(crate) fn free(
+        &mut self,
+        alloc: Global,
+        head: SpanId,
+        place: usize,
+        slot: u8,
+        generation: u32,
+    ) -> bool
         requires { (group : PooledState) × HasHeadAt self.old.groups head group
             × (place < length (spans_of group)) }
         ensures found { OfSpanAt self.old.groups head place
@@ -186,7 +193,7 @@ impl<L: Log> GroupTable<L> {
         let Some(at) = place_of(&self.places, head) else {
             unreachable!();
         };
-        self.row[at].free(place, slot, generation)
+        self.row[at].free(alloc, place, slot, generation)
     }
 
     /// The head of the group of lowest head that has a page. A rank whose group has none is looked

@@ -206,7 +206,9 @@ impl<L: Log> Pool<L> {
         };
         let head = group.head_id();
         let at = group.span_at(place).changes();
-        if !self.groups.free(head, place, key.slot, key.generation) {
+        if !self
+            .groups
+            .free(self.alloc, head, place, key.slot, key.generation) {
             return Freed::No(at);
         }
         Freed::Yes(at)

@@ -3,6 +3,7 @@ ghost use Rattle.std.specs.Prelude.{◌≡◌, ◌<◌, ◌≤◌, ◌↔◌, If
 ghost use Rattle.std.specs.Bool.{OnTrue, OnFalse};
 ghost use Rattle.span.specs.Log.{Holds};
 ghost use Rattle.span.specs.State.{IsSettable, SpanState};
+ghost use Rattle.page.specs.Words.{IsInObjects};
 ghost use Rattle.groups.specs.Pages.{object_at, set_group};
 ghost use Rattle.groups.specs.Sound.{IsSoundGroup};
 ghost use Rattle.span.specs.Classes.{slots_in, width_of};
@@ -15,51 +16,54 @@ ghost use Rattle.groups.specs.Dead.{without_dead};
 ghost use Rattle.groups.specs.Group.{spans_of, summary};
 ghost use Rattle.bitmap.specs.declared.bits.TheConstants.{SLOTS};
 
-use groups::{Brief, Spans, set_on_zeros};
-use page::{MaybePage, Page, is_zeros, set_on, value_on};
+use groups::{Brief, Spans, set_growing};
+use page::{MaybePage, Page};
 use span::names::{Class, Entry, SpanId};
 use span::spans::{Counted, Log, Span};
 use std::alloc::{AllocError, Global};
 use std::marker::Model;
 
 /// A head and its guests, and their page, which they have exactly while one of their slots is live.
-/// A page on which only zeros were put takes no memory.
+/// A page takes memory as far as an object was put that is not zeros.
 #[derive(Drop)]
 pub(crate) struct Pooled<L: Log> {
     spans: Spans<L>,
-    // The words of the page, if it has them in memory.
-    words: Option<Page>,
-    // Whether there is a page where it has no words in memory: one of zeros.
-    blank: bool,
+    // The words of the page: zeros, if there is none.
+    words: Page,
+    is_paged: bool,
 }
 
 impl<L: Log> Model for Pooled<L> {
-    ghost use Rattle.page.specs.Words.{page_of};
+    ghost use Rattle.page.specs.Words.{IsPageOf, page_of};
     ghost use Rattle.pool.specs.State.{PooledState, group_of};
 
     ghost Value = { PooledState };
 
-    ghost view = { λ g. group_of g.spans (page_of g.words g.blank) };
+    ghost view = { λ g. group_of g.spans (page_of g.is_paged g.words.words) };
+
+    ghost invariant = { λ g. IsPageOf g.spans.head.class g.is_paged g.words };
 }
 
 impl<L: Log> Pooled<L> {
     /// The group of the spans, with the page, if there is one.
     pub(crate) fn new(spans: Spans<L>, page: MaybePage) -> Pooled<L>
-        ensures { result ≡ group_of spans page }
+        requires { IsInObjects spans.head.class page.room }
+        ensures { result ≡ group_of spans page.page }
     {
-        let (words, blank) = page.into_parts();
+        let (words, is_paged) = page.into_parts();
         Pooled {
             spans,
             words,
-            blank,
+            is_paged,
         }
     }
 
     /// The spans and the page.
     pub(crate) fn into_parts(self) -> (Spans<L>, MaybePage)
-        ensures { self ≡ group_of result.0 result.1 }
+        ensures parts { self ≡ group_of result.0 result.1.page }
+        ensures whole { IsInObjects result.0.head.class result.1.room }
     {
-        (self.spans, MaybePage::new(self.words, self.blank))
+        (self.spans, MaybePage::new(self.words, self.is_paged))
     }
 
     /// The spans, without their page.
@@ -97,21 +101,22 @@ impl<L: Log> Pooled<L> {
         self.spans.head_id()
     }
 
-    /// The words of the object at the slot of its page.
+    /// The words of the object of its class at the slot of its page.
     pub(crate) fn value_at(&self, class: Class, slot: u8) -> &[u128]
+        requires class { class ≡ self.now.head.class }
         requires paged { IsSome self.now.page }
         requires on_page { slot < slots_in class }
         ensures object { result.now ≡ object_at self.now.page class slot }
         ensures width { length result.now ≡ width_of class }
     {
-        value_on(&self.words, class, slot)
+        self.words.value_at(class, slot)
     }
 
     /// Whether it has a page.
     pub(crate) fn is_paged(&self) -> bool
         ensures { result ≡ is_some self.now.page }
     {
-        self.words.is_some() || self.blank
+        self.is_paged
     }
 
     /// How many spans it has, the head and its guests.
@@ -151,7 +156,7 @@ impl<L: Log> Pooled<L> {
     /// # Errors
     ///
     /// `AllocError` in place of `true`, where the span's log could not grow, or memory was refused
-    /// for the words of a page that had only zeros. The group is then as it was.
+    /// for words of the page. The group is then as it was.
     pub(crate) fn set(
         &mut self,
         alloc: Global,
@@ -171,25 +176,28 @@ impl<L: Log> Pooled<L> {
             → OnErr result (IsSettable span slot generation words.now) }
         ensures err { OnErr result (self.new ≡ self.old) }
     {
-        if self.words.is_none() && !is_zeros(words) {
+        let class = self.spans.class();
+        if !self.words.takes(class, slot, words) {
             let spans = &mut self.spans;
-            let Some(page) = set_on_zeros(alloc, spans, place, slot, generation, words)? else {
-                return Ok(false);
-            };
-            self.words = Some(page);
-            return Ok(true);
+            let page = &mut self.words;
+            return set_growing(alloc, spans, page, place, slot, generation, words);
         }
         if !self.spans.set(place, slot, generation, words)? {
             return Ok(false);
         }
-        let class = self.spans.class();
-        set_on(&mut self.words, class, slot, words);
+        self.words.set_at(class, slot, words);
         Ok(true)
     }
 
     /// Frees the slot in the span at the place, where it is live there at the generation, and gives
     /// the page up where it was the last that was live.
-    pub(crate) fn free(&mut self, place: usize, slot: u8, generation: u32) -> bool
+    pub(crate) fn free(
+        &mut self,
+        alloc: Global,
+        place: usize,
+        slot: u8,
+        generation: u32,
+    ) -> bool
         requires { place < length (spans_of self.old) }
         ensures found { (span : SpanState) → slice_get (spans_of self.old) place ≡ Some span
             → (IsTrue result ↔ Holds span.log slot generation) }
@@ -200,17 +208,17 @@ impl<L: Log> Pooled<L> {
         if !self.spans.free(place, slot, generation) {
             return false;
         }
-        self.give_up_page();
+        self.give_up_page(alloc);
         true
     }
 
     // Gives its page up, if it has one, where no slot is live.
-    fn give_up_page(&mut self)
+    fn give_up_page(&mut self, alloc: Global)
         ensures { GivesUp self.old self.new }
     {
         if self.spans.occupied().lowest().is_none() {
-            self.words = None;
-            self.blank = false;
+            self.words = Page::blank(alloc);
+            self.is_paged = false;
         }
     }
 }

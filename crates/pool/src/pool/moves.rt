@@ -1,6 +1,7 @@
 // Groups that come and go whole.
 ghost use Rattle.std.specs.Prelude.{◌≡◌, ◌≢◌, ◌+◌, ◌<◌, ◌≤◌, ℕ, List, None, Some, IfSome, IsSome, MatchOption, OnErr, OnOk, length, option_map};
 ghost use Rattle.std.specs.FinSet as set;
+ghost use Rattle.page.specs.Words.{IsInObjects};
 ghost use Rattle.groups.specs.Spans.{all_spans, union_of};
 ghost use Rattle.pool.specs.Calls.{IsBriefHere, Lifts, MayTakeIn, TakesIn, with_room, with_rooms};
 ghost use Rattle.groups.specs.Group.{HasNoHead, HasNoMember, IsMemberAt};
@@ -12,7 +13,7 @@ use groups::{Brief, Spans, Whole};
 use page::MaybePage;
 use span::names::SpanId;
 use span::spans::Log;
-use std::alloc::AllocError;
+use std::alloc::{AllocError, Global};
 
 impl<L: Log> Pool<L> {
     /// A look at the group of the head, if the pool has it.
@@ -88,7 +89,7 @@ impl<L: Log> Pool<L> {
         let (spans, page) = whole.into_parts();
         let count = spans.len();
         let head = spans.head_id();
-        let page = page_in_use(&spans, page);
+        let page = page_in_use(self.alloc, &spans, page);
         self.directory.enter_from(0, spans.guests(), head);
         self.groups.insert(Pooled::new(spans, page));
         self.group_room -= 1;
@@ -97,12 +98,14 @@ impl<L: Log> Pool<L> {
 }
 
 // The page, where one of the spans' slots is live; else it goes.
-fn page_in_use<L: Log>(spans: &Spans<L>, page: MaybePage) -> MaybePage
-    ensures emptied { union_of (all_spans spans.now) ≡ set.empty → result ≡ None }
-    ensures live { union_of (all_spans spans.now) ≢ set.empty → result ≡ page }
+fn page_in_use<L: Log>(alloc: Global, spans: &Spans<L>, page: MaybePage) -> MaybePage
+    requires { IsInObjects spans.now.head.class page.room }
+    ensures emptied { union_of (all_spans spans.now) ≡ set.empty → result.page ≡ None }
+    ensures live { union_of (all_spans spans.now) ≢ set.empty → result.page ≡ page.page }
+    ensures whole { IsInObjects spans.now.head.class result.room }
 {
     if spans.occupied().lowest().is_none() {
-        return MaybePage::none();
+        return MaybePage::none(alloc);
     }
     page
 }

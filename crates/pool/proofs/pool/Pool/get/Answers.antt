@@ -58,3 +58,8 @@ returns-clause-plain g c = value_found-Gets c.args.self.now c.find.ensures.sound
 
 pub returns-clause-width : goal.returns-clause-width
 returns-clause-width g c = IsObject-width c.value_at-words.result.now c.class.result c.value_at-words.ensures.width
+
+pub value_at-words-requires-clause-class : goal.value_at-words-requires-clause-class
+value_at-words-requires-clause-class g c =
+    let at = c.in-Some.ensures.place in
+    c.class.ensures.class ∙ ((c.find.ensures.sound.groups at.0 c.in-Some.group.now at.2.group_is).classes c.in-Some.place c.span_at-span.result.now c.span_at-span.ensures).class_is

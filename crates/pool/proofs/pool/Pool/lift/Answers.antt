@@ -9,10 +9,10 @@ use Rattle.pool.specs.State.{PoolState, PooledState}
 use Rattle.pool.proofs.Lifted.{IsSound-left_over, IsSoundWhole-whole_of}
 use Rattle.pool.proofs.pool.Pool.lift.Goals as goal
 
-pub new-requires : goal.new-requires
-new-requires g c =
+pub new-requires-clause-sound : goal.new-requires-clause-sound
+new-requires-clause-sound g c =
     let gone = c.in_ok-group.ensures in
-    subst IsSoundWhole (ap whole_of c.into_parts-spans.ensures)
+    subst IsSoundWhole (ap whole_of c.into_parts-spans.ensures.parts)
     (IsSoundWhole-whole_of (state_of c.self.inside) c.self.invariant.sound gone.0 c.in_ok-group.group gone.1.here)
 
 pub invariant_of-self-2 : goal.invariant_of-self-2
@@ -22,7 +22,7 @@ invariant_of-self-2 g c =
     record {
       sound = rw groups_are (IsSound-left_over (state_of c.self.inside) c.self.invariant.sound gone.0 c.in_ok-group.group gone.1.here);
       room_for_groups = omega (arith, c.self.invariant.room_for_groups, ap (λ (s : GroupsState). s.room) gone.2);
-      guests_known = rw (groups_are, c.strike_all.ensures, c.guests.ensures ∙ ap (λ (g : PooledState). g.guests) (sym c.into_parts-spans.ensures))
+      guests_known = rw (groups_are, c.strike_all.ensures, c.guests.ensures ∙ ap (λ (g : PooledState). g.guests) (sym c.into_parts-spans.ensures.parts))
           (KnowsGuests-remove c.self.inside.groups.groups c.self.inside.directory.entries c.self.invariant.guests_known c.self.invariant.sound.ascending gone.0
           c.in_ok-group.group gone.1.here);
       room_for_entries = omega (arith, c.self.invariant.room_for_entries, ap (λ (d : DirectoryState). d.room) c.strike_all.ensures);
@@ -34,7 +34,7 @@ returns-clause-lifts g c =
       gone.0,
       c.in_ok-group.group,
       subst (λ (s : PoolState). IsHeadOf s.groups c.args.head gone.0 c.in_ok-group.group) c.self.view_is gone.1,
-      c.new.ensures ∙ ap whole_of (sym c.into_parts-spans.ensures),
+      c.new.ensures ∙ ap whole_of (sym c.into_parts-spans.ensures.parts),
       rw (← c.self.view_is, gone.2) refl,
     )
 

@@ -1,8 +1,9 @@
 use Rattle.std.proofs.Common.{◌≡◌, ◌∙◌, ◌-◌, List, length, ap, arith, refl, subst, sym, insert}
+use Rattle.page.specs.Words.{IsInObjects}
 use Rattle.span.specs.State.{SpanState}
 use Rattle.groups.specs.Directory.{DirectoryState, entered}
 use Rattle.groups.specs.Group.{HasNoHead, IsPlaceFor}
-use Rattle.groups.specs.Whole.{IsSoundWhole, whole_with}
+use Rattle.groups.specs.Whole.{IsSoundWhole, WholeState, whole_with}
 use Rattle.groups.proofs.KnownGuests.{KnowsGuests-insert}
 use Rattle.pool.specs.Calls.{MayTakeIn, TakesIn}
 use Rattle.pool.specs.Groups.{GroupsState}
@@ -20,12 +21,12 @@ insert-requires-clause-new g c =
 pub invariant_of-self : goal.invariant_of-self
 invariant_of-self g c =
     let spans = c.into_parts-spans.result.0 in
-    let moved = whole_with spans c.into_parts-spans.result.1 in
+    let moved = whole_with spans c.into_parts-spans.result.1.page in
     let may : MayTakeIn (state_of c.self.inside) moved = subst (λ (s : PoolState). MayTakeIn s moved) (sym c.self.view_is)
     (subst (MayTakeIn c.args.self.now) c.into_parts-spans.ensures.parts c.requires) in
     let fits = subst IsSoundWhole c.into_parts-spans.ensures.parts c.into_parts-spans.ensures.sound in
     let came = c.insert.ensures in
-    let group : PooledState = group_of spans c.page_in_use-page.result in
+    let group : PooledState = group_of spans c.page_in_use-page.result.page in
     let place : IsPlaceFor c.self.inside.groups.groups spans.head.id came.0 = subst (λ (g : PooledState). IsPlaceFor c.self.inside.groups.groups g.head.id came.0) c.new.ensures came.1 in
     let groups_are : c.insert.new.self.groups ≡ insert c.self.inside.groups.groups came.0 group = ap (λ (s : GroupsState). s.groups) came.2
     ∙ ap (insert c.self.inside.groups.groups came.0) c.new.ensures in
@@ -37,7 +38,7 @@ invariant_of-self g c =
     }) = record {
       index = came.0;
       place = place;
-      page = c.page_in_use-page.result;
+      page = c.page_in_use-page.result.page;
       emptied = c.page_in_use-page.ensures.emptied;
       live = c.page_in_use-page.ensures.live;
       after = rw (groups_are, c.len-count.ensures) refl;
@@ -64,3 +65,6 @@ invariant_of-self g c =
 
 pub returns-clause-sound : goal.returns-clause-sound
 returns-clause-sound g c = (invariant_of-self g c).sound
+
+pub page_in_use-page-requires : goal.page_in_use-page-requires
+page_in_use-page-requires g c = subst (λ (w : WholeState). IsInObjects w.head.class c.into_parts-spans.result.1.room) c.into_parts-spans.ensures.parts c.into_parts-spans.ensures.whole

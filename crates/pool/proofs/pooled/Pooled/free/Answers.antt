@@ -1,8 +1,9 @@
-use Rattle.std.proofs.Common.{◌≡◌, Some, subst, slice_get, true, ◌↔◌, IsTrue}
+use Rattle.std.proofs.Common.{◌≡◌, ◌<◌, Some, length, subst, sym, slice_get, true, ◌↔◌, IsTrue}
 use Rattle.span.specs.Log.{Holds}
 use Rattle.span.specs.State.{SpanState}
 use Rattle.pool.specs.State.{PooledState}
 use Rattle.groups.specs.Group.{spans_of}
+use Rattle.shard.proofs.ZeroPages.{IsPageOf-freed}
 use Rattle.pool.proofs.pooled.Pooled.free.Goals as goal
 
 pub returns-clause-found : goal.returns-clause-found
@@ -10,3 +11,9 @@ returns-clause-found g c =
     subst
     (λ (g : PooledState). (span : SpanState) → slice_get (spans_of g) c.args.place ≡ Some span → (IsTrue true ↔ Holds span.log c.args.slot c.args.generation))
     c.self.view_is (c.if-not-free.ensures {u = tt}).found
+
+pub invariant_of-self : goal.invariant_of-self
+invariant_of-self g c =
+    let free = c.if-not-free.ensures {u = tt} in
+    IsPageOf-freed c.self.inside.spans c.free.new.self c.self.inside.is_paged c.self.inside.words c.args.place c.args.slot c.args.generation
+    (subst (λ (g : PooledState). c.args.place < length (spans_of g)) (sym c.self.view_is) c.requires) c.self.invariant true free.freed free.unknown
