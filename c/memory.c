@@ -6,8 +6,9 @@
 #include <stdio.h>
 #include <stdlib.h>
 
-/* A page is a block of 256 words of 16 bytes. A core may have other blocks of this size too. */
-enum { SLOTS = 256, PAGE = 16 * SLOTS, PAGES = 64 };
+/* A full page is a block of 256 words of 16 bytes, and one with few objects a sixteenth of that. A
+ * core may have other blocks of these sizes too. */
+enum { SLOTS = 256, PAGE = 16 * SLOTS, SMALL = PAGE / 16, PAGES = 64 };
 
 /* Stands before each block, and keeps it aligned to 16. */
 struct header {
@@ -15,7 +16,7 @@ struct header {
     size_t unused;
 };
 
-static size_t calls, blocks, bytes, most_bytes, pages, others;
+static size_t calls, blocks, bytes, most_bytes, pages, small, others;
 /* Whether no further block is to be had. */
 static int is_spent;
 
@@ -27,12 +28,14 @@ static void enter(size_t size) {
     bytes += size;
     if (most_bytes < bytes) most_bytes = bytes;
     pages += size == PAGE;
+    small += size == SMALL;
 }
 
 static void leave(size_t size) {
     blocks--;
     bytes -= size;
     pages -= size == PAGE;
+    small -= size == SMALL;
 }
 
 void *__wrap_malloc(size_t size) {
@@ -81,11 +84,14 @@ void *__wrap_realloc(void *block, size_t size) {
 static struct teurlaks_handle core;
 static struct teurlaks_key keys[4][PAGES][SLOTS];
 
+/* Pages of the core with few objects. */
+static size_t with_few;
+
 /* The core says that it has so many pages, and so many blocks are pages. */
 #define WANT_PAGES(count)                                                                          \
     do {                                                                                           \
         WANT(teurlaks_totals(&core).pages == (count));                                             \
-        WANT(pages - others == (count));                                                           \
+        WANT(pages - others == (count) - with_few);                                                \
     } while (0)
 
 static void fill(uint32_t shard) {
@@ -186,6 +192,7 @@ static void trim(void) {
     struct teurlaks_put_reply put = teurlaks_put(&core, 3, (struct teurlaks_word){5, 6});
     WANT(put.status == TEURLAKS_OK && put.key.serial == keys[3][0][0].serial && put.key.slot == 0);
     WANT(calls == before + half + 1);
+    with_few = 1;
     WANT_PAGES(PAGES + half + 1);
     struct teurlaks_get_reply got = teurlaks_get(&core, put.key);
     WANT(got.status == TEURLAKS_OK && got.value.low == 5 && got.value.high == 6);
@@ -287,8 +294,24 @@ static void little(void) {
     QUIETLY(teurlaks_retire(&many, 63, 1).status == TEURLAKS_OK);
     QUIETLY(teurlaks_begin(&many, 63) == TEURLAKS_RUNNING);
     WANT(teurlaks_put(&many, 0, (struct teurlaks_word){1, 2}).status == TEURLAKS_OK);
-    WANT(bytes - before <= PAGE + 800);
+    WANT(bytes - before <= SMALL + 800);
     teurlaks_drop(&many);
+}
+
+/* A page takes memory for the objects up to the last that was put there and is not zeros: for 16
+ * words, for 64, for 128 or for all. What the span has beside them is less than 64 words. */
+static void page_grows(void) {
+    static const size_t room[] = {16, 64, 128, SLOTS};
+    struct teurlaks_handle one = {0};
+    WANT(teurlaks_new(&one, 1, 1, 1, 9) == TEURLAKS_OK);
+    size_t empty = bytes, put = 0;
+    for (size_t step = 0; step < 4; step++)
+        for (; put < room[step]; put++) {
+            struct teurlaks_word word = {put + 1, 0};
+            WANT(teurlaks_put(&one, 0, word).status == TEURLAKS_OK);
+            WANT(bytes - empty >= 16 * room[step] && bytes - empty < 16 * (room[step] + 96));
+        }
+    teurlaks_drop(&one);
 }
 
 static const struct teurlaks_word zero;
@@ -303,20 +326,20 @@ static void find_beside_zeros(struct teurlaks_key key, struct teurlaks_word word
 /* Keeps a word in the shard, at this slot of its one page, for which it asks for so many pages. */
 static struct teurlaks_key put_beside_zeros(uint32_t shard, struct teurlaks_word word, uint8_t slot,
                                             size_t asked) {
-    size_t before = pages;
+    size_t before = small;
     struct teurlaks_put_reply put = teurlaks_put(&of_zeros, shard, word);
     WANT(put.status == TEURLAKS_OK && put.key.slot == slot && put.key.serial == 0);
-    WANT(pages == before + asked);
+    WANT(small == before + asked);
     find_beside_zeros(put.key, word);
     return put.key;
 }
 
 /* Frees the key, and gives back the page of its shard, which was asked for or was one of zeros. */
 static void trim_zeros(struct teurlaks_key key, size_t given) {
-    size_t before = pages;
+    size_t before = small;
     QUIETLY(teurlaks_free(&of_zeros, key) == TEURLAKS_OK);
     WANT(teurlaks_trim(&of_zeros, key.shard).count == 1);
-    WANT(teurlaks_totals(&of_zeros).pages == 0 && pages == before - given);
+    WANT(teurlaks_totals(&of_zeros).pages == 0 && small == before - given);
 }
 
 /* A page of zeros counts as a page and takes no memory. It takes it with the first object that is
@@ -345,14 +368,13 @@ static void zeros_take_no_page(void) {
     trim_zeros(second, 1);
 }
 
-/* Folds the page of shard 0 onto that of shard 1, and gives so many pages back. */
-static void fold_zeros(size_t given) {
-    size_t before = pages;
+/* Folds the page of shard 0 onto that of shard 1. */
+static void fold_zeros(void) {
     WANT(teurlaks_retire(&of_zeros, 0, 1).count == 1);
     WANT(teurlaks_mark(&of_zeros).folds == 1);
     WANT(teurlaks_step(&of_zeros).status == TEURLAKS_OK);
     WANT(teurlaks_close(&of_zeros) == TEURLAKS_OK);
-    WANT(teurlaks_totals(&of_zeros).pages == 1 && pages == before - given);
+    WANT(teurlaks_totals(&of_zeros).pages == 1);
 }
 
 /* A fold of pages of which one, both or none is of zeros: an object stays what it is, whatever was
@@ -365,12 +387,12 @@ static void zeros_are_folded(int is_from_zeros, int is_onto_zeros) {
     freed = put_beside_zeros(1, onto, 0, !is_onto_zeros);
     high = put_beside_zeros(1, onto, 1, 0);
     QUIETLY(teurlaks_free(&of_zeros, freed) == TEURLAKS_OK);
-    fold_zeros(!is_from_zeros && !is_onto_zeros);
+    fold_zeros();
     find_beside_zeros(low, from);
     find_beside_zeros(high, onto);
-    size_t before = pages;
+    size_t before = small;
     WANT(teurlaks_set(&of_zeros, low, (struct teurlaks_word){7, 7}) == TEURLAKS_OK);
-    WANT(pages == before + (is_from_zeros && is_onto_zeros));
+    WANT(small == before + (is_from_zeros && is_onto_zeros));
     find_beside_zeros(low, (struct teurlaks_word){7, 7});
     find_beside_zeros(high, onto);
     QUIETLY(teurlaks_free(&of_zeros, low) == TEURLAKS_OK);
@@ -510,6 +532,7 @@ int main(void) {
     teurlaks_drop(&core);
     core_forgets();
     little();
+    page_grows();
     zeros();
     arena();
     WANT(blocks == 0 && bytes == 0);

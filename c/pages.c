@@ -2,9 +2,9 @@
  * leave the process, as Mesh releases the physical pages that its meshing regains. Link it in place
  * of the kit's liblibc_c.a, which asks malloc for everything.
  *
- * A request of exactly 4,096 bytes (a page of objects) or of 1,024 bytes (the generations of 256
- * slots of which one has passed 255) is a block of a range of its own; all else goes to malloc. A
- * range is address space that is reserved and opened bit by bit:
+ * A request of exactly 4,096, 2,048 or 1,024 bytes (a page of objects, a half or a quarter of one,
+ * or the generations of 256 slots of which one has passed 255) is a block of a range of its own.
+ * All else goes to malloc. A range is address space that is reserved and opened bit by bit:
  *
  *   0                                opened             reserved
  *   | used | free | used | free, kept |  no memory yet  |
@@ -120,9 +120,11 @@ struct run {
     uint32_t from, to;
 };
 
-static struct blocks of_pages, of_quarters;
+static struct blocks of_pages, of_halves, of_quarters;
 static struct range pages = {
     .lock = PTHREAD_MUTEX_INITIALIZER, .blocks = &of_pages, .size = 4096, .per = 1};
+static struct range halves = {
+    .lock = PTHREAD_MUTEX_INITIALIZER, .blocks = &of_halves, .size = 2048, .per = 2};
 static struct range quarters = {
     .lock = PTHREAD_MUTEX_INITIALIZER, .blocks = &of_quarters, .size = 1024, .per = 4};
 static uint8_t nothing[1];
@@ -325,7 +327,7 @@ static void put_back(struct range *r, size_t n) {
     pthread_mutex_unlock(&r->lock);
 }
 
-static struct range *const ranges[] = {&pages, &quarters};
+static struct range *const ranges[] = {&pages, &halves, &quarters};
 enum { RANGES = sizeof ranges / sizeof ranges[0] };
 
 /* A block, by its range and its number there. */
@@ -371,6 +373,8 @@ struct got rattle_alloc(size_t size, size_t least) {
     void *at = NULL;
     if (size == pages.size)
         at = take(&pages);
+    else if (size == halves.size)
+        at = take(&halves);
     else if (size == quarters.size)
         at = take(&quarters);
     if (!at) at = of_malloc(size ? size : least);

@@ -91,7 +91,7 @@ static int is_whole(const struct kept *kept, size_t size) {
     return 1;
 }
 
-static const size_t sizes[] = {4096, 1024, 4096, 1024, 448, 9216, 0};
+static const size_t sizes[] = {4096, 1024, 4096, 2048, 1024, 448, 9216, 0};
 
 static size_t a_size(uint64_t *state) {
     return sizes[next(state) % (sizeof sizes / sizeof sizes[0])];
@@ -147,19 +147,21 @@ static void threads(void) {
 /* Where the system refuses a range, malloc is asked, and a refusal of malloc is one, whose place is
  * not NULL. */
 static void refused(void) {
-    void *page = alloc(4096, 1), *quarter = alloc(1024, 2);
+    void *page = alloc(4096, 1), *half = alloc(2048, 4), *quarter = alloc(1024, 2);
     rattle_dealloc(page);
+    rattle_dealloc(half);
     rattle_dealloc(quarter);
     refuse_malloc = 1;
     struct got one = rattle_alloc(4096, 1), other = rattle_alloc(1024, 1);
+    struct got third = rattle_alloc(2048, 1);
     refuse_malloc = 0;
-    WANT(!one.ok && !other.ok && one.at && other.at);
+    WANT(!one.ok && !other.ok && !third.ok && one.at && other.at && third.at);
     most = SIZE_MAX, refuse_mprotect = 0;
     rattle_dealloc(alloc(4096, 1));
 }
 
 enum { COUNT = 20000 };
-static uint8_t *page[COUNT], *quarter[COUNT];
+static uint8_t *page[COUNT], *half[COUNT], *quarter[COUNT];
 
 #ifndef FEW
 /* Resident kilobytes, as the system tells. */
@@ -176,23 +178,32 @@ static long resident(void) {
 static void leave_and_come(void) {
     for (int i = 0; i < COUNT; i++) {
         WANT((uintptr_t)page[i] % 4096 == 0 && (uintptr_t)quarter[i] % 1024 == 0);
+        WANT((uintptr_t)half[i] % 2048 == 0);
         WANT(i == 0 || are_apart ||
-             (page[i] == page[i - 1] + 4096 && quarter[i] == quarter[i - 1] + 1024));
+             (page[i] == page[i - 1] + 4096 && quarter[i] == quarter[i - 1] + 1024 &&
+              half[i] == half[i - 1] + 2048));
     }
     long full = resident();
     for (int i = 1; i < COUNT; i += 2) rattle_dealloc(page[i]);
-    long half = resident();
-    WANT(WATCHED || full - half >= COUNT / 2 * 4 - 64 * 4 - 64);
+    long left = resident();
+    WANT(WATCHED || full - left >= COUNT / 2 * 4 - 64 * 4 - 64);
     for (int i = 0; i < COUNT; i++)
         if (i % 8) rattle_dealloc(quarter[i]);
-    WANT(WATCHED || half - resident() >= COUNT / 8 * 4 - 64 * 4 - 64);
-    printf("%d KB were freed, and %ld left the process\n", COUNT / 2 * 4 + COUNT / 8 * 4,
-           full - resident());
+    WANT(WATCHED || left - resident() >= COUNT / 8 * 4 - 64 * 4 - 64);
+    left = resident();
+    for (int i = 0; i < COUNT; i++)
+        if (i % 4) rattle_dealloc(half[i]);
+    WANT(WATCHED || left - resident() >= COUNT / 4 * 4 - 64 * 4 - 64);
+    printf("%d KB were freed, and %ld left the process\n",
+           COUNT / 2 * 4 + COUNT / 8 * 4 + COUNT / 4 * 4, full - resident());
     for (int i = 1; i < COUNT; i += 2) WANT(alloc(4096, 1) == page[i]);
     for (int i = 0; i < COUNT; i++)
         if (i % 8) WANT(alloc(1024, 2) == quarter[i]);
+    for (int i = 0; i < COUNT; i++)
+        if (i % 4) WANT(alloc(2048, 4) == half[i]);
     for (int i = 0; i < COUNT; i++) {
         WANT(is_whole(&(struct kept){page[i], 4096, 1}, 4096));
+        WANT(is_whole(&(struct kept){half[i], 2048, 4}, 2048));
         WANT(is_whole(&(struct kept){quarter[i], 1024, 2}, 1024));
     }
 }
@@ -255,6 +266,7 @@ int main(int argc, char **argv) {
     else {
         for (int i = 0; i < COUNT; i++) {
             page[i] = alloc(4096, 1);
+            half[i] = alloc(2048, 4);
             quarter[i] = alloc(1024, 2);
         }
         if (is_limited) leaves_room();
@@ -263,6 +275,7 @@ int main(int argc, char **argv) {
 #endif
         for (int i = COUNT; i--;) {
             rattle_dealloc(page[i]);
+            rattle_dealloc(half[i]);
             rattle_dealloc(quarter[i]);
         }
 #ifndef FEW

@@ -257,7 +257,7 @@ struct teurlaks_certificate_reply {
     size_t len;
 };
 
-/* Pages of 4,096 bytes, and live keys; 0 of both where the handle has no core. */
+/* Pages of up to 4,096 bytes, and live keys; 0 of both where the handle has no core. */
 struct teurlaks_totals_reply {
     size_t pages;
     size_t live;
@@ -301,9 +301,9 @@ struct teurlaks_words_reply teurlaks_get_words(const struct teurlaks_handle *han
                                                size_t words_len);
 
 /* Sets the key to an object of one word, where it is live and has an object of one word, else
- * TEURLAKS_NONE. The key stays, and so does where its object stands. Takes no memory, but for the
- * first object on a page that is not zeros, and refuses with TEURLAKS_OUT_OF_MEMORY if that fails,
- * or after 2^63 changes of a span. */
+ * TEURLAKS_NONE. The key stays, and so does where its object stands. Takes no memory, but if
+ * an object of zeros is set to another, and refuses with TEURLAKS_OUT_OF_MEMORY if that fails, or
+ * after 2^63 changes of a span. */
 uint32_t teurlaks_set(struct teurlaks_handle *handle, struct teurlaks_key key,
                       struct teurlaks_word value);
 
@@ -464,7 +464,7 @@ struct teurlaks_tend_reply {
     size_t count;
 };
 
-/* Pages of 4,096 bytes, and live keys, where the status is TEURLAKS_OK; else 0 of both. */
+/* Pages of up to 4,096 bytes, and live keys, where the status is TEURLAKS_OK; else 0 of both. */
 struct teurlaks_arena_totals_reply {
     uint32_t status;
     size_t pages;

@@ -107,7 +107,7 @@ pub struct Arena<T> {
 /// What an arena keeps, at one time.
 #[derive(Clone, Copy, Debug, Default, PartialEq, Eq, Hash)]
 pub struct Totals {
-    /// How many pages of 4,096 bytes there are.
+    /// How many pages of up to 4,096 bytes there are.
     pub pages: usize,
     /// How many keys are live.
     pub live: usize,

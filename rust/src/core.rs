@@ -481,7 +481,7 @@ impl Core {
         self.live == 0
     }
 
-    /// How many pages of 4,096 bytes there are. The library counts them, shard by shard.
+    /// How many pages of up to 4,096 bytes there are. The library counts them, shard by shard.
     #[must_use]
     pub fn pages(&self) -> usize {
         // SAFETY: as in `get`.

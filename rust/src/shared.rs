@@ -342,7 +342,7 @@ impl<T> SharedStore<T> {
         self.len() == 0
     }
 
-    /// How many pages of 4,096 bytes there are.
+    /// How many pages of up to 4,096 bytes there are.
     #[must_use]
     pub fn pages(&self) -> usize {
         self.sum(Store::pages)

@@ -538,7 +538,7 @@ impl<T> SharedSlab<T> {
         self.len() == 0
     }
 
-    /// How many pages of 4,096 bytes the cores have.
+    /// How many pages of up to 4,096 bytes the cores have.
     #[must_use]
     pub fn pages(&self) -> usize {
         self.sum(Table::pages)

@@ -3,6 +3,7 @@
 //! Each call stands in a helper that promises nothing, and the answers are compared at once. A page
 //! that was refused memory is asked for again.
 ghost use Rattle.std.specs.Prelude.{◌<◌, ◌≤◌};
+ghost use Rattle.page.specs.Words.{IsInObjects};
 ghost use Rattle.span.specs.Classes.{slots_in};
 
 use crate::objects::{object, zeros};
@@ -10,39 +11,42 @@ use page::Page;
 use span::names::{CLASSES, Class, Object};
 use std::alloc::Global;
 
-fn blank(alloc: Global) -> Option<Page> {
-    match Page::blank(alloc) {
-        Ok(page) => Some(page),
-        Err(_) => Page::blank(alloc).ok(),
-    }
-}
-
-// Sets the object of the class that the word tells.
-fn set_at(page: &mut Page, class: Class, slot: u8, word: u128)
-    requires { slot < slots_in class }
+// Sets the object of the class that the word tells, for which the page takes memory.
+fn set_at(page: &mut Page, alloc: Global, class: Class, slot: u8, word: u128)
+    requires on_page { slot < slots_in class }
+    requires whole { IsInObjects class page.old.room }
+    ensures { IsInObjects class page.new.room }
 {
     let value = object(class, word);
-    if value.class() == class {
+    if value.class() != class {
+        return;
+    }
+    let is_refused = page.reserve(alloc, class, slot).is_err();
+    if is_refused && page.reserve(alloc, class, slot).is_err() {
+        return;
+    }
+    if page.takes(class, slot, value.words()) {
         page.set_at(class, slot, value.words());
     }
 }
 
 fn value_at(page: &Page, class: Class, slot: u8) -> Option<Object>
-    requires { slot < slots_in class }
+    requires on_page { slot < slots_in class }
+    requires whole { IsInObjects class page.now.room }
 {
     Some(Object::of(class, page.value_at(class, slot)))
 }
 
-// What stands at the first two slots and at the last two of a page, after an object at its first
-// and another at its last.
+// What stands at the first two slots and at the last two of a page, which grows in between, after
+// an object at its first and another at its last.
 fn ends_of(alloc: Global, class: Class) -> Option<[Option<Object>; 4]> {
     let last = last_slot(class);
     if u16::from(last) >= class.slots() || last < 2 {
         return None;
     }
-    let mut page = blank(alloc)?;
-    set_at(&mut page, class, 0, 7);
-    set_at(&mut page, class, last, 8);
+    let mut page = Page::blank(alloc);
+    set_at(&mut page, alloc, class, 0, 7);
+    set_at(&mut page, alloc, class, last, 8);
     Some([
         value_at(&page, class, 0),
         value_at(&page, class, 1),

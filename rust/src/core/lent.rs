@@ -95,7 +95,7 @@ macro_rules! meshing {
     () => {
         crate::core::letting_go!(self => self.core);
 
-        /// How many pages of 4,096 bytes there are.
+        /// How many pages of up to 4,096 bytes there are.
         #[must_use]
         pub fn pages(&self) -> usize {
             self.core.pages()

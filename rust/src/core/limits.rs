@@ -9,9 +9,10 @@ use crate::refused::Refused;
 pub struct Limits {
     /// How many shards there are, 1 to 64.
     pub shards: u32,
-    /// How many pages of 4,096 bytes a shard may have, 1 to 1,048,576. It costs nothing until they
-    /// are used. Each adoption by a shard costs a step for each page that it has, so many shards of
-    /// few pages are compacted sooner than one of many, where much of what is retired comes back.
+    /// How many pages of up to 4,096 bytes a shard may have, 1 to 1,048,576. It costs nothing until
+    /// they are used. Each adoption by a shard costs a step for each page that it has, so many
+    /// shards of few pages are compacted sooner than one of many, where much of what is retired
+    /// comes back.
     pub pages: u32,
     /// How many pages a shard may open in its life, 1 to 4,294,967,295. Each insert that finds no
     /// room opens one, and a fold uses one up. Fewer make keys shorter ([`Limits::key_bits`]).

@@ -15,7 +15,7 @@ impl<T> Slab<T> {
         &mut self.core
     }
 
-    /// How many pages of 4,096 bytes there are.
+    /// How many pages of up to 4,096 bytes there are.
     #[must_use]
     pub fn pages(&self) -> usize {
         self.core.pages()
