@@ -57,10 +57,11 @@ pub record Numbers : Type 0 where
   pub number : ℕ
   pub page_limit : ℕ
   pub span_limit : ℕ
+  pub slot_limit : ℕ
   pub gens : ℕ
 
 abbrev pub numbers_of : ShardState → Numbers
-numbers_of shard = record { number = shard.number; page_limit = shard.page_limit; span_limit = shard.span_limit; gens = shard.gens }
+numbers_of shard = record { number = shard.number; page_limit = shard.page_limit; span_limit = shard.span_limit; slot_limit = shard.slot_limit; gens = shard.gens }
 
 -- what is sound of these numbers is sound at the same place
 pub IsSoundAt-same : (limits : Limits) (number : ℕ) (before after : ShardState) → numbers_of after ≡ numbers_of before → IsSoundAt limits number before → IsSoundShard after
@@ -69,6 +70,7 @@ IsSoundAt-same limits number before after same was sound = record {
   number_is = ap (λ (n : Numbers). n.number) same ∙ was.number_is;
   page_limit_is = ap (λ (n : Numbers). n.page_limit) same ∙ was.page_limit_is;
   span_limit_is = ap (λ (n : Numbers). n.span_limit) same ∙ was.span_limit_is;
+  slot_limit_is = ap (λ (n : Numbers). n.slot_limit) same ∙ was.slot_limit_is;
   gens_is = ap (λ (n : Numbers). n.gens) same ∙ was.gens_is;
   sound = sound;
 }

@@ -134,4 +134,4 @@ module _ (limits : Limits) (made : List ShardState) where
       (at, slice_get_within (all_shards limits made) at shard here, get_or_from_slice_get (all_shards limits made) at shard shard here)
 
 pub IsSound-new_shard : (limits : Limits) (number : ℕ) → AreWithin limits → IsSoundShard (new_shard_of limits number)
-IsSound-new_shard limits number within = IsSound-new number limits.page_limit limits.span_limit limits.gens within.span_limit.1 within.gens.0
+IsSound-new_shard limits number within = IsSound-new number limits.page_limit limits.span_limit limits.slot_limit limits.gens within.span_limit.1 within.gens.0

@@ -24,34 +24,34 @@ use Rattle.arena_core.proofs.RingsKept.{AreRings-new, pending_at-new}
 use Rattle.arena_core.proofs.Spans.{named, shard_with-nowhere, sum_all}
 use Rattle.arena_core.proofs.Fields.{core_of}
 
-sum-new : (w : SpanState → ℕ) (limits : Limits) (numbers : List ℕ) → sum_by w (shard_spans (map (new_shard limits.page_limit limits.span_limit limits.gens) numbers)) ≡ 0
+sum-new : (w : SpanState → ℕ) (limits : Limits) (numbers : List ℕ) → sum_by w (shard_spans (map (new_shard limits.page_limit limits.span_limit limits.slot_limit limits.gens) numbers)) ≡ 0
 sum-new w limits [] = refl
 sum-new w limits (number ∷ numbers) = sum-new w limits numbers
 
 sum_all-new : (w : SpanState → ℕ) (limits : Limits) → sum_all w (new_core limits) ≡ 0
 sum_all-new w limits = ap (sum_by w) (append-nil (shard_spans (new_core limits).shards)) ∙ sum-new w limits (range_with_len 0 limits.shards)
 
-opened_by-new : (limits : Limits) (numbers : List ℕ) (number : ℕ) → opened_by (map (new_shard limits.page_limit limits.span_limit limits.gens) numbers) number ≡ 0
+opened_by-new : (limits : Limits) (numbers : List ℕ) (number : ℕ) → opened_by (map (new_shard limits.page_limit limits.span_limit limits.slot_limit limits.gens) numbers) number ≡ 0
 opened_by-new limits [] number = refl
 opened_by-new limits (first ∷ numbers) zero = refl
 opened_by-new limits (first ∷ numbers) (suc number) = opened_by-new limits numbers number
 
 pub slice_get-range : (limits : Limits) (from count number : ℕ) (shard : ShardState)
-    → slice_get (map (new_shard limits.page_limit limits.span_limit limits.gens) (range_with_len from count)) number ≡ Some shard
-    → (number < count) × (new_shard limits.page_limit limits.span_limit limits.gens (from + number) ≡ shard)
+    → slice_get (map (new_shard limits.page_limit limits.span_limit limits.slot_limit limits.gens) (range_with_len from count)) number ≡ Some shard
+    → (number < count) × (new_shard limits.page_limit limits.span_limit limits.slot_limit limits.gens (from + number) ≡ shard)
 slice_get-range limits from count number shard here =
-    completed-new from count (new_shard limits.page_limit limits.span_limit limits.gens) [] number shard (omega arith)
-    (ap (λ xs. slice_get xs number) (completed-empty from count (new_shard limits.page_limit limits.span_limit limits.gens)) ∙ here)
+    completed-new from count (new_shard limits.page_limit limits.span_limit limits.slot_limit limits.gens) [] number shard (omega arith)
+    (ap (λ xs. slice_get xs number) (completed-empty from count (new_shard limits.page_limit limits.span_limit limits.slot_limit limits.gens)) ∙ here)
 
 pub HasSoundGroups-new_core : (limits : Limits) → AreWithin limits → HasSoundGroups (new_core limits)
 HasSoundGroups-new_core limits within = record {
   within = within;
-  count = length-map-range_with_len (new_shard limits.page_limit limits.span_limit limits.gens) 0 limits.shards;
+  count = length-map-range_with_len (new_shard limits.page_limit limits.span_limit limits.slot_limit limits.gens) 0 limits.shards;
   shards = λ number shard here.
-      let at : (number < limits.shards) × (new_shard limits.page_limit limits.span_limit limits.gens (0 + number) ≡ shard) = slice_get-range limits 0 limits.shards number shard here in
+      let at : (number < limits.shards) × (new_shard limits.page_limit limits.span_limit limits.slot_limit limits.gens (0 + number) ≡ shard) = slice_get-range limits 0 limits.shards number shard here in
       let same : 0 + number ≡ number = omega arith in
-      subst (IsSoundAt limits number) (ap (new_shard limits.page_limit limits.span_limit limits.gens) (sym same) ∙ at.1)
-      (record { number_is = refl; page_limit_is = refl; span_limit_is = refl; gens_is = refl; sound = IsSound-new_shard limits number within });
+      subst (IsSoundAt limits number) (ap (new_shard limits.page_limit limits.span_limit limits.slot_limit limits.gens) (sym same) ∙ at.1)
+      (record { number_is = refl; page_limit_is = refl; span_limit_is = refl; slot_limit_is = refl; gens_is = refl; sound = IsSound-new_shard limits number within });
   pool = IsSound-new;
   gens = strays-each limits.gens (all_spans (new_core limits)) (sum_all-new (strays limits.gens) limits);
   once = λ id.

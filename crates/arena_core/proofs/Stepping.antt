@@ -18,7 +18,7 @@ use Rattle.pool.specs.State.{PoolState, PooledState}
 use Rattle.pool.proofs.Adopted.{one_head}
 use Rattle.fold.specs.Folds as fold
 use Rattle.fold.specs.Folds.{Folds, Steps}
-use Rattle.fold.proofs.Sums.{gens-Folds, length_paged-Folds, length_shard_pages-Folds, number-Folds, opened-Folds, page_limit-Folds, span_limit-Folds, sum_by-Folds}
+use Rattle.fold.proofs.Sums.{gens-Folds, length_paged-Folds, length_shard_pages-Folds, number-Folds, opened-Folds, page_limit-Folds, slot_limit-Folds, span_limit-Folds, sum_by-Folds}
 use Rattle.fold.specs.declared.step.Step.{Step as Outcome}
 use Rattle.fold.specs.declared.step.Step.TheVariants.{Absent, Emptied, Clash, Folded}
 use Rattle.arena_core.specs.Plan.{IsEmptyInPool, IsNext, IsUnderWay, IsWaiting}
@@ -46,6 +46,7 @@ IsMove-Folds pool_before pool_after before after a b running folds = record {
     number = number-Folds pool_before before a b pool_after after folds i;
     page_limit = page_limit-Folds pool_before before a b pool_after after folds i;
     span_limit = span_limit-Folds pool_before before a b pool_after after folds i;
+    slot_limit = slot_limit-Folds pool_before before a b pool_after after folds i;
     gens = gens-Folds pool_before before a b pool_after after folds i;
   };
   opened_is = opened-Folds pool_before before a b pool_after after folds;

@@ -14,7 +14,8 @@ completed from (suc n) filling (item ∷ items) = item ∷ completed (from + 1) 
 
 -- a new shard of a core of these numbers, by its own number
 abbrev pub new_shard_of : Limits → ℕ → ShardState
-new_shard_of limits = new_shard limits.page_limit limits.span_limit limits.gens
+new_shard_of limits =
+    new_shard limits.page_limit limits.span_limit limits.slot_limit limits.gens
 
 -- all shards of a core of these numbers: those that were made, and new ones behind them
 abbrev pub all_shards : Limits → List ShardState → List ShardState

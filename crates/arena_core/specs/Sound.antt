@@ -23,6 +23,7 @@ pub record IsSoundAt (limits : Limits) (number : ℕ) (shard : ShardState) : Typ
   pub number_is : shard.number ≡ number
   pub page_limit_is : shard.page_limit ≡ limits.page_limit
   pub span_limit_is : shard.span_limit ≡ limits.span_limit
+  pub slot_limit_is : shard.slot_limit ≡ limits.slot_limit
   pub gens_is : shard.gens ≡ limits.gens
   pub sound : IsSoundShard shard
 

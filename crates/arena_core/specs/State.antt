@@ -27,11 +27,12 @@ pub record CoreState : Type 0 where
   pub forgotten : List SpanState
 
 -- a shard that has opened no span
-abbrev pub new_shard : ℕ → ℕ → ℕ → ℕ → ShardState
-new_shard page_limit span_limit gens number = record {
+abbrev pub new_shard : ℕ → ℕ → ℕ → ℕ → ℕ → ShardState
+new_shard page_limit span_limit slot_limit gens number = record {
   number = number;
   page_limit = page_limit;
   span_limit = span_limit;
+  slot_limit = slot_limit;
   gens = gens;
   opened = 0;
   ended = false;
@@ -46,7 +47,7 @@ new_shard page_limit span_limit gens number = record {
 abbrev pub new_core : Limits → CoreState
 new_core limits = record {
   limits = limits;
-  shards = map (new_shard limits.page_limit limits.span_limit limits.gens)
+  shards = map (new_shard limits.page_limit limits.span_limit limits.slot_limit limits.gens)
       (range_with_len 0 limits.shards);
   pool = new_pool;
   plan = None;

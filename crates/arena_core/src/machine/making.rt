@@ -82,11 +82,12 @@ fn new_shard<L: Log>(alloc: Global, limits: Limits, number: u32) -> Shard<L>
     requires { number < limits.shards }
     ensures { result ≡ new_shard_of limits number }
 {
-    let made = Shard::with_log(
+    let made = Shard::with_slots(
         alloc,
         number,
         limits.page_limit(),
         limits.span_limit(),
+        limits.slot_limit(),
         limits.gens(),
     );
     match made {
