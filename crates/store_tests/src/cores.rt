@@ -14,6 +14,7 @@ mod large;
 mod plans;
 mod retiring;
 mod setting;
+mod slots;
 mod spans;
 mod trimming;
 mod widths;

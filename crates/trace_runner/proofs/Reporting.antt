@@ -3,9 +3,9 @@ use Rattle.trace_runner.proofs.Names.{◌≡◌, ◌++◌, ℕ, Bool, false, Lis
 use Rattle.trace_text.specs.declared.trace.Trace.{Trace}
 
 -- a new shard has not ended, whether or not there is one
-not_ended : (page_limit span_limit gens : ℕ) (o : Option ℕ) → option_map_or (λ (shard : ShardState). shard.ended) (option_map (new_shard page_limit span_limit gens) o) false ≡ false
-not_ended page_limit span_limit gens None = refl
-not_ended page_limit span_limit gens (Some number) = refl
+not_ended : (page_limit span_limit slot_limit gens : ℕ) (o : Option ℕ) → option_map_or (λ (shard : ShardState). shard.ended) (option_map (new_shard page_limit span_limit slot_limit gens) o) false ≡ false
+not_ended page_limit span_limit slot_limit gens None = refl
+not_ended page_limit span_limit slot_limit gens (Some number) = refl
 
 -- the core that a run starts with has the header's shards, and none has ended
 pub Serves-start : (header : Header) → Serves header.shards (start_of header)
