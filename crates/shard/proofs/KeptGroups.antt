@@ -1,6 +1,7 @@
 -- What a shard keeps beside its groups, where one of them is replaced, or none.
 use Rattle.std.proofs.Common.{◌≡◌, ◌+◌, ◌<◌, ◌≤◌, ℕ, List, length, length-set, min, Some, set, slice_get, ◌∙◌, ap, arith, rules}
 use Rattle.std.specs.Prelude.{map as map_list, vec_capacity, vec_len}
+use Rattle.std.proofs.lemmas.List.{length-map}
 use Rattle.std.specs.Global.{Vec}
 use Rattle.bitmap.specs.Numbers.{NumbersState}
 use Rattle.span.specs.declared.class.Class.{Class}
@@ -13,6 +14,7 @@ use Rattle.shard.specs.GuestNotes.{AreNoted}
 use Rattle.shard.specs.HeadWindow.{HeadWindow, end_of, entry_of}
 use Rattle.shard.specs.Kept.{IsKept, state_of}
 use Rattle.shard.specs.Least.{KnowsLeast}
+use Rattle.shard.specs.Row.{RowState}
 use Rattle.shard.specs.Rooms.{HasRooms, room_of, rooms_of}
 use Rattle.shard.specs.Sound.{IsSound}
 use Rattle.shard.specs.declared.shard.Shard.TheInside.{Inside}
@@ -22,12 +24,12 @@ use Rattle.shard.proofs.GuestRoom.{HasGuestRoom-replaced}
 use Rattle.shard.proofs.KnownGuests.{KnowsGuests-alike}
 use Rattle.shard.proofs.KnownHeads.{KnowsHeads-alike, KnowsHeads-moved, KnowsHeads-set}
 
-module _ {L : Type 0} (s : Inside L) (kept : IsKept s) (groups : Vec GroupState) (rooms : List NumbersState) where
+module _ {L : Type 0} (s : Inside L) (kept : IsKept s) (groups : RowState) (rooms : List NumbersState) where
   abbrev after : Inside L
   after = record s { groups = groups; rooms = rooms }
 
   -- the groups are as they were
-  pub IsKept-same : groups.items ≡ s.groups.items → vec_capacity s.groups ≤ vec_capacity groups
+  pub IsKept-same : groups.items ≡ s.groups.items → s.groups.room ≤ groups.room
       → ((class : Class) → HasRooms s.slot_limit class s.groups.items (rooms_of rooms class)) → ((class : Class) → room_of s.rooms class ≤ room_of rooms class)
       → IsKept after
   IsKept-same same room has more = record {
@@ -36,10 +38,10 @@ module _ {L : Type 0} (s : Inside L) (kept : IsKept s) (groups : Vec GroupState)
     gens_fit = kept.gens_fit;
     sound = rw same kept.sound;
     rooms = λ class. rw same (has class);
-    room_for_groups = omega (arith, kept.room_for_groups, room, ap length same, s.groups.ok.0, groups.ok.0);
-    room_for_rooms = HaveRoom-same s.groups.items s.rooms (vec_len s.groups + s.group_room) kept.room_for_rooms groups.items same rooms _
-        (omega (arith, ap length same, s.groups.ok.0, groups.ok.0)) more;
-    room_for_class = λ some class. omega (arith, kept.room_for_class some class, more class, ap length same, s.groups.ok.0, groups.ok.0);
+    room_for_groups = omega (arith, kept.room_for_groups, room, ap length same);
+    room_for_rooms = HaveRoom-same s.groups.items s.rooms (length s.groups.items + s.group_room) kept.room_for_rooms groups.items same rooms _
+        (omega (arith, ap length same)) more;
+    room_for_class = λ some class. omega (arith, kept.room_for_class some class, more class, ap length same);
     no_guests = kept.no_guests;
     room_for_guests = rw same kept.room_for_guests;
     guests_known = rw same kept.guests_known;
@@ -48,12 +50,12 @@ module _ {L : Type 0} (s : Inside L) (kept : IsKept s) (groups : Vec GroupState)
     room_for_heads = kept.room_for_heads;
     guests_noted = kept.guests_noted;
     least_known = rw same kept.least_known;
-    room_for_bytes = omega (arith, kept.room_for_bytes, ap length same, s.groups.ok.0, groups.ok.0);
+    room_for_bytes = omega (arith, kept.room_for_bytes, ap length same);
   }
 
   -- one is replaced by a group of its class whose spans have the same ids
   pub IsKept-replaced : (least : Vec ℕ) → vec_len s.least ≤ vec_len least → (index : ℕ) (group now : GroupState) → slice_get s.groups.items index ≡ Some group → AreAlike group now → now.head.class ≡ group.head.class
-      → groups.items ≡ set s.groups.items index now → vec_capacity s.groups ≡ vec_capacity groups
+      → groups.items ≡ set s.groups.items index now → s.groups.room ≡ groups.room
       → IsSound (record (state_of s) { groups = set s.groups.items index now })
       → ((class : Class) → HasRooms s.slot_limit class (set s.groups.items index now) (rooms_of rooms class))
       → ((class : Class) → room_of s.rooms class ≤ room_of rooms class)
@@ -64,11 +66,11 @@ module _ {L : Type 0} (s : Inside L) (kept : IsKept s) (groups : Vec GroupState)
     gens_fit = kept.gens_fit;
     sound = rw same sound;
     rooms = λ class. rw same (has class);
-    room_for_groups = omega (arith, kept.room_for_groups, room, ap length same ∙ length-set s.groups.items index now, s.groups.ok.0, groups.ok.0);
+    room_for_groups = omega (arith, kept.room_for_groups, room, ap length same ∙ length-set s.groups.items index now);
     room_for_rooms = rw same
-        (HaveRoom-set s.groups.items s.rooms (vec_len s.groups + s.group_room) kept.room_for_rooms index group now here class_is rooms _
-        (omega (arith, ap length same ∙ length-set s.groups.items index now, s.groups.ok.0, groups.ok.0)) more);
-    room_for_class = λ some class. omega (arith, kept.room_for_class some class, more class, ap length same ∙ length-set s.groups.items index now, s.groups.ok.0, groups.ok.0);
+        (HaveRoom-set s.groups.items s.rooms (length s.groups.items + s.group_room) kept.room_for_rooms index group now here class_is rooms _
+        (omega (arith, length-set s.groups.items index now)) more);
+    room_for_class = λ some class. omega (arith, kept.room_for_class some class, more class, ap length same ∙ length-set s.groups.items index now);
     no_guests = kept.no_guests;
     room_for_guests = rw same (HasGuestRoom-replaced s.groups.items s.onto s.span_room (vec_capacity s.guest_room) kept.room_for_guests index group now here ids);
     guests_known = rw same (KnowsGuests-replaced s.groups.items s.directory.entries kept.guests_known index group now here ids);
@@ -77,12 +79,12 @@ module _ {L : Type 0} (s : Inside L) (kept : IsKept s) (groups : Vec GroupState)
     room_for_heads = kept.room_for_heads;
     guests_noted = kept.guests_noted;
     least_known = rw same known;
-    room_for_bytes = omega (arith, kept.room_for_bytes, bytes, ap length same ∙ length-set s.groups.items index now, s.groups.ok.0, groups.ok.0);
+    room_for_bytes = omega (arith, kept.room_for_bytes, bytes, ap length same ∙ length-set s.groups.items index now);
   }
 
   -- only flags and pages change
   pub IsKept-alike : (least : Vec ℕ) → vec_len s.least ≤ vec_len least → (f : GroupState → GroupState) → ((group : GroupState) → (f group).head.class ≡ group.head.class) → groups.items ≡ map_list f s.groups.items
-      → map_list bare groups.items ≡ map_list bare s.groups.items → vec_capacity s.groups ≤ vec_capacity groups → AreSoundGroups groups.items
+      → map_list bare groups.items ≡ map_list bare s.groups.items → s.groups.room ≤ groups.room → AreSoundGroups groups.items
       → ((class : Class) → HasRooms s.slot_limit class groups.items (rooms_of rooms class)) → ((class : Class) → room_of s.rooms class ≤ room_of rooms class)
       → KnowsLeast groups.items least.items → IsKept (record after { least = least })
   IsKept-alike least bytes f class_is is same capacity sound has more known =
@@ -93,10 +95,10 @@ module _ {L : Type 0} (s : Inside L) (kept : IsKept s) (groups : Vec GroupState)
         gens_fit = kept.gens_fit;
         sound = IsSound-alike (state_of s) groups.items same sound kept.sound;
         rooms = has;
-        room_for_groups = omega (arith, kept.room_for_groups, capacity, many, s.groups.ok.0, groups.ok.0);
+        room_for_groups = omega (arith, kept.room_for_groups, capacity, many);
         room_for_rooms = rw is
-            (HaveRoom-map s.groups.items s.rooms (vec_len s.groups + s.group_room) kept.room_for_rooms f class_is rooms _ (omega (arith, many, s.groups.ok.0, groups.ok.0)) more);
-        room_for_class = λ some class. omega (arith, kept.room_for_class some class, more class, many, s.groups.ok.0, groups.ok.0);
+            (HaveRoom-map s.groups.items s.rooms (length s.groups.items + s.group_room) kept.room_for_rooms f class_is rooms _ (omega (arith, length-map s.groups.items f)) more);
+        room_for_class = λ some class. omega (arith, kept.room_for_class some class, more class, many);
         no_guests = kept.no_guests;
         room_for_guests = HasGuestRoom-alike (state_of s) groups.items same s.onto s.span_room (vec_capacity s.guest_room) kept.room_for_guests;
         guests_known = KnowsGuests-alike s.groups.items s.directory.entries kept.guests_known groups.items same;
@@ -105,7 +107,7 @@ module _ {L : Type 0} (s : Inside L) (kept : IsKept s) (groups : Vec GroupState)
         room_for_heads = kept.room_for_heads;
         guests_noted = kept.guests_noted;
         least_known = known;
-        room_for_bytes = omega (arith, kept.room_for_bytes, bytes, many, s.groups.ok.0, groups.ok.0);
+        room_for_bytes = omega (arith, kept.room_for_bytes, bytes, many);
       }
 
 -- the bytes of the groups are others, and no fewer

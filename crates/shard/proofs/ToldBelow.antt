@@ -8,9 +8,12 @@ use Rattle.std.proofs.lemmas.List.Elements.{filter_more}
 use Rattle.std.proofs.lemmas.List.Sorted.{IsPermutation-append_comm, IsPermutation-append_left, IsPermutation-append_right, IsPermutation-refl, IsPermutation-sym, IsPermutation-trans, length_permutation}
 use Rattle.std.proofs.lemmas.Option.{get_or_from_slice_get, slice_get-map, slice_get_within}
 use Rattle.span.specs.Ids.{rank}
-use Rattle.groups.specs.Group.{Ascend}
+use Rattle.groups.specs.Group.{Ascend, spans_of}
+use Rattle.groups.specs.Sound.{AreSoundGroups}
+use Rattle.groups.proofs.LiveCounts.{len-union_of}
 use Rattle.groups.proofs.Lists.{get_left, in_either, same_some}
 use Rattle.shard.specs.Group.{GroupState}
+use Rattle.shard.specs.Least.{KnowsLeast}
 use Rattle.shard.specs.Sparse.{live_of, told_of}
 use Rattle.shard.specs.Telling.{AreBefore, AreFirst, AreSelected, IsCut, IsNotAfter, is_live}
 use Rattle.shard.specs.declared.shard.retiring.LiveGroup.{LiveGroup}
@@ -191,3 +194,11 @@ module _ (most : ℕ) (live told first : List LiveGroup) (are : AreFirst live to
     before = before_all;
     cut = inl (cut selected.cut);
   }
+
+-- so many slots are live at the least, and so many keys
+pub least_live_of : (groups : List GroupState) (bytes : List ℕ) → KnowsLeast groups bytes → AreSoundGroups groups → (index byte : ℕ) (group : GroupState) → slice_get bytes index ≡ Some byte
+    → slice_get groups index ≡ Some group → byte ≤ live_of group
+least_live_of groups bytes known sound index byte group at here = elim (cases_lt 0 byte) [
+  | inl some ↦ omega (arith, (known index byte group at here some).1, len-union_of (spans_of group) (sound index group here).apart)
+  | inr none ↦ omega (arith, none)
+]

@@ -6,7 +6,7 @@ ghost use Rattle.shard.specs.HeadWindow.{HeadWindow, KeepsEntry, end_of, entry_o
 ghost use Rattle.shard.specs.Heads.{AreEnteredFrom, AreReady, IsNoted, IsOther, KnowsArrival, KnowsHeads, LeadsTo, MakesPlace, lowered, note_at, raised};
 ghost use Rattle.span.specs.declared.limits.TheConstants.{MOST_PAGES};
 
-use crate::group::Group;
+use crate::group_row::GroupRow;
 use span::names::SpanId;
 use span::spans::{Log, Span};
 use std::alloc::{AllocError, Global};
@@ -129,9 +129,9 @@ impl HeadIndexes {
 
     /// Notes where the heads of the shard of this number stand from the index on. It takes no
     /// memory.
-    pub fn note_from<L: Log>(&mut self, groups: &[Group<L>], from: usize, number: u32)
-        requires { AreReady number groups.now self.old from }
-        ensures known { KnowsHeads number groups.now self.new }
+    pub fn note_from<L: Log>(&mut self, groups: &GroupRow<L>, from: usize, number: u32)
+        requires { AreReady number groups.now.items self.old from }
+        ensures known { KnowsHeads number groups.now.items self.new }
         ensures base { self.new.base ≡ self.old.base }
         ensures len { length self.new.entries ≡ length self.old.entries }
     {
@@ -354,13 +354,13 @@ fn grow(indexes: &mut Vec<u32>, count: usize) -> Result<(), AllocError>
 fn note_heads<L: Log>(
     base: usize,
     indexes: &mut Vec<u32>,
-    groups: &[Group<L>],
+    groups: &GroupRow<L>,
     from: usize,
     number: u32,
 )
-    requires { AreReady number groups.now (record { base = base; entries = indexes.old.items })
+    requires { AreReady number groups.now.items (record { base = base; entries = indexes.old.items })
         from }
-    ensures known { KnowsHeads number groups.now
+    ensures known { KnowsHeads number groups.now.items
         (record { base = base; entries = indexes.new.items }) }
     ensures len { length indexes.new.items ≡ length indexes.old.items }
 {

@@ -6,6 +6,7 @@ ghost use Rattle.shard.specs.Group.{GroupState};
 ghost use Rattle.shard.specs.Least.{IsLeast, KnowsLeast};
 
 use crate::group::Group;
+use crate::group_row::GroupRow;
 use span::spans::Log;
 use std::alloc::AllocError;
 
@@ -24,13 +25,13 @@ pub(crate) fn byte_of<L: Log>(group: &Group<L>) -> u8
 /// `AllocError` if memory is refused. The bytes are then as they were.
 pub(crate) fn reserve_bytes<L: Log>(
     least: &mut Vec<u8>,
-    groups: &Vec<Group<L>>,
+    groups: &GroupRow<L>,
     more: usize,
 ) -> Result<(), AllocError>
     ensures known { (known : List GroupState) → KnowsLeast known least.old.items
         → KnowsLeast known least.new.items }
     ensures no_fewer { vec_len least.old ≤ vec_len least.new }
-    ensures ok { OnOk result (vec_len groups.now + more ≤ vec_len least.new) }
+    ensures ok { OnOk result (length groups.now.items + more ≤ vec_len least.new) }
 {
     let Some(count) = groups.len().checked_add(more) else {
         return Err(AllocError);

@@ -1,5 +1,5 @@
 // A shard, and what it has.
-ghost use Rattle.std.specs.Prelude.{◌*◌, ◌+◌, ◌≡◌, ◌<◌, ◌≤◌, ℕ, [], insert, vec_len, vec_capacity, map, length, IsTrue, IsOk, IfOk, IfSome, ◌↔◌, MatchOption, Some, None, nat_lt, false, slice_get};
+ghost use Rattle.std.specs.Prelude.{◌*◌, ◌+◌, ◌≡◌, ◌<◌, ◌≤◌, [], map, length, IsTrue, IsOk, IfOk, IfSome, ◌↔◌, MatchOption};
 ghost use Rattle.std.specs.List.Sorted.{IsStrictlyIncreasing};
 ghost use Rattle.span.specs.Ids.{rank};
 ghost use Rattle.shard.specs.Group.{GroupState};
@@ -12,7 +12,7 @@ ghost use Rattle.span.specs.declared.limits.TheConstants.{MOST_PAGES, MOST_SHARD
 
 use crate::class_rooms::ClassRooms;
 use crate::error::Config;
-use crate::group::Group;
+use crate::group_row::GroupRow;
 use crate::guest_notes::GuestNotes;
 use crate::head_indexes::HeadIndexes;
 use bitmap::SLOTS;
@@ -76,7 +76,7 @@ pub struct Shard<L: Log = Kept> {
     gens: u32,
     opened: u32,
     ended: bool,
-    groups: Vec<Group<L>>,
+    groups: GroupRow<L>,
     rooms: ClassRooms,
     heads: HeadIndexes,
     notes: GuestNotes,
@@ -178,7 +178,7 @@ impl<L: Log> Shard<L> {
             gens,
             opened: 0,
             ended: false,
-            groups: Vec::new(alloc),
+            groups: GroupRow::new(alloc),
             rooms: ClassRooms::new(alloc),
             heads: HeadIndexes::new(alloc),
             directory: Directory::new(alloc),
@@ -205,8 +205,8 @@ impl<L: Log> Shard<L> {
         ensures at_most { result ≤ length self.now.groups }
     {
         let mut pages = 0;
-        for group in &self.groups {
-            if group.is_paged() {
+        for index in 0..self.groups.len() {
+            if self.groups[index].is_paged() {
                 pages += 1;
             }
         }
@@ -258,8 +258,8 @@ impl<L: Log> Shard<L> {
         ensures at_most { result ≤ SLOTS * length self.now.groups }
     {
         let mut live = 0;
-        for group in &self.groups {
-            live += group.live();
+        for index in 0..self.groups.len() {
+            live += self.groups[index].live();
         }
         live
     }
@@ -277,7 +277,8 @@ impl<L: Log> Shard<L> {
             (paged_in self.now.groups)) }
     {
         let mut list = Vec::new(self.alloc);
-        for group in &self.groups {
+        for index in 0..self.groups.len() {
+            let group = &self.groups[index];
             if group.is_paged() {
                 list.push(group.entry())?;
             }
@@ -287,13 +288,13 @@ impl<L: Log> Shard<L> {
 }
 
 // Where the group of the head stands among the groups.
-fn head_index<L: Log>(groups: &[Group<L>], head: SpanId) -> Option<usize>
-    requires { Ascend groups.now }
-    ensures head { MatchOption result (HasNoHead groups.now head)
-        (λ index. (group : GroupState) × IsHeadOf groups.now head index group) }
-    ensures within { IfSome result (λ index. index < length groups.now) }
+fn head_index<L: Log>(groups: &GroupRow<L>, head: SpanId) -> Option<usize>
+    requires { Ascend groups.now.items }
+    ensures head { MatchOption result (HasNoHead groups.now.items head)
+        (λ index. (group : GroupState) × IsHeadOf groups.now.items head index group) }
+    ensures within { IfSome result (λ index. index < length groups.now.items) }
 {
-    let index = lower_heads(groups, head);
+    let index = groups.lower_heads(head);
     if index >= groups.len() {
         return None;
     }
@@ -302,34 +303,4 @@ fn head_index<L: Log>(groups: &[Group<L>], head: SpanId) -> Option<usize>
     } else {
         None
     }
-}
-
-// Inserts where there is room, which needs no memory.
-fn insert_reserved<L: Log>(groups: &mut Vec<Group<L>>, index: usize, group: Group<L>)
-    requires within { index ≤ vec_len groups.old }
-    requires room { vec_len groups.old < vec_capacity groups.old }
-    ensures items { groups.new.items ≡ insert groups.old.items index group }
-    ensures len { vec_len groups.new ≡ vec_len groups.old + 1 }
-    ensures capacity { vec_capacity groups.new ≡ vec_capacity groups.old }
-{
-    match groups.insert(index, group) {
-        Ok(()) => {}
-        Err(_) => unreachable!(),
-    }
-}
-
-// How many heads are lower than the id.
-fn lower_heads<L: Log>(groups: &[Group<L>], id: SpanId) -> usize
-    requires { Ascend groups.now }
-    ensures within { result ≤ length groups.now }
-    ensures lower { (other : ℕ) (group : GroupState) → other < result
-        → slice_get groups.now other ≡ Some group → rank group.head.id < rank id }
-    ensures others { (other : ℕ) (group : GroupState) → result ≤ other
-        → slice_get groups.now other ≡ Some group → rank id ≤ rank group.head.id }
-{
-    groups.partition_point(
-        |group: &Group<L>| -> bool
-            ensures { result ≡ nat_lt (rank group.now.head.id) (rank id) }
-        { group.head_id().rank() < id.rank() },
-    )
 }

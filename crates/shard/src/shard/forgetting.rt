@@ -1,5 +1,5 @@
 // Guests that can never be live again, which a shard forgets.
-ghost use Rattle.std.specs.Prelude.{◌≡◌, ◌+◌, ◌≤◌, List, map as map_list, vec_capacity, vec_len};
+ghost use Rattle.std.specs.Prelude.{◌≡◌, ◌+◌, ◌≤◌, List, length, map as map_list};
 ghost use Rattle.span.specs.declared.key.Key.{Key};
 ghost use Rattle.shard.specs.GuestNotes.{KnowsNotes};
 ghost use Rattle.shard.specs.HeadWindow.{end_of};
@@ -15,6 +15,7 @@ ghost use Rattle.span.specs.declared.limits.TheConstants.{ALL_IDS};
 
 use super::Shard;
 use crate::group::Group;
+use crate::group_row::GroupRow;
 use crate::guest_notes::GuestNotes;
 use crate::head_indexes::HeadIndexes;
 use groups::Directory;
@@ -48,14 +49,14 @@ impl Shard<Counted> {
 // Then gives back the room of groups that were folded, if half of it is enough for the groups that
 // are here and for those that room is reserved for.
 fn forget_all(
-    groups: &mut Vec<Group<Counted>>,
+    groups: &mut GroupRow<Counted>,
     directory: &mut Directory,
     notes: &mut GuestNotes,
     heads: &mut HeadIndexes,
     number: u32,
     room: usize,
 )
-    requires room { vec_len groups.old + room ≤ vec_capacity groups.old }
+    requires room { length groups.old.items + room ≤ groups.old.room }
     requires known { KnowsGuests groups.old.items directory.old.entries }
     requires ascend { Ascend groups.old.items }
     requires noted { KnowsNotes number directory.old.entries notes.old }
@@ -63,7 +64,7 @@ fn forget_all(
     requires apart { GuestsAreNoHeads groups.old.items }
     requires once { HaveGuestsOnce groups.old.items }
     ensures items { groups.new.items ≡ map_list without_dead groups.old.items }
-    ensures capacity { vec_len groups.new + room ≤ vec_capacity groups.new }
+    ensures capacity { length groups.new.items + room ≤ groups.new.room }
     ensures known { KnowsGuests groups.new.items directory.new.entries }
     ensures room { directory.new.room ≡ directory.old.room }
     ensures noted { KnowsNotes number directory.new.entries notes.new }
@@ -76,20 +77,21 @@ fn forget_all(
 }
 
 // Gives room back if half of it is enough.
-fn give_back(groups: &mut Vec<Group<Counted>>, room: usize)
-    requires { vec_len groups.old + room ≤ vec_capacity groups.old }
+fn give_back(groups: &mut GroupRow<Counted>, room: usize)
+    requires { length groups.old.items + room ≤ groups.old.room }
     ensures items { groups.new.items ≡ groups.old.items }
-    ensures room { vec_len groups.new + room ≤ vec_capacity groups.new }
+    ensures room { length groups.new.items + room ≤ groups.new.room }
 {
+    let capacity = groups.capacity();
     let wanted = groups.len() + room;
-    if wanted <= groups.capacity() / 2 {
+    if wanted <= capacity / 2 {
         groups.shrink_to(wanted);
     }
 }
 
 // Has each of the groups forget its guests in which no slot is live.
 fn forget_each(
-    groups: &mut Vec<Group<Counted>>,
+    groups: &mut GroupRow<Counted>,
     directory: &mut Directory,
     notes: &mut GuestNotes,
     heads: &mut HeadIndexes,
@@ -102,8 +104,7 @@ fn forget_each(
     requires apart { GuestsAreNoHeads groups.old.items }
     requires once { HaveGuestsOnce groups.old.items }
     ensures items { groups.new.items ≡ map_list without_dead groups.old.items }
-    ensures len { vec_len groups.new ≡ vec_len groups.old }
-    ensures capacity { vec_capacity groups.new ≡ vec_capacity groups.old }
+    ensures capacity { groups.new.room ≡ groups.old.room }
     ensures known { KnowsGuests groups.new.items directory.new.entries }
     ensures room { directory.new.room ≡ directory.old.room }
     ensures noted { KnowsNotes number directory.new.entries notes.new }

@@ -347,7 +347,7 @@ impl<L: Log> Shard<L> {
                 None => self.nowhere(),
             };
         }
-        match head_index(self.groups.as_slice(), id) {
+        match head_index(&self.groups, id) {
             Some(index) => (index, 0),
             None => self.nowhere(),
         }
@@ -367,6 +367,6 @@ impl<L: Log> Shard<L> {
         if is_noted {
             return None;
         }
-        head_index(self.groups.as_slice(), head)
+        head_index(&self.groups, head)
     }
 }

@@ -1,5 +1,5 @@
 // Groups that leave one after another, while their places stay until all have left.
-ghost use Rattle.std.specs.Prelude.{◌≡◌, ◌≤◌, filter, length, vec_capacity};
+ghost use Rattle.std.specs.Prelude.{◌≡◌, ◌≤◌, filter, length};
 ghost use Rattle.shard.specs.Leaving.{has_stayed, swept};
 ghost use Rattle.shard.specs.Moves.{Lifts};
 ghost use Rattle.shard.specs.Rooms.{HaveRoom, RoomsFollow, room_of};
@@ -9,6 +9,7 @@ ghost use Rattle.span.specs.declared.class.Class.{Class};
 use super::Shard;
 use crate::class_rooms::ClassRooms;
 use crate::group::Group;
+use crate::group_row::GroupRow;
 use crate::least_live::{clear_byte, clear_bytes};
 use groups::Whole;
 use span::names::SpanId;
@@ -45,18 +46,19 @@ impl<L: Log> Shard<L> {
         ensures swept { self.new ≡ swept self.old }
         ensures sound { IsSound self.new }
     {
-        sweep_rooms(self.groups.as_slice(), &mut self.rooms);
-        drop_places(&mut self.groups);
-        self.heads.note_from(self.groups.as_slice(), 0, self.number);
+        sweep_rooms(&self.groups, &mut self.rooms);
+        self.groups.drop_left();
+        self.heads.note_from(&self.groups, 0, self.number);
         clear_bytes(&mut self.least);
     }
 }
 
 // Has the sets name the groups that have not left by the indexes that they get where the others'
 // places go.
-fn sweep_rooms<L: Log>(groups: &[Group<L>], rooms: &mut ClassRooms)
-    requires { HaveRoom groups.now rooms.old (length groups.now) }
-    ensures has { RoomsFollow groups.now (filter has_stayed groups.now) rooms.old rooms.new }
+fn sweep_rooms<L: Log>(groups: &GroupRow<L>, rooms: &mut ClassRooms)
+    requires { HaveRoom groups.now.items rooms.old (length groups.now.items) }
+    ensures has { RoomsFollow groups.now.items (filter has_stayed groups.now.items) rooms.old
+        rooms.new }
     ensures room { (class : Class) → room_of rooms.new class ≡ room_of rooms.old class }
 {
     let mut next = 0;
@@ -71,12 +73,4 @@ fn sweep_rooms<L: Log>(groups: &[Group<L>], rooms: &mut ClassRooms)
         rooms.note(class, next, had);
         next += 1;
     }
-}
-
-// Drops the places of groups that have left.
-fn drop_places<L: Log>(groups: &mut Vec<Group<L>>)
-    ensures items { groups.new.items ≡ filter has_stayed groups.old.items }
-    ensures capacity { vec_capacity groups.new ≡ vec_capacity groups.old }
-{
-    groups.retain(|group| !group.has_left());
 }

@@ -14,8 +14,8 @@ impl<L: Log> Shard<L> {
         ensures at_most { result ≤ ALL_IDS }
     {
         let mut count = 0;
-        for group in &self.groups {
-            count += group.len();
+        for index in 0..self.groups.len() {
+            count += self.groups[index].len();
         }
         count
     }
@@ -33,7 +33,7 @@ impl Shard<Kept> {
         ensures room { room_for_logs logs.old ≡ room_for_logs logs.new + length
             (spans_in self.groups) }
     {
-        for group in self.groups {
+        for group in self.groups.into_list() {
             group.into_spans().into_logs(logs);
         }
     }

@@ -1,5 +1,5 @@
 // Puts: into the lowest group that has a usable slot, or into a new one.
-ghost use Rattle.std.specs.Prelude.{◌+◌, ◌≡◌, ◌≤◌, ◌<◌, ◌↔◌, Err, IfOk, IsOkUnless, OnErr, OnOk, false, length, true, vec_capacity, vec_len};
+ghost use Rattle.std.specs.Prelude.{◌+◌, ◌≡◌, ◌≤◌, ◌<◌, ◌↔◌, Err, IfOk, IsOkUnless, OnErr, OnOk, false, length, true};
 ghost use Rattle.span.specs.Classes.{class_of, slots_in, width_of};
 ghost use Rattle.span.specs.PlainMap as plain;
 ghost use Rattle.page.specs.Words.{IsInObjects, blank_page, set_object};
@@ -7,9 +7,10 @@ ghost use Rattle.shard.specs.Calls.{IsFull, IsSpent, Puts, PutsInNew};
 ghost use Rattle.shard.specs.Shown.{shown};
 ghost use Rattle.shard.specs.Sound.{IsSound};
 
-use super::{Shard, insert_reserved, lower_heads};
+use super::Shard;
 use crate::error::PutError;
 use crate::group::{Group, make_room};
+use crate::group_row::GroupRow;
 use crate::least_live::{add_byte, reserve_bytes};
 use groups::{Placed, Spans};
 use page::{MaybePage, Page};
@@ -155,9 +156,8 @@ impl<L: Log> Shard<L> {
         self.heads
             .reserve(self.opened as usize + 1, self.groups.len() + 1)?;
         reserve_bytes(&mut self.least, &self.groups, 1)?;
-        let index = lower_heads(self.groups.as_slice(), id);
-        insert_reserved(
-            &mut self.groups,
+        let index = self.groups.lower_heads(id);
+        self.groups.insert_reserved(
             index,
             Group::of(Spans::of(self.alloc, head), MaybePage::new(page, true)),
         );
@@ -208,11 +208,11 @@ const FEW: usize = 4;
 
 // Makes room for one more group. Of the first few each gets its own room, so that a shard of one
 // page takes little. Later the room doubles.
-fn reserve_group<L: Log>(groups: &mut Vec<Group<L>>) -> Result<(), AllocError>
+fn reserve_group<L: Log>(groups: &mut GroupRow<L>) -> Result<(), AllocError>
     ensures items { groups.new.items ≡ groups.old.items }
-    ensures len { vec_len groups.new ≡ vec_len groups.old }
-    ensures capacity { vec_capacity groups.old ≤ vec_capacity groups.new }
-    ensures ok { OnOk result (vec_len groups.new + 1 ≤ vec_capacity groups.new) }
+    ensures len { length groups.new.items ≡ length groups.old.items }
+    ensures capacity { groups.old.room ≤ groups.new.room }
+    ensures ok { OnOk result (length groups.new.items + 1 ≤ groups.new.room) }
 {
     if groups.len() < FEW {
         groups.reserve_exact(1)

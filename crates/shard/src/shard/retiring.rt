@@ -1,15 +1,18 @@
 // The groups with a live key, those with the fewest first.
-ghost use Rattle.std.specs.Prelude.{◌≡◌, ◌-◌, ◌<◌, ◌≤◌, IfOk, List, length, map, take};
+ghost use Rattle.std.specs.Prelude.{◌≡◌, ◌-◌, ◌<◌, ◌≤◌, IfOk, List, length, map, take, vec_len};
 ghost use Rattle.std.specs.List.{filter};
 ghost use Rattle.std.specs.List.Sorted.{IsPermutation};
 ghost use Rattle.span.specs.Ids.{rank};
 ghost use Rattle.groups.specs.Group.{Ascend};
+ghost use Rattle.groups.specs.Sound.{AreSoundGroups};
+ghost use Rattle.shard.specs.Least.{KnowsLeast};
 ghost use Rattle.shard.specs.Sparse.{AreSparsestFirst, told_of};
 ghost use Rattle.shard.specs.Telling.{AreFirst, AreInOrder, AreSelected, is_live};
 ghost use Rattle.shard.specs.declared.shard.retiring.LiveGroup.{LiveGroup};
 
 use super::Shard;
 use crate::group::Group;
+use crate::group_row::GroupRow;
 use groups::{LiveTally, sample_step};
 use span::names::SpanId;
 use span::spans::Log;
@@ -28,7 +31,8 @@ pub struct LiveGroup {
 
 impl<L: Log> Shard<L> {
     /// Up to so many groups with a live key: those with the fewest first, and of those with as many
-    /// the one of lowest head. If few are asked for, most of the others are only looked at.
+    /// the one of lowest head. If few are asked for, most of the others are only looked at, or not even
+    /// that since [`Shard::least_live`] says that they have more.
     ///
     /// # Errors
     ///
@@ -37,7 +41,7 @@ impl<L: Log> Shard<L> {
         ensures { IfOk result (λ told. (all : List LiveGroup)
             × AreSparsestFirst self.now.groups all × (told.items ≡ take most all)) }
     {
-        let mut first = first_of_groups(self.alloc, self.groups.as_slice(), most)?;
+        let mut first = first_of_groups(self.alloc, &self.groups, &self.least, most)?;
         sort(&mut first);
         Ok(first)
     }
@@ -48,17 +52,21 @@ impl<L: Log> Shard<L> {
 // turn out to be too few, it tells all.
 fn first_of_groups<L: Log>(
     alloc: Global,
-    groups: &[Group<L>],
+    groups: &GroupRow<L>,
+    least: &Vec<u8>,
     most: usize,
 ) -> Result<Vec<LiveGroup>, AllocError>
-    requires { Ascend groups.now }
+    requires ascend { Ascend groups.now.items }
+    requires sound { AreSoundGroups groups.now.items }
+    requires bytes { length groups.now.items ≤ vec_len least.now }
+    requires known { KnowsLeast groups.now.items least.now.items }
     ensures { IfOk result (λ first.
-        AreSelected most (filter is_live (map told_of groups.now)) first.items) }
+        AreSelected most (filter is_live (map told_of groups.now.items)) first.items) }
 {
     let Some(bound) = likely_bound(groups, most) else {
         return first_of_all(alloc, groups, most);
     };
-    let told = tell_below(alloc, groups, bound, most)?;
+    let told = tell_below(alloc, groups, least, bound, most)?;
     if told.len() < most {
         return first_of_all(alloc, groups, most);
     }
@@ -68,11 +76,11 @@ fn first_of_groups<L: Log>(
 // The same, by telling each group.
 fn first_of_all<L: Log>(
     alloc: Global,
-    groups: &[Group<L>],
+    groups: &GroupRow<L>,
     most: usize,
 ) -> Result<Vec<LiveGroup>, AllocError>
     ensures { IfOk result (λ first.
-        AreSelected most (filter is_live (map told_of groups.now)) first.items) }
+        AreSelected most (filter is_live (map told_of groups.now.items)) first.items) }
 {
     let mut told = tell(alloc, groups)?;
     keep_live(&mut told);
@@ -80,13 +88,13 @@ fn first_of_all<L: Log>(
 }
 
 // How many live keys may be too many for the first groups, as many as that, by a sample.
-fn likely_bound<L: Log>(groups: &[Group<L>], most: usize) -> Option<usize> {
+fn likely_bound<L: Log>(groups: &GroupRow<L>, most: usize) -> Option<usize> {
     let step = sample_step(groups.len());
     sample(groups, step).likely_bound(most, step)
 }
 
 // How many of one group of each `step` have so many live keys, of those that have any.
-fn sample<L: Log>(groups: &[Group<L>], step: usize) -> LiveTally
+fn sample<L: Log>(groups: &GroupRow<L>, step: usize) -> LiveTally
     requires { 1 ≤ step }
 {
     let mut tally = LiveTally::none();
@@ -102,21 +110,31 @@ fn sample<L: Log>(groups: &[Group<L>], step: usize) -> LiveTally
 }
 
 // What is told of the first groups in order with a live key, by ascending head: of each that has
-// fewer than the bound. Once it tells of `most`, those that have one fewer come after these.
+// fewer than the bound. Once it tells of `most`, those that have one fewer come after these. Those
+// whose bytes say that they have too many are not looked at.
 fn tell_below<L: Log>(
     alloc: Global,
-    groups: &[Group<L>],
+    groups: &GroupRow<L>,
+    least: &Vec<u8>,
     bound: usize,
     most: usize,
 ) -> Result<Vec<LiveGroup>, AllocError>
-    requires { Ascend groups.now }
+    requires ascend { Ascend groups.now.items }
+    requires sound { AreSoundGroups groups.now.items }
+    requires bytes { length groups.now.items ≤ vec_len least.now }
+    requires known { KnowsLeast groups.now.items least.now.items }
     ensures { IfOk result (λ told.
-        AreFirst (filter is_live (map told_of groups.now)) told.items) }
+        AreFirst (filter is_live (map told_of groups.now.items)) told.items) }
 {
     let mut told = Vec::new(alloc);
-    for group in groups {
-        let live = group.live();
+    for index in 0..groups.len() {
         let limit = limit_of(bound, most, told.len());
+        let byte = least[index] as usize;
+        if byte >= limit {
+            continue;
+        }
+        let group = &groups[index];
+        let live = group.live();
         if live > 0 && live < limit {
             told.push(told_of(group))?;
         }
@@ -137,10 +155,14 @@ fn limit_of(bound: usize, most: usize, told: usize) -> usize
 }
 
 // What is told of each group, by ascending head.
-fn tell<L: Log>(alloc: Global, groups: &[Group<L>]) -> Result<Vec<LiveGroup>, AllocError>
-    ensures { IfOk result (λ told. told.items ≡ map told_of groups.now) }
+fn tell<L: Log>(alloc: Global, groups: &GroupRow<L>) -> Result<Vec<LiveGroup>, AllocError>
+    ensures { IfOk result (λ told. told.items ≡ map told_of groups.now.items) }
 {
-    groups.iter().map(|group| told_of(group)).collect(alloc)
+    let mut told = Vec::with_capacity(alloc, groups.len())?;
+    for index in 0..groups.len() {
+        told.push(told_of(&groups[index]))?;
+    }
+    Ok(told)
 }
 
 fn told_of<L: Log>(group: &Group<L>) -> LiveGroup

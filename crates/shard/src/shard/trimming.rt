@@ -1,5 +1,5 @@
 // Pages with nothing live, which go while the shard goes on.
-ghost use Rattle.std.specs.Prelude.{◌≡◌, ◌<◌, Some, is_some, length, map, slice_get, vec_capacity};
+ghost use Rattle.std.specs.Prelude.{◌≡◌, ◌<◌, Some, is_some, length, map, slice_get};
 ghost use Rattle.std.specs.List.{filter};
 ghost use Rattle.shard.specs.Group.{GroupState};
 ghost use Rattle.shard.specs.Shown.{shown};
@@ -7,7 +7,7 @@ ghost use Rattle.shard.specs.Sound.{IsSound};
 ghost use Rattle.shard.specs.Trims.{Trims, is_idle, trimmed};
 
 use super::Shard;
-use crate::group::Group;
+use crate::group_row::GroupRow;
 use span::spans::Log;
 use std::alloc::{AllocError, Global};
 
@@ -49,10 +49,10 @@ impl<L: Log> Shard<L> {
 }
 
 // Trims the groups, and says how many gave their page back.
-fn trim_all<L: Log>(groups: &mut Vec<Group<L>>, alloc: Global) -> usize
+fn trim_all<L: Log>(groups: &mut GroupRow<L>, alloc: Global) -> usize
     ensures items { groups.new.items ≡ map trimmed groups.old.items }
     ensures count { result ≡ length (filter is_idle groups.old.items) }
-    ensures capacity { vec_capacity groups.new ≡ vec_capacity groups.old }
+    ensures capacity { groups.new.room ≡ groups.old.room }
 {
     let mut count = 0;
     for index in 0..groups.len() {

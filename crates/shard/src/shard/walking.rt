@@ -11,7 +11,7 @@ ghost use Rattle.shard.specs.Shown.{shown};
 ghost use Rattle.shard.specs.Sound.{IsSound};
 
 use super::Shard;
-use crate::group::Group;
+use crate::group_row::GroupRow;
 use groups::earlier;
 use span::names::{Key, SpanId};
 use span::spans::Log;
@@ -24,7 +24,7 @@ impl<L: Log> Shard<L> {
             (IsFirstLive (shown self.now) (rank from)) }
         ensures sound { IsSound self.now }
     {
-        first_live(self.groups.as_slice(), from)
+        first_live(&self.groups, from)
     }
 
     /// At least so many slots are live in the group at the index, by ascending head. It reads no
@@ -41,12 +41,12 @@ impl<L: Log> Shard<L> {
 }
 
 // The first live key of these groups.
-fn first_live<L: Log>(groups: &[Group<L>], from: SpanId) -> Option<Key>
-    ensures { IsFirstAmong (spans_in groups.now) (rank from) result }
+fn first_live<L: Log>(groups: &GroupRow<L>, from: SpanId) -> Option<Key>
+    ensures { IsFirstAmong (spans_in groups.now.items) (rank from) result }
 {
     let mut first = None;
-    for group in groups {
-        first = earlier(first, group.spans().first_live(from));
+    for index in 0..groups.len() {
+        first = earlier(first, groups[index].spans().first_live(from));
     }
     first
 }

@@ -14,7 +14,7 @@ returns-in_default-clause-first g c = λ key same above. value-elsewhere c.args.
 pub index-requires : goal.index-requires
 index-requires g c =
     let found = found_in c.args.self.now.groups c.self.inside.groups.items c.args.id c.in-Some.index c.in-Some.place (ap (λ (s : ShardState). s.groups) (sym c.self.view_is)) c.in-Some.ensures.place in
-    omega (arith, index_within _ _ _ _ found.0 found.1 found.2, c.self.inside.groups.ok.0)
+    omega (arith, index_within _ _ _ _ found.0 found.1 found.2)
 
 pub span_at-requires : goal.span_at-requires
 span_at-requires g c =

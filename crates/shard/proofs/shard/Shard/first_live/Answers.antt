@@ -12,4 +12,4 @@ pub returns-clause-first : goal.returns-clause-first
 returns-clause-first g c =
     let groups = ap (λ (s : ShardState). s.groups) c.self.view_is in
     first-shown c.args.self.now.groups (value-here c.args.self.now (subst IsSound c.self.view_is c.self.invariant.sound)) (rank c.args.from) c.first_live.result
-    (subst (λ gs. IsFirstAmong (spans_in gs) (rank c.args.from) c.first_live.result) (c.as_slice.ensures.value ∙ groups) c.first_live.ensures)
+    (subst (λ gs. IsFirstAmong (spans_in gs) (rank c.args.from) c.first_live.result) groups c.first_live.ensures)

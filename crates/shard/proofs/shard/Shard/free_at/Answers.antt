@@ -73,7 +73,6 @@ insert-requires g c =
       low,
       c.self.invariant.room_for_rooms c.args.index c.index_mut-group.result.now here.group_is,
       ap (room_of c.self.inside.rooms) same,
-      c.self.inside.groups.ok.0,
     )
 
 freed_now : (g : _) (c : goal.After-insert g) → c.free.new.self ≡ with_span c.index_mut-group.result.now c.args.place (with_free c.span_at.result.now c.args.key.now)
@@ -134,4 +133,4 @@ clear_byte-requires g c =
     let found = found_in c.args.self.now.groups c.self.inside.groups.items c.args.key.now.span c.args.index c.args.place
     (ap (λ (s : ShardState). s.groups) (sym c.self.view_is)) c.requires in
     let here = here_read _ _ _ _ found.0 found.1 found.2 c.index_mut-group.result.now c.index_mut-group.ensures.value c.span_at.result.now c.span_at.ensures in
-    omega (arith, slice_get_within c.self.inside.groups.items c.args.index c.index_mut-group.result.now here.group_is, c.self.invariant.room_for_bytes, c.self.inside.groups.ok.0)
+    omega (arith, slice_get_within c.self.inside.groups.items c.args.index c.index_mut-group.result.now here.group_is, c.self.invariant.room_for_bytes)

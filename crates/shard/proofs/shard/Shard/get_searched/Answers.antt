@@ -10,7 +10,7 @@ use Rattle.shard.proofs.shard.Shard.get_searched.Goals as goal
 elsewhere : (g : _) (c : goal.Then-index-len g) → IsElsewhere c.args.self.now.groups c.args.key.now.span
 elsewhere g c =
     c.search-index.ensures.elsewhere
-    (subst (λ (s : ShardState). length s.groups ≤ c.search-index.result.0) c.self.view_is (omega (arith, c.if-index-len.true, c.len.ensures, c.self.inside.groups.ok.0)))
+    (subst (λ (s : ShardState). length s.groups ≤ c.search-index.result.0) c.self.view_is (omega (arith, c.if-index-len.true, c.len.ensures)))
 
 pub returns-then-index-len-clause-found : goal.returns-then-index-len-clause-found
 returns-then-index-len-clause-found g c = elsewhere g c
@@ -22,4 +22,4 @@ returns-then-index-len-clause-plain g c =
 pub get_at-requires : goal.get_at-requires
 get_at-requires g c =
     c.search-index.ensures.here
-    (subst (λ (s : ShardState). c.search-index.result.0 < length s.groups) c.self.view_is (omega (arith, c.if-index-len.false, c.len.ensures, c.self.inside.groups.ok.0)))
+    (subst (λ (s : ShardState). c.search-index.result.0 < length s.groups) c.self.view_is (omega (arith, c.if-index-len.false, c.len.ensures)))

@@ -8,7 +8,7 @@ use Rattle.shard.proofs.shard.Shard.is_guest.Goals as goal
 pub returns : goal.returns
 returns g c is =
     let here : slice_get c.self.inside.groups.items c.args.index ≡ Some c.index-group.result.now =
-    slice_get_read c.self.inside.groups.items _ c.args.index c.index-group.result.now refl (omega (arith, c.if-index-len.false, c.len.ensures, c.self.inside.groups.ok.0)) c.index-group.ensures in
+    slice_get_read c.self.inside.groups.items _ c.args.index c.index-group.result.now refl (omega (arith, c.if-index-len.false, c.len.ensures)) c.index-group.ensures in
     subst (λ (s : ShardState). Somewhere s.groups c.args.guest c.args.index c.args.place) c.self.view_is (
       c.index-group.result.now,
       c.span_at.result.now,

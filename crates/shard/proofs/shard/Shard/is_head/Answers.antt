@@ -12,14 +12,14 @@ use Rattle.shard.proofs.shard.Shard.is_head.Goals as goal
 pub returns-then-index-len-clause-yes : goal.returns-then-index-len-clause-yes
 returns-then-index-len-clause-yes g c is =
     let here : slice_get c.self.inside.groups.items c.args.index ≡ Some c.index.result.now =
-    slice_get_read c.self.inside.groups.items _ c.args.index c.index.result.now refl (omega (arith, c.if-index-len.true, c.len.ensures, c.self.inside.groups.ok.0)) c.index.ensures in
+    slice_get_read c.self.inside.groups.items _ c.args.index c.index.result.now refl (omega (arith, c.if-index-len.true, c.len.ensures)) c.index.ensures in
     subst (λ (s : ShardState). IsHeadAt s.groups c.args.head c.args.index) c.self.view_is
     (c.index.result.now, record { here = here; head_is = sym c.head_id.ensures ∙ same_id_from_test c.head_id.result c.args.head (sym c.eq.ensures ∙ is) })
 
 pub returns-then-index-len-clause-no : goal.returns-then-index-len-clause-no
 returns-then-index-len-clause-no g c differs group at =
     let here : slice_get c.self.inside.groups.items c.args.index ≡ Some c.index.result.now =
-    slice_get_read c.self.inside.groups.items _ c.args.index c.index.result.now refl (omega (arith, c.if-index-len.true, c.len.ensures, c.self.inside.groups.ok.0)) c.index.ensures in
+    slice_get_read c.self.inside.groups.items _ c.args.index c.index.result.now refl (omega (arith, c.if-index-len.true, c.len.ensures)) c.index.ensures in
     let found = subst (λ (s : ShardState). IsHeadOf s.groups c.args.head c.args.index group) (sym c.self.view_is) at in
     true≢false (sym (c.eq.ensures ∙ test_from_same_id c.head_id.result c.args.head
     (c.head_id.ensures ∙ ap (λ (g : GroupState). g.head.id) (same_some (sym here ∙ found.here)) ∙ found.head_is)) ∙ differs)
@@ -28,4 +28,4 @@ pub returns-else-index-len-clause-no : goal.returns-else-index-len-clause-no
 returns-else-index-len-clause-no g c differs group at =
     let found = subst (λ (s : ShardState). IsHeadOf s.groups c.args.head c.args.index group) (sym c.self.view_is) at in
     let low = slice_get_within c.self.inside.groups.items c.args.index group found.here in
-    omega (arith, low, c.if-index-len.false, c.len.ensures, c.self.inside.groups.ok.0)
+    omega (arith, low, c.if-index-len.false, c.len.ensures)

@@ -10,7 +10,7 @@ returns g c group here =
     let many = ap (λ (s : ShardState). length s.groups) c.self.view_is in
     let byte : slice_get c.self.inside.least.items c.args.index ≡ Some c.index.result.now =
     slice_get_read c.self.inside.least.items _ c.args.index c.index.result.now refl
-    (omega (arith, c.requires, many, c.self.invariant.room_for_bytes, c.self.inside.groups.ok.0, c.self.inside.least.ok.0)) c.index.ensures in
+    (omega (arith, c.requires, many, c.self.invariant.room_for_bytes, c.self.inside.least.ok.0)) c.index.ensures in
     elim (cases_lt 0 c.index.result.now) [
       | inl some ↦ (c.self.invariant.least_known c.args.index c.index.result.now group byte there some).1
       | inr none ↦ omega (arith, none)

@@ -1,5 +1,5 @@
-use Rattle.std.proofs.Common.{◌≡◌, ◌∙◌, List, None, ap, arith, inl, refl, set, subst, sym}
-use Rattle.std.specs.Prelude.{filter, remove}
+use Rattle.std.proofs.Common.{◌≡◌, ◌≤◌, ◌+◌, ◌∙◌, ℕ, List, None, ap, arith, inl, length, length-set, refl, set, subst, sym}
+use Rattle.std.specs.Prelude.{filter, remove, vec_len}
 use Rattle.groups.specs.Directory.{DirectoryState}
 use Rattle.groups.specs.Group.{HasNoHead, IsHeadOf}
 use Rattle.groups.proofs.Lists.{set-same}
@@ -7,7 +7,7 @@ use Rattle.std.proofs.lemmas.Option.{slice_get_within}
 use Rattle.shard.specs.Group.{GroupState}
 use Rattle.shard.specs.Kept.{state_of}
 use Rattle.shard.specs.Leaving.{has_stayed, left_place, swept}
-use Rattle.shard.specs.Rooms.{rooms_of}
+use Rattle.shard.specs.Rooms.{HaveRoom, room_of, rooms_of}
 use Rattle.shard.specs.State.{ShardState}
 use Rattle.shard.proofs.ClassesHere.{HaveRoom-set}
 use Rattle.shard.proofs.KnownHeads.{KnowsHeads-set}
@@ -66,6 +66,8 @@ invariant_of-self-2 g c =
     let group = c.index_mut-group.result.now in
     let place = left_place group.head.id c.class.result c.self.inside.gens in
     let here = (here_now g c).here in
+    let many : length (set c.self.inside.groups.items c.in-Some.index c.replace.new.dest) ≡ length c.self.inside.groups.items =
+    length-set c.self.inside.groups.items c.in-Some.index c.replace.new.dest in
     record {
       number_fits = c.self.invariant.number_fits;
       pages_fit = c.self.invariant.pages_fit;
@@ -74,11 +76,13 @@ invariant_of-self-2 g c =
       rooms = λ class. rw (place_now g c)
           (HasRooms-full class c.self.inside.groups.items (rooms_of c.self.inside.rooms class) (c.self.invariant.rooms class) c.in-Some.index place group here
           c.class.ensures (λ none. inl refl));
-      room_for_groups = c.self.invariant.room_for_groups;
+      room_for_groups = subst (λ (n : ℕ). n + c.self.inside.group_room ≤ c.self.inside.groups.room) (sym many) c.self.invariant.room_for_groups;
       room_for_rooms = rw (place_now g c)
+          (subst (λ (n : ℕ). HaveRoom (set c.self.inside.groups.items c.in-Some.index place) c.self.inside.rooms (n + c.self.inside.group_room))
+          (sym (length-set c.self.inside.groups.items c.in-Some.index place))
           (HaveRoom-set c.self.inside.groups.items c.self.inside.rooms _ c.self.invariant.room_for_rooms c.in-Some.index group place here c.class.ensures
-          c.self.inside.rooms _ (omega arith) (λ class. omega arith));
-      room_for_class = c.self.invariant.room_for_class;
+          c.self.inside.rooms (length c.self.inside.groups.items + c.self.inside.group_room) (omega arith) (λ class. omega arith)));
+      room_for_class = λ some class. subst (λ (n : ℕ). n + c.self.inside.group_room ≤ room_of c.self.inside.rooms class) (sym many) (c.self.invariant.room_for_class some class);
       no_guests = c.self.invariant.no_guests;
       room_for_guests = HasGuestRoom-none _ _ _;
       guests_known = rw (place_now g c, c.strike_all.ensures, c.guests.ensures, c.into_parts-spans.ensures.spans, c.replace.ensures.value)
@@ -92,7 +96,7 @@ invariant_of-self-2 g c =
           (c.guests-2.ensures ∙ sym c.guests.ensures) (ap (λ (d : DirectoryState). d.entries) c.strike_all.ensures))
           c.strike_guests.ensures.end;
       least_known = c.clear_byte.ensures.known c.self.inside.groups.items c.replace.new.dest c.self.invariant.least_known;
-      room_for_bytes = omega (arith, c.self.invariant.room_for_bytes, c.clear_byte.ensures.len);
+      room_for_bytes = subst (λ (n : ℕ). n + c.self.inside.group_room ≤ vec_len c.clear_byte.new.least) (sym many) (omega (arith, c.self.invariant.room_for_bytes, c.clear_byte.ensures.len));
     }
 
 pub returns-clause-lifts : goal.returns-clause-lifts
@@ -117,4 +121,4 @@ clear_byte-requires g c =
     let head_here = head_read c.self.inside.groups.items c.args.self.now.groups
     (ap (λ (s : ShardState). s.groups) c.self.view_is) c.args.head c.in-Some.index c.in-Some.ensures.head c.index_mut-group.result.now
     c.index_mut-group.ensures.value in
-    omega (arith, slice_get_within c.self.inside.groups.items c.in-Some.index c.index_mut-group.result.now head_here.here, c.self.invariant.room_for_bytes, c.self.inside.groups.ok.0)
+    omega (arith, slice_get_within c.self.inside.groups.items c.in-Some.index c.index_mut-group.result.now head_here.here, c.self.invariant.room_for_bytes)

@@ -47,7 +47,7 @@ invariant_of-self g c = IsKept-same c.self.inside c.self.invariant c.reserve_gro
     (omega (arith, c.reserve_group.ensures.capacity)) c.self.invariant.rooms (λ class. omega arith)
 
 pub lower_heads-index-requires : goal.lower_heads-index-requires
-lower_heads-index-requires g c = rw (c.as_slice.ensures.value, c.in_ok-reserve_group.ensures.items) c.self.invariant.sound.ascending
+lower_heads-index-requires g c = rw c.in_ok-reserve_group.ensures.items c.self.invariant.sound.ascending
 
 head_now : (g : _) (c : goal.After-self-3-1 g) → c.put_at.new.self ≡ with_put (new_span c.in-Some.id c.args.class c.self.inside.gens) 0 c.args.words.now
 head_now g c = c.in_ok-key.ensures.ok ∙ ap (λ (s : SpanState). with_put s 0 c.args.words.now) c.with_log-head.ensures
@@ -62,10 +62,10 @@ group_now g c =
     (ap (λ (head : SpanState). group_of (record { head = head; guests = [] }) (Some (set_object blank_page c.args.class 0 c.args.words.now)) false)
     (head_now g c))
 
-list_is : (g : _) (c : goal.After-self-3-1 g) → c.as_slice.result.now ≡ c.self.inside.groups.items
-list_is g c = c.as_slice.ensures.value ∙ c.in_ok-reserve_group.ensures.items
+list_is : (g : _) (c : goal.After-self-3-1 g) → c.reserve_group.new.groups.items ≡ c.self.inside.groups.items
+list_is g c = c.in_ok-reserve_group.ensures.items
 
-groups_now : (g : _) (c : goal.After-self-3-1 g) → c.insert_reserved.new.groups.items ≡ insert c.self.inside.groups.items c.lower_heads-index.result (made g c)
+groups_now : (g : _) (c : goal.After-self-3-1 g) → c.insert_reserved.new.self.items ≡ insert c.self.inside.groups.items c.lower_heads-index.result (made g c)
 groups_now g c = c.insert_reserved.ensures.items ∙ rw (c.in_ok-reserve_group.ensures.items, group_now g c) refl
 
 lower_now : (g : _) (c : goal.After-self-3-1 g) → IsLower head_id c.self.inside.groups.items (rank c.in-Some.id) c.lower_heads-index.result
@@ -88,12 +88,12 @@ above_now g c class n from = c.note_arrival.ensures.above class n from ∙ ap (�
 
 -- each set that had room for the groups has room for one more
 room_before : (g : _) (c : goal.After-self-3-1 g)
-    → HaveRoom c.self.inside.groups.items c.note_arrival.new.self (vec_len c.insert_reserved.new.groups + c.saturating_sub-self-inside.result)
+    → HaveRoom c.self.inside.groups.items c.note_arrival.new.self (length c.insert_reserved.new.self.items + c.saturating_sub-self-inside.result)
 room_before g c index group there =
     let class = group.head.class in
     let had = c.self.invariant.room_for_rooms index group there in
     let low = slice_get_within c.self.inside.groups.items index group there in
-    let used = c.in_ok-reserve.ensures.used class (omega (arith, had, low, c.self.inside.groups.ok.0)) in
+    let used = c.in_ok-reserve.ensures.used class (omega (arith, had, low)) in
     omega (
       arith,
       had,
@@ -108,7 +108,7 @@ room_before g c index group there =
 
 -- and so has that of the class
 room_here : (g : _) (c : goal.After-self-3-1 g)
-    → vec_len c.insert_reserved.new.groups + c.saturating_sub-self-inside.result ≤ room_of c.note_arrival.new.self c.args.class
+    → length c.insert_reserved.new.self.items + c.saturating_sub-self-inside.result ≤ room_of c.note_arrival.new.self c.args.class
 room_here g c =
     let own = c.in_ok-reserve.ensures.ok c.args.class (omega arith) in
     elim (cases_lt 0 c.self.inside.group_room) [
@@ -163,7 +163,7 @@ invariant_of-self-2 g c = record {
     c.in_ok-reserve_group.ensures.capacity,
     c.saturating_sub-self-inside.ensures,
   );
-  room_for_rooms = rw (groups_now g c)
+  room_for_rooms = subst (λ (gs : List GroupState). HaveRoom gs c.note_arrival.new.self (length c.insert_reserved.new.self.items + c.saturating_sub-self-inside.result)) (sym (groups_now g c))
       (HaveRoom-insert c.self.inside.groups.items c.note_arrival.new.self _ (room_before g c) c.lower_heads-index.result (made g c) (place_now g c).within (room_here g c));
   room_for_class = λ some class. omega (
     arith,
@@ -183,7 +183,7 @@ invariant_of-self-2 g c = record {
   room_for_entries = c.self.invariant.room_for_entries;
   heads_known = rw (groups_now g c)
       (c.note_arrival-2.ensures.known c.self.inside.groups.items (made g c)
-      (omega (arith, c.len-4.ensures, c.insert_reserved.ensures.len, c.in_ok-reserve_group.ensures.len, c.self.inside.groups.ok.0)) refl
+      (omega (arith, c.len-4.ensures, c.insert_reserved.ensures.len, c.in_ok-reserve_group.ensures.len)) refl
       (λ index group at. no_head_next (state_of c.self.inside) c.self.invariant.sound c.in-Some.id c.in-Some.ensures.parts.0 c.in-Some.ensures.parts.1 index group at.here at.head_is)
       (λ own. omega (arith, c.in-Some.ensures.parts.1, c.in_ok-reserve-2.ensures.ok))
       (KnowsHeads-moved (state_of c.self.inside) c.self.invariant.sound c.self.inside.heads c.self.invariant.heads_known (c.self.inside.opened + 1) (omega arith) c.reserve-2.new.self
@@ -235,8 +235,8 @@ note_arrival-requires-clause-had g c class n member =
     let noted = ap (λ s. contains s n) (sym (c.in_ok-reserve.ensures.same class)) ∙ member in
     let low = (c.self.invariant.rooms class).within n noted in
     let had = HaveRoom-noted c.self.inside.groups.items c.self.inside.rooms _ c.self.invariant.room_for_rooms class (c.self.invariant.rooms class) n noted in
-    let used = c.in_ok-reserve.ensures.used class (omega (arith, had, low, c.self.inside.groups.ok.0)) in (
-      omega (arith, low, c.len-2.ensures, c.insert_reserved.ensures.len, c.in_ok-reserve_group.ensures.len, c.self.inside.groups.ok.0),
+    let used = c.in_ok-reserve.ensures.used class (omega (arith, had, low)) in (
+      omega (arith, low, c.len-2.ensures, c.insert_reserved.ensures.len, c.in_ok-reserve_group.ensures.len),
       omega (arith, used, c.len.ensures, c.len-2.ensures, c.insert_reserved.ensures.len, c.in_ok-reserve_group.ensures.len),
     )
 
@@ -262,8 +262,7 @@ add_byte-requires g c =
     omega (
       arith,
       c.lower_heads-index.ensures.within,
-      ap length (c.as_slice.ensures.value ∙ c.in_ok-reserve_group.ensures.items),
-      c.self.inside.groups.ok.0,
+      ap length c.in_ok-reserve_group.ensures.items,
       c.in_ok-reserve_group.ensures.len,
       c.in_ok-reserve_bytes.ensures.ok,
     )

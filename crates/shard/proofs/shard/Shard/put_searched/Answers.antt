@@ -25,7 +25,7 @@ loop-index-init g c = record { kept = c.self.invariant; same = c.self.view_is }
 pub index_mut-group-requires : goal.index_mut-group-requires
 index_mut-group-requires g c =
     let within = (c.loop-index.invariant.kept.rooms c.args.class).within c.in-Some.index c.in-Some.ensures.lowest.inside in
-    omega (arith, within, c.loop-index.self-inside.groups.ok.0)
+    omega (arith, within)
 
 -- memory was refused, and the group is as it was
 pub invariant_of-self : goal.invariant_of-self
@@ -163,7 +163,7 @@ returns-then-len-self-clause-spent g c =
     let spent : (c.args.self.now.page_limit ≤ length c.args.self.now.groups)
     ⊎ (c.args.self.now.span_limit ≤ c.args.self.now.opened) = elim c.then-len-self.branch [
       | then-len-self-via-then-len-self w ↦ inl
-          (subst (λ (s : ShardState). s.page_limit ≤ length s.groups) same (omega (arith, w.if-len-self, s.groups.ok.0, c.len.ensures)))
+          (subst (λ (s : ShardState). s.page_limit ≤ length s.groups) same (omega (arith, w.if-len-self, c.len.ensures)))
       | then-len-self-via-else-len-self+then-self-2 w ↦ inr (subst (λ (s : ShardState). s.span_limit ≤ s.opened) same (omega (arith, w.if-self-2)))
     ] in (
       (λ e. (
@@ -195,7 +195,7 @@ returns-in_err-key-2-clause-spent g c =
       (λ e. absurd (let spent = sym e ∙ (refused.1 ∙ ap Err (refused.2 ∙ only)) in search rules)),
       λ spent. absurd (elim spent.1.1 [
         | inl pages ↦ let few : length c.args.self.now.groups < c.args.self.now.page_limit =
-            subst (λ (s : ShardState). length s.groups < s.page_limit) same (omega (arith, c.if-len-self.false, s.groups.ok.0, c.len.ensures)) in omega (arith, pages, few)
+            subst (λ (s : ShardState). length s.groups < s.page_limit) same (omega (arith, c.if-len-self.false, c.len.ensures)) in omega (arith, pages, few)
         | inr spans ↦ let few : c.args.self.now.opened < c.args.self.now.span_limit =
             subst (λ (s : ShardState). s.opened < s.span_limit) same (omega (arith, c.if-self-2.false)) in omega (arith, spans, few)
       ]),
@@ -211,7 +211,7 @@ new_one g c =
       ap (λ (s : ShardState). s.ended) (sym c.self.view_is) ∙ c.if-self.false,
       inr (
         subst (λ (s : ShardState). IsFull s.slot_limit c.args.class s.groups) same full,
-        subst (λ (s : ShardState). length s.groups < s.page_limit) same (omega (arith, c.if-len-self.false, s.groups.ok.0, c.len.ensures)),
+        subst (λ (s : ShardState). length s.groups < s.page_limit) same (omega (arith, c.if-len-self.false, c.len.ensures)),
         subst (λ (s : ShardState). s.opened < s.span_limit) same (omega (arith, c.if-self-2.false)),
         subst (λ (s : ShardState). PutsInNew s c.args.class c.args.words.now c.in_ok-key-2.key 0 c.put_in_new.new.self) same
             (c.in_ok-key-2.ensures {u = tt}).ok,
@@ -223,7 +223,7 @@ new_few : (g : _) (c : goal.In_ok-key-2 g)
 new_few g c =
     let s = c.loop-index.self-inside in
     let same = c.loop-index.invariant.same in (
-      subst (λ (s : ShardState). length s.groups < s.page_limit) same (omega (arith, c.if-len-self.false, s.groups.ok.0, c.len.ensures)),
+      subst (λ (s : ShardState). length s.groups < s.page_limit) same (omega (arith, c.if-len-self.false, c.len.ensures)),
       subst (λ (s : ShardState). s.opened < s.span_limit) same (omega (arith, c.if-self-2.false)),
     )
 

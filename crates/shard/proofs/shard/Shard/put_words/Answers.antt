@@ -23,7 +23,7 @@ use Rattle.shard.proofs.shard.Shard.put_words.Goals as goal
 pub index_mut-group-requires : goal.index_mut-group-requires
 index_mut-group-requires g c =
     let within = (c.self.invariant.rooms c.args.class).within c.in-Some.index c.in-Some.ensures.lowest.inside in
-    omega (arith, within, c.self.inside.groups.ok.0)
+    omega (arith, within)
 
 -- memory was refused, and the group is as it was
 pub invariant_of-self : goal.invariant_of-self

@@ -27,7 +27,7 @@ pub returns-in-Some-head_index-clause-here : goal.returns-in-Some-head_index-cla
 returns-in-Some-head_index-clause-here g c low =
     let at : IsHeadAt c.args.self.now.groups c.args.id c.in-Some-head_index.index = subst
     (λ (groups : List GroupState). IsHeadAt groups c.args.id c.in-Some-head_index.index)
-    (c.as_slice.ensures.value ∙ ap (λ (s : ShardState). s.groups) c.self.view_is) c.in-Some-head_index.ensures.head in
+    (ap (λ (s : ShardState). s.groups) c.self.view_is) c.in-Some-head_index.ensures.head in
     (at.0, at.0.head, record { group_is = at.1.here; span_is = refl; id_is = at.1.head_is })
 
 pub returns-in-None-head_index-clause-elsewhere : goal.returns-in-None-head_index-clause-elsewhere
@@ -35,4 +35,4 @@ returns-in-None-head_index-clause-elsewhere g c past =
     subst (λ (s : ShardState). IsElsewhere s.groups c.args.id) c.self.view_is
     (IsElsewhere-guest c.self.inside.groups.items c.self.inside.directory.entries c.self.invariant.guests_known c.args.id c.place_of.result c.place_of.ensures
     (record { head = c.args.id; place = 0 }) (rw c.in_default.is refl)
-    (subst (λ (groups : List GroupState). HasNoHead groups c.args.id) c.as_slice.ensures.value c.in-None-head_index.ensures.head))
+    c.in-None-head_index.ensures.head)

@@ -46,7 +46,7 @@ index_mut-group-requires g c =
     let found = found_in c.args.self.now.groups c.self.inside.groups.items c.args.key.now.span c.args.index c.args.place
     (ap (λ (s : ShardState). s.groups) (sym c.self.view_is)) c.requires in
     let low = index_within c.self.inside.groups.items c.args.key.now.span c.args.index c.args.place found.0 found.1 found.2 in
-    omega (arith, low, c.self.inside.groups.ok.0)
+    omega (arith, low)
 
 pub span_at-requires : goal.span_at-requires
 span_at-requires g c =

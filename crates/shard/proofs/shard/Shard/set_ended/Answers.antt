@@ -1,4 +1,4 @@
-use Rattle.std.proofs.Common.{◌≡◌, ◌∙◌, [], None, true, ap, arith, sym}
+use Rattle.std.proofs.Common.{◌≡◌, ◌∙◌, [], None, true, ap, arith, length, sym}
 use Rattle.groups.specs.Directory.{DirectoryState}
 use Rattle.groups.proofs.GuestDirectory.{IsDirectory-none}
 use Rattle.shard.specs.Kept.{state_of}
@@ -27,7 +27,7 @@ invariant_of-self g c =
             onto = None;
           }) c.self.invariant.sound.opened c.self.invariant.sound.span_limit c.self.invariant.sound.gens);
       rooms = λ class. rw (c.new.ensures.items, c.new-2.ensures class) (HasRooms-empty class);
-      room_for_groups = omega (arith, c.new.result.ok.1);
+      room_for_groups = omega (arith, ap length c.new.ensures.items);
       room_for_rooms = HaveRoom-none c.new.result.items c.new.ensures.items c.new-2.result _;
       room_for_class = λ some. absurd (omega (arith, some));
       no_guests = c.new-5.ensures.items;
@@ -43,7 +43,7 @@ invariant_of-self g c =
         for_guests = λ head named. absurd cc;
       };
       least_known = rw c.new-7.ensures.items (KnowsLeast-none _);
-      room_for_bytes = omega (arith, c.new.result.ok.1, c.new-7.result.ok.1);
+      room_for_bytes = omega (arith, ap length c.new.ensures.items, c.new-7.result.ok.1);
     }
 
 pub returns-clause-ended : goal.returns-clause-ended

@@ -5,17 +5,16 @@ use Rattle.groups.proofs.SpanCounts.{at_most_ids, length-spans_more, length-take
 use Rattle.span.specs.declared.limits.TheConstants.{ALL_IDS}
 use Rattle.shard.proofs.shard.Shard.span_count.Goals as goal
 
-pub loop-group-init : goal.loop-group-init
-loop-group-init g c = (
+pub loop-index-init : goal.loop-index-init
+loop-index-init g c = (
   refl,
-  subst (λ (groups : List GroupState). length (spans_in groups) ≤ ALL_IDS) (sym c.deref-group-items.ensures.value)
-      (at_most_ids (spans_in c.self.inside.groups.items) c.self.invariant.sound.once),
+  at_most_ids (spans_in c.self.inside.groups.items) c.self.invariant.sound.once,
 )
 
 pub overflow_add-count : goal.overflow_add-count
 overflow_add-count g c =
-    let groups = c.deref-group-items.result.now in
-    let before = c.loop-group.invariant in
-    let more = length-spans_more spans_of groups c.loop-group.group-index c.group-item.result c.loop-group-test.true c.group-item.is in
-    let fewer = length-take_spans spans_of groups (c.loop-group.group-index + 1) in
+    let groups = c.self.inside.groups.items in
+    let before = c.loop-index.invariant in
+    let more = length-spans_more spans_of groups c.loop-index.index c.index.result.now (omega (arith, c.loop-index-test.true, c.len-index-end.ensures)) c.index.ensures in
+    let fewer = length-take_spans spans_of groups (c.loop-index.index + 1) in
     omega (arith, c.len-count.ensures)

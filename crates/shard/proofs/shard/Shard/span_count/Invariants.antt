@@ -3,5 +3,5 @@ use Rattle.groups.specs.Group.{spans_in}
 use Rattle.span.specs.declared.limits.TheConstants.{ALL_IDS}
 use Rattle.shard.proofs.shard.Shard.span_count.Given as goal
 
-abbrev pub invariant-loop-group : goal.invariant-loop-group
-invariant-loop-group g l = (l.count ≡ length (spans_in (take l.group-index l.group-items))) × (length (spans_in l.group-items) ≤ ALL_IDS)
+abbrev pub invariant-loop-index : goal.invariant-loop-index
+invariant-loop-index g l = (l.count ≡ length (spans_in (take l.index l.self-inside.groups.items))) × (length (spans_in l.self-inside.groups.items) ≤ ALL_IDS)

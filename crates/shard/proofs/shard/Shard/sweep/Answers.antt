@@ -1,4 +1,4 @@
-use Rattle.std.proofs.Common.{◌≤◌, ◌∙◌, ap, arith, length, subst, sym}
+use Rattle.std.proofs.Common.{◌≤◌, ◌∙◌, ap, arith, length, refl, subst, sym}
 use Rattle.std.specs.Prelude.{vec_capacity, vec_len}
 use Rattle.shard.specs.Kept.{state_of}
 use Rattle.shard.specs.Heads.{AreReady, KnowsHeads}
@@ -9,34 +9,34 @@ use Rattle.shard.proofs.shard.Shard.sweep.Goals as goal
 
 pub sweep_rooms-requires : goal.sweep_rooms-requires
 sweep_rooms-requires g c =
-    HaveRoom-same c.self.inside.groups.items c.self.inside.rooms _ c.self.invariant.room_for_rooms _ c.as_slice.ensures.value c.self.inside.rooms _
-    (omega (arith, ap length c.as_slice.ensures.value, c.self.inside.groups.ok.0)) (λ class. omega arith)
+    HaveRoom-same c.self.inside.groups.items c.self.inside.rooms _ c.self.invariant.room_for_rooms _ refl c.self.inside.rooms _
+    (omega arith) (λ class. omega arith)
 
 pub invariant_of-self : goal.invariant_of-self
 invariant_of-self g c =
-    let fewer : vec_len c.drop_places.new.groups ≤ vec_len c.self.inside.groups =
-    omega (arith, ap length c.drop_places.ensures.items, length-stayed c.self.inside.groups.items, c.self.inside.groups.ok.0, c.drop_places.new.groups.ok.0) in
+    let fewer : length c.drop_left.new.self.items ≤ length c.self.inside.groups.items =
+    omega (arith, ap length c.drop_left.ensures.items, length-stayed c.self.inside.groups.items) in
     record {
       number_fits = c.self.invariant.number_fits;
       pages_fit = c.self.invariant.pages_fit;
       gens_fit = c.self.invariant.gens_fit;
-      sound = rw c.drop_places.ensures.items (IsSound-swept (state_of c.self.inside) c.self.invariant.sound);
-      rooms = λ class. rw (c.drop_places.ensures.items, ← c.as_slice.ensures.value) (c.sweep_rooms.ensures.has c.self.inside.slot_limit (rw c.as_slice.ensures.value c.self.invariant.rooms) class);
-      room_for_groups = omega (arith, fewer, c.self.invariant.room_for_groups, c.drop_places.ensures.capacity);
-      room_for_rooms = rw c.drop_places.ensures.items
+      sound = rw c.drop_left.ensures.items (IsSound-swept (state_of c.self.inside) c.self.invariant.sound);
+      rooms = λ class. rw c.drop_left.ensures.items (c.sweep_rooms.ensures.has c.self.inside.slot_limit c.self.invariant.rooms class);
+      room_for_groups = omega (arith, fewer, c.self.invariant.room_for_groups, c.drop_left.ensures.capacity);
+      room_for_rooms = rw c.drop_left.ensures.items
           (HaveRoom-swept c.self.inside.groups.items c.self.inside.rooms _ c.self.invariant.room_for_rooms c.sweep_rooms.new.rooms _
-          (omega (arith, fewer)) (λ class. omega (arith, c.sweep_rooms.ensures.room class)));
+          (omega (arith, length-stayed c.self.inside.groups.items)) (λ class. omega (arith, c.sweep_rooms.ensures.room class)));
       room_for_class = λ some class. omega (arith, fewer, c.self.invariant.room_for_class some class, c.sweep_rooms.ensures.room class);
       no_guests = c.self.invariant.no_guests;
-      room_for_guests = rw c.drop_places.ensures.items
+      room_for_guests = rw c.drop_left.ensures.items
           (HasGuestRoom-swept c.self.inside.groups.items c.self.inside.onto c.self.inside.span_room
           (vec_capacity c.self.inside.guest_room) c.self.invariant.room_for_guests);
-      guests_known = rw c.drop_places.ensures.items (KnowsGuests-swept c.self.inside.groups.items c.self.inside.directory.entries c.self.invariant.guests_known);
+      guests_known = rw c.drop_left.ensures.items (KnowsGuests-swept c.self.inside.groups.items c.self.inside.directory.entries c.self.invariant.guests_known);
       room_for_entries = c.self.invariant.room_for_entries;
-      heads_known = subst (λ gs. KnowsHeads c.self.inside.number gs c.note_from.new.self) c.as_slice-2.ensures.value c.note_from.ensures.known;
+      heads_known = c.note_from.ensures.known;
       room_for_heads = λ some. let enough = c.self.invariant.room_for_heads some in omega (arith, enough, c.note_from.ensures.base, c.note_from.ensures.len);
       guests_noted = c.self.invariant.guests_noted;
-      least_known = c.clear_bytes.ensures.known c.drop_places.new.groups.items;
+      least_known = c.clear_bytes.ensures.known c.drop_left.new.self.items;
       room_for_bytes = omega (arith, fewer, c.self.invariant.room_for_bytes, c.clear_bytes.ensures.len);
     }
 
@@ -45,5 +45,5 @@ returns-clause-sound g c = (invariant_of-self g c).sound
 
 pub note_from-requires : goal.note_from-requires
 note_from-requires g c =
-    subst (λ gs. AreReady c.self.inside.number gs c.self.inside.heads 0) (sym (c.as_slice-2.ensures.value ∙ c.drop_places.ensures.items))
+    subst (λ gs. AreReady c.self.inside.number gs c.self.inside.heads 0) (sym c.drop_left.ensures.items)
     (AreReady-swept (state_of c.self.inside) c.self.invariant.sound c.self.inside.heads c.self.invariant.heads_known c.self.invariant.pages_fit)

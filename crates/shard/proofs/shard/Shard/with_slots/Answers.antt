@@ -1,4 +1,4 @@
-use Rattle.std.proofs.Common.{ap, arith}
+use Rattle.std.proofs.Common.{ap, arith, length}
 use Rattle.groups.proofs.GuestDirectory.{IsDirectory-none}
 use Rattle.groups.specs.Directory.{DirectoryState}
 use Rattle.shard.proofs.ClassesHere.{HaveRoom-none}
@@ -17,7 +17,7 @@ invariant_of-result g c = record {
   gens_fit = omega arith;
   sound = rw c.new.ensures.items (IsSound-new c.args.number c.args.page_limit c.args.span_limit c.args.slot_limit c.args.gens (omega arith) (omega arith));
   rooms = λ class. rw (c.new.ensures.items, c.new-2.ensures class) (HasRooms-empty class);
-  room_for_groups = omega (arith, c.new.result.ok.1);
+  room_for_groups = omega (arith, ap length c.new.ensures.items);
   room_for_rooms = HaveRoom-none c.new.result.items c.new.ensures.items c.new-2.result _;
   room_for_class = λ some. absurd (omega (arith, some));
   no_guests = c.new-5.ensures.items;
@@ -33,7 +33,7 @@ invariant_of-result g c = record {
     for_guests = λ head named. absurd cc;
   };
   least_known = rw c.new-7.ensures.items (KnowsLeast-none _);
-  room_for_bytes = omega (arith, c.new.result.ok.1, c.new-7.result.ok.1);
+  room_for_bytes = omega (arith, ap length c.new.ensures.items, c.new-7.result.ok.1);
 }
 
 pub returns-clause-sound : goal.returns-clause-sound

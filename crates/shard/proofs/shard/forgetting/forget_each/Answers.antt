@@ -23,7 +23,6 @@ forget_in-requires-clause-entered c =
       ap length c.loop-index.invariant.items,
       length-changed_below without_dead at c.args.groups.now.items,
       c.len-index-end.ensures,
-      c.args.groups.now.ok.0,
     )) c.index_mut.ensures.value in
     AreEntered-forgotten now c.loop-index.directory.entries c.loop-index.invariant.known at group here
 
@@ -35,7 +34,7 @@ loop-index-preserved c =
     let group = c.index_mut.result.now in
     let is = c.loop-index.invariant.items in
     let here : slice_get now at ≡ Some group =
-    slice_get_read now _ at group refl (omega (arith, ap length is, length-changed_below without_dead at first, c.len-index-end.ensures, c.args.groups.now.ok.0)) c.index_mut.ensures.value in
+    slice_get_read now _ at group refl (omega (arith, ap length is, length-changed_below without_dead at first, c.len-index-end.ensures)) c.index_mut.ensures.value in
     let there : slice_get _ at ≡ Some group = ap (λ (groups : List GroupState). slice_get groups at) (sym is) ∙ here in
     let was : slice_get first at ≡ Some group = sym (get-changed_below without_dead at first) ∙ there in
     let ascend : Ascend now = rw is (Ascend-changed_below at first c.requires.ascend) in
@@ -52,4 +51,7 @@ loop-index-preserved c =
     }
 
 pub returns-clause-items : goal.returns-clause-items
-returns-clause-items c = c.loop-index.invariant.items ∙ changed_below-all without_dead c.loop-index.index c.args.groups.now.items (omega (arith, c.len-index-end.ensures, c.args.groups.now.ok.0))
+returns-clause-items c = c.loop-index.invariant.items ∙ changed_below-all without_dead c.loop-index.index c.args.groups.now.items (omega (arith, c.len-index-end.ensures))
+
+pub index_mut-requires : goal.index_mut-requires
+index_mut-requires c = omega (arith, c.loop-index-test.true, c.len-index-end.ensures, ap length c.loop-index.invariant.items, length-changed_below without_dead c.loop-index.index c.args.groups.now.items)

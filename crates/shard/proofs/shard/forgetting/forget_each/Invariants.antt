@@ -11,7 +11,7 @@ use Rattle.shard.proofs.shard.forgetting.forget_each.Given as goal
 abbrev pub invariant-loop-index : goal.invariant-loop-index
 invariant-loop-index l = record {
   items : l.groups.items ≡ changed_below without_dead l.index l.fn.groups.items;
-  capacity : vec_capacity l.groups ≡ vec_capacity l.fn.groups;
+  capacity : l.groups.room ≡ l.fn.groups.room;
   known : KnowsGuests l.groups.items l.directory.entries;
   room : l.directory.room ≡ l.fn.directory.room;
   noted : KnowsNotes l.number l.directory.entries l.notes;

@@ -6,10 +6,10 @@ use Rattle.shard.proofs.shard.leaving.sweep_rooms.Goals as goal
 
 pub loop-index-preserved-then-has_left : goal.loop-index-preserved-then-has_left
 loop-index-preserved-then-has_left g c =
-    let here : slice_get c.args.groups.now c.loop-index.index ≡ Some c.index-groups-index.result =
-    slice_get_read c.args.groups.now _ c.loop-index.index c.index-groups-index.result refl (omega (arith, c.loop-index-test.true)) c.index-groups-index.is in (
-      λ slot_limit has. sweep-left c.args.groups.now c.args.rooms.now c.loop-index.rooms c.remove.new.self has c.loop-index.index c.loop-index.next (c.loop-index.invariant.0 slot_limit has)
-          c.index-groups-index.result here c.class-class.result c.class-class.ensures c.remove.ensures.this c.remove.ensures.others
+    let here : slice_get c.args.groups.now.items c.loop-index.index ≡ Some c.index-place.result.now =
+    slice_get_read c.args.groups.now.items _ c.loop-index.index c.index-place.result.now refl (omega (arith, c.loop-index-test.true, c.len-index-end.ensures)) c.index-place.ensures in (
+      λ slot_limit has. sweep-left c.args.groups.now.items c.args.rooms.now c.loop-index.rooms c.remove.new.self has c.loop-index.index c.loop-index.next (c.loop-index.invariant.0 slot_limit has)
+          c.index-place.result.now here c.class-class.result c.class-class.ensures c.remove.ensures.this c.remove.ensures.others
           (sym c.has_left.ensures ∙ c.if-has_left.true),
       omega (arith, c.loop-index.invariant.1),
       λ class. c.remove.ensures.room class ∙ c.loop-index.invariant.2 class,
@@ -17,10 +17,10 @@ loop-index-preserved-then-has_left g c =
 
 pub loop-index-preserved : goal.loop-index-preserved
 loop-index-preserved g c =
-    let here : slice_get c.args.groups.now c.loop-index.index ≡ Some c.index-groups-index.result =
-    slice_get_read c.args.groups.now _ c.loop-index.index c.index-groups-index.result refl (omega (arith, c.loop-index-test.true)) c.index-groups-index.is in (
-      λ slot_limit has. sweep-stayed c.args.groups.now c.args.rooms.now c.loop-index.rooms c.remove.new.self has c.loop-index.index c.loop-index.next (c.loop-index.invariant.0 slot_limit has)
-          c.index-groups-index.result here c.class-class.result c.class-class.ensures c.remove.ensures.this c.remove.ensures.others
+    let here : slice_get c.args.groups.now.items c.loop-index.index ≡ Some c.index-place.result.now =
+    slice_get_read c.args.groups.now.items _ c.loop-index.index c.index-place.result.now refl (omega (arith, c.loop-index-test.true, c.len-index-end.ensures)) c.index-place.ensures in (
+      λ slot_limit has. sweep-stayed c.args.groups.now.items c.args.rooms.now c.loop-index.rooms c.remove.new.self has c.loop-index.index c.loop-index.next (c.loop-index.invariant.0 slot_limit has)
+          c.index-place.result.now here c.class-class.result c.class-class.ensures c.remove.ensures.this c.remove.ensures.others
           (sym c.has_left.ensures ∙ c.if-has_left.false) c.contains-had.result c.contains-had.ensures c.note.new.self c.note.ensures.this c.note.ensures.same
           c.note.ensures.others,
       omega (arith, c.loop-index.invariant.1),
@@ -33,11 +33,12 @@ note-requires g c =
       arith,
       c.remove.ensures.room c.class-class.result,
       c.loop-index.invariant.2 c.class-class.result,
-      c.requires c.loop-index.index c.index-groups-index.result
-          (slice_get_read c.args.groups.now _ c.loop-index.index c.index-groups-index.result refl (omega (arith, c.loop-index-test.true)) c.index-groups-index.is),
+      c.requires c.loop-index.index c.index-place.result.now
+          (slice_get_read c.args.groups.now.items _ c.loop-index.index c.index-place.result.now refl (omega (arith, c.loop-index-test.true, c.len-index-end.ensures)) c.index-place.ensures),
       ap (room_of c.args.rooms.now) c.class-class.ensures,
       c.loop-index.invariant.1,
       c.loop-index-test.true,
+      c.len-index-end.ensures,
     )
 
 pub remove-requires : goal.remove-requires
@@ -45,16 +46,17 @@ remove-requires g c =
     omega (
       arith,
       c.loop-index.invariant.2 c.class-class.result,
-      c.requires c.loop-index.index c.index-groups-index.result
-          (slice_get_read c.args.groups.now _ c.loop-index.index c.index-groups-index.result refl (omega (arith, c.loop-index-test.true)) c.index-groups-index.is),
+      c.requires c.loop-index.index c.index-place.result.now
+          (slice_get_read c.args.groups.now.items _ c.loop-index.index c.index-place.result.now refl (omega (arith, c.loop-index-test.true, c.len-index-end.ensures)) c.index-place.ensures),
       ap (room_of c.args.rooms.now) c.class-class.ensures,
       c.loop-index-test.true,
+      c.len-index-end.ensures,
     )
 
 pub overflow_add-next : goal.overflow_add-next
-overflow_add-next g c = omega (arith, c.loop-index.invariant.1, c.loop-index-test.true, c.loop-index.auto.index-end)
+overflow_add-next g c = omega (arith, c.loop-index.invariant.1, c.loop-index-test.true, c.len-index-end.ensures, c.loop-index.auto.index-end)
 
 pub returns-clause-has : goal.returns-clause-has
 returns-clause-has g c slot_limit has class =
-    HasRooms-swept class c.args.groups.now (rooms_of c.args.rooms.now class) (rooms_of c.loop-index.rooms class) (has class) c.loop-index.index c.loop-index.next
-    (omega (arith, c.loop-index-test.false)) (c.loop-index.invariant.0 slot_limit has class)
+    HasRooms-swept class c.args.groups.now.items (rooms_of c.args.rooms.now class) (rooms_of c.loop-index.rooms class) (has class) c.loop-index.index c.loop-index.next
+    (omega (arith, c.loop-index-test.false, c.len-index-end.ensures)) (c.loop-index.invariant.0 slot_limit has class)

@@ -9,7 +9,7 @@ use Rattle.shard.proofs.shard.retiring.first_of_groups.Goals as goal
 
 pub returns : goal.returns
 returns g c =
-    let live = filter is_live (map told_of c.args.groups.now) in
+    let live = filter is_live (map told_of c.args.groups.now.items) in
     let told = c.in_ok-told.told.items in
     IfOk-weaker c.first_of.result (λ (first : Vec LiveGroup Global). AreSelected c.args.most told first.items)
     (λ (first : Vec LiveGroup Global). AreSelected c.args.most live first.items)

@@ -16,7 +16,7 @@ loop-index-preserved g c =
     let group = c.index_mut.result.now in
     let is = c.loop-index.invariant.items in
     let here : slice_get now at ≡ Some group =
-    slice_get_read now _ at group refl (omega (arith, ap length is, length-changed_below trimmed at first, c.len-index-end.ensures, c.args.groups.now.ok.0)) c.index_mut.ensures.value in
+    slice_get_read now _ at group refl (omega (arith, ap length is, length-changed_below trimmed at first, c.len-index-end.ensures)) c.index_mut.ensures.value in
     let there = ap (λ (groups : List GroupState). slice_get groups at) (sym is) ∙ here in
     let was : slice_get first at ≡ Some group = sym (get-changed_below trimmed at first) ∙ there in
     let idle = ap is_idle (get_or_from_slice_get first at group group was) ∙ sym c.trim.ensures.idle in
@@ -35,4 +35,7 @@ loop-index-preserved g c =
     }
 
 pub returns-clause-items : goal.returns-clause-items
-returns-clause-items g c = c.loop-index.invariant.items ∙ changed_below-all trimmed c.loop-index.index c.args.groups.now.items (omega (arith, c.len-index-end.ensures, c.args.groups.now.ok.0))
+returns-clause-items g c = c.loop-index.invariant.items ∙ changed_below-all trimmed c.loop-index.index c.args.groups.now.items (omega (arith, c.len-index-end.ensures))
+
+pub index_mut-requires : goal.index_mut-requires
+index_mut-requires g c = omega (arith, c.loop-index-test.true, c.len-index-end.ensures, ap length c.loop-index.invariant.items, length-changed_below trimmed c.loop-index.index c.args.groups.now.items)

@@ -8,7 +8,7 @@ use Rattle.shard.proofs.shard.trimming.trim_all.Given as goal
 abbrev pub invariant-loop-index : goal.invariant-loop-index
 invariant-loop-index g l = record {
   items : l.groups.items ≡ changed_below trimmed l.index l.fn.groups.items;
-  capacity : vec_capacity l.groups ≡ vec_capacity l.fn.groups;
+  capacity : l.groups.room ≡ l.fn.groups.room;
   count : l.count ≡ length (filter is_idle (take l.index l.fn.groups.items));
   most : l.count ≤ l.index;
 }

@@ -4,5 +4,5 @@ use Rattle.groups.specs.FirstLive.{IsFirstAmong}
 use Rattle.groups.specs.Group.{spans_in}
 use Rattle.shard.proofs.shard.walking.first_live.Given as goal
 
-abbrev pub invariant-loop-group : goal.invariant-loop-group
-invariant-loop-group g l = IsFirstAmong (spans_in (take l.group-index l.groups)) (rank l.from) l.first
+abbrev pub invariant-loop-index : goal.invariant-loop-index
+invariant-loop-index g l = IsFirstAmong (spans_in (take l.index l.groups.items)) (rank l.from) l.first

@@ -34,8 +34,8 @@ sound_after c = rw c.forget_all.ensures.items (IsSound-without_dead (state_of c.
 
 pub invariant_of-self : goal.invariant_of-self
 invariant_of-self c =
-    let many : vec_len c.forget_all.new.groups ≡ vec_len c.self.inside.groups =
-    omega (arith, ap length c.forget_all.ensures.items, length-map c.self.inside.groups.items (without_dead {Closed = _}), c.self.inside.groups.ok.0, c.forget_all.new.groups.ok.0) in
+    let many : length c.forget_all.new.groups.items ≡ length c.self.inside.groups.items =
+    omega (arith, ap length c.forget_all.ensures.items, length-map c.self.inside.groups.items (without_dead {Closed = _})) in
     record {
       number_fits = c.self.invariant.number_fits;
       pages_fit = c.self.invariant.pages_fit;
@@ -45,7 +45,7 @@ invariant_of-self c =
       room_for_groups = c.forget_all.ensures.capacity;
       room_for_rooms = rw c.forget_all.ensures.items
           (HaveRoom-map c.self.inside.groups.items c.self.inside.rooms _ c.self.invariant.room_for_rooms (without_dead {Closed = _}) (λ group. refl) c.self.inside.rooms _
-          (omega (arith, many)) (λ class. omega arith));
+          (omega (arith, length-map c.self.inside.groups.items (without_dead {Closed = _}))) (λ class. omega arith));
       room_for_class = λ some class. omega (arith, many, c.self.invariant.room_for_class some class);
       no_guests = c.self.invariant.no_guests;
       room_for_guests = rw c.forget_all.ensures.items
