@@ -1,14 +1,14 @@
 -- Lists whose elements stand in no order, and the order that names their places.
-use Rattle.std.proofs.Common.{zero, suc, ◌≡◌, ◌≢◌, ℕ, ◌+◌, ◌<◌, ◌≤◌, Bool, true, false, cond, List, [], ◌∷◌, ◌++◌, ◌⊎◌, inl, inr, refl, sym, ap, subst, ◌∙◌, arith, length, insert, map, Some, None, get_or, set, take, drop, slice_get, nat_lt, rules}
-use Rattle.std.specs.Prelude.{count_by, filter, filter_map, nat_eq, remove}
+use Rattle.std.proofs.Common.{zero, suc, ◌≡◌, ◌≢◌, ℕ, ◌+◌, ◌<◌, ◌≤◌, Bool, true, false, cond, List, [], ◌∷◌, ◌++◌, inl, inr, refl, sym, ap, subst, ◌∙◌, arith, length, insert, map, Some, get_or, set, take, slice_get, nat_lt}
+use Rattle.std.specs.Prelude.{count_by, filter, nat_eq, remove}
 use Rattle.std.specs.List.{cons_option, swap}
 use Rattle.std.proofs.lemmas.Bool.{cases_eq, cases_lt, eq-eqb, eqb-true, le-ltb, lt-ltb, ne_eqb, true≢false}
-use Rattle.std.proofs.lemmas.List.{append-nil, drop_all, ext_get_or, get_or-map, get_or-set_other, get_or-set_same, get_or-take, get_or_append_left, get_or_default, get_or_push, length-append, length-map, length-set, length-take-le, take_all, take_more}
+use Rattle.std.proofs.lemmas.List.{append-nil, drop_all, ext_get_or, get_or-map, get_or-set_other, get_or-set_same, get_or-take, get_or_append_left, get_or_push, length-append, length-map, length-set, length-take-le, take_all, take_more}
 use Rattle.std.proofs.lemmas.List.Edits.{Swapped, length-remove, length-swap, swapped_from_swap}
 use Rattle.std.proofs.lemmas.List.Sorted.{IsPermutation-swap, sum_by-IsPermutation}
 use Rattle.std.proofs.lemmas.Option.{get_or_from_slice_get, slice_get-get_or, slice_get_read, slice_get_within}
-use Rattle.groups.proofs.Lists.{count-cons, count-insert, count-none, count-some, count-two, length_insert, none_where, one_where, same_some, there_at}
-use Rattle.groups.proofs.Removed.{before-remove, count-remove, none_or_some}
+use Rattle.groups.proofs.Lists.{count-cons, count-insert, count-some, count-two, length_insert, none_where, one_where, same_some, there_at}
+use Rattle.groups.proofs.Removed.{count-remove, none_or_some}
 use Rattle.shard.specs.Row.{IsOrder, in_order}
 
 -- each number of the list is below the count

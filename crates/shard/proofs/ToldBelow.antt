@@ -1,5 +1,5 @@
 -- The first groups in order, which are told of without most of the others.
-use Rattle.std.proofs.Common.{zero, suc, ◌≡◌, ℕ, ◌+◌, ◌-◌, ◌<◌, ◌≤◌, ◌⊎◌, Bool, true, false, cond, List, [], ◌∷◌, ◌++◌, length, length-append, map, take, Some, slice_get, append_assoc, ◌∙◌, ap, sym, subst, refl, inl, inr, arith, option_map, get_or, le-ltb, lt-ltb}
+use Rattle.std.proofs.Common.{zero, suc, ◌≡◌, ℕ, ◌+◌, ◌-◌, ◌<◌, ◌≤◌, cond, List, [], ◌∷◌, ◌++◌, length, length-append, map, take, Some, slice_get, append_assoc, ◌∙◌, ap, sym, subst, inl, inr, arith, option_map, le-ltb, lt-ltb}
 use Rattle.std.specs.List.{filter}
 use Rattle.std.specs.List.Sorted.{IsPermutation}
 use Rattle.std.proofs.lemmas.Bool.{cases_lt}

@@ -1,11 +1,11 @@
-use Rattle.std.proofs.Common.{◌≡◌, ◌∙◌, ◌<◌, ◌≤◌, ℕ, Some, ap, arith, inl, inr, le-ltb, length, lt-ltb, nat_lt, rules, slice_get, sym}
+use Rattle.std.proofs.Common.{◌≡◌, ◌∙◌, ℕ, Some, ap, inl, inr, le-ltb, length, lt-ltb, nat_lt, rules, slice_get, sym}
 use Rattle.std.specs.Prelude.{filter, not}
 use Rattle.std.proofs.lemmas.Bool.{cases_lt}
 use Rattle.std.proofs.lemmas.Fn.{filter_same}
 use Rattle.std.proofs.lemmas.List.{length-take-le}
 use Rattle.shard.specs.Group.{GroupState}
 use Rattle.shard.specs.Leaving.{has_stayed}
-use Rattle.shard.specs.Row.{IsOrder, in_order}
+use Rattle.shard.specs.Row.{IsOrder}
 use Rattle.shard.proofs.Orders.{IsOrder-cut, below_count, filter-in_order, in_order-take}
 use Rattle.shard.proofs.group_row.cut.Goals as goal
 

@@ -1,8 +1,6 @@
-use Rattle.std.proofs.Common.{◌≡◌, ◌∙◌, Some, ap, arith, length, refl, slice_get, subst, sym}
-use Rattle.std.specs.List.{swap}
+use Rattle.std.proofs.Common.{◌≡◌, ◌∙◌, Some, arith, length, refl, slice_get, sym}
 use Rattle.std.proofs.lemmas.Option.{slice_get_read}
 use Rattle.groups.proofs.Lists.{same_some}
-use Rattle.shard.specs.Row.{IsOrder, in_order}
 use Rattle.shard.proofs.Orders.{IsOrder-swap, below_count, in_order-swap, length_swapped}
 use Rattle.shard.proofs.group_row.exchange.Goals as goal
 

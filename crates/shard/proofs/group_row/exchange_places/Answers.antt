@@ -1,4 +1,4 @@
-use Rattle.std.proofs.Common.{◌≡◌, ◌∙◌, Some, ap, length, slice_get, sym}
+use Rattle.std.proofs.Common.{◌∙◌, ap, slice_get, sym}
 use Rattle.std.proofs.lemmas.Option.{slice_get_within}
 use Rattle.shard.proofs.group_row.exchange_places.Goals as goal
 

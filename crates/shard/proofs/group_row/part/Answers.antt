@@ -1,8 +1,6 @@
 use Rattle.std.proofs.Common.{◌≡◌, ◌∙◌, ◌-◌, Some, ap, arith, length, refl, slice_get, subst, sym}
-use Rattle.std.proofs.lemmas.Option.{slice_get_read, slice_get_within}
+use Rattle.std.proofs.lemmas.Option.{slice_get_read}
 use Rattle.groups.specs.Group.{Ascend}
-use Rattle.shard.specs.Group.{GroupState}
-use Rattle.shard.specs.Parts.{IsParted}
 use Rattle.shard.proofs.Orders.{length_swapped}
 use Rattle.shard.proofs.Parts.{IsParted-left, IsParted-stayed}
 use Rattle.shard.proofs.group_row.part.Goals as goal

@@ -1,6 +1,5 @@
-use Rattle.std.proofs.Common.{◌≡◌, ◌∙◌, ◌++◌, ◌∷◌, ◌+◌, [], ap, insert, length, subst, sym}
+use Rattle.std.proofs.Common.{◌≡◌, ◌∙◌, ap, insert, length}
 use Rattle.std.proofs.lemmas.List.{length_push}
-use Rattle.shard.specs.Row.{IsOrder, in_order}
 use Rattle.shard.proofs.Orders.{IsOrder-insert, in_order-insert}
 use Rattle.shard.proofs.group_row.put_in.Goals as goal
 

@@ -1,4 +1,4 @@
-use Rattle.std.proofs.Common.{◌≡◌, ◌∙◌, ap, arith, length, sym, subst}
+use Rattle.std.proofs.Common.{sym, subst}
 use Rattle.groups.specs.Group.{Ascend}
 use Rattle.shard.specs.Row.{RowState}
 use Rattle.shard.proofs.group_row.GroupRow.drop_left.Goals as goal

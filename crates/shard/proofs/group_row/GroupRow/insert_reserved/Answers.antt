@@ -1,4 +1,4 @@
-use Rattle.std.proofs.Common.{◌∙◌, ◌+◌, ap, arith, length, sym}
+use Rattle.std.proofs.Common.{◌∙◌, ◌+◌, ap, arith, length}
 use Rattle.std.proofs.lemmas.List.Edits.{length-insert}
 use Rattle.shard.specs.Row.{RowState}
 use Rattle.shard.proofs.Orders.{length_order}

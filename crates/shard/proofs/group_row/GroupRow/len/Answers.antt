@@ -1,5 +1,4 @@
-use Rattle.std.proofs.Common.{◌∙◌, ap, arith, length, sym}
-use Rattle.shard.specs.Row.{RowState}
+use Rattle.std.proofs.Common.{arith}
 use Rattle.shard.proofs.Orders.{length_order}
 use Rattle.shard.proofs.group_row.GroupRow.len.Goals as goal
 

@@ -1,4 +1,4 @@
-use Rattle.std.proofs.Common.{◌≡◌, ◌∙◌, Some, ap, arith, length, slice_get, subst, sym}
+use Rattle.std.proofs.Common.{◌≡◌, Some, ap, arith, length, slice_get, subst, sym}
 use Rattle.groups.specs.Group.{Ascend}
 use Rattle.shard.specs.Row.{RowState}
 use Rattle.shard.proofs.Orders.{length_order}

@@ -1,6 +1,5 @@
-use Rattle.std.proofs.Common.{◌≡◌, ◌∙◌, ◌+◌, ap, arith, length, subst, sym}
+use Rattle.std.proofs.Common.{ap, arith, length}
 use Rattle.std.proofs.lemmas.List.Edits.{length-remove}
-use Rattle.groups.specs.Group.{Ascend}
 use Rattle.shard.specs.Row.{RowState, in_order}
 use Rattle.shard.proofs.Orders.{length_order}
 use Rattle.shard.proofs.group_row.GroupRow.remove.Goals as goal

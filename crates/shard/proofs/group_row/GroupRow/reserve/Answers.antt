@@ -1,5 +1,4 @@
-use Rattle.std.proofs.Common.{◌≡◌, ◌∙◌, arith, length}
-use Rattle.shard.specs.Row.{in_order}
+use Rattle.std.proofs.Common.{arith}
 use Rattle.shard.proofs.Orders.{length_order}
 use Rattle.shard.proofs.group_row.GroupRow.reserve.Goals as goal
 

@@ -1,4 +1,4 @@
-use Rattle.std.proofs.Common.{◌<◌, ap, arith, length, refl, sym}
+use Rattle.std.proofs.Common.{◌<◌, ap, arith, length, refl}
 use Rattle.shard.specs.Row.{RowState, in_order}
 use Rattle.shard.proofs.Orders.{element_read, in_order-set, length_order, place_read, place_within}
 use Rattle.shard.proofs.group_row.GroupRowIndexMutUsize.index_mut.Goals as goal

@@ -1,4 +1,4 @@
-use Rattle.std.proofs.Common.{◌<◌, ap, arith, length, subst, sym}
+use Rattle.std.proofs.Common.{◌<◌, ap, arith, length}
 use Rattle.shard.specs.Row.{RowState, in_order}
 use Rattle.shard.proofs.Orders.{element_read, length_order, place_within}
 use Rattle.shard.proofs.group_row.GroupRowIndexUsize.index.Goals as goal

@@ -1,4 +1,4 @@
-use Rattle.std.proofs.Common.{ap, subst, ◌∙◌}
+use Rattle.std.proofs.Common.{ap, subst}
 use Rattle.span.specs.Ids.{rank}
 use Rattle.groups.specs.FirstLive.{IsFirstAmong}
 use Rattle.groups.specs.Group.{spans_in}

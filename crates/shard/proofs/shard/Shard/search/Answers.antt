@@ -1,4 +1,4 @@
-use Rattle.std.proofs.Common.{◌∙◌, List, ap, refl, subst, sym}
+use Rattle.std.proofs.Common.{List, ap, refl, subst, sym}
 use Rattle.groups.specs.Group.{HasNoHead, IsElsewhere}
 use Rattle.groups.proofs.KnownGuests.{IsElsewhere-guest, Somewhere, Somewhere-guest}
 use Rattle.shard.specs.Group.{GroupState}

@@ -1,8 +1,6 @@
-use Rattle.std.proofs.Common.{◌+◌, ◌≤◌, List, arith, length, refl, subst, sym}
-use Rattle.shard.specs.Group.{GroupState}
+use Rattle.std.proofs.Common.{◌+◌, arith, refl}
 use Rattle.groups.specs.Group.{spans_in, spans_of}
 use Rattle.groups.proofs.SpanCounts.{at_most_ids, length-spans_more, length-take_spans}
-use Rattle.span.specs.declared.limits.TheConstants.{ALL_IDS}
 use Rattle.shard.proofs.shard.Shard.span_count.Goals as goal
 
 pub loop-index-init : goal.loop-index-init

@@ -1,7 +1,5 @@
-use Rattle.std.proofs.Common.{◌≡◌, List, arith, map, refl, subst, sym, take}
+use Rattle.std.proofs.Common.{◌≡◌, List, arith, map, refl, subst, take}
 use Rattle.std.specs.List.{filter}
-use Rattle.groups.specs.Group.{Ascend}
-use Rattle.shard.specs.Group.{GroupState}
 use Rattle.shard.specs.Sparse.{AreSparsestFirst, told_of}
 use Rattle.shard.specs.State.{ShardState}
 use Rattle.shard.specs.Telling.{AreSelected, is_live}

@@ -1,7 +1,7 @@
-use Rattle.std.proofs.Common.{◌≤◌, ◌∙◌, ap, arith, length, refl, subst, sym}
-use Rattle.std.specs.Prelude.{vec_capacity, vec_len}
+use Rattle.std.proofs.Common.{◌≤◌, ap, arith, length, refl, subst, sym}
+use Rattle.std.specs.Prelude.{vec_capacity}
 use Rattle.shard.specs.Kept.{state_of}
-use Rattle.shard.specs.Heads.{AreReady, KnowsHeads}
+use Rattle.shard.specs.Heads.{AreReady}
 use Rattle.shard.proofs.ClassesHere.{HaveRoom-same, HaveRoom-swept}
 use Rattle.shard.proofs.KnownHeads.{AreReady-swept}
 use Rattle.shard.proofs.Left.{HasGuestRoom-swept, IsSound-swept, KnowsGuests-swept, length-stayed}

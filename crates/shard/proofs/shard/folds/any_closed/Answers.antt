@@ -1,4 +1,4 @@
-use Rattle.std.proofs.Common.{◌≡◌, ◌∙◌, Some, ap, arith, false, length, refl, slice_get, sym, true}
+use Rattle.std.proofs.Common.{◌≡◌, ◌∙◌, Some, ap, arith, refl, slice_get, sym}
 use Rattle.std.proofs.lemmas.Option.{slice_get_read, slice_get_within}
 use Rattle.groups.proofs.Lists.{same_some}
 use Rattle.shard.specs.Group.{GroupState}

@@ -1,5 +1,4 @@
 use Rattle.std.proofs.Common.{◌≡◌}
-use Rattle.std.specs.Prelude.{vec_capacity}
 use Rattle.groups.specs.Dead.{without_dead}
 use Rattle.groups.specs.Directory.{KnowsGuests}
 use Rattle.shard.specs.GuestNotes.{KnowsNotes}

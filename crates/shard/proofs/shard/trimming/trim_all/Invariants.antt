@@ -1,6 +1,5 @@
 use Rattle.std.proofs.Common.{◌≡◌, ◌≤◌, length, take}
 use Rattle.std.specs.List.{filter}
-use Rattle.std.specs.Prelude.{vec_capacity}
 use Rattle.shard.specs.Trims.{is_idle, trimmed}
 use Rattle.shard.proofs.ChangedBelow.{changed_below}
 use Rattle.shard.proofs.shard.trimming.trim_all.Given as goal

@@ -1,5 +1,5 @@
 use Rattle.std.proofs.Common.{◌≡◌, ◌∙◌, List, ap, arith, length, refl, sym}
-use Rattle.std.specs.Prelude.{◌+◌, ◌-◌, map as map_list, vec_capacity, vec_len}
+use Rattle.std.specs.Prelude.{◌+◌, ◌-◌, map as map_list, vec_capacity}
 use Rattle.std.proofs.lemmas.List.{length-map}
 use Rattle.groups.specs.Dead.{dead_guests, without_dead}
 use Rattle.groups.specs.Group.{spans_in}
