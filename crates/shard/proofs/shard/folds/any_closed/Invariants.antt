@@ -2,5 +2,5 @@ use Rattle.std.proofs.Common.{◌≡◌, ◌<◌, ℕ, Some, false, slice_get}
 use Rattle.shard.specs.Group.{GroupState}
 use Rattle.shard.proofs.shard.folds.any_closed.Given as goal
 
-abbrev pub invariant-loop-index : goal.invariant-loop-index
-invariant-loop-index g l = (at : ℕ) (group : GroupState) → at < l.index → slice_get l.groups.items at ≡ Some group → group.closed ≡ false
+abbrev pub invariant-loop-at : goal.invariant-loop-at
+invariant-loop-at g l = (at : ℕ) (group : GroupState) → at < l.at → slice_get l.groups.items at ≡ Some group → group.closed ≡ false
